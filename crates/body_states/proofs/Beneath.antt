@@ -277,7 +277,7 @@ module _ (t : Functions) (fs : List Funclet) (program : LinearProgram) (p : Plan
           stack = rest.stack ∙ first.stack;
         }
 
--- ---- where a list stands above a return address
+-- ---- where a list is above a return address
 
 pub beneath_by : (t : Functions) (s : State) (top back : ℕ) (is : List StackItem) → length s.cpu.registers ≡ 16 → word s.memory top ≡ Ok back → IsStack t s.memory (context_below back (top + 8) (others_of s.cpu.registers)) is → top + 8 < 2 ^ 62
     → ((a : ℕ) → may_write s.memory a ≡ true → (s.memory.protection a).execute ≡ false) → Beneath t s top (top + 8) back (others_of s.cpu.registers) is

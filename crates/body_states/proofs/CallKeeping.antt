@@ -77,11 +77,14 @@ module _ (t : Functions) (fs : List Funclet) (program : LinearProgram) (p : Plan
     first = ran t fs program p q top (top + 8) back others list before s u frame 8 halves.1 plain (subst (λ a. HasCode s.memory a before) (sym here) (codes s.memory has).0) has beneath below refl finds
 
     -- the call
+    abbrev calling : StepsTo 1 u w
+    calling = halves.2
+
     abbrev v : State
-    v = halves.2.0
+    v = calling.0
 
     abbrev st : Steps u v
-    st = halves.2.1
+    st = calling.1
 
     code_there : HasCode u.memory u.cpu.rip (call next to ∷ after)
     code_there = let z : p.address name label + sizes before ≡ u.cpu.rip = omega (arith, first.rip) in subst (λ a. HasCode u.memory a (call next to ∷ after)) z (codes u.memory first.has).1
@@ -183,7 +186,7 @@ module _ (t : Functions) (fs : List Funclet) (program : LinearProgram) (p : Plan
           stack = is_called.stack;
           program_there = has_called;
         } in
-        let k = subst (CalleeFrom limit) halves.2.2 first_state in
+        let k = subst (CalleeFrom limit) calling.2 first_state in
         record { item = k.item; beneath_it = k.beneath_it; rip = k.rip; stack = k.stack; program_there = k.program_there }
 
   -- a thunk leads to its service

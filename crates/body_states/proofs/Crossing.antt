@@ -143,7 +143,7 @@ module _ (t : Functions) (fs : List Funclet) where
             let same : context_below next (sp + 8) others ≡ caller_at u = λ i. context_below (sym n i) (sym c.stack i + 8) (sym o i) in
             call_keeps t fs s u mine st.steps quiet (gives_here s d b before z) (subst (λ x. WalkGives t u (x ∷ mine)) same there)
 
-        -- it runs below its own return address, where the caller stands as an item of the list
+        -- it runs below its own return address, where the caller is as an item of the list
         pub beneath_callee : (i : StackItem) (limit : ℕ) → Stands t u.memory (context_below next (sp + 8) others) i → context_after (context_below next (sp + 8) others) i ≡ above → ((a : ℕ) → OwnedBy (context_below next (sp + 8) others) i a → limit ≤ a) → sp + 8 ≤ limit → limit ≤ top
             → Beneath t u sp limit next others (i ∷ is)
         beneath_callee i limit stands same owned le most =

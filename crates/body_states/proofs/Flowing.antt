@@ -37,7 +37,7 @@ pub all_keep : (t : Functions) (fs : List Funclet) (n : ℕ) (s : State) → All
 all_keep t fs zero s h = tt
 all_keep t fs (suc n) s h = λ u e. (let x = h u e in (x.0, all_keep t fs n u x.1))
 
--- what a routine's caller goes on with, where the return address is so far above RSP
+-- what a routine's caller continues with, where the return address is so far above RSP
 abbrev pub caller_by : List ℕ → ℕ → ℕ → Context
 caller_by kept size back = record { rip = back; kept = slice_set kept 0 (get_or kept 0 0 + size + 8) }
 

@@ -17,7 +17,7 @@ use Rattle.body_states.specs.Programs.{HasProgram, IsProgramImage}
 use Rattle.body_states.proofs.Finding.{label_found}
 use Rattle.std.specs.Prelude.{ℕ}
 
--- a walk that meets a frame gives its caller, and then what it gives from there
+-- a walk that comes to a frame gives its caller, and then what it gives from there
 pub gives_caller : (t : Functions) (m : Memory) (c caller : Context) (cs : List Context) → HasCaller t m c caller → GivesCallers t m (state caller 0) cs → GivesCallers t m (state c 0) (caller ∷ cs)
 gives_caller t m c caller cs h g = subst (λ (x : Context). GivesCallers t m (state c 0) (x ∷ cs)) h.context (past_frame t m (state c 0) h.frame (state caller 0) cs h.visits g)
 

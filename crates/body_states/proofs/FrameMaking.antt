@@ -208,24 +208,29 @@ module _ (t : Functions) (fs : List Funclet) (program : LinearProgram) (p : Plan
               let i2 = instrs.LoadAddress W64 R11 (above Rsp 8) in
               let i3 = instrs.Arithmetic arithmetic.Sub W64 (places.Register R11) (operands.Register Rax) in
               let i4 = instrs.Test W8 (places.Memory (above R11 0)) (operands.Register Rax) in
+              let r2 = r.2 in
+              let r3 = r2.2 in
+              let r4 = r3.2 in
+              let r5 = r4.2 in
+              let r6 = r5.2 in
               let v1 = r.0 in
-              let v2 = r.2.0 in
-              let v3 = r.2.2.0 in
-              let v4 = r.2.2.2.0 in
-              let v5 = r.2.2.2.2.0 in
-              let v6 = r.2.2.2.2.2.0 in
+              let v2 = r2.0 in
+              let v3 = r3.0 in
+              let v4 = r4.0 in
+              let v5 = r5.0 in
+              let v6 = r6.0 in
               let c1 = checks v v1 0 i1 (i2 ∷ i3 ∷ i4 ∷ instrs.Return ∷ []) refl refl (omega arith) r.1 k in
-              let c2 = checks v1 v2 (0 + size i1) i2 (i3 ∷ i4 ∷ instrs.Return ∷ []) refl refl (omega arith) r.2.1 c1.after in
-              let c3 = checks v2 v3 (0 + size i1 + size i2) i3 (i4 ∷ instrs.Return ∷ []) refl refl (omega arith) r.2.2.1 c2.after in
-              let c4 = checks v3 v4 (0 + size i1 + size i2 + size i3) i4 (instrs.Return ∷ []) refl refl (omega arith) r.2.2.2.1 c3.after in
+              let c2 = checks v1 v2 (0 + size i1) i2 (i3 ∷ i4 ∷ instrs.Return ∷ []) refl refl (omega arith) r2.1 c1.after in
+              let c3 = checks v2 v3 (0 + size i1 + size i2) i3 (i4 ∷ instrs.Return ∷ []) refl refl (omega arith) r3.1 c2.after in
+              let c4 = checks v3 v4 (0 + size i1 + size i2 + size i3) i4 (instrs.Return ∷ []) refl refl (omega arith) r4.1 c3.after in
               let k4 = c4.after in
-              let back' = probe_returns t fs top from back others list v4 v5 next frame r.2.2.2.2.1 k4.probing (here_found v4 _ _ k4) (λ m. (probe_found m).1) [] k4.code in
-              let has5 = kept v4 v5 r.2.2.2.2.1 k4.program_there in
-              let last = last_made v5 v6 back'.beneath back'.rip back'.stack back'.rax r.2.2.2.2.2.1 has5 in
-              subst (FrameMade 6 v) r.2.2.2.2.2.2
+              let back' = probe_returns t fs top from back others list v4 v5 next frame r5.1 k4.probing (here_found v4 _ _ k4) (λ m. (probe_found m).1) [] k4.code in
+              let has5 = kept v4 v5 r5.1 k4.program_there in
+              let last = last_made v5 v6 back'.beneath back'.rip back'.stack back'.rax r6.1 has5 in
+              subst (FrameMade 6 v) r6.2
               (record {
-                keeps = keep_first t fs 5 v v1 r.1.steps c1.keeps (keep_first t fs 4 v1 v2 r.2.1.steps c2.keeps (keep_first t fs 3 v2 v3 r.2.2.1.steps c3.keeps
-                    (keep_first t fs 2 v3 v4 r.2.2.2.1.steps c4.keeps (keep_first t fs 1 v4 v5 r.2.2.2.2.1.steps back'.keeps last.keeps))));
+                keeps = keep_first t fs 5 v v1 r.1.steps c1.keeps (keep_first t fs 4 v1 v2 r2.1.steps c2.keeps (keep_first t fs 3 v2 v3 r3.1.steps c3.keeps
+                    (keep_first t fs 2 v3 v4 r4.1.steps c4.keeps (keep_first t fs 1 v4 v5 r5.1.steps back'.keeps last.keeps))));
                 beneath = last.beneath;
                 has = last.has;
                 rip = last.rip;
@@ -234,10 +239,11 @@ module _ (t : Functions) (fs : List Funclet) (program : LinearProgram) (p : Plan
 
           pub large_made : StepsTo 8 e u → FrameMade 8 e u
           large_made r =
+              let after_first = r.2 in
               let v1 = r.0 in
-              let v2 = r.2.0 in
+              let v2 = after_first.0 in
               let st1 = r.1 in
-              let st2 = r.2.1 in
+              let st2 = after_first.1 in
               let high = beneath.high in
               let past = beneath.past in
               let a = move_size frame in
@@ -266,7 +272,7 @@ module _ (t : Functions) (fs : List Funclet) (program : LinearProgram) (p : Plan
                 program_there = has2;
                 inside = omega arith;
               } in
-              let rest = checked v2 u r.2.2 checking in
+              let rest = checked v2 u after_first.2 checking in
               record {
                 keeps = keep_first t fs 7 e v1 st1.steps (one.keeps v1 st1.steps).0 (keep_first t fs 6 v1 v2 st2.steps keep2 rest.keeps);
                 beneath = rest.beneath;

@@ -40,7 +40,7 @@ module _ (t : Functions) (fs : List Funclet) (program : LinearProgram) (p : Plan
         let here : p.address name label + sizes (before ++ done) ≡ a + sizes done = omega (arith, sizes_append before done) in
         subst (λ x. FindsReturn t m x (p.layout name).frame) here (within_found t fs program p q image name b there m has label i at goes (before ++ done) (left ++ after) item all)
 
-    -- and its code stands there
+    -- and its code is there
     pub piece_there : (m : Memory) → HasProgram t fs program p q m → HasCode m (p.address name label + sizes before) code
     piece_there m has =
         let all = subst (HasCode m (p.address name label)) parts (template_there t fs program p q image name b there m has label i at) in

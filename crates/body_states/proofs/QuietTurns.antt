@@ -108,7 +108,8 @@ module _ (t : Functions) (fs : List Funclet) (program : LinearProgram) (p : Plan
       never_quiet i j (length (chosen i)) n (sym r ∙ e) refl quiet
 
   module _ (image : IsProgramImage t fs program p q) where
-    funclet_makes : (m : Memory) (k : ℕ) (f : LinearFunclet) (j : Instr) (n : ℕ) → slice_get program.funclets k ≡ Some f → HasProgram t fs program p q m → leading (executable m 15 (p.funclet k)) ≡ Some (j, n) → takes_frame j ≡ false → ⊥
+    -- a funclet's first instruction makes its frame
+    pub funclet_makes : (m : Memory) (k : ℕ) (f : LinearFunclet) (j : Instr) (n : ℕ) → slice_get program.funclets k ≡ Some f → HasProgram t fs program p q m → leading (executable m 15 (p.funclet k)) ≡ Some (j, n) → takes_frame j ≡ false → ⊥
     funclet_makes m k f j n there has e quiet =
         let name = FuncletBody k in
         let is : body_of program name ≡ Some f.body = ap funclet_body there in
@@ -127,7 +128,7 @@ module _ (t : Functions) (fs : List Funclet) (program : LinearProgram) (p : Plan
       | inr x ↦ let le = x.0 in absurd (omega arith)
     ]
 
-    -- where a run goes on inside a body, no funclet begins
+    -- where a run continues inside a body, no funclet begins
     pub quiet_here : (s u : State) (c : Cpu) → Runs s u → HasProgram t fs program p q s.memory → arrivals c (distance t.base s.cpu.rip) 1 fs ≡ []
     quiet_here s u c r has = image.funclets.none s.cpu.rip r.steps.rip_small (elsewhere s u r has) c
 
@@ -161,7 +162,7 @@ module _ (t : Functions) (fs : List Funclet) (program : LinearProgram) (p : Plan
     enters_quietly zero s w r keep has e = (refl, r)
     enters_quietly (suc n) s w r keep has e = enters_comes n s w [] r keep has e
 
-  -- the code of the program stands where a run comes to
+  -- the code of the program is where a run comes to
   pub program_reaches : (n : ℕ) (s w : State) → Reaches n s w → HasProgram t fs program p q s.memory → HasProgram t fs program p q w.memory
   program_reaches zero s w r has = subst (λ (x : State). HasProgram t fs program p q x.memory) r has
   program_reaches (suc n) s w r has = program_reaches n r.0 w r.2 (program_kept s.memory r.0.memory (step_keeps s r.0 r.1.steps) has)

@@ -54,7 +54,7 @@ all_same : (label : ℕ) (rs : List Region) → AllByRecursion (λ (r : Region).
 all_same label [] = tt
 all_same label (r ∷ rs) = (refl, all_same label rs)
 
--- the body goes on at an instruction, with these temporaries
+-- the body continues at an instruction, with these temporaries
 abbrev pub again : Frame → ℕ → List ℕ → Option ℕ → Frame
 again b label ts landed = record b { next = label; temporaries = ts; landed = landed }
 
@@ -87,7 +87,7 @@ module _ (t : Functions) (fs : List Funclet) (program : LinearProgram) (p : Plan
       by_funclet : (f : Option LinearFunclet) (below : List Item) → FuncletIsAbove t fs program p k b f below → FuncletIsAbove t fs program p k b' f below
       by_funclet None below h = absurd h
       by_funclet (Some f) [] h = absurd h
-      by_funclet (Some f) (Searches exception resumption asked rest ∷ Waits w ∷ below) h = (h.0, (h.1.0, e ∙ h.1.1))
+      by_funclet (Some f) (Searches exception resumption asked rest ∷ Waits w ∷ below) h = let alike = h.1 in (h.0, (alike.0, e ∙ alike.1))
       by_funclet (Some f) (Unwinds rest target ∷ Waits w ∷ below) h = h
       by_funclet (Some f) (Waits w ∷ below) h = h
       by_funclet (Some f) below h = absurd h

@@ -1,27 +1,23 @@
--- A body that runs stands on top of what waits below it, as one that waits.
-use Rattle.std.proofs.Common.{◌≡◌, ℕ, ◌+◌, ◌^◌, ◌<◌, ◌≤◌, Bool, true, false, List, [], ◌∷◌, length, Option, Some, None, Ok, refl, sym, ap, subst, ◌∙◌, arith}
-use Rattle.flat_memory.specs.Memory.{Memory}
+-- A body that runs is on top of what waits below it, as one that waits.
+use Rattle.std.proofs.Common.{◌≡◌, ℕ, ◌+◌, Bool, true, false, List, [], ◌∷◌, refl, sym, ap, subst, ◌∙◌, arith}
 use Rattle.x64_instr.specs.declared.register.Reg.TheVariants.{Rsp, Rbx, Rbp, Rsi, Rdi, R12, R13, R14, R15}
-use Rattle.x64_machine.specs.declared.context.Context.{Context}
 use Rattle.x64_machine.specs.Contexts.{context_of}
 use Rattle.x64_machine.specs.Effect.{State, register}
-use Rattle.virtual_unwind.specs.Contexts.{rsp}
 use Rattle.virtual_unwind.specs.CallerOf.{Functions}
 use Rattle.virtual_unwind.specs.Undone.{word}
 use Rattle.host_model.specs.declared.funclet.Funclet.{Funclet}
-use Rattle.template_code.specs.declared.layout.Layout.{Layout}
 use Rattle.linear_code.specs.Program.{LinearProgram, LinearBody}
-use Rattle.linear_machine.specs.Frames.{BodyName, FunctionBody, FuncletBody, body_of, Waits, Configuration}
+use Rattle.linear_machine.specs.Frames.{BodyName, FunctionBody, FuncletBody, Waits, Configuration}
 use Rattle.linear_machine.specs.Regions.{regions_of}
-use Rattle.linked_stack.specs.Stack.{StackItem, Framed, Leaf}
+use Rattle.linked_stack.specs.Stack.{StackItem, Framed, Leaf, LeafStands}
 use Rattle.linked_stack.specs.WalkLaws.{context_below}
 use Rattle.linked_stack.specs.ImagePlan.{Plan, IsGiven}
-use Rattle.linked_stack.specs.Linked.{Activation, activations_below, home_end, BodyWaits}
+use Rattle.linked_stack.specs.Linked.{Activation, activations_below, BodyWaits}
 use Rattle.linked_stack.proofs.Ends.{in_stack}
-use Rattle.linked_stack.specs.Records.{IsData, On}
+use Rattle.linked_stack.specs.Records.{On}
 use Rattle.body_states.specs.Sites.{Sites}
 use Rattle.body_states.specs.Layouts.{IsLayoutIf, IsLeafLayout, IsLaidOut}
-use Rattle.body_states.specs.Programs.{HasProgram, IsResumed, IsProgramImage, frame_with}
+use Rattle.body_states.specs.Programs.{HasProgram, IsResumed, IsFramed, IsProgramImage, frame_with}
 use Rattle.body_states.specs.Bodies.{slots_end, last_temporary, InBody}
 
 module _ (t : Functions) (fs : List Funclet) (program : LinearProgram) (p : Plan) (q : Sites) where
@@ -40,51 +36,48 @@ module _ (t : Functions) (fs : List Funclet) (program : LinearProgram) (p : Plan
     pub is : List StackItem
     pub on : On t fs program p u.memory (context_of u.cpu) is (Waits c.frame ∷ c.below) acts
 
-  module _ (image : IsProgramImage t fs program p q) where
-    framed_on_top : (u : State) (c : Configuration) (label : ℕ) (at : InBody t fs program p q u c) → IsResumed t fs program p q c.frame.body at.slots.code label u.cpu.rip → HasProgram t fs program p q u.memory → p.leaf c.frame.body ≡ false → OnTop u c at.acts
-    framed_on_top u c label at resumed has e =
-        let name = c.frame.body in
-        let y = p.layout name in
-        let sp = register u.cpu Rsp in
-        let b = at.slots.code in
-        let others = register u.cpu Rbx ∷ register u.cpu Rbp ∷ register u.cpu Rsi ∷ register u.cpu Rdi ∷ register u.cpu R12 ∷ register u.cpu R13 ∷ register u.cpu R14 ∷ register u.cpu R15 ∷ [] in
-        let rest = at.below others refl in
-        let top = in_stack t fs program p u.memory (context_below at.back (sp + y.frame + 8) others) at.is c.below (activations_below name at.acts) rest.stands.stack rest.stands.linked in
-        let f = image.frames u.memory name b label (context_of u.cpu) at.back at.slots.body e has resumed refl (omega arith) at.returns in
-        record {
-          is = Framed (frame_with (p.entry name) y.frame f.offset at.back) ∷ at.is;
-          on = record {
-            stands = record {
-              stack = (f.stands, rest.stands.stack);
-              linked = (
-                record {
-                  framed = e;
-                  entry = refl;
-                  waits = subst (λ (leaf : Bool). BodyWaits t fs program p u.memory (context_of u.cpu) (slots_end y leaf) (last_temporary y name leaf) c.frame at.acts) e at.slots;
-                  pointers = at.pointers;
-                  returns = at.returns_to;
-                },
-                at.above,
-                rest.stands.linked,
-              );
-            };
-            data_alone = rest.data_alone;
-          };
-        }
+  abbrev pub others_of : State → List ℕ
+  others_of u = register u.cpu Rbx ∷ register u.cpu Rbp ∷ register u.cpu Rsi ∷ register u.cpu Rdi ∷ register u.cpu R12 ∷ register u.cpu R13 ∷ register u.cpu R14 ∷ register u.cpu R15 ∷ []
 
-    leaf_on_top : (u : State) (c : Configuration) (label : ℕ) (at : InBody t fs program p q u c) → IsResumed t fs program p q c.frame.body at.slots.code label u.cpu.rip → p.leaf c.frame.body ≡ true → OnTop u c at.acts
-    leaf_on_top u c label at resumed e =
+  -- a body whose frame is there
+  pub framed_top : (u : State) (c : Configuration) (at : InBody t fs program p q u c) → p.leaf c.frame.body ≡ false → IsFramed t fs program p q u.memory c.frame.body (context_of u.cpu) at.back → OnTop u c at.acts
+  framed_top u c at e f =
+      let name = c.frame.body in
+      let y = p.layout name in
+      let rest = at.below (others_of u) refl in
+      record {
+        is = Framed (frame_with (p.entry name) y.frame f.offset at.back) ∷ at.is;
+        on = record {
+          stands = record {
+            stack = (f.stands, rest.stands.stack);
+            linked = (
+              record {
+                framed = e;
+                entry = refl;
+                waits = subst (λ (leaf : Bool). BodyWaits t fs program p u.memory (context_of u.cpu) (slots_end y leaf) (last_temporary y name leaf) c.frame at.acts) e at.slots;
+                pointers = at.pointers;
+                returns = at.returns_to;
+              },
+              at.above,
+              rest.stands.linked,
+            );
+          };
+          data_alone = rest.data_alone;
+        };
+      }
+
+  module _ (image : IsProgramImage t fs program p q) where
+    -- a leaf function whose return address is there
+    pub leaf_top : (u : State) (c : Configuration) (at : InBody t fs program p q u c) → p.leaf c.frame.body ≡ true → LeafStands t u.memory (context_of u.cpu) at.back → OnTop u c at.acts
+    leaf_top u c at e l =
         let name = c.frame.body in
         let y = p.layout name in
         let sp = register u.cpu Rsp in
         let b = at.slots.code in
-        let others = register u.cpu Rbx ∷ register u.cpu Rbp ∷ register u.cpu Rsi ∷ register u.cpu Rdi ∷ register u.cpu R12 ∷ register u.cpu R13 ∷ register u.cpu R14 ∷ register u.cpu R15 ∷ [] in
         let none = leaf_layout name b e (image.laid_out name b at.slots.body) in
         let up : sp + y.frame + 8 ≡ sp + 8 = let z = none.frame in omega arith in
-        let here : sp + y.frame ≡ sp = let z = none.frame in omega arith in
-        let rest : On t fs program p u.memory (context_below at.back (sp + 8) others) at.is c.below (activations_below name at.acts) = subst (λ a. On t fs program p u.memory (context_below at.back a others) at.is c.below (activations_below name at.acts)) up (at.below others refl) in
-        let top = in_stack t fs program p u.memory (context_below at.back (sp + 8) others) at.is c.below (activations_below name at.acts) rest.stands.stack rest.stands.linked in
-        let l = image.leaves u.memory name b label (context_of u.cpu) at.back at.slots.body e resumed refl (omega arith) (ap (word u.memory) (sym here) ∙ at.returns) in
+        let rest : On t fs program p u.memory (context_below at.back (sp + 8) (others_of u)) at.is c.below (activations_below name at.acts) =
+        subst (λ a. On t fs program p u.memory (context_below at.back a (others_of u)) at.is c.below (activations_below name at.acts)) up (at.below (others_of u) refl) in
         record {
           is = Leaf at.back ∷ at.is;
           on = record {
@@ -105,6 +98,27 @@ module _ (t : Functions) (fs : List Funclet) (program : LinearProgram) (p : Plan
             data_alone = rest.data_alone;
           };
         }
+
+    framed_on_top : (u : State) (c : Configuration) (label : ℕ) (at : InBody t fs program p q u c) → IsResumed t fs program p q c.frame.body at.slots.code label u.cpu.rip → HasProgram t fs program p q u.memory → p.leaf c.frame.body ≡ false → OnTop u c at.acts
+    framed_on_top u c label at resumed has e =
+        let name = c.frame.body in
+        let y = p.layout name in
+        let sp = register u.cpu Rsp in
+        let rest = at.below (others_of u) refl in
+        let top = in_stack t fs program p u.memory (context_below at.back (sp + y.frame + 8) (others_of u)) at.is c.below (activations_below name at.acts) rest.stands.stack rest.stands.linked in
+        framed_top u c at e (image.frames u.memory name at.slots.code label (context_of u.cpu) at.back at.slots.body e has resumed refl (omega arith) at.returns)
+
+    leaf_on_top : (u : State) (c : Configuration) (label : ℕ) (at : InBody t fs program p q u c) → IsResumed t fs program p q c.frame.body at.slots.code label u.cpu.rip → p.leaf c.frame.body ≡ true → OnTop u c at.acts
+    leaf_on_top u c label at resumed e =
+        let name = c.frame.body in
+        let y = p.layout name in
+        let sp = register u.cpu Rsp in
+        let b = at.slots.code in
+        let none = leaf_layout name b e (image.laid_out name b at.slots.body) in
+        let here : sp + y.frame ≡ sp = let z = none.frame in omega arith in
+        let rest = at.below (others_of u) refl in
+        let top = in_stack t fs program p u.memory (context_below at.back (sp + y.frame + 8) (others_of u)) at.is c.below (activations_below name at.acts) rest.stands.stack rest.stands.linked in
+        leaf_top u c at e (image.leaves u.memory name b label (context_of u.cpu) at.back at.slots.body e resumed refl (let z = none.frame in omega arith) (ap (word u.memory) (sym here) ∙ at.returns))
 
     -- where RIP is at a machine instruction of an instruction of its code
     pub body_on_top : (u : State) (c : Configuration) (label : ℕ) (at : InBody t fs program p q u c) → IsResumed t fs program p q c.frame.body at.slots.code label u.cpu.rip → HasProgram t fs program p q u.memory → OnTop u c at.acts

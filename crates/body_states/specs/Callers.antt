@@ -19,11 +19,11 @@ callers c (Leaf back ∷ is) = after_leaf c back ∷ callers (after_leaf c back)
 callers c (Searching r ∷ is) = callers (context_of r.saved) is
 callers c (Unwinding r ∷ is) = callers r.walk is
 
--- what the caller goes on with, where the return address is so far above RSP
+-- what the caller continues with, where the return address is so far above RSP
 abbrev pub caller_above : Context → ℕ → ℕ → Context
 caller_above c size back = record { rip = back; kept = slice_set c.kept 0 (rsp c + size + 8) }
 
--- a walk meets a frame, and goes on in this context
+-- a walk comes to a frame, and continues in this context
 pub record HasCaller (t : Functions) (m : Memory) (c caller : Context) : Type 0 where
   pub frame : CallerFrame
   pub visits : visited t m (state c 0) ≡ walk.Frame frame (state caller 0)

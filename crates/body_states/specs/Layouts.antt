@@ -36,6 +36,7 @@ pub record IsFuncletLayout (y function : Layout) (b : LinearBody) : Type 0 where
   pub small : y.frame ≤ PAGE
 
 module _ (program : LinearProgram) (p : Plan) where
+  -- the layout of a leaf function, or of one with a frame
   abbrev pub IsLayoutIf : Layout → LinearBody → Bool → Type 0
   IsLayoutIf y b true = IsLeafLayout y b
   IsLayoutIf y b false = IsFunctionLayout y b
@@ -52,9 +53,11 @@ module _ (program : LinearProgram) (p : Plan) where
     pub layout : IsFuncletLayout (p.layout (FuncletBody k))
         (p.layout (FunctionBody funclet.function)) b
 
+  -- the layout of a body
   abbrev pub IsLaidOut : BodyName → LinearBody → Type 0
   IsLaidOut (FunctionBody f) b = IsLayoutIf (p.layout (FunctionBody f)) b (p.leaf (FunctionBody f))
   IsLaidOut (FuncletBody k) b = IsFuncletPlan k b
 
+  -- the layouts of all bodies
   abbrev pub AreLaidOut : Type 0
   AreLaidOut = (name : BodyName) (b : LinearBody) → body_of program name ≡ Some b → IsLaidOut name b

@@ -52,6 +52,7 @@ use Rattle.body_states.specs.Sites.{Sites, links_of, begin_of, making_size, give
 use Rattle.body_states.specs.Layouts.{AreLaidOut}
 use Rattle.body_states.specs.Callers.{FindsReturn}
 
+-- the service of a built-in function
 abbrev pub service_of : BuiltIn → Service
 service_of Put = services.Put
 service_of Protect = services.Protect
@@ -66,6 +67,7 @@ frame_with entry size offset back =
 abbrev pub no_memory : Memory
 no_memory = record { protection = λ a. UNMAPPED; byte = λ a. 0 }
 
+-- the registers as templates see them
 abbrev pub view_of : Cpu → MachineView
 view_of c =
     record {
@@ -165,7 +167,7 @@ module _ (t : Functions) (fs : List Funclet) (program : LinearProgram) (p : Plan
       → length c.kept ≡ 9 → rsp c + 8 < 2 ^ 64 → word m (rsp c) ≡ Ok back
       → LeafStands t m c back
 
-  -- ---- where a body goes on after an exception that is continued
+  -- ---- where a body continues after an exception that is continued
 
   abbrev pub at_instruction : Frame → Instruction → Type 0
   at_instruction b i = instruction_in (body_of program b.body) b.next ≡ Some i
@@ -202,6 +204,7 @@ module _ (t : Functions) (fs : List Funclet) (program : LinearProgram) (p : Plan
 
   -- ---- funclets
 
+  -- the funclet is a `__finally` block
   abbrev pub is_finally : FuncletKind → Bool
   is_finally Filter = false
   is_finally (Finally flag) = true

@@ -55,6 +55,7 @@ abbrev pub making : ℕ → ℕ → ℕ → Bool → List Instr
 making size at check true = enter_code size
 making size at check false = enter_large size at check
 
+-- the code that makes a frame; a leaf function has none
 abbrev pub frame_code : ℕ → ℕ → ℕ → Bool → List Instr
 frame_code size at check true = []
 frame_code size at check false = making size at check (nat_le size PAGE)
@@ -73,6 +74,7 @@ give_back frame =
 abbrev pub base_in : Layout → ℕ
 base_in y = elim y.base [ Some b ↦ b | None ↦ 0 ]
 
+-- where a funclet's parent keeps its base, if that is a funclet
 abbrev pub parent_base : Plan → Option ℕ → Option ℕ
 parent_base p None = None
 parent_base p (Some parent) = (p.layout (FuncletBody parent)).base
@@ -87,21 +89,25 @@ abbrev pub keep_argument : Layout → FuncletKind → List Instr
 keep_argument y Filter = keep_register Rcx y.pointers ∷ []
 keep_argument y (Finally flag) = move W32 Rax Rcx ∷ keep y (Local flag)
 
+-- a function stores its parameters
 abbrev pub function_arguments : Layout → Option LinearFunction → List Instr
 function_arguments y None = []
 function_arguments y (Some f) = parameters_code y 0 f.parameters
 
+-- a funclet keeps its base and its argument
 abbrev pub funclet_arguments : Plan → Layout → Option LinearFunclet → List Instr
 funclet_arguments p y None = []
 funclet_arguments p y (Some f) =
     keep_base (parent_base p f.parent) (base_in y) ++ keep_argument y f.kind
 
+-- what a body stores as it begins
 abbrev pub arguments_code : LinearProgram → Plan → BodyName → List Instr
 arguments_code program p (FunctionBody f) =
     function_arguments (p.layout (FunctionBody f)) (slice_get program.functions f)
 arguments_code program p (FuncletBody k) =
     funclet_arguments p (p.layout (FuncletBody k)) (slice_get program.funclets k)
 
+-- the code before a body's first instruction
 abbrev pub entry_code : LinearProgram → Plan → Sites → BodyName → List Instr
 entry_code program p q name =
     frame_code (p.layout name).frame (begin_of p q name) q.check_stack (p.leaf name)

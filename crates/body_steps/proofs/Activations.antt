@@ -1,4 +1,4 @@
--- Where the locals of an activation stand in the list.
+-- Where the locals of an activation are in the list.
 use Rattle.std.proofs.Common.{◌≡◌, ℕ, zero, suc, ◌+◌, ◌*◌, ◌≤◌, Some, List, [], ◌∷◌, ◌++◌, length, refl, sym, subst, ◌∙◌, arith, inl, inr, length-append}
 use Rattle.std.specs.Prelude.{slice_get}
 use Rattle.host_layout.specs.declared.range.TheConstants.{STACK_END}

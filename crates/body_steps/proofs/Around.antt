@@ -165,7 +165,7 @@ module _ (t : Functions) (fs : List Funclet) (program : LinearProgram) (p : Plan
       owner = owner_here_framed;
     }
 
-    -- the instruction that the configuration is at stands in the body's code
+    -- the instruction that the configuration is at is in the body's code
     pub code_at : (i : Instruction) → instruction_at program c ≡ Some i → slice_get (code t fs program p q image made.room s c b (counted_here c known)).code c.frame.next ≡ Some i
     code_at i e = label_in (body_of program c.frame.body) b.body.slots.code c.frame.next i b.body.slots.body e
 

@@ -4,8 +4,10 @@ pub mod Words
 pub mod Views
 pub mod Viewed
 pub mod Programs
+pub mod Memories
 pub mod Reaching
 pub mod Becoming
+pub mod Outgoing
 pub mod Homes
 pub mod Next
 pub mod Shadowed

@@ -69,7 +69,7 @@ module _ (t : Functions) (fs : List Funclet) (program : LinearProgram) (p : Plan
   abbrev pub kept_here : List ℕ
   kept_here = kept_of s.cpu.registers
 
-  -- what the body's caller goes on with, and the callers beyond it
+  -- what the body's caller continues with, and the callers beyond it
   abbrev pub caller_here : Context
   caller_here = caller_by kept_here layout_here.frame b.body.back
 

@@ -20,7 +20,7 @@ use Rattle.linked_stack.specs.ImagePlan.{Plan}
 use Rattle.linked_stack.specs.Linked.{Activation, locals_of, activations_below, HoldsWords, temporaries_end, HasActivation, HoldsLocals, IsActivation, HasBase, home_end, HasPointers, IsAbove, HasSpace, below_end, record_room, BodyWaits, FrameWaits, LeafWaits, Linked}
 use Rattle.linked_stack.specs.ListLaws.{Stands}
 use Rattle.linked_stack.proofs.Ends.{words_fit, in_stack}
-use Rattle.linked_stack.proofs.Kept.{ReadsSame, higher, words_kept, frame_kept, leaf_kept, own_kept, frame_stands, leaf_stands, record_stands, list_kept}
+use Rattle.linked_stack.proofs.Kept.{ReadsSame, higher, words_kept, frame_kept, leaf_kept, own_kept, frame_above, frame_stands, leaf_stands, record_stands, list_kept}
 use Rattle.linked_stack.proofs.ListKeeping.{reads_other}
 use Rattle.body_steps.specs.Stores.{with_values_if, with_values, KeepsStackBut, OwnerHasFrame, ActivationsAreStored}
 use Rattle.body_steps.proofs.Activations.{stand, locals_count, got_before, got_last}
@@ -158,23 +158,6 @@ module _ (m m' : Memory) (t : Functions) (fs : List Funclet) (program : LinearPr
     space = h.space;
   }
 
-  -- its return address lies above the locals
-  own_frame : (c : Context) (f : StackFrame) → to ≤ rsp c + f.size → rsp c + f.size + 8 ≤ STACK_END → ReadsSame m m' to STACK_END → FrameStands t m c f → FrameStands t m' c f
-  own_frame c f le top r s = record {
-    live = s.live;
-    not_filter = s.not_filter;
-    not_finally = s.not_finally;
-    found = s.found;
-    past_prologue = s.past_prologue;
-    not_epilogue = r.tails f.entry.info.frame_register c.rip ∙ s.not_epilogue;
-    codes = s.codes;
-    no_register = s.no_register;
-    no_parents = s.no_parents;
-    kept = s.kept;
-    room = s.room;
-    returns = r.words (rsp c + f.size) f.return_address le top s.returns;
-  }
-
   -- ---- all of them
 
   abbrev Fits : List Activation → Type 0
@@ -218,7 +201,7 @@ module _ (m m' : Memory) (t : Functions) (fs : List Funclet) (program : LinearPr
         let outermost = list_kept m m' t fs program p (after_frame c f) is below outer (higher m m' STACK_END to (rsp (after_frame c f)) (omega arith) r') rest linked in
         subst (λ acts. Stands t fs program p m' c (Framed f ∷ is) (Waits b ∷ below) acts) (sym (first_changes a outer k values own.number))
         (record {
-          stack = (own_frame c f le (omega arith) r' frame, outermost.stack);
+          stack = (frame_above m m' STACK_END t fs program p to c f r' le (omega arith) frame, outermost.stack);
           linked = (
             record {
               framed = h.framed;

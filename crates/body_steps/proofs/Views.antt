@@ -62,6 +62,25 @@ own_number a outer k e =
     let n : length (locals_of outer) ≡ k = locals_count outer ∙ sym e in
     subst (λ x. slice_get (locals_of outer ++ a.values ∷ []) x ≡ Some a.values) n (got_last (locals_of outer) a.values)
 
+-- locals and temporaries lie apart in the first bytes from RSP on
+own_placed : (m : Memory) (y : Layout) (temporaries sp size k f room : ℕ) (a : Activation) (outer : List Activation) → y.base ≡ None → HasActivation m y sp size k (a ∷ outer) (FunctionBody f)
+    → STACK_START ≤ sp → sp + room ≤ STACK_END → room < 2 ^ 31 → y.temporaries + 8 * temporaries ≤ room → y.locals + 8 * length a.values ≤ room
+    → (sp + (y.locals + 8 * length a.values) ≤ sp + y.temporaries) ⊎ (sp + (y.temporaries + 8 * temporaries) ≤ sp + y.locals) → SlotsPlaced m y temporaries sp k (a ∷ outer)
+own_placed m y temporaries sp size k f room a outer none h low high small temps locals apart = record {
+  base = sp;
+  values = a.values;
+  number = own_number a outer k h.activation.number;
+  holds = words_shorter m (sp + y.locals) (sp + size) a.values h.values;
+  sp_low = low;
+  sp_high = omega arith;
+  base_low = low;
+  base_high = omega arith;
+  temporaries_small = omega arith;
+  locals_small = omega arith;
+  apart = apart;
+  kept = subst (λ o. KeepsSlot m y o sp sp) (sym none) refl;
+}
+
 pub function_placed : (m : Memory) (y : Layout) (b : LinearBody) (sp k f : ℕ) (acts : List Activation) → IsFunctionLayout y b → STACK_START ≤ sp → sp + y.frame ≤ STACK_END → HasActivation m y sp y.frame k acts (FunctionBody f) → SlotsPlaced m y b.temporaries sp k acts
 function_placed m y b sp k f [] l low high h = absurd h
 function_placed m y b sp k f (a ∷ outer) l low high h =
@@ -69,20 +88,7 @@ function_placed m y b sp k f (a ∷ outer) l low high h =
     let t = l.temporaries in
     let small = l.small in
     let more = l.locals in
-    record {
-      base = sp;
-      values = a.values;
-      number = own_number a outer k h.activation.number;
-      holds = words_shorter m (sp + y.locals) (sp + y.frame) a.values h.values;
-      sp_low = low;
-      sp_high = omega arith;
-      base_low = low;
-      base_high = omega arith;
-      temporaries_small = omega arith;
-      locals_small = omega arith;
-      apart = inr (omega arith);
-      kept = subst (λ o. KeepsSlot m y o sp sp) (sym l.none) refl;
-    }
+    own_placed m y b.temporaries sp y.frame k f y.frame a outer l.none h low high (omega arith) (omega arith) (omega arith) (inr (omega arith))
 
 pub leaf_placed : (m : Memory) (y : Layout) (b : LinearBody) (sp k f : ℕ) (acts : List Activation) → IsLeafLayout y b → STACK_START ≤ sp → sp + home_end ≤ STACK_END → HasActivation m y sp y.temporaries k acts (FunctionBody f) → SlotsPlaced m y b.temporaries sp k acts
 leaf_placed m y b sp k f [] l low high h = absurd h
@@ -91,20 +97,7 @@ leaf_placed m y b sp k f (a ∷ outer) l low high h =
     let t = l.temporaries in
     let few = l.few in
     let first = l.locals in
-    record {
-      base = sp;
-      values = a.values;
-      number = own_number a outer k h.activation.number;
-      holds = words_shorter m (sp + y.locals) (sp + y.temporaries) a.values h.values;
-      sp_low = low;
-      sp_high = omega arith;
-      base_low = low;
-      base_high = omega arith;
-      temporaries_small = omega arith;
-      locals_small = omega arith;
-      apart = inl (omega arith);
-      kept = subst (λ o. KeepsSlot m y o sp sp) (sym l.none) refl;
-    }
+    own_placed m y b.temporaries sp y.temporaries k f home_end a outer l.none h low high (omega arith) (omega arith) (omega arith) (inl (omega arith))
 
 -- ---- a funclet's, further up
 

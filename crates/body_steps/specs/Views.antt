@@ -23,6 +23,7 @@ seen_by_templates s =
       memory = s.memory;
     }
 
+-- how many locals and temporaries a body has
 abbrev pub counts_of : LinearBody → Counts
 counts_of b = record { locals = b.locals; temporaries = b.temporaries }
 
@@ -38,7 +39,7 @@ module _ (program : LinearProgram) (p : Plan) where
         base = base;
       }
 
-  -- its slots, as they stand in memory, and the source's memory
+  -- its slots, as they are in memory, and the source's memory
   abbrev pub state_of : State → Configuration → (base : ℕ) → BodyState
   state_of s c base =
       body_in_memory (p.layout c.frame.body) (register s.cpu Rsp) base s.memory c.store.memory
@@ -51,6 +52,7 @@ module _ (program : LinearProgram) (p : Plan) where
         → slots.slots (Temporary i) ≡ v
     pub source : slots.memory ≡ c.store.memory
 
+  -- a state as templates see it
   pub record HasView (s : State) (c : Configuration) : Type 0 where
     pub is_machine : s ≡ machine (seen_by_templates s) s.cpu.rip s.cpu.flags
     pub body : LinearBody

@@ -3,11 +3,12 @@ use Rattle.std.specs.Prelude.{◌≡◌, List, ◌++◌, Option, Some, None}
 use Rattle.seh_num.specs.declared.width.Width.TheVariants.{W32}
 use Rattle.seh_num.specs.declared.event.Event.{Event}
 use Rattle.seh_num.specs.Widths.{signed}
+use Rattle.seh_num.specs.Shown.{Shown}
 use Rattle.c_checked.specs.Program.{Program}
 use Rattle.c_model.specs.declared.ended.Ended.{Ended}
 use Rattle.c_model.specs.declared.ended.Ended.TheVariants.{Exit}
 use Rattle.c_model.specs.State.{Result, Value, End, how_of, state_of}
-use Rattle.c_model.specs.Meaning.{does, Shown}
+use Rattle.c_model.specs.Meaning.{does}
 use Rattle.c_model.specs.Laws.{IsPrefixOf}
 use Rattle.source_machine.specs.Frames.{Next}
 use Rattle.source_machine.specs.Machine.{Machine, step}
@@ -45,13 +46,13 @@ end_of (End e) = e
 end_of how = None
 
 -- the receiver took all that a program shows, which ended so
-pub record Means {X : Type 0} (took : X → List Event → X → Type 0) (meaning : Shown)
+pub record Means {X : Type 0} (took : X → List Event → X → Type 0) (meaning : Shown Ended)
     (end : Option Ended) (x x' : X) : Type 0 where
   pub took_events : took x meaning.events x'
   pub ended : meaning.end ≡ end
 
 -- the receiver took the front of what a program shows
-pub record MeansPart {X : Type 0} (took : X → List Event → X → Type 0) (meaning : Shown)
+pub record MeansPart {X : Type 0} (took : X → List Event → X → Type 0) (meaning : Shown Ended)
     (x x' : X) : Type 0 where
   pub shown : List Event
   pub took_shown : took x shown x'

@@ -1,12 +1,12 @@
 -- The text of a program's meaning: a line for each event that is shown, and one for the end.
 use Rattle.std.specs.Prelude.{◌≡◌, ℕ, Bool, List, ◌++◌, codes, Option, Some, None}
 use Rattle.std.specs.Fmt.{decimal, signed_decimal}
+use Rattle.seh_num.specs.Shown.{Shown}
 use Rattle.seh_io.specs.Streams.{Rose, Grew}
 use Rattle.seh_io.specs.Text.{code_text, address_text, ended, lines}
 use Rattle.seh_io.specs.Writer.{TookPart}
 use Rattle.c_model.specs.declared.ended.Ended.{Ended}
 use Rattle.c_model.specs.declared.ended.Ended.TheVariants.{Exit, Unhandled, Undefined, Deep, OutOfSteps}
-use Rattle.c_model.specs.Meaning.{Shown}
 use Rattle.c_interpret.specs.declared.interpret.MeanErr.{MeanErr}
 use Rattle.c_interpret.specs.declared.interpret.MeanErr.TheVariants.{Write, Memory}
 
@@ -25,7 +25,7 @@ abbrev pub ended_within : ℕ → Option Ended → Ended
 ended_within steps None = OutOfSteps steps
 ended_within steps (Some e) = e
 
-abbrev pub text : Bool → ℕ → Shown → List ℕ
+abbrev pub text : Bool → ℕ → Shown Ended → List ℕ
 text trace steps shown = lines trace shown.events ++ ended_line (ended_within steps shown.end)
 
 -- after a fault, and where memory is wanting, the sink took a part of the text from the front

@@ -4,12 +4,13 @@ use Rattle.std.specs.Prelude.{Bool, true, false, slice_get, ℤ, Option, Some, N
 use Rattle.std.proofs.lemmas.List.{append_assoc, append-nil}
 use Rattle.std.proofs.lemmas.Option.{none-some}
 use Rattle.seh_num.specs.declared.event.Event.{Event}
+use Rattle.seh_num.specs.Shown.{Shown}
 use Rattle.c_checked.specs.Program.{Program}
 use Rattle.c_model.specs.declared.ended.Ended.{Ended}
 use Rattle.c_model.specs.State.{State, Result, Value, End, Outcome, Gives, how_of, state_of}
 use Rattle.c_model.specs.Tasks.{counted}
 use Rattle.c_model.specs.Expressions.{enter}
-use Rattle.c_model.specs.Meaning.{Shown, perform, within, start, outside, main_arguments, ran, shows, meaning, is_calm}
+use Rattle.c_model.specs.Meaning.{perform, within, start, outside, main_arguments, ran, shows, meaning, is_calm}
 use Rattle.c_model.specs.Laws.{IsPrefixOf, ShowsMore, EndStays, CalmBefore, EventsGrow}
 use Rattle.c_model.proofs.Relations.{Relation, with_left}
 use Rattle.c_model.proofs.RelatedMeanings.{Related, perform_go, enter_go}
@@ -210,4 +211,4 @@ calm_before program arg n k calm = by_end (meaning program arg n).end refl
   where
     by_end : (x : Option Ended) → (meaning program arg n).end ≡ x → is_calm x ≡ true
     by_end None at = refl
-    by_end (Some e) at = subst (λ y. is_calm y ≡ true) at (subst (λ (s : Shown). is_calm s.end ≡ true) (end_stays program arg n k e at) calm)
+    by_end (Some e) at = subst (λ y. is_calm y ≡ true) at (subst (λ (s : Shown Ended). is_calm s.end ≡ true) (end_stays program arg n k e at) calm)

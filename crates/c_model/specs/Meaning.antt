@@ -1,8 +1,8 @@
 -- What a program means: what it shows within some steps, and how it ends.
 use Rattle.std.specs.Prelude.{ℕ, zero, suc, Bool, true, false, List, [], ◌∷◌, slice_get, ℤ, Option, Some, None}
 use Rattle.seh_num.specs.declared.width.Width.TheVariants.{W32, W64}
-use Rattle.seh_num.specs.declared.event.Event.{Event}
 use Rattle.seh_num.specs.Widths.{signed, wrapped}
+use Rattle.seh_num.specs.Shown.{Shown}
 use Rattle.flat_memory.specs.Memory.{first_refused, number_at, with_number}
 use Rattle.c_operations.specs.declared.operation.Size.{Size}
 use Rattle.c_checked.specs.Program.{Program, Function}
@@ -68,17 +68,13 @@ ran program arg n =
     enter (does program) main (main_arguments main arg) outside (start program n)
 
 -- the events within some steps, and the end, if it is within them too
-pub record Shown : Type 0 where
-  pub events : List Event
-  pub end : Option Ended
-
-abbrev pub shows : Outcome → Shown
+abbrev pub shows : Outcome → Shown Ended
 shows (Gives (Value v) st) = record { events = st.events; end = Some (Exit (signed W32 v)) }
 shows (Gives (End e) st) = record { events = st.events; end = e }
 shows (Gives how st) = record { events = st.events; end = None }
 
 -- what a program shows within n steps, from an argument
-abbrev pub meaning : Program → ℤ → ℕ → Shown
+abbrev pub meaning : Program → ℤ → ℕ → Shown Ended
 meaning program arg n = shows (ran program arg n)
 
 -- ---- Calm

@@ -2,20 +2,21 @@
 use Rattle.std.specs.Prelude.{◌≡◌, ℕ, true, false, List, [], ◌∷◌, pos, negsuc, Some, None}
 use Rattle.seh_num.specs.declared.event.Event.{Event}
 use Rattle.seh_num.specs.declared.event.Event.TheVariants as events
+use Rattle.seh_num.specs.Shown.{Shown}
 use Rattle.c_operations.specs.declared.operation.Size.TheVariants.{Int}
 use Rattle.c_checked.specs.Expression.{Constant, Read, Assign, Call, Global, Indirection, Done, Next}
 use Rattle.c_checked.specs.Statement.{Always, Funclet, If, Leave}
 use Rattle.c_checked.specs.Program.{Program}
 use Rattle.c_model.specs.declared.ended.Ended.{Ended}
 use Rattle.c_model.specs.declared.ended.Ended.TheVariants.{Exit, Unhandled}
-use Rattle.c_model.specs.Meaning.{Shown, meaning}
+use Rattle.c_model.specs.Meaning.{meaning}
 use Rattle.c_model.specs.Source.{first_data}
 use Rattle.c_model.specs.Short.{kept, long, lit, minus, plus, subtract, multiply, divide, equal, int, pointer, cast, local, global, evaluate, put, raise, protect, answer, except, finally, code, code_is, abnormal, function, main_alone, with_main}
 
-abbrev pub ended : List Event → Ended → Shown
+abbrev pub ended : List Event → Ended → Shown Ended
 ended es e = record { events = es; end = Some e }
 
-abbrev pub unfinished : List Event → Shown
+abbrev pub unfinished : List Event → Shown Ended
 unfinished es = record { events = es; end = None }
 
 abbrev pub Shows : Program → ℕ → List Event → Ended → Type 0

@@ -2,8 +2,10 @@
 use Rattle.std.proofs.Common.{◌≡◌, ℕ, ◌+◌, ◌-◌, ◌≤◌, sym, ap, ◌∙◌, subst, arith, inl, inr}
 use Rattle.std.specs.Prelude.{true}
 use Rattle.std.proofs.lemmas.Bool.{cases_lt}
-use Rattle.c_model.specs.Meaning.{Shown, is_calm, Calm}
+use Rattle.seh_num.specs.Shown.{Shown}
+use Rattle.c_model.specs.Meaning.{is_calm, Calm}
 use Rattle.c_model.proofs.MoreSteps.{calm_before, end_stays}
+use Rattle.c_model.specs.declared.ended.Ended.{Ended}
 use Rattle.calm_runs.specs.Laws.{TameIsCalm, EndedIsTame}
 
 pub tame_is_calm : TameIsCalm
@@ -20,4 +22,4 @@ ended_is_tame program arg n e at calm = λ m. elim (cases_lt m n) [ inl lt ↦ f
     more : (m : ℕ) → n ≤ m → Calm program arg m ≡ true
     more m le =
         let all : n + (m - n) ≡ m = omega arith in
-        subst (λ k. Calm program arg k ≡ true) all (ap (λ (s : Shown). is_calm s.end) (end_stays program arg n (m - n) e at) ∙ calm)
+        subst (λ k. Calm program arg k ≡ true) all (ap (λ (s : Shown Ended). is_calm s.end) (end_stays program arg n (m - n) e at) ∙ calm)

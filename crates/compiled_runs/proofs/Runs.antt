@@ -3,11 +3,11 @@ use Rattle.std.proofs.Common.{◌≡◌, ℕ, ◌+◌, ◌*◌, true, Option, So
 use Rattle.std.proofs.lemmas.List.{append_assoc}
 use Rattle.seh_num.specs.declared.event.Event.{Event}
 use Rattle.seh_num.specs.declared.end.RunEnd.{RunEnd}
+use Rattle.seh_num.specs.Shown.{Shown}
 use Rattle.host_model.specs.HostStep.{host}
-use Rattle.host_model.specs.Machine as machines
 use Rattle.host_model.specs.Machine.{run}
 use Rattle.c_model.specs.declared.ended.Ended.{Ended}
-use Rattle.c_model.specs.Meaning.{Shown, meaning, is_calm}
+use Rattle.c_model.specs.Meaning.{meaning, is_calm}
 use Rattle.c_model.specs.Laws.{IsPrefixOf}
 use Rattle.linear_machine.specs.Frames.{Seen, Running, Finished, Stuck}
 use Rattle.linear_machine.specs.Run.{seen, linear_meaning}
@@ -30,7 +30,7 @@ prefix_then : (xs ys zs : List Event) → IsPrefixOf xs ys → IsPrefixOf ys zs 
 prefix_then xs ys zs a b = (a.0 ++ b.0, sym (append_assoc xs a.0 b.0) ∙ ap (λ es. es ++ b.0) a.1 ∙ b.1)
 
 -- a run that shows all that linear code shows, which shows all that the program means
-through : (meant linear : Shown) (machine : machines.Shown) → IsPrefixOf meant.events linear.events → ((e : Ended) → meant.end ≡ Some e → linear ≡ meant) → ShowsAll linear machine → ShowsAll meant machine
+through : (meant linear : Shown Ended) (machine : Shown RunEnd) → IsPrefixOf meant.events linear.events → ((e : Ended) → meant.end ≡ Some e → linear ≡ meant) → ShowsAll linear machine → ShowsAll meant machine
 through meant linear machine front same all = record {
   shows = (front.0 ++ all.shows.0, all.shows.1 ∙ ap (λ es. es ++ all.shows.0) (sym front.1) ∙ append_assoc meant.events front.0 all.shows.0);
   ends = λ e h. by meant.end refl e h;
@@ -40,10 +40,10 @@ through meant linear machine front same all = record {
     by None g e h = cc
     by (Some x) g e h =
         let is : linear ≡ meant = same x g in
-        all.ends e (ap (λ (z : Shown). run_end_of z.end) is ∙ ap run_end_of g ∙ h) ∙ ap (λ (z : Shown). let o : machines.Shown = record { events = z.events; end = Some e } in o) is
+        all.ends e (ap (λ (z : Shown Ended). run_end_of z.end) is ∙ ap run_end_of g ∙ h) ∙ ap (λ (z : Shown Ended). let o : Shown RunEnd = record { events = z.events; end = Some e } in o) is
 
 -- a run that shows no more than linear code, which shows no more than the program means
-back : (meant linear : Shown) (machine : machines.Shown) → IsPrefixOf linear.events meant.events → ((e : Ended) → linear.end ≡ Some e → meant ≡ linear) → ShowsNoMore linear machine → ShowsNoMore meant machine
+back : (meant linear : Shown Ended) (machine : Shown RunEnd) → IsPrefixOf linear.events meant.events → ((e : Ended) → linear.end ≡ Some e → meant ≡ linear) → ShowsNoMore linear machine → ShowsNoMore meant machine
 back meant linear machine front same less = record {
   shows = prefix_then machine.events linear.events meant.events less.shows front;
   ends = λ e h. by linear.end refl e (less.ends e h);
@@ -51,15 +51,15 @@ back meant linear machine front same less = record {
   where
     by : (end : Option Ended) → linear.end ≡ end → (e : RunEnd) → (run_end_of linear.end ≡ Some e) × (machine.events ≡ linear.events) → (run_end_of meant.end ≡ Some e) × (machine.events ≡ meant.events)
     by None g e h = absurd (let no : None ≡ Some e = sym (ap run_end_of g) ∙ h.0 in cc)
-    by (Some x) g e h = let is : meant ≡ linear = same x g in (ap (λ (z : Shown). run_end_of z.end) is ∙ h.0, h.1 ∙ ap (λ (z : Shown). z.events) (sym is))
+    by (Some x) g e h = let is : meant ≡ linear = same x g in (ap (λ (z : Shown Ended). run_end_of z.end) is ∙ h.0, h.1 ∙ ap (λ (z : Shown Ended). z.events) (sym is))
 
 -- linear code is calm where the program is
-calm_too : (meant linear : Shown) → ((e : Ended) → linear.end ≡ Some e → meant ≡ linear) → is_calm meant.end ≡ true → is_calm linear.end ≡ true
+calm_too : (meant linear : Shown Ended) → ((e : Ended) → linear.end ≡ Some e → meant ≡ linear) → is_calm meant.end ≡ true → is_calm linear.end ≡ true
 calm_too meant linear same calm = by linear.end refl
   where
     by : (end : Option Ended) → linear.end ≡ end → is_calm linear.end ≡ true
     by None g = ap is_calm g
-    by (Some x) g = ap (λ (z : Shown). is_calm z.end) (sym (same x g)) ∙ calm
+    by (Some x) g = ap (λ (z : Shown Ended). is_calm z.end) (sym (same x g)) ∙ calm
 
 pub all : MatchedRunsShowAll
 all t fs program sound credit arg first n s begins few =

@@ -20,6 +20,7 @@ use Rattle.whole_runs.specs.Laws.{Begins, ShowsAll, ShowsNoMore}
 abbrev pub pace : ℕ
 pace = 16
 
+-- turns before `main` begins, at most
 abbrev pub most_before_main : ℕ
 most_before_main = 224
 

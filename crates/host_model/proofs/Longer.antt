@@ -3,6 +3,7 @@ use Rattle.std.proofs.Common.{◌≡◌, ℕ, zero, suc, ◌+◌, List, [], ◌+
 use Rattle.std.proofs.lemmas.List.{append-nil}
 use Rattle.seh_num.specs.declared.event.Event.{Event}
 use Rattle.seh_num.specs.declared.end.RunEnd.{RunEnd}
+use Rattle.seh_num.specs.Shown.{Shown}
 use Rattle.pe_image.specs.declared.refusal.ImageErr.{ImageErr}
 use Rattle.pe_image.specs.Image.{Image}
 use Rattle.pe_image.specs.Reading.{reading}
@@ -12,13 +13,13 @@ use Rattle.host_model.specs.Turns.{shown_in}
 use Rattle.host_model.specs.HostStep.{Host, Live, Ended, host, turn, after}
 use Rattle.host_model.specs.Loading.{start}
 use Rattle.host_model.specs.Funclets.{funclets}
-use Rattle.host_model.specs.Machine.{Shown, or_turn, run, functions_in, machine_of, machine}
+use Rattle.host_model.specs.Machine.{or_turn, run, functions_in, machine_of, machine}
 use Rattle.host_model.specs.Laws.{Covers, Begins, RunsShowWhatWasShown, MoreTurnsCover, ImagesCover, CoveringIsTransitive}
 
-pub covers_self : (x : Shown) → Covers x.events x.end x
+pub covers_self : (x : Shown RunEnd) → Covers x.events x.end x
 covers_self x = record {
   shows = ([], sym (append-nil x.events));
-  ends = λ e h. ap (λ (o : Option RunEnd). let y : Shown = record { events = x.events; end = o } in y) h;
+  ends = λ e h. ap (λ (o : Option RunEnd). let y : Shown RunEnd = record { events = x.events; end = o } in y) h;
 }
 
 -- a run shows what was shown before
@@ -34,7 +35,7 @@ unfolding run
 begins f fs zero h out = ([], sym (append-nil out))
 begins f fs (suc k) h out = begins_or f fs k out h (λ g ev. begins f fs k g ev)
 
-pub none_yet : (out : List Event) (x : Shown) → Begins out x → Covers out None x
+pub none_yet : (out : List Event) (x : Shown RunEnd) → Begins out x → Covers out None x
 none_yet out x b = record { shows = b; ends = λ e h. absurd cc }
 
 longer_or : (f : Functions) (fs : List Funclet) (k j : ℕ) (out : List Event) (h : Host) → ((g : Host) (ev : List Event) → Covers (run f fs k g ev).events (run f fs k g ev).end (run f fs (k + j) g ev)) → Covers (or_turn f fs (run f fs k) out h).events (or_turn f fs (run f fs k) out h).end (or_turn f fs (run f fs (k + j)) out h)
@@ -59,7 +60,7 @@ longer f fs (suc k) j h out =
 pub covers_then : CoveringIsTransitive
 covers_then ev end y z a b = record {
   shows = (a.shows.0 ++ b.shows.0, b.shows.1 ∙ ap (λ (t : List Event). t ++ b.shows.0) a.shows.1 ∙ append_assoc ev a.shows.0 b.shows.0);
-  ends = λ e h. let same = a.ends e h in b.ends e (ap (λ (w : Shown). w.end) same) ∙ ap (λ (w : Shown). let v : Shown = record { events = w.events; end = Some e } in v) same;
+  ends = λ e h. let same = a.ends e h in b.ends e (ap (λ (w : Shown RunEnd). w.end) same) ∙ ap (λ (w : Shown RunEnd). let v : Shown RunEnd = record { events = w.events; end = Some e } in v) same;
 }
 
 -- ---- images

@@ -3,12 +3,13 @@ use Rattle.std.proofs.Common.{◌≡◌, ℕ, zero, suc, ◌+◌, List, [], ◌+
 use Rattle.std.proofs.lemmas.List.{append-nil}
 use Rattle.seh_num.specs.declared.event.Event.{Event}
 use Rattle.seh_num.specs.declared.end.RunEnd.{RunEnd}
+use Rattle.seh_num.specs.Shown.{Shown}
 use Rattle.virtual_unwind.specs.CallerOf.{Functions}
 use Rattle.host_model.specs.declared.funclet.Funclet.{Funclet}
 use Rattle.host_model.specs.Turns.{shown_in}
 use Rattle.host_model.specs.HostStep.{Host, Live, Ended, next, shown_next, turn, after, end_of}
-use Rattle.host_model.specs.Machine.{Shown, or_turn, run}
-use Rattle.host_model.specs.Laws.{after_turns, shown_in_turns, RunsAreTurns, LaterTurnsGoOn, EndsStay}
+use Rattle.host_model.specs.Machine.{or_turn, run}
+use Rattle.host_model.specs.Laws.{after_turns, shown_in_turns, RunsAreTurns, TurnsSplit, EndsStay}
 
 -- a turn more, at the end
 pub after_one_more : (f : Functions) (fs : List Funclet) (n : ℕ) (h : Host) → after_turns f fs (suc n) h ≡ next f fs (after_turns f fs n h)
@@ -40,8 +41,8 @@ shown_more f fs (suc n) m h =
     ∙ ap (λ t. shown_next f fs h ++ t) (shown_more f fs n m (next f fs h))
     ∙ sym (append_assoc (shown_next f fs h) (shown_in_turns f fs n (next f fs h)) (shown_in_turns f fs m (after_turns f fs n (next f fs h))))
 
-pub later_turns : LaterTurnsGoOn
-later_turns f fs n m h = record { host = after_more f fs n m h; shown = shown_more f fs n m h }
+pub turns_split : TurnsSplit
+turns_split f fs n m h = record { host = after_more f fs n m h; shown = shown_more f fs n m h }
 
 -- an end stays
 pub ends_stay : EndsStay
@@ -59,16 +60,16 @@ of_ended : (f : Functions) (fs : List Funclet) (n : ℕ) (e : RunEnd) (out : Lis
 of_ended f fs n e out =
     let stays = ends_stay f fs n e in
     run_ended f fs n e out
-    ∙ ap (λ es. let x : Shown = record { events = es; end = Some e } in x) (sym (append-nil out))
-    ∙ ap (λ es. let x : Shown = record { events = out ++ es; end = Some e } in x) (sym stays.shown)
-    ∙ ap (λ (h : Host). let x : Shown = record { events = out ++ shown_in_turns f fs n (Ended e); end = end_of h } in x) (sym stays.host)
+    ∙ ap (λ es. let x : Shown RunEnd = record { events = es; end = Some e } in x) (sym (append-nil out))
+    ∙ ap (λ es. let x : Shown RunEnd = record { events = out ++ es; end = Some e } in x) (sym stays.shown)
+    ∙ ap (λ (h : Host). let x : Shown RunEnd = record { events = out ++ shown_in_turns f fs n (Ended e); end = end_of h } in x) (sym stays.host)
 
 pub runs_are_turns : RunsAreTurns
 unfolding run after_turns shown_in_turns
-runs_are_turns f fs zero h out = ap (λ es. let x : Shown = record { events = es; end = end_of h } in x) (sym (append-nil out))
+runs_are_turns f fs zero h out = ap (λ es. let x : Shown RunEnd = record { events = es; end = end_of h } in x) (sym (append-nil out))
 runs_are_turns f fs (suc n) (Ended e) out = of_ended f fs (suc n) e out
 runs_are_turns f fs (suc n) (Live s) out =
     let shown = shown_in (turn f fs s) in
     let rest = after (turn f fs s) in
     runs_are_turns f fs n rest (out ++ shown)
-    ∙ ap (λ es. let x : Shown = record { events = es; end = end_of (after_turns f fs n rest) } in x) (append_assoc out shown (shown_in_turns f fs n rest))
+    ∙ ap (λ es. let x : Shown RunEnd = record { events = es; end = end_of (after_turns f fs n rest) } in x) (append_assoc out shown (shown_in_turns f fs n rest))

@@ -1,4 +1,4 @@
--- The dispatcher: what is done between two funclets. All suspended work stands in records in the
+-- The dispatcher: what is done between two funclets. All suspended work is in records in the
 -- machine's stack.
 use Rattle.std.specs.Prelude.{ℕ, zero, suc, ◌+◌, ◌%◌, ◌^◌, Bool, true, false, ◌==◌, nat_le, List, [], ◌∷◌, replicate, Option, Some, None, slice_index, slice_set, ◌-◌}
 use Rattle.seh_num.specs.declared.width.Width.TheVariants.{W32, W64}
@@ -49,6 +49,7 @@ abbrev pub if_placed : State → ℕ → DispatchRecord → (State → Turn) →
 if_placed s at r go (Some a) = Ends [] (ends.StackLimit a)
 if_placed s at r go None = go (record { cpu = s.cpu; memory = placed s.memory at r })
 
+-- the record is placed, and then the turn goes by it
 abbrev pub after_placing : State → ℕ → DispatchRecord → (State → Turn) → Turn
 after_placing s at r go = if_placed s at r go (misplaced s.memory at)
 
@@ -74,9 +75,11 @@ entered s at back handler first frame =
 
 -- ---- landing
 
+-- all flags are clear
 abbrev pub no_flags : Flags
 no_flags = record { carry = false; zero = false; sign = false; overflow = false }
 
+-- a nonvolatile register of a context, by its place there
 abbrev pub kept : Context → ℕ → ℕ
 kept c k = slice_index c.kept k
 
@@ -90,20 +93,24 @@ landed c rax target = record {
   flags = no_flags;
 }
 
+-- the state where a frame is landed in
 abbrev pub at_landing : State → Context → ℕ → ℕ → State
 at_landing s c rax target = record { cpu = landed c rax target; memory = s.memory }
 
+-- an unwinding for an exception shows that an `__except` block took over
 abbrev pub by_purpose : State → DispatchRecord → Context → Kind → Turn
 by_purpose s r c Search = Continues (at_landing s c 0 r.target) []
 by_purpose s r c ExceptionUnwind =
     Continues (at_landing s c r.code.0 r.target) (events.Except r.code ∷ [])
 by_purpose s r c LocalUnwind = Continues (at_landing s c 0 r.target) []
 
+-- an unwinding lands in its target frame
 abbrev pub land : State → DispatchRecord → Context → Turn
 land s r c = by_purpose s r c r.kind
 
--- ---- unwinding and searching, from a record that stands at its place
+-- ---- unwinding and searching, from a record that is at its place
 
+-- an unwinding calls a `__finally` block, lands or stops
 abbrev pub after_unwind : State → ℕ → DispatchRecord → UnwindResult → Turn
 after_unwind s at r (unwinds.Finally handler frame row walk) =
     after_placing s at (in_hand r frame row walk)
@@ -111,6 +118,7 @@ after_unwind s at r (unwinds.Finally handler frame row walk) =
 after_unwind s at r (unwinds.Land c) = land s r c
 after_unwind s at r (unwinds.Stop y) = stopped y
 
+-- the unwinding of a record, from its walk on
 abbrev pub unwinds_on : Functions → State → ℕ → DispatchRecord → Turn
 unwinds_on t s at r =
     after_unwind s at r (unwind steps t s.memory r.target_frame r.target (walk_in r))
@@ -120,11 +128,13 @@ abbrev pub accepting : DispatchRecord → ℕ → ℕ → DispatchRecord
 accepting r frame target =
     begun (record r { kind = ExceptionUnwind; target_frame = frame; target = target })
 
+-- an `__except` block accepts: the record is for an unwinding from now on
 abbrev pub accepted : Functions → State → ℕ → DispatchRecord → ℕ → ℕ → Turn
 accepted t s at r frame target =
     after_placing s at (accepting r frame target)
     (λ u. unwinds_on t u at (accepting r frame target))
 
+-- a search calls a filter, accepts, finds no handler or stops
 abbrev pub after_search : Functions → State → ℕ → DispatchRecord → SearchResult → Turn
 after_search t s at r (searches.Filter handler frame row walk) =
     after_placing s at (in_hand r frame row walk)
@@ -133,6 +143,7 @@ after_search t s at r (searches.Accept frame target) = accepted t s at r frame t
 after_search t s at r searches.Nobody = Ends [] (ends.Unhandled r.code)
 after_search t s at r (searches.Stop y) = stopped y
 
+-- the search of a record, from its walk on
 abbrev pub searches_on : Functions → State → ℕ → DispatchRecord → Turn
 searches_on t s at r = after_search t s at r (search steps t s.memory (walk_in r))
 
@@ -143,14 +154,17 @@ abbrev pub write_number : Bool → ℕ
 write_number true = 1
 write_number false = 0
 
+-- ExceptionInformation of a refused access; of any other exception all are 0
 abbrev pub parameters : Option (Bool × ℕ) → List ℕ
 parameters None = replicate EXCEPTION_MAXIMUM_PARAMETERS 0
 parameters (Some x) = write_number x.0 ∷ x.1 ∷ replicate (EXCEPTION_MAXIMUM_PARAMETERS - 2) 0
 
+-- NumberParameters
 abbrev pub count : Option (Bool × ℕ) → ℕ
 count None = 0
 count (Some x) = 2
 
+-- a record that has just begun, from the saved state
 abbrev pub new_record : Kind → Code → ℕ → Option (Bool × ℕ) → Cpu → DispatchRecord
 new_record kind code flags access saved = record {
   kind = kind;
@@ -166,6 +180,7 @@ new_record kind code flags access saved = record {
   walk = context_of saved;
 }
 
+-- the place of a new record: below the saved stack pointer
 abbrev pub place_of : Cpu → ℕ
 place_of saved = place_below (register saved Rsp)
 
@@ -186,6 +201,7 @@ to_target saved frame target =
     record (new_record LocalUnwind (record { 0 = 0 }) 0 None saved)
     { target_frame = frame; target = target }
 
+-- a local unwind, whose record is placed first
 abbrev pub unwound_locally : Functions → State → ℕ → ℕ → Cpu → Turn
 unwound_locally t s frame target saved =
     after_placing s (place_of saved) (to_target saved frame target)
@@ -197,6 +213,7 @@ unwound_locally t s frame target saved =
 abbrev pub noncontinuable : Code
 noncontinuable = NONCONTINUABLE_EXCEPTION
 
+-- the same record, for NONCONTINUABLE_EXCEPTION from the saved state
 abbrev pub again : DispatchRecord → DispatchRecord
 again r =
     begun (record r {
@@ -208,16 +225,19 @@ again r =
       target = 0;
     })
 
+-- the search for that exception's handler
 abbrev pub searched_again : Functions → State → ℕ → DispatchRecord → Turn
 searched_again t s at r = after_placing s at (again r) (λ u. searches_on t u at (again r))
 
+-- it is raised in place of the one that was to be continued
 abbrev pub raised_again : Functions → State → ℕ → DispatchRecord → Turn
 raised_again t s at r = with_event (events.Raise noncontinuable true None) (searched_again t s at r)
 
--- the saved state as it stands in the record
+-- the saved state as it is in the record
 abbrev pub restored : State → DispatchRecord → State
 restored s r = record { cpu = r.saved; memory = s.memory }
 
+-- an exception is continued unless it is noncontinuable
 abbrev pub continued : Functions → State → ℕ → DispatchRecord → Bool → Turn
 continued t s at r true = Continues (restored s r) []
 continued t s at r false = raised_again t s at r
@@ -229,21 +249,26 @@ row_before (r ∷ rows) zero = None
 row_before (r ∷ rows) (suc zero) = Some r
 row_before (r ∷ rows) (suc (suc k)) = row_before rows (suc k)
 
+-- the scope records of an entry
 abbrev pub rows_of : Option Entry → List ScopeRecord
 rows_of None = []
 rows_of (Some e) = e.info.scopes
 
+-- the record names no row to land at
 abbrev pub no_landing : ℕ → Turn
 no_landing at = stopped (stop_cause reasons.BadRecord at)
 
+-- a row of a `__finally` block has no place to land at
 abbrev pub if_finally : Functions → State → ℕ → DispatchRecord → ℕ → Bool → Turn
 if_finally t s at r jump true = no_landing at
 if_finally t s at r jump false = accepted t s at r r.frame ((t.base + jump) % 2 ^ 64)
 
+-- the filter's row accepts
 abbrev pub jumping : Functions → State → ℕ → DispatchRecord → Option ScopeRecord → Turn
 jumping t s at r None = no_landing at
 jumping t s at r (Some row) = if_finally t s at r row.jump_target (row.jump_target == 0)
 
+-- the row whose filter was asked
 abbrev pub asked_row : Functions → DispatchRecord → Option ScopeRecord
 asked_row t r = row_before (rows_of (entry_of t r.walk.rip)) r.row
 
@@ -257,27 +282,33 @@ abbrev pub by_answer : Functions → State → ℕ → DispatchRecord → ℕ �
 by_answer t s at r v true = searches_on t s at r
 by_answer t s at r v false = by_sign t s at r (nat_le (half W32) v)
 
+-- what a filter's answer comes to
 abbrev pub answered : Functions → State → ℕ → DispatchRecord → ℕ → Turn
 answered t s at r v = by_answer t s at r v (v == 0)
 
 -- ---- the host's two return addresses
 
+-- the low 32 bits of RAX
 abbrev pub eax : State → ℕ
 eax s = low W32 (register s.cpu Rax)
 
+-- only a search's record waits for a filter's answer
 abbrev pub if_searching : Functions → State → ℕ → DispatchRecord → Bool → Turn
 if_searching t s at r true =
     with_event (events.Answer (signed W32 (register s.cpu Rax))) (answered t s at r (eax s))
 if_searching t s at r false = stopped (stop_cause reasons.BadRecord at)
 
+-- a filter has returned; its record is the one at RSP, if one is there
 abbrev pub filter_returned : Functions → State → ℕ → Option DispatchRecord → Turn
 filter_returned t s at None = stopped (stop_cause reasons.BadRecord at)
 filter_returned t s at (Some r) = if_searching t s at r (is_search r.kind)
 
+-- only an unwinding's record waits for a `__finally` block
 abbrev pub if_unwinding : Functions → State → ℕ → DispatchRecord → Bool → Turn
 if_unwinding t s at r true = stopped (stop_cause reasons.BadRecord at)
 if_unwinding t s at r false = unwinds_on t s at r
 
+-- a `__finally` block has returned; its record is the one at RSP, if one is there
 abbrev pub finally_returned : Functions → State → ℕ → Option DispatchRecord → Turn
 finally_returned t s at None = stopped (stop_cause reasons.BadRecord at)
 finally_returned t s at (Some r) = if_unwinding t s at r (is_search r.kind)

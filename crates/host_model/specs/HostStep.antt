@@ -36,6 +36,7 @@ abbrev pub returned : State → Result ℕ RefusedAccess → (State → Turn) �
 returned s (Ok a) go = go (back s a)
 returned s (Err refused) go = stopped (stop_cause reasons.Unreadable (register s.cpu Rsp))
 
+-- a service that returns
 abbrev pub returning : State → (State → Turn) → Turn
 returning s go = returned s (loaded s.memory (register s.cpu Rsp) W64) go
 
@@ -48,6 +49,7 @@ abbrev pub answer_number : Bool → ℕ
 answer_number true = 1
 answer_number false = 0
 
+-- whether the pages were allowed, in RAX, and memory with their new rights
 abbrev pub protecting : State → State → Turn
 protecting s u =
     Continues (record {
@@ -57,9 +59,11 @@ protecting s u =
       memory = protected u.memory (register s.cpu Rcx) (signed W32 (register s.cpu Rdx));
     }) []
 
+-- no instruction can be run at RIP
 abbrev pub illegal : State → Turn
 illegal s = stopped (stop_cause reasons.Illegal s.cpu.rip)
 
+-- what each service does; the language handler can't be called
 abbrev pub served : Functions → State → Option Service → Turn
 served t s (Some services.Put) = put s
 served t s (Some services.Protect) = returning s (protecting s)
@@ -100,9 +104,11 @@ abbrev pub over : State → Bool → Host
 over s true = Ended (ends.Exit (signed W32 (register s.cpu Rax)))
 over s false = Live s
 
+-- the host at a state
 abbrev pub host : State → Host
 host s = over s (s.cpu.rip == 0)
 
+-- the host after a turn
 abbrev pub after : Turn → Host
 after (Continues t shown) = host t
 after (Ends shown end) = Ended end
@@ -112,10 +118,12 @@ abbrev pub next : Functions → List Funclet → Host → Host
 next t fs (Live s) = after (turn t fs s)
 next t fs (Ended e) = Ended e
 
+-- what a turn of a host shows
 abbrev pub shown_next : Functions → List Funclet → Host → List Event
 shown_next t fs (Live s) = shown_in (turn t fs s)
 shown_next t fs (Ended e) = []
 
+-- how a host has ended, if it has
 abbrev pub end_of : Host → Option RunEnd
 end_of (Live s) = None
 end_of (Ended e) = Some e

@@ -2,20 +2,22 @@
 use Rattle.std.specs.Prelude.{◌≡◌, ℕ, zero, suc, ◌+◌, List, [], ◌++◌, ℤ, Option, Some}
 use Rattle.seh_num.specs.declared.event.Event.{Event}
 use Rattle.seh_num.specs.declared.end.RunEnd.{RunEnd}
+use Rattle.seh_num.specs.Shown.{Shown}
 use Rattle.virtual_unwind.specs.CallerOf.{Functions}
 use Rattle.host_model.specs.declared.funclet.Funclet.{Funclet}
 use Rattle.host_model.specs.HostStep.{Host, Ended, next, shown_next, end_of}
-use Rattle.host_model.specs.Machine.{Shown, run, machine}
+use Rattle.host_model.specs.Machine.{run, machine}
 
 -- a run shows these events at least; if there is this end, it has ended so and shows nothing else
-pub record Covers (events : List Event) (end : Option RunEnd) (shown : Shown) : Type 0 where
+pub record Covers (events : List Event) (end : Option RunEnd) (shown : Shown RunEnd) : Type 0 where
   pub shows : (more : List Event) × (shown.events ≡ events ++ more)
   pub ends : (e : RunEnd) → end ≡ Some e → shown ≡ record { events = events; end = Some e }
 
 -- a run shows what was shown before it
-abbrev pub Begins : List Event → Shown → Type 0
+abbrev pub Begins : List Event → Shown RunEnd → Type 0
 Begins out shown = (more : List Event) × (shown.events ≡ out ++ more)
 
+-- whatever was shown before is at the front
 abbrev pub RunsShowWhatWasShown : Type 0
 RunsShowWhatWasShown =
     (f : Functions) (fs : List Funclet) (k : ℕ) (h : Host) (out : List Event)
@@ -36,7 +38,7 @@ ImagesCover =
 -- what covers what covers these events covers them
 abbrev pub CoveringIsTransitive : Type 0
 CoveringIsTransitive =
-    (events : List Event) (end : Option RunEnd) (x y : Shown) → Covers events end x
+    (events : List Event) (end : Option RunEnd) (x y : Shown RunEnd) → Covers events end x
     → Covers x.events x.end y → Covers events end y
 
 -- ---- runs as turns one after another
@@ -65,14 +67,16 @@ pub record Stays (f : Functions) (fs : List Funclet) (n : ℕ) (e : RunEnd) : Ty
   pub host : after_turns f fs n (Ended e) ≡ Ended e
   pub shown : shown_in_turns f fs n (Ended e) ≡ []
 
+-- of every host that has ended
 abbrev pub EndsStay : Type 0
 EndsStay = (f : Functions) (fs : List Funclet) (n : ℕ) (e : RunEnd) → Stays f fs n e
 
--- turns made later go on from the host that earlier ones leave
-pub record GoesOn (f : Functions) (fs : List Funclet) (n m : ℕ) (h : Host) : Type 0 where
+-- n + m turns are n turns, and then m from the host that those leave
+pub record Splits (f : Functions) (fs : List Funclet) (n m : ℕ) (h : Host) : Type 0 where
   pub host : after_turns f fs (n + m) h ≡ after_turns f fs m (after_turns f fs n h)
   pub shown : shown_in_turns f fs (n + m) h
       ≡ shown_in_turns f fs n h ++ shown_in_turns f fs m (after_turns f fs n h)
 
-abbrev pub LaterTurnsGoOn : Type 0
-LaterTurnsGoOn = (f : Functions) (fs : List Funclet) (n m : ℕ) (h : Host) → GoesOn f fs n m h
+-- of any numbers of turns
+abbrev pub TurnsSplit : Type 0
+TurnsSplit = (f : Functions) (fs : List Funclet) (n m : ℕ) (h : Host) → Splits f fs n m h

@@ -1,5 +1,6 @@
--- How an image stands in memory, and the state that a run starts from (PE format, "Section Table",
--- "Import Address Table"; the stack, the arena, the services and their places are the host's own).
+-- How an image is placed in memory, and the state that a run starts from (PE format, "Section
+-- Table", "Import Address Table"; the stack, the arena, the services and their places are the
+-- host's own).
 use Rattle.std.specs.Prelude.{ℕ, ◌+◌, ◌-◌, ◌*◌, ◌/◌, ◌%◌, ◌^◌, Bool, true, false, ◌&&◌, ◌==◌, nat_lt, nat_le, if◌then◌else◌, List, [], ◌∷◌, replicate, position, ℤ, codes, Option, Some, None, option_map, Ok, Err, slice_index}
 use Rattle.seh_num.specs.declared.width.Width.TheVariants.{W64}
 use Rattle.seh_num.specs.Widths.{wrapped}
@@ -40,11 +41,13 @@ abbrev pub section_of : ℕ → ℕ → List Section → Option Section
 section_of base a [] = None
 section_of base a (s ∷ ss) = or_else (section_of base a ss) s (covers base a s)
 
+-- readable, writable
 abbrev pub rights_of : Bool → Bool → Rights
 rights_of read true = ReadWrite
 rights_of true false = Read
 rights_of false false = Nothing
 
+-- the protection of a section's pages
 abbrev pub section_mode : Section → Protection
 section_mode s =
     record { rights = rights_of (is_readable s) (is_writable s); execute = is_executable s }
@@ -54,6 +57,7 @@ abbrev pub stack_mode : Bool → Protection
 stack_mode true = record { rights = ReadWrite; execute = false }
 stack_mode false = UNMAPPED
 
+-- the protection at an address, in a section or outside
 abbrev pub mode_in : Option Section → ℕ → Protection
 mode_in (Some s) a = section_mode s
 mode_in None a = stack_mode (in_stack a)
@@ -78,12 +82,15 @@ with_slots base byte (i ∷ is) =
 
 -- ---- the whole
 
+-- the protection of an address of the loaded image
 abbrev pub mode_at : Image → ℕ → Protection
 mode_at image a = mode_in (section_of image.base a image.sections) a
 
+-- the byte that the file stores for an address
 abbrev pub stored_byte : Image → ℕ → ℕ
 stored_byte image a = byte_in image.base (section_of image.base a image.sections) a
 
+-- the memory of a loaded image, its imports bound
 unfoldable pub mapped : Image → Memory
 mapped image =
     record {
@@ -100,6 +107,7 @@ first_cpu entry arg = record {
   flags = record { carry = false; zero = false; sign = false; overflow = false };
 }
 
+-- the state that a run starts from
 unfoldable pub start : Image → ℤ → State
 start image arg = record { cpu = first_cpu (image.base + image.entry) arg; memory = mapped image }
 
@@ -110,6 +118,7 @@ abbrev pub reason_unless : Bool → LoadErr → Option LoadErr
 reason_unless true e = None
 reason_unless false e = Some e
 
+-- the first reason of a list
 abbrev pub first_of : List (Option LoadErr) → Option LoadErr
 first_of [] = None
 first_of (None ∷ others) = first_of others
@@ -120,6 +129,7 @@ abbrev pub of_tables : {A : Type 0} → Table A → Option LoadErr
 of_tables (Ok entries) = None
 of_tables (Err e) = Some (refusals.Table e)
 
+-- the refusal of the function table
 abbrev pub table_refusal : Image → Option LoadErr
 table_refusal image = of_tables (tables image)
 
@@ -129,6 +139,7 @@ has_place image =
     (image.base % BASE_ALIGNMENT == 0) && nat_le LEAST_BASE image.base && nat_le image.size
     MOST_IMAGE && nat_le (image.base + image.size) ADDRESSES_END
 
+-- the refusal of the base
 abbrev pub place_refusal : Image → Option LoadErr
 place_refusal image = reason_unless (has_place image) (refusals.Place image.base)
 
@@ -140,16 +151,20 @@ is_none (Some x) = false
 abbrev pub first_unknown : List Import → Option ℕ
 first_unknown imports = position (λ i. is_none (service_named i.name)) imports
 
+-- the refusal of an import
 abbrev pub import_refusal : Image → Option LoadErr
 import_refusal image = option_map refusals.Import (first_unknown (imports_of image))
 
+-- a section's page is executable
 abbrev pub is_code : Option Section → Bool
 is_code None = false
 is_code (Some s) = is_executable s
 
+-- the entry point is in an executable section
 abbrev pub has_entry : Image → Bool
 has_entry image = is_code (section_of 0 image.entry image.sections)
 
+-- the refusal of the entry point
 abbrev pub entry_refusal : Image → Option LoadErr
 entry_refusal image = reason_unless (has_entry image) (refusals.Entry image.entry)
 

@@ -2,6 +2,7 @@
 use Rattle.std.specs.Prelude.{ℕ, zero, suc, List, [], ◌++◌, ℤ, Option, Some, None, Result, Ok, Err}
 use Rattle.seh_num.specs.declared.event.Event.{Event}
 use Rattle.seh_num.specs.declared.end.RunEnd.{RunEnd}
+use Rattle.seh_num.specs.Shown.{Shown}
 use Rattle.pe_image.specs.declared.refusal.ImageErr.{ImageErr}
 use Rattle.pe_image.specs.Image.{Image}
 use Rattle.pe_image.specs.Reading.{reading}
@@ -13,22 +14,18 @@ use Rattle.host_model.specs.Funclets.{funclets}
 use Rattle.host_model.specs.Turns.{Turn, shown_in}
 use Rattle.host_model.specs.HostStep.{Host, Live, Ended, host, turn, after, end_of}
 
--- the events of a run so far, and its end, if it has one
-pub record Shown : Type 0 where
-  pub events : List Event
-  pub end : Option RunEnd
-
 -- a run that continues by a turn, unless it has ended
-abbrev pub continued_by : (Host → List Event → Shown) → List Event → Turn → Shown
+abbrev pub continued_by : (Host → List Event → Shown RunEnd) → List Event → Turn
+    → Shown RunEnd
 continued_by rest out t = rest (after t) (out ++ shown_in t)
 
-abbrev pub or_turn : Functions → List Funclet → (Host → List Event → Shown) → List Event → Host
-    → Shown
+abbrev pub or_turn : Functions → List Funclet → (Host → List Event → Shown RunEnd) → List Event
+    → Host → Shown RunEnd
 or_turn t fs rest out (Ended e) = record { events = out; end = Some e }
 or_turn t fs rest out (Live s) = continued_by rest out (turn t fs s)
 
 -- at most n turns more, after what was shown
-unfoldable pub run : Functions → List Funclet → ℕ → Host → List Event → Shown
+unfoldable pub run : Functions → List Funclet → ℕ → Host → List Event → Shown RunEnd
 run t fs zero h out = record { events = out; end = end_of h }
 run t fs (suc n) h out = or_turn t fs (run t fs n) out h
 
@@ -36,13 +33,15 @@ run t fs (suc n) h out = or_turn t fs (run t fs n) out h
 abbrev pub functions_in : Image → Functions
 functions_in image = record { base = image.base; entries = or_none (tables image) }
 
-abbrev pub run_from : Image → ℤ → ℕ → Functions → Shown
+-- a run of an image from its entry point, with the argument
+abbrev pub run_from : Image → ℤ → ℕ → Functions → Shown RunEnd
 run_from image arg m t = run t (funclets t.entries) m (host (start image arg)) []
 
-abbrev pub machine_of : Result Image ImageErr → ℤ → ℕ → Shown
+-- what isn't an image shows nothing, and has no end
+abbrev pub machine_of : Result Image ImageErr → ℤ → ℕ → Shown RunEnd
 machine_of (Ok image) arg m = run_from image arg m (functions_in image)
 machine_of (Err e) arg m = record { events = []; end = None }
 
 -- what an image shows in at most m turns
-unfoldable pub machine : List ℕ → ℤ → ℕ → Shown
+unfoldable pub machine : List ℕ → ℤ → ℕ → Shown RunEnd
 machine bytes arg m = machine_of (reading bytes) arg m

@@ -16,9 +16,11 @@ abbrev pub with_event : Event → Turn → Turn
 with_event e (Continues s es) = Continues s (e ∷ es)
 with_event e (Ends es end) = Ends (e ∷ es) end
 
+-- the run is stopped
 abbrev pub stopped : StopCause → Turn
 stopped y = Ends [] (ends.Stopped y.reason y.address)
 
+-- the events of a turn
 abbrev pub shown_in : Turn → List Event
 shown_in (Continues t shown) = shown
 shown_in (Ends shown end) = shown

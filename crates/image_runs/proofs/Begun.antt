@@ -4,9 +4,8 @@ use Rattle.std.specs.Prelude.{slice_get}
 use Rattle.std.proofs.lemmas.List.{append-nil}
 use Rattle.std.proofs.lemmas.Option.{slice_get_within}
 use Rattle.host_layout.specs.declared.range.TheConstants.{STACK_START, STACK_END}
-use Rattle.flat_memory.specs.Memory.{Memory, may_write, number_at}
+use Rattle.flat_memory.specs.Memory.{Memory, number_at}
 use Rattle.flat_memory.specs.declared.protection.Protection.{Protection}
-use Rattle.flat_memory.specs.Protections.{is_writable}
 use Rattle.x64_instr.specs.declared.register.Reg.TheVariants.{Rsp}
 use Rattle.x64_machine.specs.Effect.{State, register}
 use Rattle.virtual_unwind.specs.Undone.{word}
@@ -23,7 +22,7 @@ use Rattle.x64_templates.proofs.PlacedCode.{same_number}
 use Rattle.linked_stack.specs.WalkLaws.{context_below}
 use Rattle.linked_stack.specs.ImagePlan.{Plan}
 use Rattle.linked_stack.specs.Linked.{home_end, HoldsWords}
-use Rattle.linked_stack.specs.Records.{IsData, On}
+use Rattle.linked_stack.specs.Records.{On}
 use Rattle.linked_stack.specs.States.{IsSane}
 use Rattle.whole_runs.specs.Shadow.{AllKeep}
 use Rattle.whole_runs.specs.Comes.{Comes}
@@ -36,7 +35,8 @@ use Rattle.body_states.proofs.QuietTurns.{enters_quietly}
 use Rattle.body_states.proofs.Effects.{others_of}
 use Rattle.body_states.proofs.Beneath.{enters_steps, Beneath, AllPlain}
 use Rattle.body_states.proofs.EntryKeeping.{parameters_plain, entry_ran}
-use Rattle.body_steps.proofs.Programs.{KeepsImage, program_stays}
+use Rattle.body_steps.proofs.Programs.{KeepsImage}
+use Rattle.body_steps.proofs.Memories.{memory_stays}
 use Rattle.body_steps.proofs.Reaching.{Keeps, enters_keeps, stays_sane}
 use Rattle.body_steps.proofs.Views.{stack_is_reserved}
 use Rattle.body_steps.proofs.Viewed.{is_machine}
@@ -142,29 +142,14 @@ module _ (t : Functions) (fs : List Funclet) (program : LinearProgram) (p : Plan
 
   -- ---- memory
 
-  may_stack : (a : ℕ) → STACK_START ≤ a → a < STACK_END → may_write after.memory a ≡ true
-  may_stack a l u = ap (λ (g : ℕ → Protection). is_writable (g a).rights) keeps.protection ∙ h.memory.stack a l u
-
   protection_same : (a : ℕ) → after.memory.protection a ≡ s.memory.protection a
   protection_same a = ap (λ (g : ℕ → Protection). g a) keeps.protection
-
-  data_alone : IsData after.memory
-  data_alone = record {
-    bytes = inside.bytes;
-    no_code = λ a w. ap (λ (g : Protection). g.execute) (protection_same a) ∙ h.memory.data_alone.no_code a (ap (λ (g : Protection). is_writable g.rights) (sym (protection_same a)) ∙ w);
-  }
 
   image_kept : KeepsImage program.globals s.memory after.memory
   image_kept = record { byte = λ a l u own. inside.same a own (inr (inl (omega arith))); protection = λ a l u own. protection_same a }
 
   memory : IsMachineMemory t fs program p q after.memory source
-  memory = record {
-    data_alone = data_alone;
-    agrees = inside.agrees;
-    stack = may_stack;
-    arena = λ a e. ap (λ (g : Protection). g.execute) (protection_same a) ∙ h.memory.arena a e;
-    code = program_stays t fs program p q image s.memory after.memory image_kept h.memory.code;
-  }
+  memory = memory_stays t fs program p q image s.memory after.memory source source image_kept inside.bytes protection_same inside.agrees h.memory
 
   -- ---- the frame
 
@@ -205,7 +190,7 @@ module _ (t : Functions) (fs : List Funclet) (program : LinearProgram) (p : Plan
       let lo = sp_low in
       let fits = h.fits in
       arguments_then_words after.memory (inside.sp + layout.locals) (inside.sp + slots_end layout (p.leaf (FunctionBody f))) arguments (o.locals - fn.parameters) (omega arith) argument_there
-      (λ a v l u e. word_of after.memory a v (omega arith) (λ x g z. may_read_written after.memory x (may_stack x (omega arith) (omega arith))) e)
+      (λ a v l u e. word_of after.memory a v (omega arith) (λ x g z. may_read_written after.memory x (memory.stack x (omega arith) (omega arith))) e)
 
   -- ---- the return address
 
@@ -213,7 +198,7 @@ module _ (t : Functions) (fs : List Funclet) (program : LinearProgram) (p : Plan
   returns =
       let l = h.low in
       let e = inside.place in
-      word_of after.memory (inside.sp + layout.frame) 0 (omega arith) (λ x g z. may_read_written after.memory x (may_stack x (omega arith) (omega arith)))
+      word_of after.memory (inside.sp + layout.frame) 0 (omega arith) (λ x g z. may_read_written after.memory x (memory.stack x (omega arith) (omega arith)))
       (ap (number_at after.memory.byte 8) e
       ∙ same_number after.memory.byte s.memory.byte 8 top (omega arith) (λ a g z. inside.same a (stack_is_reserved program.globals a (omega arith) (omega arith)) (inr (inr (omega arith, omega arith))))
       ∙ word_is s.memory top 0 returns_to)
@@ -233,4 +218,4 @@ module _ (t : Functions) (fs : List Funclet) (program : LinearProgram) (p : Plan
       0 refl (subst (λ x. word after.memory (x + layout.frame) ≡ Ok 0) (sym stack) returns)
       (subst (λ x. HoldsWords after.memory (x + layout.locals) (x + slots_end layout (p.leaf (FunctionBody f))) (arguments ++ others)) (sym stack) numbers)
       [] (λ more n. subst (λ x. On t fs program p after.memory (context_below 0 x more) [] [] []) (sym up)
-      (record { stands = record { stack = refl; linked = (refl, (let z = h.high in omega arith)) }; data_alone = data_alone }))
+      (record { stands = record { stack = refl; linked = (refl, (let z = h.high in omega arith)) }; data_alone = memory.data_alone }))

@@ -69,7 +69,7 @@ module _ (t : Functions) (fs : List Funclet) (program : LinearProgram) (p : Plan
     goes : (next : Next) → act program i next d ≡ pick deep ended (next (own v.function (drop first d.frame.temporaries)))
     goes next = call_acts program d f first count v.function v.there held next
 
-    -- it isn't too deep, since it goes on
+    -- it isn't too deep, since it continues
     shallow : deep ≡ true → ⊥
     unfolding pick
     shallow e =

@@ -1,6 +1,6 @@
 -- The function is entered, whatever its frame is.
-use Rattle.std.proofs.Common.{◌≡◌, ℕ, ◌+◌, ◌-◌, ◌<◌, ◌≤◌, Bool, true, false, Some, List, ◌++◌, length, refl, sym, ap, subst, ◌∙◌, arith, inl, inr, length-drop}
-use Rattle.std.specs.Prelude.{slice_get, nat_le, if◌then◌else◌}
+use Rattle.std.proofs.Common.{◌≡◌, ℕ, ◌+◌, ◌-◌, ◌<◌, ◌≤◌, Bool, true, false, Some, List, length, refl, sym, ap, subst, ◌∙◌, arith, inl, inr, length-drop}
+use Rattle.std.specs.Prelude.{nat_le, if◌then◌else◌}
 use Rattle.std.proofs.lemmas.Bool.{cases_lt, le-leb}
 use Rattle.host_layout.specs.declared.range.TheConstants.{STACK_START, STACK_END}
 use Rattle.flat_memory.specs.Memory.{Memory}
@@ -14,19 +14,17 @@ use Rattle.template_code.specs.declared.layout.Layout.{Layout}
 use Rattle.template_code.specs.Bytes.{sizes}
 use Rattle.template_code.specs.Calls.{enter_code, parameters_code}
 use Rattle.template_code.specs.Probing.{enter_large}
-use Rattle.template_code.specs.Template.{code_from}
-use Rattle.template_code.proofs.Sizes.{sizes_append}
 use Rattle.x64_templates.specs.Straight.{MachineView}
 use Rattle.x64_templates.specs.Runs.{HasCode}
-use Rattle.x64_templates.proofs.Computes.{code_split}
 use Rattle.linked_stack.specs.ImagePlan.{Plan}
-use Rattle.body_states.specs.Sites.{Sites, links_of, making, frame_code, function_arguments, entry_code, arguments_code}
+use Rattle.body_states.specs.Sites.{Sites, making}
 use Rattle.body_states.proofs.FrameMaking.{making_steps}
 use Rattle.body_states.specs.Layouts.{IsFunctionLayout, IsLeafLayout, IsLayoutIf}
 use Rattle.body_states.specs.Programs.{IsProgramImage}
 use Rattle.body_steps.specs.Views.{seen_by_templates}
 use Rattle.body_steps.proofs.Words.{may_read_written}
 use Rattle.turn_steps.proofs.Callee.{with_home, home_parameters}
+use Rattle.turn_steps.proofs.EntryCode.{making_frame, HasEntry, has_entry}
 use Rattle.turn_steps.proofs.Prologues.{Made, no_frame, small_frame, large_frame}
 use Rattle.image_runs.proofs.Entering as entering
 use Rattle.image_runs.proofs.Entering.{IsCalled}
@@ -56,32 +54,8 @@ module _ (t : Functions) (fs : List Funclet) (program : LinearProgram) (p : Plan
   registers : length view.rest ≡ 13
   registers = length-drop 3 s.cpu.registers ∙ (let k = h.count in omega arith)
 
-  -- ---- the code of the entry
-
-  abbrev making_frame : Bool → List Instr
-  making_frame leaf = frame_code layout.frame target q.check_stack leaf
-
-  entry_is : (leaf : Bool) → p.leaf (FunctionBody f) ≡ leaf → entry_code program p q (FunctionBody f) ≡ making_frame leaf ++ parameters_code layout 0 count
-  entry_is leaf e =
-      ap (λ x. making_frame x ++ function_arguments layout (slice_get program.functions f)) e
-      ∙ ap (λ x. making_frame leaf ++ function_arguments layout x) h.function
-
-  codes : (leaf : Bool) → p.leaf (FunctionBody f) ≡ leaf → HasCode s.memory target (making_frame leaf) × HasCode s.memory (target + sizes (making_frame leaf)) (parameters_code layout 0 count)
-  codes leaf e =
-      let whole = code_split s.memory target (entry_code program p q (FunctionBody f)) (code_from (links_of p q (FunctionBody f)) layout (p.address (FunctionBody f) 0) o.code) (h.memory.code.code (FunctionBody f) o there) in
-      code_split s.memory target (making_frame leaf) (parameters_code layout 0 count) (subst (HasCode s.memory target) (entry_is leaf e) whole.0)
-
-  ends : (leaf : Bool) → p.leaf (FunctionBody f) ≡ leaf → target + sizes (making_frame leaf) + sizes (parameters_code layout 0 count) ≡ p.address (FunctionBody f) 0
-  ends leaf e =
-      let a = (image.addresses (FunctionBody f) o there).first in
-      let z = ap sizes (entry_is leaf e) in
-      omega (arith, a, z, sizes_append (making_frame leaf) (parameters_code layout 0 count))
-
-  -- how many turns the frame and the arguments take
-  turns_are : (n : ℕ) (leaf : Bool) → p.leaf (FunctionBody f) ≡ leaf → making_steps leaf layout.frame ≡ n → n + length (parameters_code layout 0 count) ≡ making_steps (p.leaf (FunctionBody f)) layout.frame + length (arguments_code program p (FunctionBody f))
-  turns_are n leaf e same =
-      let stored : arguments_code program p (FunctionBody f) ≡ parameters_code layout 0 count = ap (λ x. function_arguments layout x) h.function in
-      λ i. (sym same ∙ ap (λ l. making_steps l layout.frame) (sym e)) i + length (sym stored i)
+  entry : (leaf : Bool) → p.leaf (FunctionBody f) ≡ leaf → HasEntry program p q f count s.memory leaf
+  entry = has_entry t fs program p q image f count fn h.function refl s.memory h.memory.code
 
   -- ---- a leaf function
 
@@ -95,7 +69,7 @@ module _ (t : Functions) (fs : List Funclet) (program : LinearProgram) (p : Plan
       let n = l.few in
       let fits = h.fits in
       let small : 0 + count ≤ 4 = omega arith in
-      let none : target + sizes (making_frame true) ≡ target = omega arith in
+      let none : target + sizes (making_frame p q f true) ≡ target = omega arith in
       let same = home_parameters layout 0 count small in
       let made = no_frame view target s.cpu.flags top arguments (entering.view_stack t fs program p q image s source f fn top arguments h) registers h.registers in
       entering.entered t fs program p q image s source f fn top arguments h top target 0 made (with_home layout)
@@ -109,13 +83,13 @@ module _ (t : Functions) (fs : List Funclet) (program : LinearProgram) (p : Plan
         apart = inl (omega arith);
       })
       (record { base = refl; temporaries = omega arith; locals = omega arith }) refl (omega arith) (omega arith)
-      (subst (λ code. HasCode s.memory target code) (sym same) (subst (λ a. HasCode s.memory a (parameters_code layout 0 count)) none (codes true leaf).1))
-      (ap (λ code. target + sizes code) same ∙ (let y = ends true leaf in omega arith))
+      (subst (λ code. HasCode s.memory target code) (sym same) (subst (λ a. HasCode s.memory a (parameters_code layout 0 count)) none (entry true leaf).storing))
+      (ap (λ code. target + sizes code) same ∙ (let y = (entry true leaf).ends in omega arith))
       (λ a out i. elim i [
         | inl w ↦ (let g = w.0 in let u = w.1 in elim out [ inl o1 ↦ absurd (omega arith) | inr (inl o1) ↦ absurd (omega arith) | inr (inr o1) ↦ (let o2 = o1.0 in let o3 = o1.1 in absurd (omega arith)) ])
         | inr w ↦ (let g = w.0 in let u = w.1 in elim out [ inl o1 ↦ absurd (omega arith) | inr (inl o1) ↦ absurd (omega arith) | inr (inr o1) ↦ (let o2 = o1.0 in let o3 = o1.1 in absurd (omega arith)) ])
       ])
-      (ap (λ code. 0 + length code) same ∙ turns_are 0 true leaf refl)
+      (ap (λ code. 0 + length code) same ∙ (entry true leaf).turns 0 refl)
 
   -- ---- a function with a frame
 
@@ -126,7 +100,7 @@ module _ (t : Functions) (fs : List Funclet) (program : LinearProgram) (p : Plan
     abbrev sp : ℕ
     sp = top - frame
 
-    framed_entered : (making : List Instr) (n : ℕ) → making_frame false ≡ making → making_steps false frame ≡ n → Made view target (target + sizes making) s.cpu.flags top sp arguments n → Goal
+    framed_entered : (making : List Instr) (n : ℕ) → making_frame p q f false ≡ making → making_steps false frame ≡ n → Made view target (target + sizes making) s.cpu.flags top sp arguments n → Goal
     framed_entered making n e same made =
         let x = h.low in
         let z = h.high in
@@ -144,30 +118,30 @@ module _ (t : Functions) (fs : List Funclet) (program : LinearProgram) (p : Plan
           apart = inr (omega arith);
         })
         (record { base = refl; temporaries = omega arith; locals = omega arith }) refl k (omega arith)
-        (subst (λ i. HasCode s.memory (target + sizes i) (parameters_code layout 0 count)) e (codes false leaf).1)
-        (ap (λ i. target + sizes i + sizes (parameters_code layout 0 count)) (sym e) ∙ ends false leaf)
+        (subst (λ i. HasCode s.memory (target + sizes i) (parameters_code layout 0 count)) e (entry false leaf).storing)
+        (ap (λ i. target + sizes i + sizes (parameters_code layout 0 count)) (sym e) ∙ (entry false leaf).ends)
         (λ a out i. elim i [
           | inl w ↦ (let g = w.0 in let u = w.1 in elim out [ inl o1 ↦ absurd (omega arith) | inr (inl o1) ↦ absurd (omega arith) | inr (inr o1) ↦ (let o2 = o1.0 in let o3 = o1.1 in absurd (omega arith)) ])
           | inr w ↦ (let g = w.0 in let u = w.1 in elim out [ inl o1 ↦ absurd (omega arith) | inr (inl o1) ↦ absurd (omega arith) | inr (inr o1) ↦ (let o2 = o1.0 in let o3 = o1.1 in absurd (omega arith)) ])
         ])
-        (turns_are n false leaf same)
+        ((entry false leaf).turns n same)
 
     small_entered : nat_le frame 4096 ≡ true → Goal
     small_entered e =
         let x = h.low in
         let z = h.high in
         let k = l.small in
-        let is : making_frame false ≡ enter_code frame = ap (making frame target q.check_stack) e in
+        let is : making_frame p q f false ≡ enter_code frame = ap (making frame target q.check_stack) e in
         framed_entered (enter_code frame) 1 is (ap (λ x. if x then 1 else 8) e)
         (small_frame view target s.cpu.flags top arguments (entering.view_stack t fs program p q image s source f fn top arguments h) registers h.registers frame (omega arith) (omega arith) (omega arith)
-        (subst (HasCode s.memory target) is (codes false leaf).0))
+        (subst (HasCode s.memory target) is (entry false leaf).making))
 
     large_entered : nat_le frame 4096 ≡ false → 4096 < frame → Goal
     large_entered e big =
         let x = h.low in
         let z = h.high in
         let k = l.small in
-        let is : making_frame false ≡ enter_large frame target q.check_stack = ap (making frame target q.check_stack) e in
+        let is : making_frame p q f false ≡ enter_large frame target q.check_stack = ap (making frame target q.check_stack) e in
         let a = image.addresses (FunctionBody f) o there in
         let begin = a.first in
         let a1 = a.inside.low in
@@ -179,7 +153,7 @@ module _ (t : Functions) (fs : List Funclet) (program : LinearProgram) (p : Plan
         (large_frame view target s.cpu.flags top arguments (entering.view_stack t fs program p q image s source f fn top arguments h) registers h.registers frame q.check_stack (omega arith) (entering.below_top t fs program p q image s source f fn top arguments h)
         (record { enough = omega arith; more = omega arith; high = omega arith; first = reads (top - 4096) (omega arith) (omega arith); last = reads (top - frame) (omega arith) (omega arith) })
         ((omega arith, omega arith, omega arith, omega arith)) (omega arith) h.memory.code.check_stack
-        (subst (HasCode s.memory target) is (codes false leaf).0))
+        (subst (HasCode s.memory target) is (entry false leaf).making))
 
     by_size : (x : Bool) → nat_le frame 4096 ≡ x → Goal
     by_size true e = small_entered e

@@ -18,7 +18,6 @@ pub mod Realised
 pub mod Accepted
 pub mod Walked
 pub mod WalkLive
-pub mod Tops
 pub mod Standing
 pub mod Within
 pub mod First

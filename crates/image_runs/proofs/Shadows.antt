@@ -3,6 +3,8 @@ use Rattle.std.proofs.Common.{◌≡◌, ℕ, zero, ◌+◌, ◌*◌, ◌^◌, �
 use Rattle.std.specs.Prelude.{ℤ, pos, slice_get, slice_index, slice_set}
 use Rattle.std.proofs.lemmas.Nat.{mul-le}
 use Rattle.std.proofs.lemmas.Option.{slice_get_within}
+use Rattle.seh_num.specs.Shown.{Shown}
+use Rattle.seh_num.specs.declared.end.RunEnd.{RunEnd}
 use Rattle.flat_memory.specs.Memory.{Memory}
 use Rattle.x64_instr.specs.declared.register.Reg.TheVariants.{Rsp, Rbx, Rbp, Rsi, Rdi, R12, R13, R14, R15}
 use Rattle.x64_machine.specs.declared.cpu.Cpu.{Cpu}
@@ -17,7 +19,6 @@ use Rattle.virtual_unwind.specs.CallerOf.{Functions}
 use Rattle.host_model.specs.declared.funclet.Funclet.{Funclet}
 use Rattle.host_model.specs.Funclets.{funclets}
 use Rattle.host_model.specs.Loading.{start}
-use Rattle.host_model.specs.Machine as machines
 use Rattle.host_model.specs.Machine.{machine}
 use Rattle.c_checked.specs.Program.{Program}
 use Rattle.c_model.specs.Meaning.{Calm}
@@ -111,7 +112,7 @@ module _ (program : Program) (l : IsLinkable program) (reads : ReadsNoUnset (low
   gives =
       images_walk_the_shadow (functions_of linear) (funclets_of linear) program (plan_of linear) (sites_of linear) l.sound reads (lowered_has_image program l) arg
       (main_of program l (octets program bytes w) arg) first (main_is program l (octets program bytes w) arg) (main_begins program l (octets program bytes w) arg)
-      begins_first m n paces calm (ap (λ (x : machines.Shown). x.end) (sym (machine_is program l bytes w.read arg m)) ∙ none)
+      begins_first m n paces calm (ap (λ (x : Shown RunEnd). x.end) (sym (machine_is program l bytes w.read arg m)) ∙ none)
 
   pub linked_walks_the_shadow : WalksTheShadow bytes arg m
   linked_walks_the_shadow =

@@ -28,7 +28,7 @@ use Rattle.body_states.specs.Sites.{Sites, links_of}
 use Rattle.body_states.specs.Programs.{HasProgram, IsResumed, IsProgramImage}
 use Rattle.body_states.specs.Bodies.{InBody, Begins}
 use Rattle.body_states.proofs.Inside.{template_some}
-use Rattle.body_states.proofs.Waiting.{leaf_layout, OnTop, body_on_top}
+use Rattle.body_states.proofs.Waiting.{leaf_layout, OnTop, others_of, framed_top, leaf_top, body_on_top}
 use Rattle.body_steps.specs.Known.{IsKnown}
 use Rattle.turn_steps.specs.Outcomes.{WorksOn, Stands}
 use Rattle.turn_steps.proofs.Places.{some_finish, is_some}
@@ -37,7 +37,6 @@ use Rattle.image_runs.specs.Live.{WalkGives}
 use Rattle.image_runs.specs.WalkLaws.{WalksGiveTheFrames}
 use Rattle.image_runs.proofs.Walked.{frames, gives}
 use Rattle.image_runs.proofs.WalkLive.{as_many, are_frames}
-use Rattle.image_runs.proofs.Tops.{others_of, framed_top, leaf_top}
 
 return_or : (i : Instruction) → (IsReturn i → ⊥) ⊎ ((from : Slot) × (i ≡ instructions.Return from))
 return_or (instructions.Compute to o first second) = inl (λ h. h)

@@ -35,7 +35,7 @@ module _ (t : Functions) (fs : List Funclet) (program : LinearProgram) (p : Plan
   as_many m c (Unwinding r ∷ is) (Unwinds rest target ∷ below) acts l = let n = as_many m r.walk is below acts l.1 in omega arith
   as_many m c is items acts l = absurd l
 
-  -- a body returns to where the walk goes on
+  -- a body returns to where the walk continues
   back : (m : Memory) (c : Context) (is : List StackItem) (items : List Item) (acts : List Activation) → IsStack t m c is → Linked t fs program p m c is items acts → ReturnsTo t fs program p items c.rip → back_to t fs program p items ≡ Some c.rip
   back m c [] [] acts s l r = ap (λ (a : ℕ). Some a) (sym r)
   back m c (Framed f ∷ is) (Waits b ∷ below) acts s l r = r

@@ -13,6 +13,7 @@ use Rattle.whole_runs.specs.Laws.{ShowsNoMore}
 use Rattle.program_link.specs.Fits.{FitsProgram}
 use Rattle.image_runs.specs.Realises.{Realises, IsWritten}
 
+-- linear code of an accepted text reads no local that isn't set
 abbrev pub AcceptedReadsNoUnset : Type 0
 AcceptedReadsNoUnset =
     (text : List ℕ) (xs : List ExternalDeclaration) → Within text xs → Accepted text xs

@@ -10,6 +10,7 @@ use Rattle.image_runs.specs.Sound.{IsLinkable, IsSoundImage}
 abbrev pub LoweredIsCompiled : Type 0
 LoweredIsCompiled = (program : Program) → IsLinkable program → IsCompiled (lowered program)
 
+-- the image of a program that can be linked is sound
 abbrev pub LoweredHasImage : Type 0
 LoweredHasImage =
     (program : Program) → IsLinkable program

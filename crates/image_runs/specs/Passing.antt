@@ -17,7 +17,7 @@ IsRunning (Stuck es) = ⊥
 
 module _ (t : Functions) (fs : List Funclet) (program : LinearProgram) (pace : ℕ)
     (credit : Configuration → ℕ) where
-  -- linear code goes on by a step, and the machine by some turns, which show the same events
+  -- linear code continues by a step, and the machine by some turns, which show the same events
   pub record GoesOn (Rest : State → Configuration → Type 0) (s : State)
       (c : Configuration) : Type 0 where
     pub turns : ℕ

@@ -9,16 +9,19 @@ use Rattle.x64_instr.specs.declared.instruction.Operation.TheVariants as operati
 use Rattle.x64_instr.specs.declared.instruction.Instr.{Instr}
 use Rattle.x64_instr.specs.declared.instruction.Instr.TheVariants as instrs
 
+-- RAX, RCX or RDX
 abbrev pub is_free : Reg → Bool
 is_free Rax = true
 is_free Rcx = true
 is_free Rdx = true
 is_free r = false
 
+-- one of these registers, and not memory
 abbrev pub is_free_place : RegisterOrMemory → Bool
 is_free_place (places.Register r) = is_free r
 is_free_place (places.Memory a) = false
 
+-- of registers and memory it changes one of these registers at most
 abbrev pub changes_alone : Operation → RegisterOrMemory → Bool
 changes_alone operations.Compare to = true
 changes_alone o to = is_free_place to

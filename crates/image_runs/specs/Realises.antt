@@ -46,11 +46,13 @@ pub record IsWritten (bytes : List ℕ) (program : Program) : Type 0 where
   pub written : bytes ≡ written (parts_of (linked (lowered program)))
   pub read : IsImage bytes (image_of (linked (lowered program)))
 
+-- a written image shows what its program means
 abbrev pub CompiledRealise : Type 0
 CompiledRealise =
     (program : Program) → IsLinkable program → ReadsNoUnset (lowered program) → (bytes : List ℕ)
     → IsWritten bytes program → Realises bytes program
 
+-- a written image shows nothing more
 abbrev pub CompiledShowNothingMore : Type 0
 CompiledShowNothingMore =
     (program : Program) → IsLinkable program → ReadsNoUnset (lowered program) → (bytes : List ℕ)

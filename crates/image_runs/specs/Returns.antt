@@ -38,7 +38,7 @@ module _ (t : Functions) (fs : List Funclet) (program : LinearProgram) (p : Plan
       → length c.kept ≡ 9 → rsp c + 8 < 2 ^ 64 → word m (rsp c) ≡ Ok back
       → LeafStands t m c back
 
-  -- as at any other instruction, the body's frame stands there
+  -- as at any other instruction, the body's frame is there
   pub record StandStill : Type 0 where
     pub frames : FramesStandStill
     pub leaves : LeavesStandStill

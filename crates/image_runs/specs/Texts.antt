@@ -16,7 +16,7 @@ use Rattle.image_runs.specs.Realises.{IsWritten}
 use Rattle.image_runs.specs.Passing.{IsRunning}
 use Rattle.image_runs.specs.Walks.{PassesTheFrames, IsOfProgram}
 
--- where its linear code is within the limits of linking, for each step of it that goes on
+-- where its linear code is within the limits of linking, for each step of it that continues
 abbrev pub AcceptedPassTheFrames : Type 0
 AcceptedPassTheFrames =
     (text : List ℕ) (xs : List ExternalDeclaration) → Within text xs → Accepted text xs

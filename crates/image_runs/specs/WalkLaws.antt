@@ -56,7 +56,7 @@ QuietStepsStayWithin =
     → IsQuietHere t fs program p q s u c w → step u ≡ Ok v
     → IsWithin t fs program p q s v c
 
--- of an image that is linked, a body that is about to return stands as at any other instruction
+-- of an image that is linked, a body that is about to return is as at any other instruction
 abbrev pub LinkedStandStill : Type 0
 LinkedStandStill =
     (program : LinearProgram) → IsCompiled program

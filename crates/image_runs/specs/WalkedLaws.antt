@@ -14,7 +14,7 @@ use Rattle.image_runs.specs.Realises.{IsWritten}
 use Rattle.image_runs.specs.Passing.{IsRunning}
 use Rattle.image_runs.specs.Walks.{PassesTheFrames, IsOfProgram}
 
--- as long as linear code goes on
+-- as long as linear code continues
 abbrev pub RunsPassTheFrames : Type 0
 RunsPassTheFrames =
     (program : Program) → IsLinkable program → ReadsNoUnset (lowered program)

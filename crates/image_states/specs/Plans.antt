@@ -43,9 +43,11 @@ use Rattle.body_states.specs.Programs.{view_of}
 
 -- ---- the function table, and the funclets that it names
 
+-- the function table of a program's image
 abbrev pub functions_of : LinearProgram → Functions
 functions_of program = functions_in (image_of (linked program))
 
+-- the funclets of a program's image
 abbrev pub funclets_of : LinearProgram → List Funclet
 funclets_of program = funclets (tables.entries program)
 
@@ -76,11 +78,13 @@ abbrev pub routine_if : LinearProgram → BodyName → Option Placed
 routine_if program (FunctionBody f) = slice_get (take (length program.functions) (placed program)) f
 routine_if program (FuncletBody k) = slice_get (drop (length program.functions) (placed program)) k
 
+-- the routine of a body
 abbrev pub routine_of : LinearProgram → BodyName → Placed
 routine_of program name = or_nowhere (routine_if program name)
 
 -- ---- frames
 
+-- a routine without a frame is a leaf function
 abbrev pub is_leaf : Option Frame → Bool
 is_leaf (Some f) = false
 is_leaf None = true
@@ -92,7 +96,7 @@ abbrev pub or_none : Option Frame → Frame
 or_none (Some f) = f
 or_none None = no_frame
 
--- ---- where a body that was stopped by an exception goes on
+-- ---- where a body that was stopped by an exception continues
 
 abbrev pub is_some : Option ℕ → ℕ → Bool
 is_some None v = false
@@ -124,6 +128,7 @@ abbrev pub resumes_by : Layout → ℕ → List ℕ → Cpu → Option Instructi
 resumes_by y at temporaries saved i AfterCall = returns_there y at saved i
 resumes_by y at temporaries saved i SameOperation = works_again y at temporaries saved i
 
+-- where the code of an instruction begins
 abbrev pub address_of : LinearProgram → BodyName → ℕ → ℕ
 address_of program name label = image_base + template_at (routine_of program name) label
 
@@ -135,6 +140,7 @@ resumes program resumption b saved =
 
 -- ---- the plan
 
+-- where the parts of a program's image are
 abbrev pub plan_of : LinearProgram → Plan
 plan_of program = record {
   address = address_of program;
@@ -148,6 +154,7 @@ plan_of program = record {
   resumes = resumes program;
 }
 
+-- where functions, thunks and `__chkstk` begin
 abbrev pub sites_of : LinearProgram → Sites
 sites_of program = record {
   function = λ f. image_base + address_or (site_of program).functions f 0;

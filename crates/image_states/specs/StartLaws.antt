@@ -23,6 +23,7 @@ ImagesStart =
     → IsMachineMemory (functions_of program) (funclets_of program) program (plan_of program)
     (sites_of program) (mapped (image_of (linked program))) (first_memory program.globals)
 
+-- the image of a compiled program is loaded
 abbrev pub ImagesLoad : Type 0
 ImagesLoad =
     (program : LinearProgram) → IsCompiled program → load_refusal (image_of (linked program)) ≡ None

@@ -8,7 +8,8 @@ use Rattle.linear_machine.specs.Frames.{deeper}
 use Rattle.linear_machine.specs.Unwinding.{begin_finally}
 use Rattle.linear_machine.specs.Searching.{begin_filter}
 use Rattle.linear_machine.specs.Run.{exec}
-use Rattle.linear_runs.proofs.Stretch.{at, conf, stopped, shown_deep}
+use Rattle.linear_runs.proofs.Stretch.{at, conf}
+use Rattle.linear_runs.proofs.SingleTurns.{stopped, shown_deep}
 use Rattle.linear_machine.specs.Searching.{raise}
 use Rattle.ir_follows.specs.Weights.{expression_weight, lvalue_weight, optional_weight, statement_weight, statements_weight}
 use Rattle.ir_follows.proofs.Claims.{Runs, shown_more, shown_none, shown_raise}

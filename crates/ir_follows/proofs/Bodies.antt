@@ -19,7 +19,8 @@ use Rattle.linear_machine.specs.Regions.{holds, leads_to, stops}
 use Rattle.linear_machine.specs.Unwinding.{begin_finally, arrive, leave_region, unwind_body}
 use Rattle.linear_machine.specs.Instructions.{end_finally, end_body}
 use Rattle.linear_machine.specs.Run.{instruction_in}
-use Rattle.linear_runs.proofs.Stretch.{at, Site, conf, Way, Never, To, Out, Ways, Kept, Price, price, Join, unwound, Claim, value_ways, normal_ways, then_value, claim_kept}
+use Rattle.linear_runs.proofs.Stretch.{at, Site, conf, Way, Never, To, Out, Ways, Kept, Price, price, Join, unwound, Claim, value_ways, normal_ways}
+use Rattle.linear_runs.proofs.Joining.{then_value, claim_kept}
 use Rattle.linear_runs.proofs.Walks.{Around, around_part, IsExcept, except_left, lands}
 use Rattle.ir_expressions.specs.declared.scope.Names.{Names}
 use Rattle.ir_expressions.specs.declared.scope.Scope.{Scope}

@@ -16,7 +16,9 @@ use Rattle.linear_machine.specs.Frames.{FuncletBody, Item, Store, Configuration,
 use Rattle.linear_machine.specs.Unwinding.{begin_finally}
 use Rattle.linear_machine.specs.Instructions.{end_funclet, end_finally}
 use Rattle.linear_machine.specs.Run.{exec}
-use Rattle.linear_runs.proofs.Stretch.{Part, at, Site, conf, Ways, Kept, price, Targets, Claim, normal_ways, stepped, fetch, prefix_self, more, sooner, reaches_after, targets_more, finishes_more, stops_more, counted_claim, deep_claim, shown_deep}
+use Rattle.linear_runs.proofs.Stretch.{Part, at, Site, conf, Ways, Kept, price, Targets, Claim, normal_ways}
+use Rattle.linear_runs.proofs.Joining.{more, reaches_after, targets_more, finishes_more, stops_more}
+use Rattle.linear_runs.proofs.SingleTurns.{stepped, fetch, prefix_self, sooner, counted_claim, deep_claim, shown_deep}
 use Rattle.ir_expressions.specs.declared.scope.Names.{Names}
 use Rattle.ir_expressions.specs.Scope.{finally_names, finally_scope}
 use Rattle.ir_sizes.specs.Sizes.{statement_size, statements_size, statements_notes}

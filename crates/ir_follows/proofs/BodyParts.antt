@@ -17,7 +17,9 @@ use Rattle.linear_code.specs.Program.{LinearProgram}
 use Rattle.linear_machine.specs.Frames.{Store, Finished, with_some, set_local}
 use Rattle.linear_machine.specs.Instructions.{end_body}
 use Rattle.linear_machine.specs.Run.{exec}
-use Rattle.linear_runs.proofs.Stretch.{Part, at, Site, conf, Ways, Price, price, Join, Passes, Joined, Arrives, Claim, first_ways, more, after, first, stepped, still, fetch, prefix_self, arrives_more, targets_more, finishes_more, stops_more}
+use Rattle.linear_runs.proofs.Stretch.{Part, at, Site, conf, Ways, Price, price, Join, Arrives, Claim, first_ways}
+use Rattle.linear_runs.proofs.Joining.{Passes, Joined, more, after, arrives_more, targets_more, finishes_more, stops_more}
+use Rattle.linear_runs.proofs.SingleTurns.{first, stepped, still, fetch, prefix_self}
 use Rattle.ir_expressions.specs.declared.scope.Scope.{Scope}
 use Rattle.ir_expressions.specs.declared.scope.Way.TheVariants.{Nowhere, Jumps, Unwinds}
 use Rattle.ir_expressions.specs.declared.scope.Way as jumps

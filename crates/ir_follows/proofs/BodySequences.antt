@@ -9,7 +9,9 @@ use Rattle.c_model.specs.Expressions.{all}
 use Rattle.c_model.specs.Meaning.{within}
 use Rattle.linear_code.specs.Program.{LinearProgram}
 use Rattle.linear_machine.specs.Frames.{Store}
-use Rattle.linear_runs.proofs.Stretch.{at, Site, conf, Ways, Price, price, Claim, still, prefix_self, then_normal}
+use Rattle.linear_runs.proofs.Stretch.{at, Site, conf, Ways, Price, price, Claim}
+use Rattle.linear_runs.proofs.Joining.{then_normal}
+use Rattle.linear_runs.proofs.SingleTurns.{still, prefix_self}
 use Rattle.ir_expressions.specs.declared.scope.Scope.{Scope}
 use Rattle.ir_sizes.specs.Sizes.{statement_size, statements_size, statements_notes, statement_notes}
 use Rattle.ir_follows.specs.Weights.{statement_weight, statements_weight}

@@ -15,7 +15,9 @@ use Rattle.linear_code.specs.declared.program.Region.{Region}
 use Rattle.linear_code.specs.declared.program.RegionKind.TheVariants as regions
 use Rattle.linear_code.specs.Program.{LinearProgram}
 use Rattle.linear_machine.specs.Frames.{BodyName, Store, set_local}
-use Rattle.linear_runs.proofs.Stretch.{at, Site, conf, Ways, Price, price, found, more, chosen, then_normal}
+use Rattle.linear_runs.proofs.Stretch.{at, Site, conf, Ways, Price, price, found}
+use Rattle.linear_runs.proofs.Joining.{more, then_normal}
+use Rattle.linear_runs.proofs.SingleTurns.{chosen}
 use Rattle.ir_expressions.specs.declared.scope.Scope.{Scope}
 use Rattle.ir_expressions.specs.Scope.{except_names, in_try, in_except, in_guarded}
 use Rattle.ir_sizes.specs.Sizes.{expression_size, discarded_size, declared_size, all_declared_size, returned_size, statement_size, statements_size, statement_notes, statements_notes}

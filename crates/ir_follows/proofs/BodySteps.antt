@@ -13,7 +13,9 @@ use Rattle.linear_code.specs.declared.instruction.Instruction.TheVariants.{JumpI
 use Rattle.linear_code.specs.declared.program.Region.{Region}
 use Rattle.linear_code.specs.Program.{LinearProgram}
 use Rattle.linear_machine.specs.Frames.{BodyName, Store}
-use Rattle.linear_runs.proofs.Stretch.{at, Site, conf, Ways, Price, price, more, chosen}
+use Rattle.linear_runs.proofs.Stretch.{at, Site, conf, Ways, Price, price}
+use Rattle.linear_runs.proofs.Joining.{more}
+use Rattle.linear_runs.proofs.SingleTurns.{chosen}
 use Rattle.linear_runs.proofs.Walks.{Around, around_part, holds_yes}
 use Rattle.ir_expressions.specs.declared.scope.Scope.{Scope}
 use Rattle.ir_expressions.specs.Scope.{except_names, in_try, in_except, in_guarded}

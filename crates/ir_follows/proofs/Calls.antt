@@ -15,7 +15,8 @@ use Rattle.linear_code.specs.declared.instruction.Instruction.{Instruction}
 use Rattle.linear_code.specs.Program.{LinearProgram}
 use Rattle.linear_machine.specs.Frames.{Store, Seen}
 use Rattle.linear_machine.specs.Run.{exec}
-use Rattle.linear_runs.proofs.Stretch.{Part, Site, conf, price, more}
+use Rattle.linear_runs.proofs.Stretch.{Part, Site, conf, price}
+use Rattle.linear_runs.proofs.Joining.{more}
 use Rattle.ir_expressions.specs.declared.scope.Names.{Names}
 use Rattle.ir_sizes.specs.Sizes.{expression_size}
 use Rattle.ir_expressions.specs.Expressions.{expression_code, node_code}
@@ -43,7 +44,9 @@ use Rattle.linear_code.specs.Program.{LinearFunction}
 use Rattle.linear_machine.specs.Frames.{AfterCall, Waits, deeper, with_some, last_temporaries}
 use Rattle.linear_machine.specs.Searching.{raise}
 use Rattle.linear_machine.specs.Instructions.{count_of, begin_function, waiting, built_in}
-use Rattle.linear_runs.proofs.Stretch.{frame_of, fetch, first, stepped, then_plain, prefix_self}
+use Rattle.linear_runs.proofs.Stretch.{frame_of}
+use Rattle.linear_runs.proofs.Joining.{then_plain}
+use Rattle.linear_runs.proofs.SingleTurns.{fetch, first, stepped, prefix_self}
 use Rattle.ir_sizes.specs.Sizes.{arguments_size}
 use Rattle.ir_expressions.specs.Expressions.{argument_count, arguments_code}
 use Rattle.ir_follows.specs.Fits.{ArgumentsFit}

@@ -18,7 +18,8 @@ use Rattle.linear_code.specs.declared.slot.Slot.TheVariants.{Temporary}
 use Rattle.linear_code.specs.declared.instruction.Instruction.{Instruction}
 use Rattle.linear_code.specs.Program.{LinearProgram}
 use Rattle.linear_machine.specs.Frames.{Store, with_temporary}
-use Rattle.linear_runs.proofs.Stretch.{Part, at, Site, conf, price, more, then_value}
+use Rattle.linear_runs.proofs.Stretch.{Part, at, Site, conf, price}
+use Rattle.linear_runs.proofs.Joining.{more, then_value}
 use Rattle.ir_expressions.specs.declared.scope.Names.{Names}
 use Rattle.ir_sizes.specs.Sizes.{address_count, read_size, conversion_size, expression_size, locate_size, node_size}
 use Rattle.ir_expressions.specs.Expressions.{constant, combine, copy, chosen_of, conversion_code, expression_code, read_code, write_code, locate_code, node_code}

@@ -21,7 +21,9 @@ use Rattle.linear_machine.specs.Unwinding.{flag_in, flag_of, begin_finally, run_
 use Rattle.linear_machine.specs.Searching.{target_of}
 use Rattle.linear_machine.specs.Instructions.{end_body}
 use Rattle.linear_machine.specs.Run.{instruction_in, exec}
-use Rattle.linear_runs.proofs.Stretch.{Part, at, Site, frame_of, conf, Way, Never, To, Out, Ways, Kept, Price, price, Join, found, Reaches, unwound, Arrives, Claim, normal_ways, onto, still, stepped, first, fetch, prefix_self, more, after, reaches_after, targets_more, finishes_more, stops_more, then_held}
+use Rattle.linear_runs.proofs.Stretch.{Part, at, Site, frame_of, conf, Way, Never, To, Out, Ways, Kept, Price, price, Join, found, Reaches, unwound, Arrives, Claim, normal_ways}
+use Rattle.linear_runs.proofs.Joining.{more, after, reaches_after, targets_more, finishes_more, stops_more, then_held}
+use Rattle.linear_runs.proofs.SingleTurns.{onto, still, stepped, first, fetch, prefix_self}
 use Rattle.linear_runs.proofs.Walks.{Outward, starts}
 use Rattle.ir_expressions.specs.declared.scope.Names.{Names}
 use Rattle.ir_expressions.specs.declared.scope.Scope.{Scope}

@@ -19,7 +19,9 @@ use Rattle.linear_machine.specs.Unwinding.{target_past, unwind}
 use Rattle.linear_machine.specs.Searching.{target_of}
 use Rattle.linear_machine.specs.Instructions.{begin_function}
 use Rattle.linear_machine.specs.Run.{exec}
-use Rattle.linear_runs.proofs.Stretch.{Part, at, Site, frame_of, conf, Picked, Ways, Kept, price, found, Reaches, Claim, value_ways, stepped, fetch, prefix_self, sooner, more, reaches_after, reaches_more, finishes_more, stops_more, deep_claim}
+use Rattle.linear_runs.proofs.Stretch.{Part, at, Site, frame_of, conf, Picked, Ways, Kept, price, found, Reaches, Claim, value_ways}
+use Rattle.linear_runs.proofs.Joining.{more, reaches_after, reaches_more, finishes_more, stops_more}
+use Rattle.linear_runs.proofs.SingleTurns.{stepped, fetch, prefix_self, sooner, deep_claim}
 use Rattle.linear_runs.proofs.Walks.{handlers_below, leaves}
 use Rattle.ir_expressions.specs.declared.scope.Names.{Names}
 use Rattle.ir_expressions.specs.declared.scope.Scope.{Scope}

@@ -11,7 +11,8 @@ use Rattle.c_model.specs.Meaning.{within}
 use Rattle.linear_code.specs.declared.instruction.Instruction.{Instruction}
 use Rattle.linear_code.specs.Program.{LinearProgram}
 use Rattle.linear_machine.specs.Frames.{Store}
-use Rattle.linear_runs.proofs.Stretch.{Part, at, Site, conf, price, Claim, more}
+use Rattle.linear_runs.proofs.Stretch.{Part, at, Site, conf, price, Claim}
+use Rattle.linear_runs.proofs.Joining.{more}
 use Rattle.ir_expressions.specs.declared.scope.Names.{Names}
 use Rattle.ir_sizes.specs.Sizes.{address_count, read_size, expression_size, locate_size}
 use Rattle.ir_expressions.specs.Expressions.{expression_code, read_code, write_code, locate_code, node_code}

@@ -23,7 +23,9 @@ use Rattle.linear_code.specs.Program.{LinearProgram}
 use Rattle.linear_machine.specs.Frames.{Store, Seen, pick, with_some, with_temporary}
 use Rattle.linear_machine.specs.Instructions.{is_constant}
 use Rattle.linear_machine.specs.Run.{exec}
-use Rattle.linear_runs.proofs.Stretch.{Part, at, Site, conf, Ways, price, Claim, value_ways, more, first, then_value, still, fetch, prefix_self}
+use Rattle.linear_runs.proofs.Stretch.{Part, at, Site, conf, Ways, price, Claim, value_ways}
+use Rattle.linear_runs.proofs.Joining.{more, then_value}
+use Rattle.linear_runs.proofs.SingleTurns.{first, still, fetch, prefix_self}
 use Rattle.ir_expressions.specs.declared.scope.Names.{Names}
 use Rattle.ir_sizes.specs.Sizes.{read_size, conversion_size, expression_size, locate_size}
 use Rattle.ir_expressions.specs.Expressions.{constant, choice_code, conversion_code, expression_code, read_code, locate_code}

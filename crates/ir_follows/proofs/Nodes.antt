@@ -21,7 +21,9 @@ use Rattle.linear_code.specs.declared.instruction.Instruction.TheVariants.{Jump,
 use Rattle.linear_code.specs.Program.{LinearProgram}
 use Rattle.linear_machine.specs.Frames.{Store, with_temporary}
 use Rattle.linear_machine.specs.Instructions.{is_constant}
-use Rattle.linear_runs.proofs.Stretch.{Part, at, Site, conf, price, value_ways, more, chosen}
+use Rattle.linear_runs.proofs.Stretch.{Part, at, Site, conf, price, value_ways}
+use Rattle.linear_runs.proofs.Joining.{more}
+use Rattle.linear_runs.proofs.SingleTurns.{chosen}
 use Rattle.ir_expressions.specs.declared.scope.Names.{Names}
 use Rattle.ir_sizes.specs.Sizes.{unary_size, expression_size, node_size}
 use Rattle.ir_expressions.specs.Expressions.{constant, combine, copy, unary_code, choice_code, expression_code, node_code}

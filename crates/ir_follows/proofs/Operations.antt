@@ -27,7 +27,9 @@ use Rattle.linear_machine.specs.Frames as machine
 use Rattle.linear_machine.specs.Searching.{raise}
 use Rattle.linear_machine.specs.Instructions.{is_constant, computed}
 use Rattle.linear_machine.specs.Run.{exec}
-use Rattle.linear_runs.proofs.Stretch.{Part, at, Site, conf, Kept, Ways, Price, price, Claim, value_ways, more, first, then_value, then_plain, still, stepped, prefix_self}
+use Rattle.linear_runs.proofs.Stretch.{Part, at, Site, conf, Kept, Ways, Price, price, Claim, value_ways}
+use Rattle.linear_runs.proofs.Joining.{more, then_value, then_plain}
+use Rattle.linear_runs.proofs.SingleTurns.{first, still, stepped, prefix_self}
 use Rattle.ir_expressions.specs.declared.scope.Names.{Names}
 use Rattle.ir_sizes.specs.Sizes.{address_count, read_size, expression_size, locate_size}
 use Rattle.ir_expressions.specs.Expressions.{size_of, combine, expression_code, load_code, read_code, write_code, locate_code}

@@ -23,7 +23,9 @@ use Rattle.linear_machine.specs.Unwinding.{target_past, left_store, unwind_body,
 use Rattle.linear_machine.specs.Searching.{target_of, accept, begin_filter, consult, search, raise, resumed, answered}
 use Rattle.linear_machine.specs.Instructions.{end_funclet}
 use Rattle.linear_machine.specs.Run.{exec}
-use Rattle.linear_runs.proofs.Stretch.{Part, at, Site, frame_of, conf, Picked, Kept, price, Price, Join, Ways, found, Reaches, unwound, Targets, Claim, value_ways, normal_ways, more, after, then_value, targets_more, finishes_more, stops_more, prefix_self, still, stepped, fetch, sooner, deep_claim}
+use Rattle.linear_runs.proofs.Stretch.{Part, at, Site, frame_of, conf, Picked, Kept, price, Price, Join, Ways, found, Reaches, unwound, Targets, Claim, value_ways, normal_ways}
+use Rattle.linear_runs.proofs.Joining.{more, after, then_value, targets_more, finishes_more, stops_more}
+use Rattle.linear_runs.proofs.SingleTurns.{prefix_self, still, stepped, fetch, sooner, deep_claim}
 use Rattle.linear_runs.proofs.Walks.{picked_at, handlers_below, leaves}
 use Rattle.ir_expressions.specs.declared.scope.Names.{Names}
 use Rattle.ir_sizes.specs.Sizes.{expression_size}

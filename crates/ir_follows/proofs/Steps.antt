@@ -20,7 +20,9 @@ use Rattle.linear_machine.specs.Regions.{regions_at}
 use Rattle.linear_machine.specs.Searching.{begin_filter, raise}
 use Rattle.linear_machine.specs.Instructions.{is_constant}
 use Rattle.linear_machine.specs.Run.{exec}
-use Rattle.linear_runs.proofs.Stretch.{at, Site, conf, price, Claim, normal_ways, more, then_value, counted_claim, shown_deep}
+use Rattle.linear_runs.proofs.Stretch.{at, Site, conf, price, Claim, normal_ways}
+use Rattle.linear_runs.proofs.Joining.{more, then_value}
+use Rattle.linear_runs.proofs.SingleTurns.{counted_claim, shown_deep}
 use Rattle.ir_expressions.specs.declared.scope.Names.{Names}
 use Rattle.ir_sizes.specs.Sizes.{conversion_size, expression_size, locate_size, node_size}
 use Rattle.ir_expressions.specs.Expressions.{conversion_code, expression_code, locate_code, node_code}

@@ -18,7 +18,9 @@ use Rattle.linear_machine.specs.Regions.{handlers_in, handlers}
 use Rattle.linear_machine.specs.Unwinding.{target_past, unwind}
 use Rattle.linear_machine.specs.Searching.{target_of}
 use Rattle.linear_machine.specs.Run.{exec}
-use Rattle.linear_runs.proofs.Stretch.{Part, at, Site, conf, Picked, Kept, Price, price, found, Reaches, unwound, Arrives, Claim, onto, stepped, first, fetch, prefix_self, after, sooner, reaches_after, reaches_more, arrives_more, finishes_more, stops_more}
+use Rattle.linear_runs.proofs.Stretch.{Part, at, Site, conf, Picked, Kept, Price, price, found, Reaches, unwound, Arrives, Claim}
+use Rattle.linear_runs.proofs.Joining.{after, reaches_after, reaches_more, arrives_more, finishes_more, stops_more}
+use Rattle.linear_runs.proofs.SingleTurns.{onto, stepped, first, fetch, prefix_self, sooner}
 use Rattle.linear_runs.proofs.Walks.{Around, Inside, Outward, Meets, meets_own, picked_less, picked_inside, skips, lands}
 use Rattle.ir_expressions.specs.declared.scope.Names.{Names}
 use Rattle.ir_expressions.specs.declared.scope.Scope.{Scope}

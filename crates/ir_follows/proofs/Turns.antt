@@ -23,7 +23,8 @@ use Rattle.linear_code.specs.Program.{LinearProgram}
 use Rattle.linear_machine.specs.Frames.{Store, Next, Seen, pick, with_some, with_temporary, local_of, set_local, with_temporaries, forth}
 use Rattle.linear_machine.specs.Instructions.{is_constant, operand, computed}
 use Rattle.linear_machine.specs.Run.{exec}
-use Rattle.linear_runs.proofs.Stretch.{Site, conf, fetch}
+use Rattle.linear_runs.proofs.Stretch.{Site, conf}
+use Rattle.linear_runs.proofs.SingleTurns.{fetch}
 use Rattle.ir_follows.specs.Places.{HasAt}
 use Rattle.ir_follows.proofs.Claims.{Operands}
 

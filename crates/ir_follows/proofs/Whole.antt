@@ -15,7 +15,7 @@ use Rattle.c_model.specs.State.{State, Value, Normal, Returned, Broke, Continued
 use Rattle.c_model.specs.Tasks.{Context}
 use Rattle.c_model.specs.Expressions.{no_exception, all, ended_call, enter}
 use Rattle.c_model.specs.Meaning as source
-use Rattle.c_model.specs.Meaning.{within, does, for_parameters, outside, ran, Shown, shows, meaning}
+use Rattle.c_model.specs.Meaning.{within, does, for_parameters, outside, ran, shows, meaning}
 use Rattle.c_model.specs.Laws.{IsPrefixOf}
 use Rattle.c_model.proofs.RemainingSteps.{enters_within}
 use Rattle.linear_code.specs.declared.slot.Slot.TheVariants.{Temporary}
@@ -25,7 +25,8 @@ use Rattle.linear_machine.specs.Frames.{FunctionBody, Store, Configuration, Seen
 use Rattle.linear_machine.specs.Instructions.{begin_function}
 use Rattle.linear_machine.specs.Run.{main_arguments, start, seen, shown, exec}
 use Rattle.linear_runs.proofs.Longer.{events_of, More, longer}
-use Rattle.linear_runs.proofs.Stretch.{Part, at, Site, conf, Kept, price, Claim, Stops, Prefix, fetch}
+use Rattle.linear_runs.proofs.Stretch.{Part, at, Site, conf, Kept, price, Claim, Stops, Prefix}
+use Rattle.linear_runs.proofs.SingleTurns.{fetch}
 use Rattle.ir_sizes.specs.Sizes.{statements_size, statements_notes}
 use Rattle.ir_expressions.specs.Expressions.{constant}
 use Rattle.seh_ir.specs.Lowered.{own_locals, scope_of}

@@ -36,7 +36,8 @@ use Rattle.ir_typed.specs.Turns.{IsTurn, IsReached}
 use Rattle.ir_typed.specs.Small.{AreSmall, IsSmallCode, IsSmallAccess, IsSmallException, IsSmallFrame, AreSmallItems, HasSmallNumbers}
 use Rattle.ir_typed.proofs.Moves.{Turn, Halts, Moves, pick_turn, some_turn, deeper_turn, kept, kept_by_all}
 use Rattle.ir_typed.proofs.Stacked.{same_it}
-use Rattle.ir_typed.proofs.Results.{low_below, wrapped_below, IsSmallOutcome, outcome_small}
+use Rattle.seh_num.proofs.Below.{low_below, wrapped_below}
+use Rattle.ir_typed.proofs.Results.{IsSmallOutcome, outcome_small}
 
 -- ---- lists
 

@@ -13,18 +13,22 @@ use Rattle.c_model.specs.declared.depth.TheConstants.{DEEPEST, TOO_DEEP}
 
 -- ---- bodies
 
+-- a function or a funclet, by its number
 pub data BodyName : Type 0 where
   FunctionBody : ℕ → BodyName
   FuncletBody : ℕ → BodyName
 
+-- the body of a function, if there is one
 abbrev pub function_body : Option LinearFunction → Option LinearBody
 function_body None = None
 function_body (Some f) = Some f.body
 
+-- the body of a funclet, if there is one
 abbrev pub funclet_body : Option LinearFunclet → Option LinearBody
 funclet_body None = None
 funclet_body (Some f) = Some f.body
 
+-- the body of that name
 abbrev pub body_of : LinearProgram → BodyName → Option LinearBody
 body_of program (FunctionBody f) = function_body (slice_get program.functions f)
 body_of program (FuncletBody k) = funclet_body (slice_get program.funclets k)
@@ -46,7 +50,7 @@ pub record Frame : Type 0 where
   pub temporaries : List ℕ
   pub landed : Option ℕ
 
--- a handler that a search meets: its filter, if it has one, the activation that the filter works
+-- a handler that a search comes to: its filter, if it has one, the activation that the filter works
 -- on, how many items wait below its frame, and where its block begins
 pub record Handler : Type 0 where
   pub filter : Option ℕ
@@ -63,14 +67,14 @@ pub record Target : Type 0 where
   pub code : Option ℕ
   pub held : ℕ
 
--- how a body goes on where a filter continues its exception: after a call of RaiseException, with
+-- how a body continues where a filter continues its exception: after a call of RaiseException, with
 -- the result 0, or by the same operation again
 pub data Resumption : Type 0 where
   AfterCall : Resumption
   SameOperation : Resumption
 
--- what waits: a body; a search, until the filter of a handler answers, with the handlers that it
--- would meet next; an unwinding, until a `__finally` block ends, with the regions of the body below
+-- what waits: a body; a search, until the filter of a handler answers, with the handlers that
+-- come next; an unwinding, until a `__finally` block ends, with the regions of the body below
 -- that it has yet to leave
 pub data Item : Type 0 where
   Waits : Frame → Item
@@ -89,7 +93,10 @@ pub record Configuration : Type 0 where
   pub store : Store
   pub events : List Event
 
--- ---- what is seen of a run: the events so far, where it goes on; its end; or a place from which no rule leads on
+-- ---- what is seen
+
+-- what is seen of a run: the events so far, while it continues; its end; or a place from which no
+-- rule leads on
 pub data Seen : Type 0 where
   Running : List Event → Seen
   Finished : Ended → List Event → Seen
@@ -99,28 +106,33 @@ pub data Seen : Type 0 where
 abbrev pub Next : Type 0
 Next = Configuration → Seen
 
+-- the first where the test holds, else the second
 unfoldable pub pick : Bool → Seen → Seen → Seen
 pick true a b = a
 pick false a b = b
 
+-- where there is nothing, no rule leads on
 unfoldable pub with_some : {A : Type 0} → List Event → Option A → (A → Seen) → Seen
 with_some es None go = Stuck es
 with_some es (Some x) go = go x
 
--- goes on unless the depth would rise above the greatest: 1 for each live activation, and what is
--- held
+-- continues unless the depth would rise above the greatest: 1 for each live activation, and what
+-- is held
 abbrev pub deeper : ℕ → ℕ → Store → List Event → Seen → Seen
 deeper n held store es seen =
     pick (nat_lt DEEPEST (length store.activations + held + n)) (Finished (Deep TOO_DEEP) es) seen
 
 -- ---- slots
 
+-- the locals of an activation
 abbrev pub locals_of : Store → ℕ → List ℕ
 locals_of s k = elim (slice_get s.activations k) [ Some locals ↦ locals | None ↦ [] ]
 
+-- a local of an activation
 abbrev pub local_of : Store → ℕ → ℕ → ℕ
 local_of s k x = slice_index (locals_of s k) x
 
+-- the store with another number in a local
 abbrev pub set_local : Store → ℕ → ℕ → ℕ → Store
 set_local s k x v =
     record s { activations = slice_set s.activations k (slice_set (locals_of s k) x v) }
@@ -134,10 +146,12 @@ read c (Temporary i) = slice_get c.frame.temporaries i
 abbrev pub with_temporary : List ℕ → ℕ → ℕ → Option (List ℕ)
 with_temporary ts i v = if nat_le i (length ts) then Some (take i ts ++ v ∷ []) else None
 
+-- a configuration with these temporaries
 abbrev pub with_temporaries : Configuration → Option (List ℕ) → Option Configuration
 with_temporaries c None = None
 with_temporaries c (Some ts) = Some (record c { frame = record c.frame { temporaries = ts } })
 
+-- a configuration with a number in a slot, unless the temporary can't be written
 abbrev pub write : Configuration → Slot → ℕ → Option Configuration
 write c (Local x) v = Some (record c { store = set_local c.store c.frame.activation x v })
 write c (Temporary i) v = with_temporaries c (with_temporary c.frame.temporaries i v)
@@ -149,11 +163,14 @@ last_temporaries ts first count =
 
 -- ---- places
 
+-- the configuration at another instruction of its body
 abbrev pub at_label : ℕ → Configuration → Configuration
 at_label label c = record c { frame = record c.frame { next = label } }
 
+-- the configuration at the next instruction
 abbrev pub forth : Configuration → Configuration
 forth c = at_label (c.frame.next + 1) c
 
+-- the configuration with these temporaries
 abbrev pub with_last : List ℕ → Configuration → Configuration
 with_last ts c = record c { frame = record c.frame { temporaries = ts } }

@@ -1,5 +1,5 @@
 -- What each instruction does.
-use Rattle.std.specs.Prelude.{ℕ, ◌+◌, ◌-◌, Bool, true, false, nat_eq, List, [], ◌∷◌, ◌++◌, length, take, get_or, replicate, slice_get, Option, Some, None}
+use Rattle.std.specs.Prelude.{ℕ, ◌-◌, Bool, true, false, nat_eq, List, [], ◌∷◌, ◌++◌, length, take, get_or, replicate, slice_get, Option, Some, None}
 use Rattle.seh_num.specs.declared.width.Width.TheVariants.{W32, W64}
 use Rattle.seh_num.specs.declared.event.Event.{Event}
 use Rattle.seh_num.specs.declared.event.Event.TheVariants as events
@@ -17,16 +17,17 @@ use Rattle.linear_code.specs.declared.instruction.Instruction.{Instruction}
 use Rattle.linear_code.specs.declared.instruction.Instruction.TheVariants as instructions
 use Rattle.linear_code.specs.declared.program.FuncletKind.{FuncletKind}
 use Rattle.linear_code.specs.declared.program.FuncletKind.TheVariants.{Filter, Finally}
-use Rattle.linear_code.specs.Program.{LinearProgram, LinearBody, LinearFunction, LinearFunclet}
+use Rattle.linear_code.specs.Program.{LinearProgram, LinearFunction}
 use Rattle.c_model.specs.declared.ended.Ended.TheVariants as ends
 use Rattle.c_model.specs.Source.{is_reserved}
 use Rattle.c_model.specs.Expressions.{of_test, is_some, field_of, raised, no_exception}
-use Rattle.linear_machine.specs.Frames.{BodyName, FunctionBody, FuncletBody, body_of, Frame, Target, Resumption, AfterCall, SameOperation, Item, Waits, Searches, Unwinds, Store, Configuration, Seen, Running, Finished, Stuck, Next, pick, with_some, deeper, read, write, last_temporaries, at_label, forth, with_last}
+use Rattle.linear_machine.specs.Frames.{BodyName, FunctionBody, FuncletBody, AfterCall, SameOperation, Item, Waits, Unwinds, Store, Configuration, Seen, Finished, Stuck, Next, pick, with_some, deeper, read, write, last_temporaries, at_label, forth, with_last}
 use Rattle.linear_machine.specs.Unwinding.{left_store, run_finally, unwind}
 use Rattle.linear_machine.specs.Searching.{raise, answer}
 
 -- ---- operations
 
+-- an operation that reads no operand
 abbrev pub is_constant : Operation → Bool
 is_constant (operations.Pure (Constant n)) = true
 is_constant o = false
@@ -36,6 +37,7 @@ abbrev pub operand : Bool → Configuration → Slot → Option ℕ
 operand true c slot = Some 0
 operand false c slot = read c slot
 
+-- a number is written to a slot, and the next instruction is run
 abbrev pub written : Configuration → Slot → ℕ → Next → Seen
 written c to v next = with_some c.events (write c to v) (λ c. next (forth c))
 
@@ -47,6 +49,7 @@ computed program next to c (Raises code access) =
     raise program next (record { code = code.0; flag = false; access = access }) SameOperation c
 computed program next to c (Undefined a) = Finished (ends.Undefined a) c.events
 
+-- an operation on two slots, to a slot
 abbrev pub compute : LinearProgram → Next → Slot → Operation → Slot → Slot → Configuration → Seen
 compute program next to o first second c =
     with_some c.events (operand (is_constant o) c first) (λ a.
@@ -60,6 +63,7 @@ abbrev pub tested : Slot → Configuration → Configuration
 tested (Local x) c = c
 tested (Temporary i) c = with_last (take i c.frame.temporaries) c
 
+-- a jump if a slot is 0; a temporary that is tested ends
 abbrev pub jump_if_zero : Next → Slot → ℕ → Configuration → Seen
 jump_if_zero next slot label c =
     with_some c.events (read c slot) (λ v. pick (nat_eq v 0) (next (at_label label (tested slot c)))
@@ -94,6 +98,7 @@ begin_function f function arguments held below store es = record {
   events = es;
 }
 
+-- a call of a function with the last temporaries as its arguments
 abbrev pub call : LinearProgram → Next → ℕ → ℕ → ℕ → Configuration → Seen
 call program next f first count c =
     with_some c.events (last_temporaries c.frame.temporaries first count) (λ arguments.
@@ -102,6 +107,7 @@ call program next f first count c =
     (next (begin_function f function arguments c.frame.held
     (Waits (waiting c first).frame ∷ c.below) c.store c.events))))
 
+-- how many arguments a service takes
 abbrev pub count_of : BuiltIn → ℕ
 count_of Put = 1
 count_of Protect = 2
@@ -111,6 +117,7 @@ count_of RaiseException = 4
 abbrev pub answers : Next → ℕ → Configuration → Seen
 answers next v c = next (forth (with_last (c.frame.temporaries ++ v ∷ []) c))
 
+-- what a call of a service does
 abbrev pub built_in : LinearProgram → Next → BuiltIn → List ℕ → Configuration → Seen
 built_in program next Put vs c =
     answers next 0 (record c { events = c.events ++ events.Put (signed W64 (get_or vs 0 0)) ∷ [] })
@@ -122,6 +129,7 @@ built_in program next Protect vs c =
 built_in program next RaiseException vs c =
     raise program next (raised (get_or vs 0 0) (get_or vs 1 0)) AfterCall c
 
+-- a call of a service with the last temporaries as its arguments
 abbrev pub call_built_in : LinearProgram → Next → BuiltIn → ℕ → Configuration → Seen
 call_built_in program next f first c =
     with_some c.events (last_temporaries c.frame.temporaries first (count_of f))
@@ -137,7 +145,7 @@ return next v (Waits f ∷ below) es store =
     answers next v (record { frame = f; below = below; store = store; events = es })
 return next v items es store = Stuck es
 
--- after a `__finally` block an unwinding goes on, or the body after its call
+-- after a `__finally` block an unwinding continues, or the body after its call
 abbrev pub end_finally : LinearProgram → Next → List Item → List Event → Store → Seen
 end_finally program next (Unwinds rest target ∷ Waits f ∷ below) es store =
     unwind program next target (Waits f ∷ below) (Some rest) es store
@@ -145,10 +153,12 @@ end_finally program next (Waits f ∷ below) es store =
     next (forth (record { frame = f; below = below; store = store; events = es }))
 end_finally program next items es store = Stuck es
 
+-- a filter answers, a `__finally` block ends
 abbrev pub end_funclet : LinearProgram → Next → FuncletKind → ℕ → Configuration → Seen
 end_funclet program next Filter v c = answer program next v c.below c.events c.store
 end_funclet program next (Finally flag) v c = end_finally program next c.below c.events c.store
 
+-- a function returns a number; a funclet ends by its kind
 abbrev pub end_body : LinearProgram → Next → BodyName → ℕ → Configuration → Seen
 end_body program next (FunctionBody f) v c =
     return next v c.below c.events (left_store c.frame.body c.frame.activation c.store)
@@ -167,9 +177,11 @@ local_unwind program next label c =
       held = c.frame.held;
     }) (Waits c.frame ∷ c.below) None c.events c.store
 
+-- the exception's code isn't at hand any more
 abbrev pub not_landed : Configuration → Configuration
 not_landed c = record c { frame = record c.frame { landed = None } }
 
+-- what an instruction does
 abbrev pub act : LinearProgram → Instruction → Next → Configuration → Seen
 act program (instructions.Compute to o first second) next c =
     compute program next to o first second c

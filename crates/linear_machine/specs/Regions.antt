@@ -1,15 +1,17 @@
--- The regions around an instruction, and the handlers that a search meets (Microsoft x64 ABI,
+-- The regions around an instruction, and the handlers that a search comes to (Microsoft x64 ABI,
 -- "Language-specific handler").
 use Rattle.std.specs.Prelude.{ℕ, Bool, ◌&&◌, ◌||◌, false, nat_eq, nat_le, nat_lt, List, [], ◌∷◌, ◌++◌, length, filter, Option, Some, None}
 use Rattle.linear_code.specs.declared.program.Region.{Region}
 use Rattle.linear_code.specs.declared.program.RegionKind.{RegionKind}
 use Rattle.linear_code.specs.declared.program.RegionKind.TheVariants as kinds
 use Rattle.linear_code.specs.Program.{LinearProgram, LinearBody}
-use Rattle.linear_machine.specs.Frames.{BodyName, body_of, Frame, Handler, Target, Item, Waits, Searches, Unwinds}
+use Rattle.linear_machine.specs.Frames.{BodyName, body_of, Handler, Target, Item, Waits, Searches, Unwinds}
 
+-- the instruction is in the region
 abbrev pub holds : ℕ → Region → Bool
 holds label r = nat_le r.begin label && nat_lt label r.end
 
+-- the regions of a body, innermost first
 abbrev pub regions_of : Option LinearBody → List Region
 regions_of None = []
 regions_of (Some b) = b.regions
@@ -23,6 +25,7 @@ abbrev pub regions_left : Option (List Region) → List Region → List Region
 regions_left None regions = regions
 regions_left (Some rest) regions = rest
 
+-- the handler of a region, if it has one
 abbrev pub handlers_of : RegionKind → ℕ → ℕ → List Handler
 handlers_of (kinds.Finally k) activation depth = []
 handlers_of (kinds.Filter k target) activation depth =
@@ -36,8 +39,8 @@ handlers_in [] activation depth = []
 handlers_in (r ∷ regions) activation depth =
     handlers_of r.kind activation depth ++ handlers_in regions activation depth
 
--- the handlers that a search meets, innermost first: below a search it goes on where the exception
--- was raised, and below an unwinding with the regions that are left
+-- the handlers that a search comes to, innermost first: below a search it continues where the
+-- exception was raised, and below an unwinding with the regions that are left
 abbrev pub handlers : LinearProgram → List Item → Option (List Region) → List Handler
 handlers program [] left = []
 handlers program (Waits f ∷ below) left =
@@ -49,6 +52,7 @@ handlers program (Unwinds rest target ∷ below) left = handlers program below (
 
 -- ---- where an unwinding stops
 
+-- the region's `__except` block begins at the instruction
 abbrev pub leads_to : RegionKind → ℕ → Bool
 leads_to (kinds.Finally k) label = false
 leads_to (kinds.Filter k target) label = nat_eq target label

@@ -1,15 +1,16 @@
 -- Runs of linear code.
-use Rattle.std.specs.Prelude.{ℕ, zero, suc, ◌-◌, List, [], ◌∷◌, ◌++◌, nat_eq, if◌then◌else◌, replicate, slice_get, ℤ, Option, Some, None}
+use Rattle.std.specs.Prelude.{ℕ, zero, suc, List, [], ◌∷◌, nat_eq, if◌then◌else◌, slice_get, ℤ, Option, Some, None}
 use Rattle.seh_num.specs.declared.width.Width.TheVariants.{W64}
 use Rattle.seh_num.specs.Widths.{wrapped}
-use Rattle.seh_num.specs.declared.event.Event.{Event}
+use Rattle.seh_num.specs.Shown.{Shown}
 use Rattle.linear_code.specs.declared.instruction.Instruction.{Instruction}
 use Rattle.linear_code.specs.Program.{LinearProgram, LinearBody, LinearFunction}
-use Rattle.c_model.specs.Meaning.{Shown}
 use Rattle.c_model.specs.Source.{first_memory}
+use Rattle.c_model.specs.declared.ended.Ended.{Ended}
 use Rattle.linear_machine.specs.Frames.{body_of, Configuration, Seen, Running, Finished, Stuck, Next, pick, with_some}
 use Rattle.linear_machine.specs.Instructions.{begin_function, act}
 
+-- an instruction of a body, by its number
 abbrev pub instruction_in : Option LinearBody → ℕ → Option Instruction
 instruction_in None label = None
 instruction_in (Some b) label = slice_get b.code label
@@ -30,6 +31,7 @@ exec program (suc n) c =
 abbrev pub main_arguments : ℕ → ℤ → List ℕ
 main_arguments parameters arg = if nat_eq parameters 0 then [] else wrapped W64 arg ∷ []
 
+-- the configuration that a program starts from: `main` begins
 abbrev pub start : LinearProgram → ℤ → LinearFunction → Configuration
 start program arg main =
     begin_function program.main main (main_arguments main.parameters arg) 0 []
@@ -42,12 +44,13 @@ seen program arg n =
     (λ main. exec program n (start program arg main))
 
 -- the events and the end; a run that is stuck has none
-abbrev pub shown : Seen → Shown
+abbrev pub shown : Seen → Shown Ended
 shown (Running es) = record { events = es; end = None }
 shown (Finished e es) = record { events = es; end = Some e }
 shown (Stuck es) = record { events = es; end = None }
 
-abbrev pub linear_meaning : LinearProgram → ℤ → ℕ → Shown
+-- what a linear program shows within n turns
+abbrev pub linear_meaning : LinearProgram → ℤ → ℕ → Shown Ended
 linear_meaning program arg n = shown (seen program arg n)
 
 -- what a proof opens, by `unfolding computed_linear`, to compute a run

@@ -1,5 +1,5 @@
 -- Raises and the search for a handler (C reference, "Writing an exception handler").
-use Rattle.std.specs.Prelude.{ℕ, suc, ◌+◌, ◌^◌, Bool, true, false, nat_eq, nat_lt, List, [], ◌∷◌, ◌++◌, Option, Some, None}
+use Rattle.std.specs.Prelude.{ℕ, ◌+◌, ◌^◌, nat_eq, nat_lt, List, [], ◌∷◌, ◌++◌, Option, Some, None}
 use Rattle.seh_num.specs.declared.width.Width.TheVariants.{W32}
 use Rattle.seh_num.specs.declared.event.Event.{Event}
 use Rattle.seh_num.specs.declared.event.Event.TheVariants as events
@@ -8,10 +8,11 @@ use Rattle.linear_code.specs.Program.{LinearProgram}
 use Rattle.c_model.specs.declared.ended.Ended.TheVariants.{Unhandled}
 use Rattle.c_model.specs.State.{Exception}
 use Rattle.c_model.specs.Raises.{noncontinuable, raise_event}
-use Rattle.linear_machine.specs.Frames.{FuncletBody, Frame, Handler, Target, Resumption, AfterCall, SameOperation, Item, Waits, Searches, Unwinds, Store, Configuration, Seen, Finished, Stuck, Next, pick, deeper, forth, with_last}
+use Rattle.linear_machine.specs.Frames.{FuncletBody, Handler, Target, Resumption, AfterCall, SameOperation, Item, Waits, Searches, Store, Configuration, Seen, Finished, Stuck, Next, pick, deeper, forth, with_last}
 use Rattle.linear_machine.specs.Regions.{handlers}
 use Rattle.linear_machine.specs.Unwinding.{unwind}
 
+-- the target of an unwinding to a handler's block
 abbrev pub target_of : Handler → ℕ → ℕ → Target
 target_of h code held = record { depth = h.depth; label = h.target; code = Some code; held = held }
 
@@ -47,6 +48,7 @@ consult program None h rest exception resumption next c = accept program h excep
 consult program (Some k) h rest exception resumption next c =
     deeper 2 c.frame.held c.store c.events (next (begin_filter k h rest exception resumption c))
 
+-- a search: its handlers in order; without one the exception is unhandled
 abbrev pub search : LinearProgram → Next → List Handler → Exception → Resumption → Configuration
     → Seen
 search program next [] exception resumption c =

@@ -1,5 +1,5 @@
 -- Unwinding (Microsoft x64 ABI, "Unwind procedure"; C reference, "try-finally statement").
-use Rattle.std.specs.Prelude.{ℕ, suc, ◌+◌, Bool, true, false, nat_eq, if◌then◌else◌, List, [], ◌∷◌, ◌++◌, length, take, slice_get, Option, Some, None}
+use Rattle.std.specs.Prelude.{ℕ, ◌+◌, Bool, true, nat_eq, List, [], ◌∷◌, ◌++◌, length, take, slice_get, Option, Some, None}
 use Rattle.seh_num.specs.declared.event.Event.{Event}
 use Rattle.seh_num.specs.declared.event.Event.TheVariants as events
 use Rattle.linear_code.specs.declared.program.Region.{Region}
@@ -9,7 +9,7 @@ use Rattle.linear_code.specs.declared.program.FuncletKind.{FuncletKind}
 use Rattle.linear_code.specs.declared.program.FuncletKind.TheVariants.{Filter, Finally}
 use Rattle.linear_code.specs.Program.{LinearProgram, LinearFunclet}
 use Rattle.c_model.specs.Expressions.{of_test, no_exception}
-use Rattle.linear_machine.specs.Frames.{BodyName, FunctionBody, FuncletBody, Frame, Target, Item, Waits, Searches, Unwinds, Store, Configuration, Seen, Stuck, Next, pick, with_some, deeper, set_local}
+use Rattle.linear_machine.specs.Frames.{BodyName, FunctionBody, FuncletBody, Target, Item, Waits, Searches, Unwinds, Store, Configuration, Seen, Stuck, Next, pick, with_some, deeper, set_local}
 use Rattle.linear_machine.specs.Regions.{regions_at, regions_left, stops}
 
 -- ---- `__finally` blocks
@@ -19,6 +19,7 @@ abbrev pub flag_in : FuncletKind → Option ℕ
 flag_in Filter = None
 flag_in (Finally flag) = Some flag
 
+-- the local that has the flag of a `__finally` block, if the funclet is one
 abbrev pub flag_of : Option LinearFunclet → Option ℕ
 flag_of None = None
 flag_of (Some f) = flag_in f.kind
@@ -41,6 +42,7 @@ begin_finally k flag abnormal held below c = record {
   events = c.events ++ events.Finally (k + 1) abnormal ∷ [];
 }
 
+-- a `__finally` block runs; 2 more are held while it does
 abbrev pub run_finally : LinearProgram → ℕ → Bool → ℕ → List Item → Next → Configuration → Seen
 run_finally program k abnormal held below next c =
     with_some c.events (flag_of (slice_get program.funclets k)) (λ flag.
@@ -72,8 +74,10 @@ left_store (FunctionBody f) activation store =
     record store { activations = take activation store.activations }
 left_store (FuncletBody k) activation store = store
 
--- ---- an unwinding within a body: its `__finally` blocks in order, up to the unwinding's end, or out of the body
+-- ---- an unwinding within a body: its `__finally` blocks in order, up to the unwinding's end, or
+-- out of the body
 
+-- a region is left: the block of a `__finally` runs first
 abbrev pub leave_region : LinearProgram → Next → Target → RegionKind → List Region → Seen
     → Configuration → Seen
 leave_region program next target (kinds.Finally k) rest further c =
@@ -81,6 +85,7 @@ leave_region program next target (kinds.Finally k) rest further c =
 leave_region program next target (kinds.Filter k label) rest further c = further
 leave_region program next target (kinds.Always label) rest further c = further
 
+-- the regions of a body in order, and then the items below it
 abbrev pub unwind_body : LinearProgram → Next → Target → (Store → Seen) → List Region
     → Configuration → Seen
 unwind_body program next target out [] c =
@@ -91,7 +96,7 @@ unwind_body program next target out (r ∷ regions) c =
     (leave_region program next target r.kind regions
     (unwind_body program next target out regions c) c)
 
--- an unwinding over what waits: a search that it meets is over, and the regions that an older
+-- an unwinding over what waits: a search that it comes to is over, and the regions that an older
 -- unwinding has left aren't left again
 abbrev pub unwind : LinearProgram → Next → Target → List Item → Option (List Region) → List Event
     → Store → Seen

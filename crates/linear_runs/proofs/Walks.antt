@@ -1,4 +1,4 @@
--- What a search meets over what waits, and where an unwinding stops.
+-- What a search comes to over what waits, and where an unwinding stops.
 use Rattle.std.proofs.Common.{◌≡◌, ◌⊎◌, inl, inr, ℕ, suc, ◌<◌, ◌≤◌, List, [], ◌∷◌, ◌++◌, length, refl, ap, sym, ◌∙◌, subst, arith, append_assoc}
 use Rattle.std.proofs.lemmas.Bool.{eq-eqb, ne_eqb, lt-ltb, le-ltb, le-leb, lt-leb, and_from, and_left, and_right, or_left, or_right, or_from}
 use Rattle.std.specs.Prelude.{true, false, ◌||◌, nat_eq, nat_le, nat_lt, Option, Some, None}
@@ -93,7 +93,7 @@ module _ (linear : LinearProgram) where
   handlers_below (Searches exception resumption asked rest ∷ below) left level f p = let e = handlers_below below None level f p in omega arith
   handlers_below (Unwinds rest target ∷ below) left level f p = let e = handlers_below below (Some rest) level f p in omega arith
 
-  -- what a search meets from a body with these regions
+  -- what a search comes to from a body with these regions
   pub picked_inside : (regions : List Region) (activation lo hi : ℕ) (below : List Item) (level : ℕ) (f : Handler) → Around regions lo hi → Picked (handlers_in regions activation (length below) ++ handlers linear below None) level f
       → Inside (length below) hi f
   picked_inside regions activation lo hi below level f around p =

@@ -1,4 +1,4 @@
--- Where a search or an unwinding begins, or goes on.
+-- Where a search or an unwinding begins, or continues.
 use Rattle.std.proofs.Common.{◌≡◌, inl, ℕ, zero, suc, ◌+◌, ◌-◌, ◌%◌, ◌^◌, ◌<◌, ◌≤◌, Bool, true, Option, Some, None, List, [], ◌∷◌, length, refl, ap, subst, ◌∙◌, arith}
 use Rattle.std.specs.Prelude.{not, ◌==◌, slice_index, replicate}
 use Rattle.seh_num.specs.declared.event.Code.{Code}

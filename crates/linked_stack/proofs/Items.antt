@@ -22,7 +22,7 @@ use Rattle.linked_stack.specs.RecordLaws.{RecordLeavesTheList, SearchIsOneMore, 
 use Rattle.linked_stack.proofs.Laying.{bytes, laid_is, keeps_above, data_laid, record_laid, pointers_laid, placed_keeps_above, data_placed}
 
 module _ (t : Functions) (fs : List Funclet) (program : LinearProgram) (p : Plan) (m : Memory) (at : ℕ) (r : DispatchRecord) (back : ℕ) (c : Context) (is : List StackItem) (items : List Item) (acts : List Activation) (on : On t fs program p m c is items acts) (room : HasRoom m at r (rsp c)) (small : back < 2 ^ 64) where
-  -- what stood above still stands
+  -- what was above is there still
   pub others_stand : Stands t fs program p (with_bytes m (bytes m at r back (rsp c) on.data_alone room small)) c is items acts
   others_stand =
       kept_by_stores_below t fs program p m (bytes m at r back (rsp c) on.data_alone room small) c is items acts (keeps_above m at r back (rsp c) on.data_alone room small (rsp c) room.below) on.stands

@@ -1,4 +1,4 @@
--- The list stands in each memory that reads the same in the stack, from its stack pointer up, and has the same code.
+-- The list is in each memory that reads the same in the stack, from its stack pointer up, and has the same code.
 use Rattle.std.proofs.Common.{◌≡◌, ℕ, ◌+◌, ◌≤◌, Bool, true, false, Ok, List, [], ◌∷◌, ◌∙◌, arith}
 use Rattle.flat_memory.specs.Memory.{Memory}
 use Rattle.x64_machine.specs.declared.context.Context.{Context}
@@ -98,8 +98,9 @@ module _ (m m' : Memory) (top : ℕ) where
 
     -- ---- items of the stack
 
-    pub frame_stands : (c : Context) (f : StackFrame) → ReadsSame m m' (rsp c) top → rsp c + f.size + 8 ≤ top → FrameStands t m c f → FrameStands t m' c f
-    frame_stands c f r fits s = record {
+    -- a frame is kept where its return address and the code are read as before
+    pub frame_above : (low : ℕ) (c : Context) (f : StackFrame) → ReadsSame m m' low top → low ≤ rsp c + f.size → rsp c + f.size + 8 ≤ top → FrameStands t m c f → FrameStands t m' c f
+    frame_above low c f r le fits s = record {
       live = s.live;
       not_filter = s.not_filter;
       not_finally = s.not_finally;
@@ -111,8 +112,11 @@ module _ (m m' : Memory) (top : ℕ) where
       no_parents = s.no_parents;
       kept = s.kept;
       room = s.room;
-      returns = r.words (rsp c + f.size) f.return_address (omega arith) fits s.returns;
+      returns = r.words (rsp c + f.size) f.return_address le fits s.returns;
     }
+
+    pub frame_stands : (c : Context) (f : StackFrame) → ReadsSame m m' (rsp c) top → rsp c + f.size + 8 ≤ top → FrameStands t m c f → FrameStands t m' c f
+    frame_stands c f r fits s = frame_above (rsp c) c f r (omega arith) fits s
 
     pub leaf_stands : (c : Context) (back : ℕ) → ReadsSame m m' (rsp c) top → rsp c + 8 ≤ top → LeafStands t m c back → LeafStands t m' c back
     leaf_stands c back r fits s = record {

@@ -30,7 +30,7 @@ module _ (t : Functions) (m : Memory) (is : List StackItem) (r : DispatchRecord)
   top_of above p (inl q) = q
   top_of above p (inr q) = let a = p.below in let b = p.small in absurd (omega arith)
 
-  -- the record stands, and what stood above it still does
+  -- the record is there, and what was above it still is
   stands : (address : ℕ) (b : Bool) (above : Context) → is_search r.kind ≡ b → CanBePlaced m at r above → RecordStands (placed m at r) (context_below address at others) r address b above
   stands address b above kind p =
       let top = top_of above p (cases_lt (at + 1568) (2 ^ 64)) in

@@ -1,4 +1,4 @@
--- A placed record tells where the exception's own record stands in it.
+-- A placed record tells where the exception's own record is in it.
 use Rattle.std.proofs.Common.{◌≡◌, ℕ, ◌+◌, ◌-◌, ◌*◌, ◌/◌, ◌%◌, ◌^◌, ◌<◌, ◌≤◌, false, Option, None, Ok, get_or, sym, ap, ◌∙◌, arith}
 use Rattle.std.specs.Prelude.{nat_lt, ◌&&◌}
 use Rattle.std.proofs.lemmas.Bool.{lt-ltb, le-leb}

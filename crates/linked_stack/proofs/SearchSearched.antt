@@ -1,4 +1,4 @@
--- The host's search asks the handlers that linear code meets, in their order.
+-- The host's search asks the handlers that linear code comes to, in their order.
 use Rattle.std.proofs.Common.{◌≡◌, ◌⊎◌, inl, inr, ℕ, suc, ◌+◌, ◌%◌, ◌^◌, ◌<◌, ◌≤◌, Option, Some, None, List, [], ◌∷◌, ◌++◌, length, refl, sym, ap, subst, ◌∙◌, arith}
 use Rattle.std.specs.Prelude.{filter, drop}
 use Rattle.std.proofs.Math.Seq.{drop-nil}

@@ -19,6 +19,7 @@ use Rattle.linear_machine.specs.Frames.{BodyName, FunctionBody, FuncletBody, bod
 use Rattle.linear_machine.specs.Regions as regions
 use Rattle.linear_machine.specs.Regions.{leads_to}
 
+-- where the parts of an image are
 pub record Plan : Type 0 where
   pub address : BodyName → ℕ → ℕ  -- where the code of an instruction begins, that of the last one up to the body's end
   pub funclet : ℕ → ℕ  -- the first byte of a funclet, by its number
@@ -26,7 +27,7 @@ pub record Plan : Type 0 where
   pub entry : BodyName → Entry  -- the entry of the function table for any other body
   pub layout : BodyName → Layout  -- where the slots of a body stand
   pub lands : BodyName → ℕ → Bool  -- an unwinding may land at this instruction
-  pub resumes : Resumption → Frame → Cpu → Bool  -- a body that waits goes on so from a state that was saved where it raised an exception
+  pub resumes : Resumption → Frame → Cpu → Bool  -- a body that waits continues so from a state that was saved where it raised an exception
 
 -- an address within the code of an instruction
 pub record InCode (p : Plan) (name : BodyName) (label rip : ℕ) : Type 0 where
@@ -38,6 +39,7 @@ abbrev pub by_parent : ℕ → Option ℕ → BodyName
 by_parent function None = FunctionBody function
 by_parent function (Some parent) = FuncletBody parent
 
+-- the body that a funclet belongs to
 abbrev pub parent_body : Option LinearFunclet → Option BodyName
 parent_body None = None
 parent_body (Some f) = Some (by_parent f.function f.parent)
@@ -82,10 +84,12 @@ module _ (t : Functions) (fs : List Funclet) (program : LinearProgram) (p : Plan
     pub to : JumpsTo name row label
     pub accepts : (row.handler_address == 1) ≡ true
 
+  -- a row of an `__except` block, with a filter or without one
   abbrev pub IsHandlerRow : BodyName → ScopeRecord → Option ℕ → ℕ → Type 0
   IsHandlerRow name row None label = IsAlwaysRow name row label
   IsHandlerRow name row (Some k) label = IsFilterRow name row k label
 
+  -- a row of a region of this kind
   abbrev pub IsOfKind : BodyName → ScopeRecord → RegionKind → Type 0
   IsOfKind name row (kinds.Finally k) = IsFinallyRow name row k
   IsOfKind name row (kinds.Filter k label) = IsHandlerRow name row (Some k) label
@@ -109,10 +113,12 @@ module _ (t : Functions) (fs : List Funclet) (program : LinearProgram) (p : Plan
 
   -- ---- the flags of an entry
 
+  -- all rows are of `__finally` blocks
   abbrev pub AllFinally : List ScopeRecord → Type 0
   AllFinally [] = Unit {0}
   AllFinally (x ∷ xs) = ((x.jump_target == 0) ≡ true) × AllFinally xs
 
+  -- all rows are of `__except` blocks
   abbrev pub AllExcept : List ScopeRecord → Type 0
   AllExcept [] = Unit {0}
   AllExcept (x ∷ xs) = ((x.jump_target == 0) ≡ false) × AllExcept xs
@@ -125,6 +131,7 @@ module _ (t : Functions) (fs : List Funclet) (program : LinearProgram) (p : Plan
 
   -- ---- the whole table
 
+  -- the entry of a body has its regions as rows
   pub record IsEntryOf (name : BodyName) (b : LinearBody) : Type 0 where
     pub rows : AreRegions name (p.entry name).info.scopes b.regions
     pub flagged : IsFlagged (p.entry name).info

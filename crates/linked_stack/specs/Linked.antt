@@ -1,4 +1,4 @@
--- The plain list of what waits in linear code, as it stands in the machine's stack, item by item.
+-- The plain list of what waits in linear code, as it is in the machine's stack, item by item.
 use Rattle.std.specs.Prelude.{◌≡◌, ◌⊎◌, ℕ, ◌+◌, ◌-◌, ◌*◌, ◌%◌, ◌^◌, ◌<◌, ◌≤◌, true, false, not, ◌==◌, List, [], ◌∷◌, ◌++◌, length, drop, filter, slice_get, Option, Some, None, Ok}
 use Rattle.std.specs.List.{AllByRecursion}
 use Rattle.host_layout.specs.declared.range.TheConstants.{STACK_END}
@@ -51,6 +51,7 @@ pub record HasBase (k at first : ℕ) (a : Activation) (outer : List Activation)
   pub base : at ≡ a.base
   pub distance : first ≡ a.distance
 
+-- the activation of this number has its base so far above
 abbrev pub IsActivation : List Activation → ℕ → ℕ → ℕ → Type 0
 IsActivation [] k base distance = ⊥
 IsActivation (a ∷ outer) k base distance =
@@ -61,6 +62,7 @@ abbrev pub below_function : List Activation → List Activation
 below_function [] = []
 below_function (a ∷ outer) = outer
 
+-- the activations that are live below a body
 abbrev pub activations_below : BodyName → List Activation → List Activation
 activations_below (FunctionBody f) acts = below_function acts
 activations_below (FuncletBody k) acts = acts
@@ -82,6 +84,7 @@ pub record HasSpace (sp beside depth : ℕ) : Type 0 where
 abbrev pub below_end : ℕ
 below_end = 40
 
+-- bytes that a record and its return address take
 abbrev pub record_room : ℕ
 record_room = 1600
 
@@ -98,7 +101,7 @@ abbrev pub temporaries_end : Layout → BodyName → ℕ → ℕ
 temporaries_end y (FunctionBody f) size = y.locals
 temporaries_end y (FuncletBody k) size = size
 
--- the slots of a leaf function stand above its return address, in the home space of its caller, and
+-- the slots of a leaf function are above its return address, in the home space of its caller, and
 -- end there: its locals, and then its temporaries
 abbrev pub home_end : ℕ
 home_end = 40
@@ -120,10 +123,12 @@ pub record KeepsBase (m : Memory) (y : Layout) (sp size k : ℕ)
   pub kept : word m (sp + slot) ≡ Ok base
   pub activation : IsActivation acts k base y.locals
 
+-- the first activation's locals are in the frame
 abbrev pub FirstHoldsLocals : Memory → Layout → (sp size k : ℕ) → List Activation → Type 0
 FirstHoldsLocals m y sp size k [] = ⊥
 FirstHoldsLocals m y sp size k (a ∷ outer) = HoldsLocals m y sp size k a outer
 
+-- a function holds its own locals; a funclet keeps the base of its function's
 abbrev pub HasActivation : Memory → Layout → (sp size k : ℕ) → List Activation → BodyName → Type 0
 HasActivation m y sp size k acts (FunctionBody f) = FirstHoldsLocals m y sp size k acts
 HasActivation m y sp size k acts (FuncletBody j) = KeepsBase m y sp size k acts
@@ -136,6 +141,7 @@ pub record KeptIn (m : Memory) (y : Layout) (frame base : ℕ) : Type 0 where
   pub room : frame + slot + 8 < 2 ^ 64
   pub kept : word m (frame + slot) ≡ Ok base
 
+-- a frame leads to the base of its activation
 abbrev pub Leads : Memory → Layout → BodyName → (frame base : ℕ) → Type 0
 Leads m y (FunctionBody f) frame base = frame ≡ base
 Leads m y (FuncletBody k) frame base = KeptIn m y frame base
@@ -162,7 +168,7 @@ module _ (t : Functions) (fs : List Funclet) (program : LinearProgram) (p : Plan
 
   -- a body waits: RIP is in the code of an instruction that the same regions hold as the one that
   -- it waits in (the same instruction, or where a call is the last of its code, the next one); its
-  -- slots stand in memory, up to an end above RSP. Of memory it owns, by its layout from RSP up: its
+  -- slots are in memory, up to an end above RSP. Of memory it owns, by its layout from RSP up: its
   -- temporaries, up to `end`; a function its locals, up to `size`; a funclet the word that keeps
   -- the base of its function's frame; a filter also the word that keeps its EXCEPTION_POINTERS
   -- (`KeepsPointers`); and the return address of `FrameWaits` and `LeafWaits`.
@@ -185,6 +191,7 @@ module _ (t : Functions) (fs : List Funclet) (program : LinearProgram) (p : Plan
     pub room : y.pointers + 8 ≤ size
     pub kept : word m (sp + y.pointers) ≡ Ok (sp + size + 88)
 
+  -- a filter keeps the address of EXCEPTION_POINTERS
   abbrev pub HasPointers : Memory → Layout → (sp size : ℕ) → List Item → Type 0
   HasPointers m y sp size (Searches exception resumption asked rest ∷ below) =
       KeepsPointers m y sp size
@@ -223,6 +230,7 @@ module _ (t : Functions) (fs : List Funclet) (program : LinearProgram) (p : Plan
   abbrev pub IsAskedBy : ℕ → Frame → Exception → Handler → Type 0
   IsAskedBy k b exception h = (h.filter ≡ Some k) × (b.exception ≡ exception)
 
+  -- what waits below a funclet is what called it
   abbrev pub FuncletIsAbove : ℕ → Frame → Option LinearFunclet → List Item → Type 0
   FuncletIsAbove k b (Some f) (Searches exception resumption asked rest ∷ Waits w ∷ below) =
       (f.kind ≡ funclets.Filter) × IsAskedBy k b exception asked
@@ -237,6 +245,7 @@ module _ (t : Functions) (fs : List Funclet) (program : LinearProgram) (p : Plan
   FunctionIsAbove (Waits w ∷ below) = Unit {0}
   FunctionIsAbove items = ⊥
 
+  -- what waits below a body is what called it
   abbrev pub IsAbove : Frame → BodyName → List Item → Type 0
   IsAbove b (FunctionBody f) below = FunctionIsAbove below
   IsAbove b (FuncletBody k) below = FuncletIsAbove k b (slice_get program.funclets k) below
@@ -253,7 +262,7 @@ module _ (t : Functions) (fs : List Funclet) (program : LinearProgram) (p : Plan
       regions_left left (regions_at program b.body b.next) ≡ regions_from b row
   IsAtRow row items left = Unit {0}
 
-  -- a search is here, and from a row on meets these handlers
+  -- a search is here, and from a row on comes to these handlers
   pub record OnwardHere (to : Context) (row : ℕ) (found : List Handler) (c : Context) (b : Frame)
       (below : List Item) : Type 0 where
     pub same : c ≡ to
@@ -317,7 +326,7 @@ module _ (t : Functions) (fs : List Funclet) (program : LinearProgram) (p : Plan
     pub fits : Fits r
     pub room : misplaced m at ≡ None
 
-  -- where the exception is continued, the body that raised it goes on from the saved state
+  -- where the exception is continued, the body that raised it continues from the saved state
   abbrev pub Resumes : Resumption → List Item → Cpu → Type 0
   Resumes resumption (Waits b ∷ below) saved = p.resumes resumption b saved ≡ true
   Resumes resumption items saved = Unit {0}

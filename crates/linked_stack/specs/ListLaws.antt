@@ -102,7 +102,7 @@ pub record KeepsStack (m m' : Memory) (low : ℕ) : Type 0 where
       → (m'.byte x ≡ m.byte x) × (m'.protection x ≡ m.protection x)
   pub no_more_code : (x : ℕ) → (m.protection x).execute ≡ false → (m'.protection x).execute ≡ false
 
--- a list from an address of the stack up stands there too
+-- a list from an address of the stack up is there too
 abbrev pub KeptByOtherMemories : Type 0
 KeptByOtherMemories =
     (t : Functions) (fs : List Funclet) (program : LinearProgram) (p : Plan) (m m' : Memory)

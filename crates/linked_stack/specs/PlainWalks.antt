@@ -13,6 +13,7 @@ use Rattle.seh_unwind.specs.declared.unwind_result.UnwindResult.{UnwindResult}
 use Rattle.seh_unwind.specs.Unwind.{lost, if_past}
 use Rattle.linked_stack.specs.Stack.{StackFrame, StackItem, Framed, Leaf, Searching, Unwinding, after_frame, after_leaf, caller_frame, caller_of_leaf}
 
+-- a walk at a context, from a row on
 abbrev pub state : Context → ℕ → WalkState
 state c row = record { context = c; row = row }
 
@@ -27,6 +28,7 @@ abbrev pub chosen_or : Functions → Context → SearchResult → Option AskedRe
 chosen_or t c others (Some r) = chosen t.base (rsp c) c r
 chosen_or t c others None = others
 
+-- a search over the list of the stack's items
 abbrev pub plain_search : Functions → Context → ℕ → List StackItem → SearchResult
 plain_search t c row [] = Nobody
 plain_search t c row (Framed f ∷ is) =
@@ -52,6 +54,7 @@ in_leaf t frame target c row back =
     if_past t frame target (state c row) (caller_of_leaf c back) (state (after_leaf c back) 0)
     (nat_lt frame (rsp c))
 
+-- an unwinding over the list of the stack's items
 abbrev pub plain_unwind : Functions → ℕ → ℕ → Context → ℕ → List StackItem → UnwindResult
 plain_unwind t frame target c row [] = lost frame
 plain_unwind t frame target c row (Framed f ∷ is) =

@@ -57,11 +57,13 @@ UnwindingIsOneMore =
     → On t fs program p (laid m at r finally_return) (context_below finally_return at others)
     (Unwinding r ∷ is) (Unwinds rest target ∷ items) acts
 
+-- a record leaves all that lies above it
 abbrev pub LaidRecordLeavesOthers : Type 0
 LaidRecordLeavesOthers =
     (m : Memory) (at : ℕ) (r : DispatchRecord) (back above : ℕ) → IsData m → HasRoom m at r above
     → above ≤ STACK_END → back < 2 ^ 64 → IsUntouched m (laid m at r back)
 
+-- the return address of its funclet is read below it
 abbrev pub ReturnAddressIsLaid : Type 0
 ReturnAddressIsLaid =
     (m : Memory) (at : ℕ) (r : DispatchRecord) (back above : ℕ) → IsData m → HasRoom m at r above

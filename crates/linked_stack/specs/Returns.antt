@@ -25,7 +25,7 @@ use Rattle.linked_stack.specs.Records.{On}
 use Rattle.linked_stack.specs.States.{IsSane}
 use Rattle.linked_stack.specs.Steps.{SearchIsAnswered}
 
--- the record stands at RSP
+-- the record is at RSP
 abbrev pub filter_turn : Functions → State → Turn
 filter_turn t s = filter_returned t s (register s.cpu Rsp) (fetched s.memory (register s.cpu Rsp))
 

@@ -15,7 +15,7 @@ use Rattle.linked_stack.specs.ImagePlan.{Plan, Gives}
 use Rattle.linked_stack.specs.Linked.{Activation, IsAtRow, Onward, Linked}
 use Rattle.linked_stack.specs.Searching.{IsWide, SearchedAs}
 
--- the list stands in the stack from a context on
+-- the list is in the stack from a context on
 pub record StandsIn (t : Functions) (fs : List Funclet) (program : LinearProgram) (p : Plan)
     (m : Memory) (c : Context) (is : List StackItem) (items : List Item)
     (acts : List Activation) : Type 0 where

@@ -26,7 +26,7 @@ use Rattle.linked_stack.specs.States.{Arrives}
 
 module _ (t : Functions) (fs : List Funclet) (program : LinearProgram) (p : Plan) where
   -- the filter of the first handler begins, unless linear code is too deep; its EXCEPTION_POINTERS
-  -- stand in the record above its return address, with the state that was saved
+  -- are in the record above its return address, with the state that was saved
   pub record FilterBegins (s : State) (at : ℕ) (r : DispatchRecord) (turn : Turn)
       (found : List Handler) (exception : Exception) (resumption : Resumption) (is : List StackItem)
       (acts : List Activation) (c : Configuration) : Type 0 where

@@ -1,4 +1,4 @@
--- What a search of the host comes to, against the handlers that linear code still meets.
+-- What a search of the host comes to, against the handlers that linear code still comes to.
 use Rattle.std.specs.Prelude.{◌≡◌, ℕ, ◌+◌, ◌^◌, ◌<◌, ◌≤◌, List, [], ◌∷◌, length, Option, Some, None}
 use Rattle.seh_num.specs.declared.event.Event.TheVariants as events
 use Rattle.flat_memory.specs.Memory.{Memory}

@@ -60,10 +60,11 @@ row_after (Unwinding r) = r.row
 abbrev pub caller_frame : Context → StackFrame → CallerFrame
 caller_frame c f = record { frame = rsp c; context = after_frame c f; asked = Some f.entry.info }
 
+-- a leaf function's frame, with its caller
 abbrev pub caller_of_leaf : Context → ℕ → CallerFrame
 caller_of_leaf c back = record { frame = rsp c; context = after_leaf c back; asked = None }
 
--- ---- what stands in memory
+-- ---- what is in memory
 
 -- a frame whose body is past its prologue, and not in an epilogue
 pub record FrameStands (t : Functions) (m : Memory) (c : Context) (f : StackFrame) : Type 0 where
@@ -115,6 +116,7 @@ IsStack t m c (i ∷ is) = Stands t m c i × IsStack t m (context_after c i) is
 
 -- ---- the bytes on which this rests
 
+-- an address of a range
 pub record IsWithin (a from to : ℕ) : Type 0 where
   pub low : from ≤ a
   pub high : a < to

@@ -1,4 +1,4 @@
--- Where a search or an unwinding of the dispatcher begins, or goes on, in the list of what waits.
+-- Where a search or an unwinding of the dispatcher begins, or continues, in the list of what waits.
 use Rattle.std.specs.Prelude.{◌≡◌, ℕ, ◌^◌, ◌<◌, ◌≤◌, Bool, ◌==◌, List, ◌∷◌, Option, Some, None}
 use Rattle.seh_num.specs.declared.event.Code.{Code}
 use Rattle.seh_num.specs.declared.event.Event.{Event}
@@ -181,7 +181,7 @@ AnswersGoOn =
 
 -- ---- suspended unwindings
 
--- at the return address of a `__finally` block the unwinding goes on, with the regions that are
+-- at the return address of a `__finally` block the unwinding continues, with the regions that are
 -- left
 abbrev pub FinallyReturnsUnwind : Type 0
 FinallyReturnsUnwind =

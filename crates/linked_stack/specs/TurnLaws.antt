@@ -36,7 +36,7 @@ pub record IsSearching (t : Functions) (fs : List Funclet) (program : LinearProg
       (Waits c.frame ∷ c.below)
   pub near : rsp (context_of r.saved) ≤ at + record_room
 
--- where the exception is continued, the body goes on from the saved state
+-- where the exception is continued, the body continues from the saved state
 abbrev pub SearchTurns : Type 0
 SearchTurns =
     (t : Functions) (fs : List Funclet) (program : LinearProgram) (p : Plan) (s : State) (at : ℕ)

@@ -75,7 +75,7 @@ module _ (t : Functions) (fs : List Funclet) (program : LinearProgram) (p : Plan
     pub above : course.low ≤ rsp to
     pub kept : CanBeKept (rsp to) row to
 
-  -- the unwinding lands in a body, which goes on
+  -- the unwinding lands in a body, which continues
   pub record Lands (m : Memory) (course : Course) (u : UnwindResult)
       (seen : Next → Seen) : Type 0 where
     pub held : ℕ
@@ -99,5 +99,6 @@ module _ (t : Functions) (fs : List Funclet) (program : LinearProgram) (p : Plan
     pub above : course.low ≤ rsp to
     pub wide : IsWide to.kept
 
+  -- an unwinding runs a block or lands
   abbrev pub UnwoundAs : Memory → Course → UnwindResult → (Next → Seen) → Type 0
   UnwoundAs m course u seen = RunsBlock m course u seen ⊎ Lands m course u seen

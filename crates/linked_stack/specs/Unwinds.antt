@@ -34,6 +34,7 @@ abbrev pub landing_value : Option ℕ → ℕ
 landing_value None = 0
 landing_value (Some code) = code
 
+-- an `__except` block shows that it took over
 abbrev pub landing_events : Option ℕ → List Event
 landing_events None = []
 landing_events (Some code) = events.Except (record { 0 = code }) ∷ []

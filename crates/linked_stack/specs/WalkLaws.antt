@@ -16,30 +16,35 @@ use Rattle.seh_unwind.specs.Unwind.{unwind}
 use Rattle.linked_stack.specs.Stack.{StackFrame, StackItem, Framed, Leaf, Searching, Unwinding, Stands, IsStack, Owned, Agree, IsWithin, after_frame, after_leaf, caller_frame, caller_of_leaf, context_at}
 use Rattle.linked_stack.specs.PlainWalks.{state, plain_search, plain_unwind}
 
--- ---- what a walk meets
+-- ---- what a walk comes to
 
+-- a frame is visited, and then its caller
 abbrev pub FrameIsVisited : Type 0
 FrameIsVisited =
     (t : Functions) (m : Memory) (c : Context) (row : ℕ) (f : StackFrame) → Stands t m c (Framed f)
     → visited t m (state c row) ≡ walk.Frame (caller_frame c f) (state (after_frame c f) 0)
 
+-- a leaf function is visited, and then its caller
 abbrev pub LeafIsVisited : Type 0
 LeafIsVisited =
     (t : Functions) (m : Memory) (c : Context) (row back : ℕ) → Stands t m c (Leaf back)
     → visited t m (state c row) ≡ walk.Frame (caller_of_leaf c back) (state (after_leaf c back) 0)
 
+-- past a search the walk is in its saved state
 abbrev pub SearchIsPassed : Type 0
 SearchIsPassed =
     (t : Functions) (m : Memory) (c : Context) (row : ℕ) (r : DispatchRecord)
     → Stands t m c (Searching r)
     → visited t m (state c row) ≡ walk.Past (saved_in r)
 
+-- past an unwinding the walk is where the unwinding is
 abbrev pub UnwindingIsPassed : Type 0
 UnwindingIsPassed =
     (t : Functions) (m : Memory) (c : Context) (row : ℕ) (r : DispatchRecord)
     → Stands t m c (Unwinding r)
     → visited t m (state c row) ≡ walk.Past (walk_in r)
 
+-- below the last frame the walk is over
 abbrev pub StackIsOver : Type 0
 StackIsOver =
     (t : Functions) (m : Memory) (c : Context) (row : ℕ) → IsStack t m c []
@@ -54,12 +59,13 @@ KeptByOtherStores =
     → Agree m byte (Owned c is)
     → IsStack t m c is → IsStack t (with_bytes m byte) c is
 
+-- no address below the stack pointer is owned
 abbrev pub NothingBelowIsOwned : Type 0
 NothingBelowIsOwned =
     (t : Functions) (m : Memory) (c : Context) (is : List StackItem) (a : ℕ) → IsStack t m c is
     → a < rsp c → Owned c is a → ⊥
 
--- the slots of a frame aren't owned, wherever it stands in the list
+-- the slots of a frame aren't owned, wherever it is in the list
 abbrev pub SlotsAreFree : Type 0
 SlotsAreFree =
     (t : Functions) (m : Memory) (c : Context) (inner : List StackItem) (f : StackFrame)
@@ -101,12 +107,14 @@ RecordIsOneMore =
 
 -- ---- searches and unwindings are those of the list
 
+-- a search gives what a search over the list gives
 abbrev pub SearchIsOfTheList : Type 0
 SearchIsOfTheList =
     (t : Functions) (m : Memory) (c : Context) (row : ℕ) (is : List StackItem) (n : ℕ)
     → IsStack t m c is → length is < n
     → search n t m (state c row) ≡ plain_search t c row is
 
+-- an unwinding gives what an unwinding over the list gives
 abbrev pub UnwindingIsOfTheList : Type 0
 UnwindingIsOfTheList =
     (t : Functions) (m : Memory) (frame target : ℕ) (c : Context) (row : ℕ) (is : List StackItem)

@@ -6,7 +6,7 @@ ghost use Rattle.linked_stack.specs.ListLaws.{SearchMeetsTheHandlers, UnwindingR
 /// search asks is that of the first handler, from any row on, with the same handlers after it; an
 /// unwinding through the frame runs the `__finally` block of the first such region, with the same
 /// regions left, or leaves the frame; and one whose target is in the frame runs the same block, or
-/// stops there. Stores below the stack pointer leave the whole list as it stands; it stands too in
+/// stops there. Stores below the stack pointer leave the whole list as it is; it is also in
 /// each memory that has the stack from there up, its protections and the code as they were.
 pub fn laws()
     ensures search { SearchMeetsTheHandlers }

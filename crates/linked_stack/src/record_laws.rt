@@ -3,8 +3,8 @@
 ghost use Rattle.linked_stack.specs.RecordLaws.{RecordLeavesTheList, SearchIsOneMore, UnwindingIsOneMore, LaidRecordLeavesOthers, ReturnAddressIsLaid};
 
 /// Where the host suspends a search or an unwinding, the list of what waits has one item more: its
-/// record stands below the stack, with the return address of its funclet below it. All that stood
-/// above still does. Outside the stack no byte changes, no code, and no protection.
+/// record is below the stack, with the return address of its funclet below it. All that was
+/// above still is. Outside the stack no byte changes, no code, and no protection.
 pub fn laws()
     ensures list { RecordLeavesTheList }
     ensures search { SearchIsOneMore }

@@ -3,7 +3,7 @@
 ghost use Rattle.linked_stack.specs.WalkLaws.{FrameIsVisited, LeafIsVisited, SearchIsPassed, UnwindingIsPassed, StackIsOver, KeptByOtherStores, NothingBelowIsOwned, SlotsAreFree, RecordIsOneMore, SearchIsOfTheList, UnwindingIsOfTheList};
 
 /// A walk visits the items of a stack in order, and nothing else: so searches and unwindings are
-/// those of the list. The stack stands as long as the code, the frames' return addresses and the
+/// those of the list. The stack holds as long as the code, the frames' return addresses and the
 /// records stay as they are. Nothing below the stack pointer is among these bytes, and none of a
 /// frame's own slots. A record that is placed below a stack is one item more.
 pub fn laws()

@@ -1,4 +1,4 @@
--- The code of each routine stands where the text stands.
+-- The code of each routine is where the text stands.
 use Rattle.std.proofs.Common.{◌≡◌, ℕ, zero, suc, ◌+◌, ◌-◌, ◌*◌, ◌^◌, ◌<◌, ◌≤◌, true, List, [], ◌∷◌, ◌++◌, length, take, Option, Some, None, refl, sym, ap, subst, ◌∙◌, arith, append_assoc, length-append}
 use Rattle.std.specs.Prelude.{slice_get}
 use Rattle.std.specs.List.{AllByRecursion}
@@ -93,7 +93,7 @@ there p index x fits e =
     let f = front_size s.text s.rdata in
     there_from s (linked p).text (text_begin p.globals) (infos_begin p) (first p.globals) (routines p) (spelled (front_code s.text s.rdata)) index x e near (omega arith) refl (omega (arith, sizes_spelled (front_code s.text s.rdata)))
 
--- its instructions stand at its address
+-- its instructions are at its address
 pub routine_stands : (p : LinearProgram) (m : Memory) (x : Placed) → HasText m p → IsThere (site_of p) (linked p).text (text_begin p.globals) x → Stands m (image_base + x.begin) (spelled (routine_code (site_of p) x.begin x.routine))
 unfolding routine_bytes
 routine_stands p m x text h =

@@ -74,7 +74,8 @@ no_epilogue at m i inner stands lt =
 
 -- ---- the instruction at an address of a body
 
-near_at : (P : Instruction → Type 0) (is : List Instruction) (number : ℕ) (i : Instruction) → AllByRecursion P is → slice_get is number ≡ Some i → P i
+-- what holds of each instruction holds of one
+pub near_at : (P : Instruction → Type 0) (is : List Instruction) (number : ℕ) (i : Instruction) → AllByRecursion P is → slice_get is number ≡ Some i → P i
 near_at P [] number i all e = absurd (none_some e)
 near_at P (j ∷ is) zero i all e = subst P (some_same e) all.0
 near_at P (j ∷ is) (suc number) i all e = near_at P is number i all.1 e
@@ -142,16 +143,24 @@ found_in p index x f rva fits regions e framed le lt small =
     ∙ ap (λ (n : ℕ). holding n (entries p)) (away rva small)
     ∙ entries_are_held p index x f rva fits e framed le lt
 
-pub frame_stands : (p : LinearProgram) (m : Memory) (index : ℕ) (x : Placed) (f : Frame) (c : Context) (rva back : ℕ) → FitsProgram p → HasRegions p → slice_get (placed p) index ≡ Some x → x.routine.frame ≡ Some f
-    → Stands m (image_base + x.begin) (spelled (routine_code (site_of p) x.begin x.routine)) → IsInBody p x rva → c.rip ≡ image_base + rva → length c.kept ≡ 9 → rsp c + f.size + 8 < 2 ^ 64 → word m (rsp c + f.size) ≡ Ok back
+-- there is a machine instruction of a routine's body, which is no part of an epilogue
+pub record HasItem (m : Memory) (x : Placed) (rva : ℕ) : Type 0 where
+  pub item : Instr
+  pub inner : Inner item
+  pub past : body_begin x ≤ rva
+  pub inside : rva < end_of x
+  pub stands : Stands m (image_base + rva) (chosen item)
+
+-- a frame at such an instruction
+pub frame_at : (p : LinearProgram) (m : Memory) (index : ℕ) (x : Placed) (f : Frame) (c : Context) (rva back : ℕ) → FitsProgram p → HasRegions p → slice_get (placed p) index ≡ Some x → x.routine.frame ≡ Some f
+    → HasItem m x rva → c.rip ≡ image_base + rva → length c.kept ≡ 9 → rsp c + f.size + 8 < 2 ^ 64 → word m (rsp c + f.size) ≡ Ok back
     → FrameStands (functions_in (image_of (linked p))) m c (stack_frame p x f back)
-frame_stands p m index x f c rva back fits regions e framed code body here kept room' returns =
+frame_at p m index x f c rva back fits regions e framed first here kept room' returns =
     let h = there p index x fits e in
-    let i = item_there p x rva fits h body in
     let room = h.room in
     let small = routine_small x.routine h.near in
-    let past = i.past in
-    let inside = i.inside in
+    let past = first.past in
+    let inside = first.inside in
     let size = subst IsFrameNear framed h.near.frame in
     let least = entry_least x.routine f h.near framed size.0 in
     let far : rva < 2 ^ 32 = omega arith in
@@ -162,7 +171,7 @@ frame_stands p m index x f c rva back fits regions e framed code body here kept 
       not_finally = ne_eqb c.rip finally_return (λ z. (let q : c.rip ≡ finally_return = z in absurd (omega arith)));
       found = ap (entry_of (functions_in (image_of (linked p)))) here ∙ found_in p index x f rva fits regions e framed (omega arith) inside far;
       past_prologue = le-ltb (distance image_base c.rip - x.begin) (taking_size f.size) (omega arith);
-      not_epilogue = ap (tail_at 0 m) here ∙ no_epilogue (image_base + rva) m body.item i.inner (item_stands p m x rva code h body) (omega arith);
+      not_epilogue = ap (tail_at 0 m) here ∙ no_epilogue (image_base + rva) m first.item first.inner first.stands (omega arith);
       codes = refl;
       no_register = refl;
       no_parents = refl;
@@ -170,6 +179,16 @@ frame_stands p m index x f c rva back fits regions e framed code body here kept 
       room = room';
       returns = returns;
     }
+
+pub frame_stands : (p : LinearProgram) (m : Memory) (index : ℕ) (x : Placed) (f : Frame) (c : Context) (rva back : ℕ) → FitsProgram p → HasRegions p → slice_get (placed p) index ≡ Some x → x.routine.frame ≡ Some f
+    → Stands m (image_base + x.begin) (spelled (routine_code (site_of p) x.begin x.routine)) → IsInBody p x rva → c.rip ≡ image_base + rva → length c.kept ≡ 9 → rsp c + f.size + 8 < 2 ^ 64 → word m (rsp c + f.size) ≡ Ok back
+    → FrameStands (functions_in (image_of (linked p))) m c (stack_frame p x f back)
+frame_stands p m index x f c rva back fits regions e framed code body here kept room' returns =
+    let h = there p index x fits e in
+    let i = item_there p x rva fits h body in
+    frame_at p m index x f c rva back fits regions e framed
+    (record { item = body.item; inner = i.inner; past = i.past; inside = i.inside; stands = item_stands p m x rva code h body })
+    here kept room' returns
 
 pub bodies_stand : BodiesStand
 bodies_stand p m index x f c rva back fits regions e framed w =
@@ -184,21 +203,25 @@ none_in p index x rva fits regions e none le lt small =
     ∙ ap (λ (n : ℕ). holding n (entries p)) (away rva small)
     ∙ leaves_are_held_by_none p index x rva fits e none le lt
 
-pub leaves_stand : LeavesStand
-leaves_stand p m index x c rva back fits regions e none w =
+-- a leaf function's return address
+pub leaf_at : (p : LinearProgram) (m : Memory) (index : ℕ) (x : Placed) (c : Context) (rva back : ℕ) → FitsProgram p → HasRegions p → slice_get (placed p) index ≡ Some x → x.routine.frame ≡ None
+    → x.begin ≤ rva → rva < end_of x → c.rip ≡ image_base + rva → length c.kept ≡ 9 → rsp c + 8 < 2 ^ 64 → word m (rsp c) ≡ Ok back → LeafStands (functions_in (image_of (linked p))) m c back
+leaf_at p m index x c rva back fits regions e none past inside here kept room' returns =
     let h = there p index x fits e in
-    let i = item_there p x rva fits h w.body in
     let room = h.room in
     let small = routine_small x.routine h.near in
-    let past = i.past in
-    let inside = i.inside in
-    let here = w.here in
     record {
       live = ne_eqb c.rip 0 (λ z. (let q : c.rip ≡ 0 = z in absurd (omega arith)));
       not_filter = ne_eqb c.rip filter_return (λ z. (let q : c.rip ≡ filter_return = z in absurd (omega arith)));
       not_finally = ne_eqb c.rip finally_return (λ z. (let q : c.rip ≡ finally_return = z in absurd (omega arith)));
-      none = ap (entry_of (functions_in (image_of (linked p)))) here ∙ none_in p index x rva fits regions e none (omega arith) inside (omega arith);
-      kept = w.kept;
-      room = w.room;
-      returns = w.returns;
+      none = ap (entry_of (functions_in (image_of (linked p)))) here ∙ none_in p index x rva fits regions e none past inside (omega arith);
+      kept = kept;
+      room = room';
+      returns = returns;
     }
+
+pub leaves_stand : LeavesStand
+leaves_stand p m index x c rva back fits regions e none w =
+    let i = item_there p x rva fits (there p index x fits e) w.body in
+    let past = i.past in
+    leaf_at p m index x c rva back fits regions e none (omega arith) i.inside w.here w.kept w.room w.returns

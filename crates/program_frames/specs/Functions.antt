@@ -30,6 +30,7 @@ rest_of p x =
     argument_code x.routine.layout x.routine.entry
     ++ code_from (links p x) x.routine.layout (body_begin x) x.routine.body.code
 
+-- a routine with a frame: its unwind info, prologue and the rest
 abbrev pub function_of : LinearProgram → Placed → Frame → Function
 function_of p x f = record {
   info = (entry_of (site_of p) x f).info;
@@ -39,11 +40,14 @@ function_of p x f = record {
 
 -- ---- without: leaf functions, the thunks of services, and `__chkstk`
 
+-- the instructions of a leaf function
 abbrev pub leaf : LinearProgram → Placed → List FetchedInstr
 leaf p x = spelled_by spell (rest_of p x)
 
+-- the instruction of a service's thunk
 abbrev pub thunk_of : LinearProgram → Service → List FetchedInstr
 thunk_of p s = spelled_by spell (service_thunk (site_of p).text (site_of p).rdata s ∷ [])
 
+-- the instructions of `__chkstk`
 abbrev pub probe : List FetchedInstr
 probe = spelled_by spell check_stack

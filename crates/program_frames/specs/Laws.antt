@@ -35,6 +35,7 @@ use Rattle.program_frames.specs.Functions.{function_of, leaf, thunk_of, probe}
 abbrev pub ImagesHaveText : Type 0
 ImagesHaveText = (p : LinearProgram) → FitsProgram p → HasText (mapped (image_of (linked p))) p
 
+-- no byte of the text may be written
 abbrev pub TextsAreFixed : Type 0
 TextsAreFixed =
     (p : LinearProgram) (k : ℕ) → FitsProgram p → k < length (linked p).text
@@ -96,7 +97,7 @@ pub record IsFramed (p : LinearProgram) (index : ℕ) (x : Placed) (f : Frame) :
   pub there : slice_get (placed p) index ≡ Some x
   pub framed : x.routine.frame ≡ Some f
 
--- its instructions stand in memory, from its first byte to its end
+-- its instructions are in memory, from its first byte to its end
 abbrev pub FunctionsStand : Type 0
 FunctionsStand =
     (p : LinearProgram) (index : ℕ) (x : Placed) (f : Frame) (m : Memory) → IsFramed p index x f
@@ -144,6 +145,7 @@ LeavesAreFound =
     → IsIn e s (leaf p x) x.begin (end_of x)
     → FindsCaller p e s
 
+-- the caller of a thunk is found
 abbrev pub ThunksAreFound : Type 0
 ThunksAreFound =
     (p : LinearProgram) (service : Service) (e s : State) → FitsProgram p → HasRegions p
@@ -151,6 +153,7 @@ ThunksAreFound =
     (thunk_at (site_of p).text service + 6)
     → FindsCaller p e s
 
+-- the caller of `__chkstk` is found
 abbrev pub ProbesAreFound : Type 0
 ProbesAreFound =
     (p : LinearProgram) (e s : State) → FitsProgram p → HasRegions p

@@ -1,4 +1,4 @@
--- Where the code of a program stands in memory, and the addresses in its bodies.
+-- Where the code of a program is in memory, and the addresses in its bodies.
 use Rattle.std.specs.Prelude.{◌≡◌, ℕ, ◌+◌, List, [], ◌∷◌, ◌++◌, slice_get, Some}
 use Rattle.host_layout.specs.declared.range.TheConstants.{IMAGE_BASE}
 use Rattle.flat_memory.specs.Memory.{Memory}
@@ -32,6 +32,7 @@ template_at x number = body_begin x + offset_of x.routine.layout x.routine.body.
 abbrev pub links : LinearProgram → Placed → Links
 links p x = links_of (addresses (site_of p) x.begin x.routine)
 
+-- the instruction is a return
 abbrev pub IsReturn : Instruction → Type 0
 IsReturn (instructions.Return from) = Unit {0}
 IsReturn instruction = ⊥

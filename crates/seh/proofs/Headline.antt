@@ -2,9 +2,10 @@
 use Rattle.std.proofs.Common.{◌≡◌, ◌+◌, ◌*◌, ◌-◌, ℕ, ℤ, pos, Some, None, ap, sym, subst, ◌∙◌, arith}
 use Rattle.seh_num.specs.declared.end.RunEnd.{RunEnd}
 use Rattle.seh_num.specs.declared.end.RunEnd.TheVariants as ends
+use Rattle.seh_num.specs.Shown.{Shown}
 use Rattle.seh_io.specs.Text.{text}
 use Rattle.host_model.specs.Laws.{Covers}
-use Rattle.host_model.specs.Machine.{Shown, machine}
+use Rattle.host_model.specs.Machine.{machine}
 use Rattle.host_model.proofs.Longer.{covers_then, images_cover}
 use Rattle.seh_host.specs.Turns.{end_within}
 use Rattle.c_model.specs.declared.ended.Ended.{Ended}
@@ -43,11 +44,11 @@ headline source image compiled options arg n low enough =
     (subst (λ (a : ℤ). Covers meant.events end (machine image a (k + j))) (sym enough.argument)
     (covers_then meant.events end (machine image (pos arg) k) (machine image (pos arg) (k + j)) (real.shows arg n low) (images_cover image (pos arg) k j))) in
     let ended : (e : RunEnd) → end ≡ Some e → end_by options image ≡ e =
-    λ e is. ap (λ (x : Shown). end_within options.turns x.end) (covers.ends e is) in
+    λ e is. ap (λ (x : Shown RunEnd). end_within options.turns x.end) (covers.ends e is) in
     record {
       covers = covers;
       ended = ended;
-      whole = λ e is. ap (λ (x : Shown). text x.events (end_within options.turns x.end) options.trace) (covers.ends e is);
+      whole = λ e is. ap (λ (x : Shown RunEnd). text x.events (end_within options.turns x.end) options.trace) (covers.ends e is);
       status = λ last e is end_is.
           ap status_of (ended e (ap run_end_of is ∙ end_is)) ∙ same_status last e end_is;
     }

@@ -1,10 +1,11 @@
 -- What comes of a text that is accepted, by what its meaning's text came to.
 use Rattle.std.proofs.Common.{◌≡◌, ℕ, List, ◌++◌, sym, ap, ◌∙◌, subst}
 use Rattle.std.specs.Prelude.{ℤ, Option}
+use Rattle.seh_num.specs.Shown.{Shown}
 use Rattle.seh_io.specs.Streams.{Rose, Grew}
 use Rattle.seh_io.specs.Writer.{TookPart}
 use Rattle.c_checked.specs.Program.{Program}
-use Rattle.c_model.specs.Meaning.{Shown, meaning}
+use Rattle.c_model.specs.Meaning.{meaning}
 use Rattle.c_model.specs.declared.ended.Ended.{Ended}
 use Rattle.c_interpret.specs.declared.interpret.MeanErr.{MeanErr}
 use Rattle.c_interpret.specs.declared.interpret.MeanErr.TheVariants.{Write, Memory}
@@ -14,7 +15,7 @@ use Rattle.seh.specs.Meanings.{IsProgramOf, TookFront, shown_of, text_of}
 use Rattle.seh.specs.Streams.{Stream}
 
 module _ (options : RunOptions) (p : Program) (again : ℤ) (same : again ≡ options.argument) where
-  abbrev shown : Shown
+  abbrev shown : Shown Ended
   shown = meaning p again options.turns
 
   pub ended_same : (e : Ended) → e ≡ texts.ended_within options.turns shown.end → e ≡ texts.ended_within options.turns (shown_of options p).end

@@ -2,6 +2,7 @@
 use Rattle.std.specs.Prelude.{◌≡◌, ◌⊎◌, ℕ, ◌+◌, ◌<◌, ◌≤◌, List, [], length, Some, None, Result, Ok, Err}
 use Rattle.std.specs.Option.{ForSome}
 use Rattle.seh_num.specs.declared.end.RunEnd.{RunEnd}
+use Rattle.seh_num.specs.Shown.{Shown}
 use Rattle.host_layout.specs.declared.limit.TheConstants.{MOST_TEXT, MOST_IMAGE}
 use Rattle.seh_io.specs.Streams.{Rose, Grew}
 use Rattle.seh_io.specs.Reading.{LostAtMost}
@@ -12,7 +13,7 @@ use Rattle.pe_image.specs.Reading.{IsImage, IsRefused}
 use Rattle.table_view.specs.View.{view}
 use Rattle.host_model.specs.declared.refusal.LoadErr.{LoadErr}
 use Rattle.host_model.specs.Loading.{load_refusal}
-use Rattle.host_model.specs.Machine.{Shown, machine}
+use Rattle.host_model.specs.Machine.{machine}
 use Rattle.seh_host.specs.Turns.{end_within}
 use Rattle.seh_host.specs.Hosts.{IsLoadRefusal}
 use Rattle.c_text.specs.Texts.{IsRefused as IsRefusedText}
@@ -40,7 +41,7 @@ pub record IsInput (limit : ℕ) (source source' : Stream) (bytes : List ℕ) : 
   pub emptied : ForSome source.bytes (λ _. source'.bytes ≡ Some [])
 
 -- an image that is run with these options: what is shown of it, and how it ends
-abbrev pub shown_by : RunOptions → List ℕ → Shown
+abbrev pub shown_by : RunOptions → List ℕ → Shown RunEnd
 shown_by options bytes = machine bytes options.argument options.turns
 
 abbrev pub end_by : RunOptions → List ℕ → RunEnd

@@ -1,11 +1,12 @@
 -- What compiling and running come to together.
 use Rattle.std.specs.Prelude.{◌≡◌, ℕ, ◌+◌, ◌*◌, ◌^◌, ◌<◌, ◌≤◌, true, List, pos, Some, None}
 use Rattle.seh_num.specs.declared.end.RunEnd.{RunEnd}
+use Rattle.seh_num.specs.Shown.{Shown}
 use Rattle.seh_io.specs.Text.{text}
 use Rattle.c_model.specs.declared.ended.Ended.{Ended}
 use Rattle.host_model.specs.Laws.{Covers}
 use Rattle.host_model.specs.Machine.{machine}
-use Rattle.c_model.specs.Meaning.{Shown, meaning, Calm}
+use Rattle.c_model.specs.Meaning.{meaning, Calm}
 use Rattle.c_resolved.specs.Program.{resolve}
 use Rattle.whole_runs.specs.Ends.{run_end, run_end_of}
 use Rattle.whole_runs.specs.Laws.{ShowsNoMore}
@@ -22,7 +23,7 @@ pub record AreEnough (options : RunOptions) (arg n : ℕ) : Type 0 where
 
 -- a run of the image with these options shows the events of a meaning first; where the meaning has
 -- an end that runs have, the run has this end, with its status, and its text is that of the meaning
-pub record ShowsMeaning (meant : Shown) (image : List ℕ) (options : RunOptions) : Type 0 where
+pub record ShowsMeaning (meant : Shown Ended) (image : List ℕ) (options : RunOptions) : Type 0 where
   pub covers : Covers meant.events (run_end_of meant.end) (shown_by options image)
   pub ended : (e : RunEnd) → run_end_of meant.end ≡ Some e → end_by options image ≡ e
   pub whole : (e : RunEnd) → run_end_of meant.end ≡ Some e

@@ -1,10 +1,12 @@
 -- What comes of a text that is run as its meaning says.
 use Rattle.std.specs.Prelude.{◌≡◌, ◌⊎◌, ℕ, List, ◌++◌, Result, Ok, Err}
+use Rattle.seh_num.specs.Shown.{Shown}
 use Rattle.seh_io.specs.Streams.{Rose, Grew}
 use Rattle.seh_io.specs.Writer.{TookPart}
 use Rattle.c_syntax.specs.Program.{ExternalDeclaration}
 use Rattle.c_checked.specs.Program.{Program}
 use Rattle.c_model.specs.Meaning as model
+use Rattle.c_model.specs.declared.ended.Ended.{Ended}
 use Rattle.c_text.specs.Texts.{IsCheckedAs, IsRefused}
 use Rattle.c_interpret.specs.Texts as texts
 use Rattle.command_line.specs.declared.command.RunOptions.{RunOptions}
@@ -16,7 +18,7 @@ use Rattle.seh.specs.Answers.{text_limit, Quiet, Judged, IsInput, FromInput, IsT
 use Rattle.seh.specs.Streams.{Stream}
 
 -- what a text means within the steps of the options, from their argument
-abbrev pub shown_of : RunOptions → Program → model.Shown
+abbrev pub shown_of : RunOptions → Program → Shown Ended
 shown_of options p = model.meaning p options.argument options.turns
 
 abbrev pub text_of : RunOptions → Program → List ℕ

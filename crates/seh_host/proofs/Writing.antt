@@ -3,6 +3,7 @@ use Rattle.std.proofs.Common.{◌≡◌, ℕ, suc, ◌+◌, ◌-◌, ◌≤◌, 
 use Rattle.std.proofs.lemmas.Bool.{cases_Bool, true≢false}
 use Rattle.std.proofs.lemmas.List.{append-nil}
 use Rattle.seh_num.specs.declared.end.RunEnd.{RunEnd}
+use Rattle.seh_num.specs.Shown.{Shown}
 use Rattle.seh_io.specs.Streams.{Grew}
 use Rattle.seh_io.specs.Text.{lines, end_line, text}
 use Rattle.seh_io.specs.declared.receiver.Lines.{Lines}
@@ -11,7 +12,6 @@ use Rattle.seh_io.proofs.Writers.{wrote_nothing, ran_part}
 use Rattle.virtual_unwind.specs.CallerOf.{Functions}
 use Rattle.host_model.specs.declared.funclet.Funclet.{Funclet}
 use Rattle.host_model.specs.HostStep.{Host, Live, Ended, end_of}
-use Rattle.host_model.specs.Machine.{Shown}
 use Rattle.host_model.specs.Laws.{after_turns, shown_in_turns}
 use Rattle.host_model.proofs.TurnsMade.{after_one_more, shown_one_more, after_more, shown_more, ends_stay, runs_are_turns}
 use Rattle.seh_host.specs.declared.host.Turn.TheVariants as turns
@@ -137,10 +137,10 @@ before_ok y z u q is = elim (cases_Bool y.failed) [
 pub end_answered : (count : ℕ) (trace : Bool) (r r' : Running) (x y z : Writer) (u : List ℕ) → Written count trace r x r' y → Wrote y u z → z.failed ≡ false → end_of r'.host ≡ (run_of count r).end
 end_answered count trace r r' x y z u w q is =
     ap (λ (s : Running). end_of s.host) (w.all (before_ok y z u q is))
-    ∙ sym (ap (λ (s : Shown). s.end) (runs_are_turns r.functions r.funclets count r.host []))
+    ∙ sym (ap (λ (s : Shown RunEnd). s.end) (runs_are_turns r.functions r.funclets count r.host []))
 
 pub events_of : (count : ℕ) (r : Running) → shown_made count r ≡ (run_of count r).events
-events_of count r = sym (ap (λ (s : Shown). s.events) (runs_are_turns r.functions r.funclets count r.host []))
+events_of count r = sym (ap (λ (s : Shown RunEnd). s.events) (runs_are_turns r.functions r.funclets count r.host []))
 
 -- a writer that has failed writes nothing, whatever it is given
 whatever : (y z : Writer) (u v : List ℕ) → Wrote y u z → y.failed ≡ true → Wrote y v z
@@ -165,7 +165,7 @@ part_of_text count taken trace r r' x y z end w q is fresh e =
     last = elim (cases_Bool y.failed) [
       | inl was ↦ whatever y z (end_line end) (end_line (end_within count (run_of count r).end)) q was
       | inr not ↦
-          let same : end ≡ end_within count (run_of count r).end = is ∙ ap (end_within count) (ap (λ (s : Running). end_of s.host) (w.all not) ∙ sym (ap (λ (s : Shown). s.end) (runs_are_turns r.functions r.funclets count r.host []))) in
+          let same : end ≡ end_within count (run_of count r).end = is ∙ ap (end_within count) (ap (λ (s : Running). end_of s.host) (w.all not) ∙ sym (ap (λ (s : Shown RunEnd). s.end) (runs_are_turns r.functions r.funclets count r.host []))) in
           subst (λ t. Wrote y (end_line t) z) same q
     ]
 

@@ -7,7 +7,9 @@ use Rattle.seh_host.specs.declared.host.Host as code
 use Rattle.host_model.specs.declared.funclet.Funclet.{Funclet}
 use Rattle.host_model.specs.HostStep.{Host, host, next, shown_next}
 use Rattle.seh_num.specs.declared.event.Event.{Event}
-use Rattle.host_model.specs.Machine.{Shown, run, functions_in}
+use Rattle.seh_num.specs.Shown.{Shown}
+use Rattle.seh_num.specs.declared.end.RunEnd.{RunEnd}
+use Rattle.host_model.specs.Machine.{run, functions_in}
 use Rattle.host_model.specs.Laws.{after_turns, shown_in_turns}
 use Rattle.host_model.specs.Funclets.{funclets}
 use Rattle.host_model.specs.Loading.{start}
@@ -45,7 +47,7 @@ abbrev pub shown_made : ℕ → Running → List Event
 shown_made n r = shown_in_turns r.functions r.funclets n r.host
 
 -- what is shown in at most so many turns
-abbrev pub run_of : ℕ → Running → Shown
+abbrev pub run_of : ℕ → Running → Shown RunEnd
 run_of turns r = run r.functions r.funclets turns r.host []
 
 -- where a run of an image begins

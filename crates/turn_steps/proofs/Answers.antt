@@ -22,7 +22,7 @@ signed_of l = if nat_lt l (half W32) then pos l else pos l -ℤ pos (limit W32)
 abbrev shown : Frame → List Item → List Event → Store → ℕ → Configuration
 shown f below es store l = record { frame = f; below = below; store = store; events = es ++ events.Answer (signed_of l) ∷ [] }
 
--- what it goes on with by them
+-- what it continues with by them
 abbrev by_low : LinearProgram → Next → Exception → Resumption → Handler → List Handler → Frame → List Item → List Event → Store → ℕ → Seen
 by_low program next exception resumption h rest f below es store l =
     pick (nat_eq l 0) (search program next rest exception resumption (shown f below es store l))

@@ -1,4 +1,4 @@
--- A built-in function is called: the service is reached, and what it saves of the body stands on top of the list.
+-- A built-in function is called: the service is reached, and what it saves of the body is on top of the list.
 use Rattle.std.proofs.Common.{◌≡◌, ℕ, ◌+◌, ◌-◌, ◌%◌, ◌^◌, ◌<◌, ◌≤◌, Some, List, [], ◌∷◌, length, Ok, refl, sym, ap, subst, ◌∙◌, arith, length-set, set}
 use Rattle.std.specs.Prelude.{◌==◌, false, slice_get, take}
 use Rattle.seh_num.specs.declared.width.Width.TheVariants.{W64}
@@ -226,7 +226,7 @@ module _ (t : Functions) (fs : List Funclet) (program : LinearProgram) (p : Plan
     pub back_small : back < 2 ^ 64
     back_small = let n = back_near.1 in omega arith
 
-    -- the state that the service goes on from, and that it may save
+    -- the state that the service continues from, and that it may save
     abbrev pub saved : Cpu
     saved = pushing.saved given sp back low_enough high_enough b.memory.data_alone b.memory.stack service run.flags back_small many
 

@@ -42,7 +42,7 @@ use Rattle.body_steps.proofs.Running.{next_address}
 use Rattle.turn_steps.proofs.Kept.{offset_most}
 use Rattle.turn_steps.proofs.Resuming.{returns_at, call_template}
 use Rattle.turn_steps.proofs.Begun.{same_itself}
-use Rattle.turn_steps.proofs.Outgoing.{outgoing_is_free}
+use Rattle.body_steps.proofs.Outgoing.{outgoing_is_free}
 
 kept_some : (y : Layout) (first : ℕ) → 1 ≤ sizes (keep y (Temporary first))
 unfolding template_size

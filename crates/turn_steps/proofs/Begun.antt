@@ -1,4 +1,4 @@
--- A function begins: its frame stands below its return address, and on top of what waits.
+-- A function begins: its frame is below its return address, and on top of what waits.
 use Rattle.std.proofs.Common.{◌≡◌, ℕ, suc, ◌+◌, ◌<◌, ◌≤◌, Bool, true, false, Some, None, Ok, List, [], ◌∷◌, length, refl, arith}
 use Rattle.std.specs.List.{AllByRecursion}
 use Rattle.seh_num.specs.declared.event.Event.{Event}

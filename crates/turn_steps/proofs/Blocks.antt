@@ -372,8 +372,14 @@ module _ (t : Functions) (fs : List Funclet) (program : LinearProgram) (p : Plan
     run_3 : StepsTo 3 y1 u
     run_3 = subst (λ n. StepsTo n y1 u) (ap (λ (xs : List Instr). length xs) last_is) (reaches_steps (length last) y1 u r.comes)
 
+    abbrev run_2 : StepsTo 2 run_3.0 u
+    run_2 = run_3.2
+
     abbrev x : State
-    x = run_3.2.0
+    x = run_2.0
+
+    abbrev run_1 : StepsTo 1 x u
+    run_1 = run_2.2
 
     abbrev begin : ℕ
     begin = begin_of p q (FuncletBody k) + making_size p q (FuncletBody k)
@@ -398,7 +404,7 @@ module _ (t : Functions) (fs : List Funclet) (program : LinearProgram) (p : Plan
         let small = l.plan.layout.small in
         let kept = l.plan.layout.kept in
         let at = l.plan.layout.temporaries in
-        ran t fs program p q top1 (top1 + 8) b1.body.back others1 list1 mid y1 x y.frame 8 (run_3.0, run_3.1, (x, run_3.2.1, refl))
+        ran t fs program p q top1 (top1 + 8) b1.body.back others1 list1 mid y1 x y.frame 8 (run_3.0, run_3.1, (x, run_2.1, refl))
         ((refl, inl refl), ((near slot (omega arith), inl refl), tt)) (subst (λ n. HasCode y1.memory n mid) place code) kept_base.has beneath_1 refl refl finds
 
     -- the store leads to another memory, in which the same list stands
@@ -413,7 +419,7 @@ module _ (t : Functions) (fs : List Funclet) (program : LinearProgram) (p : Plan
         (beneath_by t u top1 b1.body.back list1 sane_here.count (returns t fs program p q image s1 c1 b1 counted u d values [] ran_here) on.stands.stack (omega arith) on.data_alone.no_code)
 
     last_step : Steps x u
-    last_step = subst (Steps x) run_3.2.2.2 run_3.2.2.1
+    last_step = subst (Steps x) run_1.2 run_1.1
 
     storing_keeps : KeepsShadow t fs x u
     storing_keeps =
@@ -441,7 +447,7 @@ module _ (t : Functions) (fs : List Funclet) (program : LinearProgram) (p : Plan
 
     keeps_shadow : AllKeep t fs (e.turns + length last) s
     keeps_shadow =
-        let three = keeps_split t fs 2 1 y1 x (run_3.0, run_3.1, (x, run_3.2.1, refl)) middle.keeps (keep_first t fs 0 x u last_step.steps storing_keeps tt) in
+        let three = keeps_split t fs 2 1 y1 x (run_3.0, run_3.1, (x, run_2.1, refl)) middle.keeps (keep_first t fs 0 x u last_step.steps storing_keeps tt) in
         keeps_split t fs e.turns (length last) s y1 (enters_steps e.turns s y1 e.comes) kept_base.keeps (subst (λ n. AllKeep t fs n y1) (sym (ap (λ (xs : List Instr). length xs) last_is)) three)
 
     pub block_leads : LeadsTo t fs entry_turns (Begins t fs program p q) s (block_begins k flag activation held abnormal items store events)

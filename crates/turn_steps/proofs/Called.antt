@@ -7,7 +7,6 @@ use Rattle.std.proofs.lemmas.List.{append-nil, length-drop, length-take}
 use Rattle.host_layout.specs.declared.range.TheConstants.{STACK_START, STACK_END}
 use Rattle.flat_memory.specs.Memory.{Memory, may_write, number_at}
 use Rattle.flat_memory.specs.declared.protection.Protection.{Protection}
-use Rattle.flat_memory.specs.Protections.{is_writable}
 use Rattle.x64_instr.specs.declared.register.Reg.TheVariants.{Rsp}
 use Rattle.x64_instr.specs.declared.instruction.Instr.{Instr}
 use Rattle.x64_machine.specs.Effect.{State, register}
@@ -32,7 +31,7 @@ use Rattle.x64_templates.proofs.Entries.{pushed_back}
 use Rattle.linked_stack.specs.WalkLaws.{context_below}
 use Rattle.linked_stack.specs.ImagePlan.{Plan}
 use Rattle.linked_stack.specs.Linked.{home_end, HoldsWords, return_of, ReturnsTo}
-use Rattle.linked_stack.specs.Records.{IsData, On}
+use Rattle.linked_stack.specs.Records.{On}
 use Rattle.whole_runs.specs.Shadow.{AllKeep}
 use Rattle.whole_runs.specs.Comes.{Comes}
 use Rattle.whole_runs.proofs.Turns.{comes_then}
@@ -51,7 +50,8 @@ use Rattle.body_states.specs.Bodies.{turns_left, slots_end, Begins}
 use Rattle.body_states.proofs.QuietTurns.{reaches_quietly, enters_quietly, program_reaches}
 use Rattle.body_steps.specs.Stores.{KeepsStackBut}
 use Rattle.body_steps.proofs.Activations.{locals_count}
-use Rattle.body_steps.proofs.Programs.{KeepsImage, program_stays}
+use Rattle.body_steps.proofs.Programs.{KeepsImage}
+use Rattle.body_steps.proofs.Memories.{memory_stays}
 use Rattle.body_steps.proofs.Reaching.{Keeps, keeps_then, enters_keeps, stays_sane}
 use Rattle.body_steps.proofs.Views.{stack_is_reserved}
 use Rattle.body_steps.proofs.Viewed.{IsCounted, room_here, slots_here}
@@ -295,9 +295,6 @@ module _ (t : Functions) (fs : List Funclet) (program : LinearProgram) (p : Plan
 
     -- ---- memory
 
-    may_stack : (a : ℕ) → STACK_START ≤ a → a < STACK_END → may_write after.memory a ≡ true
-    may_stack a l u = ap (λ (g : ℕ → Protection). is_writable (g a).rights) keeps.protection ∙ b.memory.stack a l u
-
     protection_same : (a : ℕ) → after.memory.protection a ≡ s.memory.protection a
     protection_same a = ap (λ (g : ℕ → Protection). g a) keeps.protection
 
@@ -319,12 +316,6 @@ module _ (t : Functions) (fs : List Funclet) (program : LinearProgram) (p : Plan
         fixed a e true w = let z : true ≡ false = sym e ∙ b.memory.data_alone.no_code a w in absurd cc
         fixed a e false w = w
 
-    data_alone : IsData after.memory
-    data_alone = record {
-      bytes = inside.bytes;
-      no_code = λ a w. ap (λ (g : Protection). g.execute) (protection_same a) ∙ b.memory.data_alone.no_code a (ap (λ (g : Protection). is_writable g.rights) (sym (protection_same a)) ∙ w);
-    }
-
     image_kept : KeepsImage program.globals s.memory after.memory
     image_kept = record {
       byte = λ a l u own. (let z = top in let w = calling.room_top t fs program p q image roomy s c b counted f first count at few few_passed framed in inside.same a own (inr (inl (omega arith))) ∙ calling.same_above t fs program p q image roomy s c b counted f first count at few few_passed framed a (omega arith) (inr (omega arith)));
@@ -332,13 +323,7 @@ module _ (t : Functions) (fs : List Funclet) (program : LinearProgram) (p : Plan
     }
 
     memory : IsMachineMemory t fs program p q after.memory c.store.memory
-    memory = record {
-      data_alone = data_alone;
-      agrees = inside.agrees;
-      stack = may_stack;
-      arena = λ a e. ap (λ (g : Protection). g.execute) (protection_same a) ∙ b.memory.arena a e;
-      code = program_stays t fs program p q image s.memory after.memory image_kept b.memory.code;
-    }
+    memory = memory_stays t fs program p q image s.memory after.memory c.store.memory c.store.memory image_kept inside.bytes protection_same inside.agrees b.memory
 
     -- ---- the frame
 
@@ -379,7 +364,7 @@ module _ (t : Functions) (fs : List Funclet) (program : LinearProgram) (p : Plan
         let z = top in
         let lo = sp_low in
         arguments_then_words after.memory (inside.sp + layout.locals) (inside.sp + slots_end layout (p.leaf (FunctionBody f))) arguments (o.locals - count) (omega arith) argument_there
-        (λ a v l u e. word_of after.memory a v (omega arith) (λ x g h. may_read_written after.memory x (may_stack x (omega arith) (omega arith))) e)
+        (λ a v l u e. word_of after.memory a v (omega arith) (λ x g h. may_read_written after.memory x (memory.stack x (omega arith) (omega arith))) e)
 
     -- ---- the return address
 
@@ -404,7 +389,7 @@ module _ (t : Functions) (fs : List Funclet) (program : LinearProgram) (p : Plan
         let w : inside.sp + layout.frame ≡ caller - 8 = omega arith in
         let same = back_same in
         let pushed = (pushed_back (calling.before t fs program p q image roomy s c b counted f first count at few few_passed framed) caller (calling.back t fs program p q image roomy s c b counted f first count at few few_passed framed) (calling.below_sp t fs program p q image roomy s c b counted f first count at few few_passed framed) (omega arith)).number in
-        word_of after.memory (inside.sp + layout.frame) back (omega arith) (λ x g h. may_read_written after.memory x (may_stack x (omega arith) (omega arith)))
+        word_of after.memory (inside.sp + layout.frame) back (omega arith) (λ x g h. may_read_written after.memory x (memory.stack x (omega arith) (omega arith)))
         (ap (number_at after.memory.byte 8) w
         ∙ same_number after.memory.byte (entering.called t fs program p q image roomy s c b counted f first count at few few_passed framed fn callee parameters fits).memory.byte 8 (caller - 8) (omega arith) (λ a g h. inside.same a (stack_is_reserved program.globals a (omega arith) (omega arith)) (inr (inr (inl (omega arith, omega arith)))))
         ∙ pushed ∙ same)
@@ -413,7 +398,7 @@ module _ (t : Functions) (fs : List Funclet) (program : LinearProgram) (p : Plan
 
     pub begins : nat_lt 1000 (length c.store.activations + c.frame.held + 1) ≡ false → Begins t fs program p q after callee_begins
     begins shallow =
-        let waits = awaiting.awaits t fs program p q image roomy s c b counted f first count at after.memory room (omega arith) framed stack_kept data_alone in
+        let waits = awaiting.awaits t fs program p q image roomy s c b counted f first count at after.memory room (omega arith) framed stack_kept memory.data_alone in
         let small = frame_small (p.leaf (FunctionBody f)) laid in
         let e = inside.place in
         let stack = inside.stack in

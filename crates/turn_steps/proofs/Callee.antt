@@ -93,7 +93,7 @@ module _ (globals : List ℕ) (y : Layout) (o : LinearBody) (sp : ℕ) where
 
 -- ---- a leaf function's parameters, which come in registers
 
--- the layout with a frame that ends above the home space: no parameter stands above it
+-- the layout with a frame that ends above the home space: no parameter is above it
 abbrev pub with_home : Layout → Layout
 with_home y = record { base = y.base; pointers = y.pointers; temporaries = y.temporaries; locals = y.locals; frame = 40 }
 

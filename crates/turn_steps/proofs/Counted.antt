@@ -17,7 +17,7 @@ use Rattle.body_states.specs.Bodies.{held_below, turns_left}
 abbrev pub counting : Next
 counting c = Running (replicate (turns_left c) (events.Filter 0))
 
--- what is seen, if it goes on, are no more than so many
+-- what is seen, if it continues, are no more than so many
 abbrev pub IsShort : ℕ → Seen → Type 0
 IsShort n (Running es) = length es ≤ n
 IsShort n (Finished e es) = Unit {0}

@@ -1,4 +1,4 @@
--- A `__finally` block that a body has called returns: the body goes on after its call.
+-- A `__finally` block that a body has called returns: the body continues after its call.
 use Rattle.std.proofs.Common.{◌≡◌, ℕ, zero, suc, ◌+◌, ◌<◌, ◌≤◌, Option, Some, None, List, [], ◌∷◌, length, get_or, refl, sym, ap, subst, ◌∙◌, arith}
 use Rattle.std.specs.Prelude.{slice_get, replicate}
 use Rattle.std.proofs.lemmas.List.{append-nil}

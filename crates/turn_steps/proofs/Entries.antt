@@ -1,5 +1,5 @@
 -- A function is entered after its call, whatever its frame is.
-use Rattle.std.proofs.Common.{◌≡◌, ℕ, ◌+◌, ◌-◌, ◌<◌, ◌≤◌, Bool, true, false, Some, List, ◌++◌, length, refl, sym, ap, subst, ◌∙◌, arith, inl, inr}
+use Rattle.std.proofs.Common.{◌≡◌, ℕ, ◌+◌, ◌-◌, ◌<◌, ◌≤◌, Bool, true, false, Some, List, length, refl, sym, ap, subst, ◌∙◌, arith, inl, inr}
 use Rattle.std.specs.Prelude.{slice_get, nat_le, if◌then◌else◌}
 use Rattle.std.proofs.lemmas.Bool.{cases_lt, le-leb}
 use Rattle.host_layout.specs.declared.range.TheConstants.{STACK_START, STACK_END}
@@ -15,15 +15,12 @@ use Rattle.template_code.specs.declared.layout.Layout.{Layout}
 use Rattle.template_code.specs.Bytes.{sizes, spelled}
 use Rattle.template_code.specs.Calls.{enter_code, parameters_code}
 use Rattle.template_code.specs.Probing.{check_stack, enter_large}
-use Rattle.template_code.specs.Template.{code_from}
-use Rattle.template_code.proofs.Sizes.{sizes_append}
 use Rattle.x64_templates.specs.CallStates.{HasBelow}
 use Rattle.x64_templates.specs.Runs.{HasCode}
 use Rattle.x64_templates.proofs.PlacedCode.{bytes_kept}
-use Rattle.x64_templates.proofs.Computes.{code_split}
 use Rattle.linked_stack.specs.ImagePlan.{Plan}
 use Rattle.ir_typed.specs.Room.{HaveRoom}
-use Rattle.body_states.specs.Sites.{Sites, links_of, making, frame_code, function_arguments, arguments_code, entry_code}
+use Rattle.body_states.specs.Sites.{Sites, making}
 use Rattle.body_states.specs.Layouts.{IsFunctionLayout, IsLeafLayout, IsLayoutIf}
 use Rattle.body_states.specs.Programs.{IsProgramImage}
 use Rattle.body_states.specs.Bodies.{Begins}
@@ -33,6 +30,7 @@ use Rattle.body_steps.proofs.Viewed.{IsCounted}
 use Rattle.turn_steps.proofs.CallCalling as calling
 use Rattle.turn_steps.proofs.Callee.{with_home, home_parameters}
 use Rattle.turn_steps.proofs.Callee as entering
+use Rattle.turn_steps.proofs.EntryCode.{making_frame, HasEntry, has_entry}
 use Rattle.turn_steps.proofs.Prologues.{Made, no_frame, small_frame, large_frame}
 
 module _ (t : Functions) (fs : List Funclet) (program : LinearProgram) (p : Plan) (q : Sites) (image : IsProgramImage t fs program p q) (roomy : HaveRoom program) where
@@ -57,33 +55,8 @@ module _ (t : Functions) (fs : List Funclet) (program : LinearProgram) (p : Plan
     abbrev Goal : Type 0
     Goal = entering.InCallee t fs program p q image roomy s c b counted f first count at few few_passed framed fn callee parameters fits
 
-    -- ---- the code of the entry
-
-    abbrev making_frame : Bool → List Instr
-    making_frame leaf = frame_code layout.frame target q.check_stack leaf
-
-    entry_is : (leaf : Bool) → p.leaf (FunctionBody f) ≡ leaf → entry_code program p q (FunctionBody f) ≡ making_frame leaf ++ parameters_code layout 0 count
-    entry_is leaf e =
-        ap (λ x. making_frame x ++ function_arguments layout (slice_get program.functions f)) e
-        ∙ ap (λ x. making_frame leaf ++ function_arguments layout x) callee
-        ∙ ap (λ n. making_frame leaf ++ parameters_code layout 0 n) parameters
-
-    codes : (leaf : Bool) → p.leaf (FunctionBody f) ≡ leaf → HasCode s.memory target (making_frame leaf) × HasCode s.memory (target + sizes (making_frame leaf)) (parameters_code layout 0 count)
-    codes leaf e =
-        let whole = code_split s.memory target (entry_code program p q (FunctionBody f)) (code_from (links_of p q (FunctionBody f)) layout (p.address (FunctionBody f) 0) o.code) (b.memory.code.code (FunctionBody f) o there) in
-        code_split s.memory target (making_frame leaf) (parameters_code layout 0 count) (subst (HasCode s.memory target) (entry_is leaf e) whole.0)
-
-    ends : (leaf : Bool) → p.leaf (FunctionBody f) ≡ leaf → target + sizes (making_frame leaf) + sizes (parameters_code layout 0 count) ≡ p.address (FunctionBody f) 0
-    ends leaf e =
-        let a = (image.addresses (FunctionBody f) o there).first in
-        let z = ap sizes (entry_is leaf e) in
-        omega (arith, a, z, sizes_append (making_frame leaf) (parameters_code layout 0 count))
-
-    -- how many turns the frame and the arguments take
-    turns_are : (n : ℕ) (leaf : Bool) → p.leaf (FunctionBody f) ≡ leaf → making_steps leaf layout.frame ≡ n → n + length (parameters_code layout 0 count) ≡ making_steps (p.leaf (FunctionBody f)) layout.frame + length (arguments_code program p (FunctionBody f))
-    turns_are n leaf e same =
-        let arguments : arguments_code program p (FunctionBody f) ≡ parameters_code layout 0 count = ap (λ x. function_arguments layout x) callee ∙ ap (λ k. parameters_code layout 0 k) parameters in
-        λ i. (sym same ∙ ap (λ l. making_steps l layout.frame) (sym e)) i + length (sym arguments i)
+    entry : (leaf : Bool) → p.leaf (FunctionBody f) ≡ leaf → HasEntry program p q f count s.memory leaf
+    entry = has_entry t fs program p q image f count fn callee parameters s.memory b.memory.code
 
     -- code at the callee's first byte
     called_code : (to : ℕ) (code : List Instr) → HasCode s.memory to code → HasCode (entering.called t fs program p q image roomy s c b counted f first count at few few_passed framed fn callee parameters fits).memory to code
@@ -114,7 +87,7 @@ module _ (t : Functions) (fs : List Funclet) (program : LinearProgram) (p : Plan
         let k = l.temporaries in
         let n = l.few in
         let small : 0 + count ≤ 4 = omega arith in
-        let none : target + sizes (making_frame true) ≡ target = omega arith in
+        let none : target + sizes (making_frame p q f true) ≡ target = omega arith in
         let same = home_parameters layout 0 count small in
         let made = no_frame (entering.called t fs program p q image roomy s c b counted f first count at few few_passed framed fn callee parameters fits) target (entering.flags t fs program p q image roomy s c b counted f first count at few few_passed framed fn callee parameters fits) (caller - 8) (entering.arguments t fs program p q image roomy s c b counted f first count at few few_passed framed fn callee parameters fits) (calling.called_sp t fs program p q image roomy s c b counted f first count at few few_passed framed) (calling.called_count t fs program p q image roomy s c b counted f first count at few few_passed framed) (calling.in_registers t fs program p q image roomy s c b counted f first count at few few_passed framed) in
         entering.entered t fs program p q image roomy s c b counted f first count at few few_passed framed fn callee parameters fits (caller - 8) target 0 made (with_home layout)
@@ -128,13 +101,13 @@ module _ (t : Functions) (fs : List Funclet) (program : LinearProgram) (p : Plan
           apart = inl (omega arith);
         })
         (record { base = refl; temporaries = omega arith; locals = omega arith }) refl (omega arith) (λ i ge lt. absurd (omega arith)) (omega arith)
-        (subst (λ code. HasCode s.memory target code) (sym same) (subst (λ a. HasCode s.memory a (parameters_code layout 0 count)) none (codes true leaf).1))
-        (ap (λ code. target + sizes code) same ∙ (let y = ends true leaf in omega arith))
+        (subst (λ code. HasCode s.memory target code) (sym same) (subst (λ a. HasCode s.memory a (parameters_code layout 0 count)) none (entry true leaf).storing))
+        (ap (λ code. target + sizes code) same ∙ (let y = (entry true leaf).ends in omega arith))
         (λ a out i. elim i [
           | inl w ↦ (let g = w.0 in let h = w.1 in elim out [ inl o1 ↦ absurd (omega arith) | inr (inl o1) ↦ absurd (omega arith) | inr (inr (inl o1)) ↦ (let o2 = o1.0 in let o3 = o1.1 in absurd (omega arith)) | inr (inr (inr o1)) ↦ absurd (omega arith) ])
           | inr w ↦ (let g = w.0 in let h = w.1 in elim out [ inl o1 ↦ absurd (omega arith) | inr (inl o1) ↦ absurd (omega arith) | inr (inr (inl o1)) ↦ (let o2 = o1.0 in let o3 = o1.1 in absurd (omega arith)) | inr (inr (inr o1)) ↦ absurd (omega arith) ])
         ])
-        (ap (λ code. 0 + length code) same ∙ turns_are 0 true leaf refl)
+        (ap (λ code. 0 + length code) same ∙ (entry true leaf).turns 0 refl)
 
     -- ---- a function with a frame
 
@@ -145,7 +118,7 @@ module _ (t : Functions) (fs : List Funclet) (program : LinearProgram) (p : Plan
       abbrev sp : ℕ
       sp = caller - 8 - frame
 
-      framed_entered : (making : List Instr) (n : ℕ) → making_frame false ≡ making → making_steps false frame ≡ n → Made (entering.called t fs program p q image roomy s c b counted f first count at few few_passed framed fn callee parameters fits) target (target + sizes making) (entering.flags t fs program p q image roomy s c b counted f first count at few few_passed framed fn callee parameters fits) (caller - 8) sp (entering.arguments t fs program p q image roomy s c b counted f first count at few few_passed framed fn callee parameters fits) n → Goal
+      framed_entered : (making : List Instr) (n : ℕ) → making_frame p q f false ≡ making → making_steps false frame ≡ n → Made (entering.called t fs program p q image roomy s c b counted f first count at few few_passed framed fn callee parameters fits) target (target + sizes making) (entering.flags t fs program p q image roomy s c b counted f first count at few few_passed framed fn callee parameters fits) (caller - 8) sp (entering.arguments t fs program p q image roomy s c b counted f first count at few few_passed framed fn callee parameters fits) n → Goal
       framed_entered making n e same made =
           let x = low in
           let z = top in
@@ -163,30 +136,30 @@ module _ (t : Functions) (fs : List Funclet) (program : LinearProgram) (p : Plan
             apart = inr (omega arith);
           })
           (record { base = refl; temporaries = omega arith; locals = omega arith }) refl k (λ i ge lt. (let w : sp + frame + 8 ≡ caller = omega arith in w)) (omega arith)
-          (subst (λ i. HasCode s.memory (target + sizes i) (parameters_code layout 0 count)) e (codes false leaf).1)
-          (ap (λ i. target + sizes i + sizes (parameters_code layout 0 count)) (sym e) ∙ ends false leaf)
+          (subst (λ i. HasCode s.memory (target + sizes i) (parameters_code layout 0 count)) e (entry false leaf).storing)
+          (ap (λ i. target + sizes i + sizes (parameters_code layout 0 count)) (sym e) ∙ (entry false leaf).ends)
           (λ a out i. elim i [
             | inl w ↦ (let g = w.0 in let h = w.1 in elim out [ inl o1 ↦ absurd (omega arith) | inr (inl o1) ↦ absurd (omega arith) | inr (inr (inl o1)) ↦ (let o2 = o1.0 in let o3 = o1.1 in absurd (omega arith)) | inr (inr (inr o1)) ↦ absurd (omega arith) ])
             | inr w ↦ (let g = w.0 in let h = w.1 in elim out [ inl o1 ↦ absurd (omega arith) | inr (inl o1) ↦ absurd (omega arith) | inr (inr (inl o1)) ↦ (let o2 = o1.0 in let o3 = o1.1 in absurd (omega arith)) | inr (inr (inr o1)) ↦ absurd (omega arith) ])
           ])
-          (turns_are n false leaf same)
+          ((entry false leaf).turns n same)
 
       small_entered : nat_le frame 4096 ≡ true → Goal
       small_entered e =
           let x = low in
           let z = top in
           let k = l.small in
-          let is : making_frame false ≡ enter_code frame = ap (making frame target q.check_stack) e in
+          let is : making_frame p q f false ≡ enter_code frame = ap (making frame target q.check_stack) e in
           framed_entered (enter_code frame) 1 is (ap (λ x. if x then 1 else 8) e)
           (small_frame (entering.called t fs program p q image roomy s c b counted f first count at few few_passed framed fn callee parameters fits) target (entering.flags t fs program p q image roomy s c b counted f first count at few few_passed framed fn callee parameters fits) (caller - 8) (entering.arguments t fs program p q image roomy s c b counted f first count at few few_passed framed fn callee parameters fits) (calling.called_sp t fs program p q image roomy s c b counted f first count at few few_passed framed) (calling.called_count t fs program p q image roomy s c b counted f first count at few few_passed framed) (calling.in_registers t fs program p q image roomy s c b counted f first count at few few_passed framed) frame (omega arith) (omega arith) (omega arith)
-          (called_code target (enter_code frame) (subst (HasCode s.memory target) is (codes false leaf).0)))
+          (called_code target (enter_code frame) (subst (HasCode s.memory target) is (entry false leaf).making)))
 
       large_entered : nat_le frame 4096 ≡ false → 4096 < frame → Goal
       large_entered e big =
           let x = low in
           let z = top in
           let k = l.small in
-          let is : making_frame false ≡ enter_large frame target q.check_stack = ap (making frame target q.check_stack) e in
+          let is : making_frame p q f false ≡ enter_large frame target q.check_stack = ap (making frame target q.check_stack) e in
           let a = image.addresses (FunctionBody f) o there in
           let begin = a.first in
           let a1 = a.inside.low in
@@ -198,7 +171,7 @@ module _ (t : Functions) (fs : List Funclet) (program : LinearProgram) (p : Plan
           (large_frame (entering.called t fs program p q image roomy s c b counted f first count at few few_passed framed fn callee parameters fits) target (entering.flags t fs program p q image roomy s c b counted f first count at few few_passed framed fn callee parameters fits) (caller - 8) (entering.arguments t fs program p q image roomy s c b counted f first count at few few_passed framed fn callee parameters fits) (calling.called_sp t fs program p q image roomy s c b counted f first count at few few_passed framed) (calling.called_count t fs program p q image roomy s c b counted f first count at few few_passed framed) (calling.in_registers t fs program p q image roomy s c b counted f first count at few few_passed framed) frame q.check_stack (omega arith) below_top
           (record { enough = omega arith; more = omega arith; high = omega arith; first = reads (caller - 8 - 4096) (omega arith) (omega arith); last = reads (caller - 8 - frame) (omega arith) (omega arith) })
           ((omega arith, omega arith, omega arith, omega arith)) (omega arith) (called_code q.check_stack check_stack b.memory.code.check_stack)
-          (called_code target (enter_large frame target q.check_stack) (subst (HasCode s.memory target) is (codes false leaf).0)))
+          (called_code target (enter_large frame target q.check_stack) (subst (HasCode s.memory target) is (entry false leaf).making)))
 
       by_size : (x : Bool) → nat_le frame 4096 ≡ x → Goal
       by_size true e = small_entered e

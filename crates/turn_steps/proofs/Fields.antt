@@ -24,7 +24,7 @@ use Rattle.linked_stack.specs.ImagePlan.{Plan}
 use Rattle.linked_stack.specs.Linked.{HasException}
 use Rattle.body_steps.proofs.Around.{some_is}
 
--- what is fetched is what stands there
+-- what is fetched is what is there
 record IsRecorded (m : Memory) (at : ℕ) (r : DispatchRecord) : Type 0 where
   kind : Kind
   same : r ≡ recorded m at kind
@@ -52,7 +52,7 @@ recorded_field ExceptionFlags r = r.flags
 recorded_field NumberParameters r = r.count
 recorded_field (ExceptionInformation k) r = get_or r.parameters k 0
 
--- it stands at its place in the EXCEPTION_RECORD
+-- it is at its place in the EXCEPTION_RECORD
 pub field_stands : (m : Memory) (at : ℕ) (r : DispatchRecord) (field : Field) → at + 1568 < 2 ^ 64 → IsField field → fetched m at ≡ Some r
     → number_at m.byte (bytes_of (field_width field)) (at + 96 + field_at field) ≡ recorded_field field r
 field_stands m at r field top is e = let f = fetched_is m at r e in by field is f.kind f.same

@@ -1,4 +1,4 @@
--- A body that runs asks the host: it stands on top of the list, with room for a record below.
+-- A body that runs asks the host: it is on top of the list, with room for a record below.
 use Rattle.std.proofs.Common.{◌≡◌, ℕ, ◌+◌, ◌^◌, ◌<◌, ◌≤◌, Bool, true, false, cond, List, ◌∷◌, Some, None, ap, ◌∙◌, arith}
 use Rattle.std.specs.Prelude.{nat_lt}
 use Rattle.std.proofs.lemmas.Bool.{le-ltb}

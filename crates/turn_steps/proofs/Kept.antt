@@ -90,6 +90,14 @@ longer_leaves b d values ts v l lt = record {
   ];
 }
 
+-- in one turn, which keeps the shadow, it comes to where a configuration begins
+pub record Resumes (t : Functions) (fs : List Funclet) (program : LinearProgram) (p : Plan) (q : Sites) (u : State) (c : Configuration) : Type 0 where
+  pub state : State
+  pub reaches : Reaches 1 u state
+  pub quiet : arrivals state.cpu (distance t.base state.cpu.rip) 1 fs ≡ []
+  pub begins : Begins t fs program p q state c
+  pub keeps : AllKeep t fs 1 u
+
 module _ (t : Functions) (fs : List Funclet) (program : LinearProgram) (p : Plan) (q : Sites) (image : IsProgramImage t fs program p q) (roomy : HaveRoom program) where
   -- what the frames below a body are like: a leaf's caller has one, and the function whose locals a funclet works on
   pub record IsSurrounded (name : BodyName) (activation : ℕ) (items : List Item) (depth : ℕ) : Type 0 where
@@ -231,7 +239,7 @@ module _ (t : Functions) (fs : List Funclet) (program : LinearProgram) (p : Plan
           (record { rip = back; registers = refl; stands = stands_here t fs program p q image earlier caller waits counted })
 
       -- in one turn, which keeps the shadow, the next instruction begins
-      pub resumes : (z : State) × Reaches 1 u z × (arrivals z.cpu (distance t.base z.cpu.rip) 1 fs ≡ []) × (Begins t fs program p q z (answered w items source acts es result)) × AllKeep t fs 1 u
+      pub resumes : Resumes t fs program p q u (answered w items source acts es result)
       resumes =
           let r = subst (λ x. ReachesBody (frame t fs program p q image roomy earlier caller waits counted) 1 x (u.cpu.rip + sizes (keep layout (Temporary first))) (seen_by_templates u).rest (record { slots = with_slot (slots t fs program p q image roomy earlier caller waits counted).slots (Temporary first) result; memory = source })) (sym same_state) kept in
           let rip = u.cpu.rip + sizes (keep layout (Temporary first)) in
@@ -246,10 +254,11 @@ module _ (t : Functions) (fs : List Funclet) (program : LinearProgram) (p : Plan
           let small : rip < 2 ^ 64 = let n = next_small in omega (arith, next_place) in
           let begins = begins_next t fs program p q image earlier caller waits counted z d values_here ts ran (w.next + 1) w.landed es next_place inside (stays_sane earlier z keeps small waits.sane) (λ code e. absurd (nothing w.landed code free e)) around.caller around.owner in
           let ends = ends_at t fs program p q image earlier caller waits counted z (w.next + 1) next_place inside (kept_by_rest r.after.rest u.cpu.registers r.rest)
-          (stands_after t fs program p q image earlier caller waits counted z d values_here ts ran around.caller around.owner) in (
-            z,
-            r.comes,
-            quiet_at t fs program p q image roomy earlier caller waits counted (w.next + 1) rip next_place inside small z refl,
-            subst (λ (xs : List (List ℕ)). let c : Configuration = record { frame = again w (w.next + 1) ts w.landed; below = items; store = record { memory = source; activations = xs }; events = es } in Begins t fs program p q z c) same_locals begins,
-            keeps_shadow z r.comes ends,
-          )
+          (stands_after t fs program p q image earlier caller waits counted z d values_here ts ran around.caller around.owner) in
+          record {
+            state = z;
+            reaches = r.comes;
+            quiet = quiet_at t fs program p q image roomy earlier caller waits counted (w.next + 1) rip next_place inside small z refl;
+            begins = subst (λ (xs : List (List ℕ)). let c : Configuration = record { frame = again w (w.next + 1) ts w.landed; below = items; store = record { memory = source; activations = xs }; events = es } in Begins t fs program p q z c) same_locals begins;
+            keeps = keeps_shadow z r.comes ends;
+          }

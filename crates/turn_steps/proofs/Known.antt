@@ -102,7 +102,7 @@ module _ (t : Functions) (fs : List Funclet) (program : LinearProgram) (p : Plan
       let same : plan.funclet.function ≡ function = ap (λ (g : LinearFunclet). g.function) (same_funclet plan.funclet i.funclet (sym plan.there ∙ i.there)) ∙ i.function_is in
       (plan.framed, subst (λ j. p.leaf (FunctionBody j) ≡ false) same plan.function_framed)
 
-  -- a funclet's parent has the same function, whose locals stand as far from its base
+  -- a funclet's parent has the same function, whose locals are as far from its base
   pub parent_locals : (k : ℕ) (f : LinearFunclet) (o : Option ℕ) (name : BodyName) → slice_get program.funclets k ≡ Some f → by_parent f.function o ≡ name → owner_of program (parent_of f.function o) ≡ Some f.function → (p.layout name).locals ≡ (p.layout (FuncletBody k)).locals
   parent_locals k f None name there e owner = ap (λ n. (p.layout n).locals) (sym e) ∙ sym (own_locals k f there)
   parent_locals k f (Some j) name there e owner =

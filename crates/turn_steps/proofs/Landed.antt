@@ -1,4 +1,4 @@
--- An unwinding lands in a body, which goes on at the label.
+-- An unwinding lands in a body, which continues at the label.
 use Rattle.std.proofs.Common.{◌≡◌, true, ℕ, ◌≤◌, List, [], ◌∷◌, ◌++◌, Option, Some, None, refl, sym, ap, subst, ◌∙◌, arith, inl}
 use Rattle.std.proofs.lemmas.List.{append-nil}
 use Rattle.seh_num.specs.declared.event.Event.{Event}
@@ -36,7 +36,7 @@ use Rattle.turn_steps.specs.Outcomes.{Stands, GoesOn}
 same_code : (a b : ℕ) → Some a ≡ Some b → a ≡ b
 same_code a b e = cc
 
--- where linear code goes on
+-- where linear code continues
 abbrev pub landed : Frame → ℕ → Option ℕ → Frame
 landed body label None = record body { next = label }
 landed body label (Some code) = record body { next = label; temporaries = []; landed = Some code }

@@ -2,7 +2,6 @@ pub mod Kept
 pub mod Resuming
 pub mod Grounds
 pub mod Returning
-pub mod Outgoing
 pub mod Outward
 pub mod Begun
 pub mod Awaiting
@@ -10,6 +9,7 @@ pub mod CallCalling
 pub mod Entered
 pub mod Prologues
 pub mod Callee
+pub mod EntryCode
 pub mod Entries
 pub mod Called
 pub mod CallSteps

@@ -53,7 +53,7 @@ comes_to_something program c to o first second h =
       record { a = a.0; b = b.0; reads_first = a.1; reads_second = b.1; comes = refl },
     )
 
--- and that is what linear code goes on with
+-- and that is what linear code continues with
 pub acts_as : (program : LinearProgram) (c : Configuration) (to : Slot) (o : Operation) (first second : Slot) (x : Outcome)
     → ComesTo program c o first second x → (next : Next) → act program (instructions.Compute to o first second) next c ≡ computed program next to c x
 unfolding with_some

@@ -1,16 +1,9 @@
 -- What is in memory at an operation of a body, and that no funclet begins in its midst.
-use Rattle.std.proofs.Common.{◌≡◌, ◌≢◌, ℕ, ◌+◌, ◌<◌, ◌≤◌, Bool, true, false, List, [], ◌∷◌, length, Option, Some, None, refl, sym, ap, subst, ◌∙◌, arith, inl, inr}
-use Rattle.std.specs.Prelude.{slice_get}
-use Rattle.std.proofs.lemmas.Bool.{le-leb}
+use Rattle.std.proofs.Common.{◌≡◌, ◌≢◌, ℕ, ◌+◌, ◌*◌, ◌^◌, ◌<◌, ◌≤◌, Bool, true, false, List, [], ◌∷◌, length, Option, Some, None, refl, sym, ap, subst, ◌∙◌, arith, inl, inr}
+use Rattle.std.specs.Prelude.{◌⊎◌, slice_get}
 use Rattle.std.proofs.lemmas.Option.{slice_get_cases}
-use Rattle.seh_num.specs.declared.width.Width.TheVariants.{W64}
 use Rattle.flat_memory.specs.Memory.{Memory, executable}
-use Rattle.x64_instr.specs.declared.register.Reg.TheVariants.{Rsp}
-use Rattle.x64_instr.specs.declared.operand.RegisterOrMemory.TheVariants as places
-use Rattle.x64_instr.specs.declared.operand.Operand.TheVariants as operands
-use Rattle.x64_instr.specs.declared.instruction.Operation.TheVariants as arithmetic
 use Rattle.x64_instr.specs.declared.instruction.Instr.{Instr}
-use Rattle.x64_instr.specs.declared.instruction.Instr.TheVariants as instrs
 use Rattle.x64_instr.specs.Spelling.{leading}
 use Rattle.x64_encode.specs.Chosen.{chosen}
 use Rattle.x64_encode.proofs.Lengths.{longest}
@@ -26,31 +19,29 @@ use Rattle.linear_code.specs.declared.instruction.Instruction.{Instruction}
 use Rattle.linear_code.specs.declared.instruction.Instruction.TheVariants as instructions
 use Rattle.linear_code.specs.BodyState.{Counts}
 use Rattle.linear_code.specs.Meaning.{HasSlots}
-use Rattle.linear_code.specs.Program.{LinearProgram, LinearBody, LinearFunclet}
-use Rattle.linear_machine.specs.Frames.{BodyName, FunctionBody, FuncletBody, body_of, funclet_body}
+use Rattle.linear_code.specs.Program.{LinearProgram, LinearBody}
+use Rattle.linear_machine.specs.Frames.{BodyName, FunctionBody, FuncletBody, body_of}
 use Rattle.template_code.specs.declared.layout.Layout.{Layout}
 use Rattle.template_code.specs.Bytes.{spelled, sizes}
 use Rattle.template_code.specs.Operations.{work}
 use Rattle.template_code.specs.Slots.{keep, operands_code, finish_code}
-use Rattle.template_code.specs.Calls.{enter_code}
-use Rattle.template_code.specs.Template.{template, template_size, code_from, offset_of}
+use Rattle.template_code.specs.Template.{template, template_size}
 use Rattle.template_code.proofs.Sizes.{sizes_append}
-use Rattle.x64_templates.specs.Straight.{takes_frame}
 use Rattle.x64_templates.specs.Frames.{HasBase, HasRoom}
 use Rattle.x64_templates.specs.Runs.{HasCode}
 use Rattle.x64_templates.proofs.PlacedCode.{bytes_split, spells, reads}
 use Rattle.x64_templates.proofs.Computes.{code_split}
-use Rattle.x64_templates.proofs.Encoded.{Fine, none_taking, near, finish_fine}
-use Rattle.x64_templates.proofs.Linked.{template_placed}
+use Rattle.x64_templates.proofs.Encoded.{Fine, none_taking, finish_fine}
 use Rattle.ir_typed.specs.Room.{HaveRoom}
 use Rattle.linked_stack.specs.ImagePlan.{Plan}
-use Rattle.body_states.specs.Sites.{Sites, links_of, begin_of, making, frame_code, arguments_code, entry_code}
-use Rattle.body_states.specs.Layouts.{IsFunctionLayout, IsLeafLayout, IsFuncletLayout, IsLayoutIf, IsLaidOut, IsFuncletPlan}
+use Rattle.body_states.specs.Sites.{Sites, links_of}
+use Rattle.body_states.specs.Layouts.{IsFunctionLayout, IsLeafLayout, IsFuncletLayout, IsLayoutIf, IsLaidOut}
 use Rattle.body_states.specs.Programs.{HasProgram, IsProgramImage}
+use Rattle.body_states.proofs.QuietTurns.{funclet_makes}
 use Rattle.body_states.proofs.Finding.{template_there}
 use Rattle.body_states.proofs.Inside.{template_some}
 use Rattle.body_steps.specs.Views.{counts_of}
-use Rattle.body_steps.proofs.Running.{each, get_or_is}
+use Rattle.body_steps.proofs.Running.{each}
 
 -- ---- sizes
 
@@ -82,41 +73,34 @@ pub record HasRoomSomewhere (y : Layout) (n : Counts) : Type 0 where
   pub base : ℕ
   pub room : HasRoom y n sp base
 
+own_room : (y : Layout) (n : Counts) → y.base ≡ None → y.temporaries + 8 * n.temporaries < 2 ^ 31 → y.locals + 8 * n.locals < 2 ^ 31
+    → (0 + (y.locals + 8 * n.locals) ≤ 0 + y.temporaries) ⊎ (0 + (y.temporaries + 8 * n.temporaries) ≤ 0 + y.locals) → HasRoomSomewhere y n
+own_room y n none temporaries locals apart = record {
+  sp = 0;
+  base = 0;
+  room = record {
+    temporaries = temporaries;
+    locals = locals;
+    high = omega arith;
+    base_high = omega arith;
+    apart = apart;
+    kept_base = subst (λ (o : Option ℕ). HasBase y o 0 0) (sym none) refl;
+  };
+}
+
 function_room : (y : Layout) (b : LinearBody) → IsFunctionLayout y b → HasRoomSomewhere y (counts_of b)
 function_room y b l =
     let x = l.temporaries in
     let z = l.locals in
     let s = l.small in
-    record {
-      sp = 0;
-      base = 0;
-      room = record {
-        temporaries = omega arith;
-        locals = omega arith;
-        high = omega arith;
-        base_high = omega arith;
-        apart = inr (omega arith);
-        kept_base = subst (λ (o : Option ℕ). HasBase y o 0 0) (sym l.none) refl;
-      };
-    }
+    own_room y (counts_of b) l.none (omega arith) (omega arith) (inr (omega arith))
 
 leaf_room : (y : Layout) (b : LinearBody) → IsLeafLayout y b → HasRoomSomewhere y (counts_of b)
 leaf_room y b l =
     let x = l.temporaries in
     let z = l.locals in
     let s = l.few in
-    record {
-      sp = 0;
-      base = 0;
-      room = record {
-        temporaries = omega arith;
-        locals = omega arith;
-        high = omega arith;
-        base_high = omega arith;
-        apart = inl (omega arith);
-        kept_base = subst (λ (o : Option ℕ). HasBase y o 0 0) (sym l.none) refl;
-      };
-    }
+    own_room y (counts_of b) l.none (omega arith) (omega arith) (inl (omega arith))
 
 funclet_room : (y f : Layout) (b g : LinearBody) → IsFuncletLayout y f b → IsFunctionLayout f g → b.locals ≡ g.locals → HasRoomSomewhere y (counts_of b)
 funclet_room y f b g l m same =
@@ -153,7 +137,7 @@ module _ (t : Functions) (fs : List Funclet) (program : LinearProgram) (p : Plan
 
   -- ---- code
 
-  -- the template of an instruction stands at its address
+  -- the template of an instruction is at its address
   pub template_stands : (m : Memory) (name : BodyName) (b : LinearBody) (label : ℕ) (i : Instruction) → HasProgram t fs program p q m → body_of program name ≡ Some b → slice_get b.code label ≡ Some i
       → HasCode m (p.address name label) (template (links_of p q name) (p.layout name) (p.address name label) i)
   template_stands m name b label i has there is = template_there t fs program p q image name b there m has label i is
@@ -168,16 +152,6 @@ module _ (t : Functions) (fs : List Funclet) (program : LinearProgram) (p : Plan
 
   -- ---- a funclet's first instruction makes its frame
 
-  made_first : (size at check : ℕ) (leaf : Bool) → leaf ≡ false → size ≤ 4096 → frame_code size at check leaf ≡ enter_code size
-  made_first size at check leaf e small = ap (frame_code size at check) e ∙ ap (making size at check) (le-leb size 4096 small)
-
-  abbrev taking : Option (Instr × ℕ) → Bool
-  taking None = true
-  taking (Some x) = takes_frame x.0
-
-  never_quiet : (i j : Instr) (m n : ℕ) → ◌≡◌ {A = Option (Instr × ℕ)} (Some (i, m)) (Some (j, n)) → takes_frame i ≡ true → takes_frame j ≡ false → ⊥
-  never_quiet i j m n e makes quiet = let z : true ≡ false = sym makes ∙ ap taking e ∙ quiet in absurd cc
-
   abbrev at_place : Memory → ℕ → State
   at_place m at = record { cpu = record { registers = []; rip = at; flags = no_flags }; memory = m }
 
@@ -190,29 +164,6 @@ module _ (t : Functions) (fs : List Funclet) (program : LinearProgram) (p : Plan
       let h = code.placed.high in
       reads (at_place m at) i (chosen i) (spells i fine.0) (longest i) parts.0 (record { low = l; high = omega arith })
 
-  entered_by : (m : Memory) (at size : ℕ) (j : Instr) (n : ℕ) → size ≤ 4096 → HasCode m at (enter_code size) → leading (executable m 15 at) ≡ Some (j, n) → takes_frame j ≡ false → ⊥
-  unfolding Rattle.template_code.specs.Bytes.size
-  entered_by m at size j n small code e quiet =
-      let i = instrs.Arithmetic arithmetic.Sub W64 (places.Register Rsp) (operands.Immediate size) in
-      let parts = bytes_split m at (chosen i) [] code.stands in
-      let l = code.placed.low in
-      let h = code.placed.high in
-      let r = reads (at_place m at) i (chosen i) (spells i (near size (omega arith))) (longest i) parts.0 (record { low = l; high = omega arith }) in
-      never_quiet i j (length (chosen i)) n (sym r ∙ e) refl quiet
-
-  funclet_makes : (m : Memory) (k : ℕ) (f : LinearFunclet) (j : Instr) (n : ℕ) → slice_get program.funclets k ≡ Some f → HasProgram t fs program p q m → leading (executable m 15 (p.funclet k)) ≡ Some (j, n) → takes_frame j ≡ false → ⊥
-  funclet_makes m k f j n there has e quiet =
-      let name = FuncletBody k in
-      let is : body_of program name ≡ Some f.body = ap funclet_body there in
-      let plan : IsFuncletPlan program p k f.body = image.laid_out name f.body is in
-      let small = plan.layout.small in
-      let y = p.layout name in
-      let first = frame_code y.frame (p.funclet k) q.check_stack (p.leaf name) in
-      let all = has.code name f.body is in
-      let entry = code_split m (p.funclet k) (entry_code program p q name) (code_from (links_of p q name) y (p.address name 0) f.body.code) all in
-      let frame = code_split m (p.funclet k) first (arguments_code program p name) entry.0 in
-      entered_by m (p.funclet k) y.frame j n (omega arith) (subst (HasCode m (p.funclet k)) (made_first y.frame (p.funclet k) q.check_stack (p.leaf name) plan.framed (omega arith)) frame.0) e quiet
-
   -- ---- so none begins at other code
 
   elsewhere : (m : Memory) (at k : ℕ) (code : List Instr) → Fine code → 1 ≤ sizes code → HasCode m at code → HasProgram t fs program p q m → k < length program.funclets → at ≢ p.funclet k
@@ -221,7 +172,7 @@ module _ (t : Functions) (fs : List Funclet) (program : LinearProgram) (p : Plan
       let read = first_read m at i is fine code in
       let quiet = none_taking (i ∷ is) fine in
       elim (slice_get_cases program.funclets k).1 [
-        | inl x ↦ funclet_makes m k x.0 i (length (chosen i)) x.2 has (ap (λ (a : ℕ). leading (executable m 15 a)) (sym e) ∙ read) quiet.0
+        | inl x ↦ funclet_makes t fs program p q image m k x.0 i (length (chosen i)) x.2 has (ap (λ (a : ℕ). leading (executable m 15 a)) (sym e) ∙ read) quiet.0
         | inr x ↦ let le = x.0 in absurd (omega arith)
       ]
 

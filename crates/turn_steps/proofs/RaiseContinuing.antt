@@ -148,14 +148,14 @@ module _ (t : Functions) (fs : List Funclet) (program : LinearProgram) (p : Plan
           record {
             turns = 1;
             few = omega arith;
-            state = z.0;
-            comes = reaches_quietly t fs program p q image 1 u z.0 z.1 z.4 memory.code z.2;
-            stands = subst (λ xs. Begins t fs program p q z.0 (record {
+            state = z.state;
+            comes = reaches_quietly t fs program p q image 1 u z.state z.reaches z.keeps memory.code z.quiet;
+            stands = subst (λ xs. Begins t fs program p q z.state (record {
               frame = record c.frame { next = c.frame.next + 1; temporaries = c.frame.temporaries ++ 0 ∷ [] };
               below = c.below;
               store = record { memory = c.store.memory; activations = xs };
               events = c.events;
-            })) (sym store) (subst (λ x. Begins t fs program p q z.0 (kept.answered t fs program p q image made.room c.frame c.below c.store.memory acts c.events x)) returns.no_result z.3);
+            })) (sym store) (subst (λ x. Begins t fs program p q z.state (kept.answered t fs program p q image made.room c.frame c.below c.store.memory acts c.events x)) returns.no_result z.begins);
           }
 
 pub continuations_after_calls : ContinuationsAfterCalls

@@ -35,7 +35,7 @@ use Rattle.body_states.specs.Sites.{Sites, making, frame_code, arguments_code, e
 use Rattle.body_states.specs.Layouts.{IsFuncletPlan}
 use Rattle.body_states.specs.Programs.{HasProgram, IsProgramImage}
 
--- the first instruction of code that stands somewhere is read there
+-- the first instruction of code that is somewhere is read there
 reads_first : (m : Memory) (at : ℕ) (j : Instr) → is_encodable j ≡ true → HasCode m at (j ∷ []) → leading (executable m 15 at) ≡ Some (j, length (chosen j))
 unfolding size
 reads_first m at j fine code =

@@ -8,9 +8,8 @@ use Rattle.x64_instr.specs.declared.instruction.Instr.{Instr}
 use Rattle.x64_machine.specs.declared.context.Context.{Context}
 use Rattle.x64_machine.specs.Effect.{State, register}
 use Rattle.virtual_unwind.specs.Contexts.{rsp}
-use Rattle.virtual_unwind.specs.CallerOf.{Functions, distance}
+use Rattle.virtual_unwind.specs.CallerOf.{Functions}
 use Rattle.host_model.specs.declared.funclet.Funclet.{Funclet}
-use Rattle.host_model.specs.Funclets.{arrivals}
 use Rattle.linear_code.specs.declared.slot.Slot.TheVariants.{Temporary}
 use Rattle.linear_code.specs.declared.instruction.Instruction.TheVariants as instructions
 use Rattle.linear_code.specs.Meaning.{HasSlots}
@@ -23,18 +22,15 @@ use Rattle.template_code.specs.Jumps.{call}
 use Rattle.template_code.specs.Calls.{arguments_code, return_at, begin_call, passing_code}
 use Rattle.template_code.specs.Template.{template_size}
 use Rattle.template_code.proofs.Sizes.{sizes_append, call_size, passing_call_size}
-use Rattle.x64_templates.specs.Runs.{Reaches}
 use Rattle.linked_stack.specs.Stack.{StackItem}
 use Rattle.linked_stack.specs.ImagePlan.{Plan}
 use Rattle.linked_stack.specs.Linked.{Activation}
 use Rattle.linked_stack.specs.Records.{On}
 use Rattle.linked_stack.specs.Unwinding.{on_top}
 use Rattle.linked_stack.specs.States.{IsSane}
-use Rattle.whole_runs.specs.Shadow.{AllKeep}
 use Rattle.ir_typed.specs.Room.{HaveRoom}
 use Rattle.body_states.specs.Sites.{Sites}
 use Rattle.body_states.specs.Programs.{IsMachineMemory, IsProgramImage}
-use Rattle.body_states.specs.Bodies.{Begins}
 use Rattle.body_steps.specs.Views.{counts_of}
 use Rattle.body_steps.proofs.Viewed.{IsCounted}
 use Rattle.body_steps.proofs.Running.{each}
@@ -75,7 +71,7 @@ module _ (t : Functions) (fs : List Funclet) (program : LinearProgram) (p : Plan
 
     -- in one turn, which keeps the shadow, the next instruction begins
     pub resumes : IsCounted t fs program p q image (on_top w items source acts es) → IsSurrounded t fs program p q image roomy w.body w.activation items (length acts)
-        → (z : State) × Reaches 1 u z × (arrivals z.cpu (distance t.base z.cpu.rip) 1 fs ≡ []) × (Begins t fs program p q z (answered t fs program p q image roomy w items source acts es (register u.cpu Rax))) × AllKeep t fs 1 u
+        → kept.Resumes t fs program p q u (answered t fs program p q image roomy w items source acts es (register u.cpu Rax))
     resumes counted surrounded =
         kept.resumes t fs program p q image roomy u w items acts source es above is on sp sane memory o there (instructions.Call f first arguments) first (passing ++ beginning) calls (λ h. h)
         (sym (append_assoc passing beginning (keep layout (Temporary first)))) fits within held free back_is counted surrounded

@@ -1,20 +1,18 @@
 -- A function returns: to the body that waits for it, or out of `main`.
-use Rattle.std.proofs.Common.{◌≡◌, ◌≢◌, ℕ, zero, suc, ◌+◌, ◌<◌, ◌≤◌, Option, Some, None, List, [], ◌∷◌, length, refl, sym, ap, subst, ◌∙◌, arith, length-append}
+use Rattle.std.proofs.Common.{◌≡◌, ◌≢◌, ℕ, ◌+◌, ◌<◌, Some, None, List, [], ◌∷◌, length, refl, sym, ap, subst, ◌∙◌, arith, length-append}
 use Rattle.std.specs.Prelude.{get_or, slice_get, replicate}
 use Rattle.std.proofs.lemmas.List.{append-nil, length-drop}
 use Rattle.std.proofs.lemmas.Option.{slice_get-get_or}
 use Rattle.seh_num.specs.declared.width.Width.TheVariants.{W32}
 use Rattle.seh_num.specs.Widths.{signed}
-use Rattle.x64_instr.specs.declared.register.Reg.TheVariants.{Rax, Rsp}
+use Rattle.x64_instr.specs.declared.register.Reg.TheVariants.{Rsp}
 use Rattle.x64_machine.specs.declared.context.Context.{Context}
 use Rattle.x64_machine.specs.Effect.{State, register}
 use Rattle.virtual_unwind.specs.CallerOf.{Functions, distance}
 use Rattle.host_model.specs.declared.funclet.Funclet.{Funclet}
 use Rattle.host_model.specs.Funclets.{arrivals}
 use Rattle.linear_code.specs.declared.slot.Slot.{Slot}
-use Rattle.linear_code.specs.declared.slot.Slot.TheVariants.{Local, Temporary}
 use Rattle.linear_code.specs.declared.instruction.Instruction.TheVariants as instructions
-use Rattle.linear_code.specs.Meaning.{IsSlot}
 use Rattle.linear_code.specs.declared.program.FuncletKind.TheVariants as kinds
 use Rattle.linear_code.specs.Program.{LinearProgram, LinearBody, LinearFunclet}
 use Rattle.linear_machine.specs.Frames.{FunctionBody, FuncletBody, body_of, funclet_body, Frame, Item, Waits, Store, Configuration, Finished, Next, with_some, read}
@@ -23,15 +21,13 @@ use Rattle.linear_machine.specs.Unwinding.{left_store}
 use Rattle.linear_machine.specs.Instructions.{return, end_body, act}
 use Rattle.c_model.specs.declared.ended.Ended.TheVariants as ends
 use Rattle.template_code.specs.declared.layout.Layout.{Layout}
-use Rattle.template_code.specs.Calls.{epilogue, return_code}
-use Rattle.template_code.specs.Slots.{fetch, fetch_local, local_at}
+use Rattle.template_code.specs.Calls.{return_code}
 use Rattle.x64_templates.specs.Straight.{MachineView, machine}
 use Rattle.x64_templates.specs.CallStates.{HasBack, with_sp, moved}
 use Rattle.x64_templates.specs.Returned.{Returned}
 use Rattle.x64_templates.specs.Runs.{Reaches}
 use Rattle.x64_templates.proofs.PlacedCode.{reaches_then}
-use Rattle.x64_templates.proofs.Entries.{number_small}
-use Rattle.x64_templates.proofs.Returns.{sp_moved, return_run}
+use Rattle.x64_templates.proofs.Returns.{sp_moved}
 use Rattle.linked_stack.specs.WalkLaws.{context_below}
 use Rattle.linked_stack.specs.ImagePlan.{Plan}
 use Rattle.linked_stack.specs.Linked.{Activation, activations_below, return_of, ReturnsTo}
@@ -47,43 +43,12 @@ use Rattle.body_states.specs.Bodies.{held_below, turns_left, slots_end, Begins}
 use Rattle.body_states.specs.Programs.{IsProgramImage}
 use Rattle.body_states.proofs.StackWalks.{keep_then}
 use Rattle.body_states.proofs.QuietTurns.{reaches_quietly}
-use Rattle.body_steps.specs.Views.{counts_of}
-use Rattle.body_steps.proofs.Words.{may_read_written, word_is}
 use Rattle.body_steps.proofs.Reaching.{reaches_keeps, stays_sane}
-use Rattle.body_steps.proofs.Viewed.{IsCounted, sp_low, frame_top, room_here, holds_here, slots_here}
-use Rattle.body_steps.proofs.Running.{y, v, frame, slots, same_state, template_here, has_slots, sp_is, index_of}
+use Rattle.body_steps.proofs.Viewed.{IsCounted}
+use Rattle.body_steps.proofs.Running.{v, slots, same_state, index_of}
 use Rattle.turn_steps.proofs.Kept.{IsSurrounded, answered}
 use Rattle.turn_steps.proofs.Resuming.{returns_at, resumes}
 use Rattle.turn_steps.proofs.Leaving as leaving
-
--- ---- how long a return takes
-
-fetched_by : (o : Option ℕ) (d : ℕ) → length (fetch_local o Rax d) ≤ 2
-fetched_by None d = omega arith
-fetched_by (Some b) d = omega arith
-
-fetched_soon : (y : Layout) (x : Slot) → length (fetch y Rax x) ≤ 2
-fetched_soon y (Temporary i) = omega arith
-fetched_soon y (Local i) = fetched_by y.base (local_at y i)
-
-fetched_some : (y : Layout) (x : Slot) → 1 ≤ length (epilogue y.frame)
-fetched_some y x = ends_some y.frame
-  where
-    ends_some : (n : ℕ) → 1 ≤ length (epilogue n)
-    ends_some zero = omega arith
-    ends_some (suc n) = omega arith
-
-ends_soon : (n : ℕ) → length (epilogue n) ≤ 2
-ends_soon zero = omega arith
-ends_soon (suc n) = omega arith
-
-returns_soon : (y : Layout) (x : Slot) → (1 ≤ length (return_code y x)) × (length (return_code y x) ≤ 4)
-returns_soon y x =
-    let n = length-append (fetch y Rax x) (epilogue y.frame) in
-    let a = fetched_soon y x in
-    let b = ends_soon y.frame in
-    let s = fetched_some y x in
-    (omega arith, omega arith)
 
 module _ (t : Functions) (fs : List Funclet) (program : LinearProgram) (p : Plan) (q : Sites) (image : IsProgramImage t fs program p q) (roomy : HaveRoom program) where
   module _ (s : State) (c : Configuration) (b : Begins t fs program p q s c) (counted : IsCounted t fs program p q image c) (f : ℕ) (function : c.frame.body ≡ FunctionBody f) (from : Slot)
@@ -100,40 +65,15 @@ module _ (t : Functions) (fs : List Funclet) (program : LinearProgram) (p : Plan
     abbrev n : ℕ
     n = length (return_code layout from)
 
-    is_there : IsSlot (counts_of b.body.slots.code) from
-    is_there = has_slots t fs program p q image roomy s c b counted (instructions.Return from) at
-
-    -- the number that is returned
-    value_is : (slot : Slot) → IsSlot (counts_of b.body.slots.code) slot → read c slot ≡ Some x → (slots t fs program p q image roomy s c b counted).slots slot ≡ x
-    value_is (Local i) lt e = (slots_here t fs program p q image s c b counted).locals i lt ∙ the_same _ x e
-      where
-        the_same : (a b : ℕ) → Some a ≡ Some b → a ≡ b
-        the_same a b e = cc
-    value_is (Temporary i) lt e = (slots_here t fs program p q image s c b counted).temporaries i x e
-
     has_back : HasBack s.memory (sp + layout.frame) back
-    has_back =
-        let low = sp_low t fs program p q image s c b counted in
-        let top = frame_top t fs program p q image s c b counted in
-        let is = word_is s.memory (sp + layout.frame) back b.body.returns in
-        let small = number_small s.memory 8 (sp + layout.frame) b.memory.data_alone.bytes in
-        record {
-          number = is;
-          readable = λ a l u. may_read_written s.memory a (b.memory.stack a (omega arith) (omega arith));
-          small = omega (arith, is, small);
-        }
+    has_back = leaving.has_back t fs program p q image roomy s c b counted from at
 
     abbrev view : MachineView
     view = v t fs program p q image roomy s c b counted
 
     -- the state after it
     pub run : Returned n view (sp + layout.frame + 8) back ((slots t fs program p q image roomy s c b counted).slots from) s.cpu.rip s.cpu.flags
-    run =
-        let top = frame_top t fs program p q image s c b counted in
-        let low = sp_low t fs program p q image s c b counted in
-        return_run (frame t fs program p q image roomy s c b counted) from view back s.cpu.rip s.cpu.flags (slots t fs program p q image roomy s c b counted) (room_here t fs program p q image s c b counted)
-        is_there (length-drop 3 s.cpu.registers ∙ (let k = b.sane.count in omega arith)) (sp_is t fs program p q image roomy s c b counted) (omega arith) (holds_here t fs program p q image s c b counted) has_back
-        (template_here t fs program p q image roomy s c b counted (instructions.Return from) at)
+    run = leaving.run t fs program p q image roomy s c b counted from at
 
     abbrev after_view : ℕ → MachineView
     after_view r = record { rax = r; rcx = view.rcx; rdx = view.rdx; rest = view.rest; memory = view.memory }
@@ -144,7 +84,7 @@ module _ (t : Functions) (fs : List Funclet) (program : LinearProgram) (p : Plan
     pub reaches : Reaches n s after
     reaches =
         subst (λ z. Reaches n z after) (sym (same_state t fs program p q image roomy s c b counted))
-        (subst (λ r. Reaches n (machine view s.cpu.rip s.cpu.flags) (machine (moved (after_view r) (sp + layout.frame + 8)) back run.flags)) (value_is from is_there reads) run.comes)
+        (subst (λ r. Reaches n (machine view s.cpu.rip s.cpu.flags) (machine (moved (after_view r) (sp + layout.frame + 8)) back run.flags)) (leaving.result_is t fs program p q image roomy s c b counted from at x reads) run.comes)
 
     pub sp_after : register after.cpu Rsp ≡ sp + layout.frame + 8
     sp_after = sym (index_of (with_sp view.rest (sp + layout.frame + 8)) 1) ∙ sp_moved view (sp + layout.frame + 8) (length-drop 3 s.cpu.registers ∙ (let k = b.sane.count in omega arith))
@@ -183,7 +123,7 @@ module _ (t : Functions) (fs : List Funclet) (program : LinearProgram) (p : Plan
 
     pub exits : c.below ≡ [] → Exits t fs program 16 turns_left s c (instructions.Return from)
     exits none =
-        let few = (returns_soon layout from).1 in
+        let few = (leaving.returns_soon layout from).1 in
         let over : back ≡ 0 = subst (λ items. ReturnsTo t fs program p items back) none b.body.returns_to in
         record {
           turns = n;
@@ -238,8 +178,8 @@ module _ (t : Functions) (fs : List Funclet) (program : LinearProgram) (p : Plan
       pub moves : IsCounted t fs program p q image waiting_for_it → IsSurrounded t fs program p q image roomy w.body w.activation items (length outer)
           → Moves t fs program 16 turns_left (Begins t fs program p q) s c (instructions.Return from)
       moves counts surrounded =
-          let few = (returns_soon layout from).1 in
-          let some = (returns_soon layout from).0 in
+          let few = (leaving.returns_soon layout from).1 in
+          let some = (leaving.returns_soon layout from).0 in
           let more = length-append w.temporaries (x ∷ []) in
           let z = resumes t fs program p q image roomy after w items outer c.store.memory c.events above b.body.is on sp_after sane_after
           (record { data_alone = b.memory.data_alone; agrees = b.memory.agrees; stack = b.memory.stack; arena = b.memory.arena; code = b.memory.code }) o there g first arguments calls within held free returns counts surrounded in
@@ -249,10 +189,10 @@ module _ (t : Functions) (fs : List Funclet) (program : LinearProgram) (p : Plan
             some = omega arith;
             configuration = next_one;
             few = omega (arith, few, more, credit);
-            state = z.0;
+            state = z.state;
             events = [];
-            comes = reaches_quietly t fs program p q image (n + 1) s z.0 (reaches_then n 1 s after z.0 reaches z.1) (keep_then t fs n 1 s after reaches keeps z.4) b.memory.code z.2;
+            comes = reaches_quietly t fs program p q image (n + 1) s z.state (reaches_then n 1 s after z.state reaches z.reaches) (keep_then t fs n 1 s after reaches keeps z.keeps) b.memory.code z.quiet;
             acts = goes;
             shown = sym (append-nil c.events);
-            stands = z.3;
+            stands = z.begins;
           }

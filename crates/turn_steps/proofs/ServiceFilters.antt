@@ -54,7 +54,7 @@ module _ (t : Functions) (fs : List Funclet) (program : LinearProgram) (p : Plan
   filter_is_asked : (k : ℕ) (b : Frame) (f : LinearFunclet) (items : List Item) → f.kind ≡ funclets.Filter → FuncletIsAbove t fs program p k b (Some f) items → IsAsked b.exception items
   filter_is_asked k b f [] e h = absurd h
   filter_is_asked k b f (Searches exception resumption asked rest ∷ []) e h = absurd h
-  filter_is_asked k b f (Searches exception resumption asked rest ∷ Waits w ∷ below) e h = record { searched = exception; resumption = resumption; asked = asked; rest = rest; below = Waits w ∷ below; items_are = refl; same = h.1.1 }
+  filter_is_asked k b f (Searches exception resumption asked rest ∷ Waits w ∷ below) e h = let alike = h.1 in record { searched = exception; resumption = resumption; asked = asked; rest = rest; below = Waits w ∷ below; items_are = refl; same = alike.1 }
   filter_is_asked k b f (Searches exception resumption asked rest ∷ Searches x y z v ∷ below) e h = absurd h
   filter_is_asked k b f (Searches exception resumption asked rest ∷ Unwinds x y ∷ below) e h = absurd h
   filter_is_asked k b f (Unwinds rest target ∷ []) e h = absurd h

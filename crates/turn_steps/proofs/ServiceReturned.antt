@@ -207,7 +207,9 @@ module _ (t : Functions) (fs : List Funclet) (program : LinearProgram) (p : Plan
       given_small : AreSmall s.cpu.registers → AreSmall u.cpu.registers
       given_small h =
           let k = (reaches_keeps 7 s there (reaches t fs program p q image roomy s c b counted f first at)).small h in
-          (x_small, (k.1.0, (k.1.1.0, small_set (set with_given.rest 1 (called_from - 8)) 1 sp_after k.1.1.1 (omega arith))))
+          let after_rax = k.1 in
+          let after_rcx = after_rax.1 in
+          (x_small, (after_rax.0, (after_rcx.0, small_set (set with_given.rest 1 (called_from - 8)) 1 sp_after after_rcx.1 (omega arith))))
 
       as_many : length u.cpu.registers ≡ length s.cpu.registers
       as_many =

@@ -43,7 +43,7 @@ use Rattle.body_steps.proofs.Viewed.{IsCounted, sp_low, frame_top}
 use Rattle.body_steps.proofs.Shadowed.{kept_here, caller_here, beyond_here, Below}
 use Rattle.turn_steps.proofs.Elsewhere.{higher_stack}
 
--- at a service of a built-in function the host goes on
+-- at a service of a built-in function the host continues
 host_step : (f : BuiltIn) (s : State) → s.cpu.rip ≡ address_of (service_of f) → step s ≡ Err (stops.Host (address_of (service_of f)))
 unfolding step
 host_step Put s e = ap (λ b. if in_host_page b then Err (hosted b (service_at b)) else execute s (leading (executable s.memory 15 s.cpu.rip))) e

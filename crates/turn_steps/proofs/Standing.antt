@@ -1,4 +1,4 @@
--- A funclet's frame stands where it was made: below the return address that the funclet was given, on the list that stood there.
+-- A funclet's frame is where it was made: below the return address that the funclet was given, on the list that was there.
 use Rattle.std.proofs.Common.{◌≡◌, ℕ, ◌+◌, ◌^◌, ◌<◌, ◌≤◌, true, false, Option, Some, None, Ok, List, [], ◌∷◌, length, refl, sym, ap, subst, ◌∙◌, arith, inl, inr}
 use Rattle.std.specs.Prelude.{◌⊎◌, slice_get}
 use Rattle.std.specs.List.{AllByRecursion}

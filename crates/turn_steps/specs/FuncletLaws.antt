@@ -43,7 +43,7 @@ pub record IsCalledBlock (program : LinearProgram) (c : Configuration) : Type 0 
   pub items : List Item
   pub below : c.below ≡ Waits body ∷ items
 
--- goes on in that body
+-- continues in that body
 abbrev pub ReturnsOfBlocksAreMatched : Type 0
 ReturnsOfBlocksAreMatched =
     (t : Functions) (fs : List Funclet) (program : LinearProgram) (p : Plan) (q : Sites)

@@ -1,4 +1,4 @@
--- What an operation of linear code comes to, and where the machine stands in its midst.
+-- What an operation of linear code comes to, and where the machine is in its midst.
 use Rattle.std.specs.Prelude.{◌≡◌, ℕ, Some}
 use Rattle.c_operations.specs.declared.operation.Operation.{Operation}
 use Rattle.c_operations.specs.Performed.{Outcome, performed}

@@ -1,4 +1,4 @@
--- What a turn of the dispatcher comes to, against what linear code goes on with.
+-- What a turn of the dispatcher comes to, against what linear code continues with.
 use Rattle.std.specs.Prelude.{◌≡◌, ◌⊎◌, ℕ, ◌+◌, ◌≤◌, false, nat_lt, List, [], ◌∷◌, ◌++◌, length, None}
 use Rattle.seh_num.specs.declared.event.Code.{Code}
 use Rattle.seh_num.specs.declared.event.Event.{Event}
@@ -53,7 +53,7 @@ module _ (t : Functions) (fs : List Funclet) (program : LinearProgram) (p : Plan
   abbrev pub WalkGoesOn : List Context → State → List Event → Type 0
   WalkGoesOn shadow u es = WalkGives t u (drop_below (register u.cpu Rsp) (started u es shadow))
 
-  -- after these events it comes to a body that goes on, in a configuration with no more than so
+  -- after these events it comes to a body that continues, in a configuration with no more than so
   -- many turns left
   pub record GoesOn (turn : Turn) (seen : Next → Seen) (es : List Event) (left : ℕ)
       (shadow : List Context) : Type 0 where
@@ -93,6 +93,7 @@ module _ (t : Functions) (fs : List Funclet) (program : LinearProgram) (p : Plan
     pub turns : turn ≡ Ends [] (ends.Unhandled code)
     pub acts : (next : Next) → seen next ≡ Finished (source.Unhandled code) es
 
+  -- a turn of the dispatcher continues a body, enters a funclet or ends the run
   abbrev pub Outcome : Turn → (Next → Seen) → List Event → ℕ → List Context → Type 0
   Outcome turn seen es left shadow =
       GoesOn turn seen es left shadow ⊎ (EntersFunclet turn seen es left shadow
@@ -105,7 +106,7 @@ module _ (t : Functions) (fs : List Funclet) (program : LinearProgram) (p : Plan
     pub turns : turn ≡ with_events before further
     pub outcome : Outcome further seen (es ++ before) left shadow
 
-  -- a turn from here keeps the shadow where the walk goes on with these callers
+  -- a turn from here keeps the shadow where the walk continues with these callers
   abbrev pub KeepsWith : State → List Context → Type 0
   KeepsWith s shadow =
       (u : State) (es : List Event) → arrivals u.cpu (distance t.base u.cpu.rip) 1 fs ≡ es

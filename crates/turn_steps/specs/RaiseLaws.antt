@@ -59,7 +59,7 @@ LocalUnwindsAreMatched =
     → IsMatched t fs program pace turns_left (Stands t fs program p q) s c
     (instructions.LocalUnwind label)
 
--- where the exception of a call is continued, the body goes on from the saved state
+-- where the exception of a call is continued, the body continues from the saved state
 abbrev pub ContinuationsAfterCalls : Type 0
 ContinuationsAfterCalls =
     (t : Functions) (fs : List Funclet) (program : LinearProgram) (p : Plan) (q : Sites)

@@ -1,4 +1,4 @@
--- What is asked of the bodies that go on where an exception is continued.
+-- What is asked of the bodies that continue where an exception is continued.
 use Rattle.std.specs.Prelude.{◌≡◌, true, List, [], ◌∷◌, None}
 use Rattle.x64_machine.specs.declared.cpu.Cpu.{Cpu}
 use Rattle.x64_machine.specs.Contexts.{context_of}
@@ -22,7 +22,7 @@ use Rattle.turn_steps.specs.FuncletEntries.{entry_turns}
 use Rattle.turn_steps.specs.Outcomes.{Stands}
 
 module _ (t : Functions) (fs : List Funclet) (program : LinearProgram) (p : Plan) (q : Sites) where
-  -- where an exception is continued, the body goes on from the saved state: after its call, whose
+  -- where an exception is continued, the body continues from the saved state: after its call, whose
   -- result is kept, or with the same operation; it has not just taken over for another
   abbrev pub Continuations : Type 0
   Continuations =

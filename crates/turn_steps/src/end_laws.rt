@@ -2,8 +2,8 @@
 
 ghost use Rattle.turn_steps.specs.EndLaws.{FuncletReturnsAreMatched};
 
-/// A filter returns to the dispatcher, which goes on by its answer; a `__finally` block to the
-/// dispatcher, which goes on unwinding, or to the body that has called it.
+/// A filter returns to the dispatcher, which continues by its answer; a `__finally` block to the
+/// dispatcher, which continues unwinding, or to the body that has called it.
 pub fn laws()
     ensures returns { FuncletReturnsAreMatched }
 {}

@@ -4,8 +4,8 @@ ghost use Rattle.turn_steps.specs.RaiseLaws.{RaisesAreMatched, LocalUnwindsAreMa
 
 /// Where a body calls RaiseException, or jumps out of a body with `__finally` blocks, the machine
 /// comes in at most eight turns to what linear code comes to; where the exception of a call is
-/// continued, the instruction after the call begins, with the result 0; so a body goes on wherever
-/// one is continued.
+/// continued, the instruction after the call begins, with the result 0; so a body continues
+/// wherever one is continued.
 pub fn laws()
     ensures raises { RaisesAreMatched }
     ensures unwinds { LocalUnwindsAreMatched }

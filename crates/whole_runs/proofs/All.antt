@@ -6,11 +6,11 @@ use Rattle.std.specs.Prelude.{Option}
 use Rattle.seh_num.specs.declared.event.Event.{Event}
 use Rattle.seh_num.specs.declared.end.RunEnd.{RunEnd}
 use Rattle.seh_num.specs.declared.end.RunEnd.TheVariants as ends
+use Rattle.seh_num.specs.Shown.{Shown}
 use Rattle.x64_machine.specs.Effect.{State}
 use Rattle.virtual_unwind.specs.CallerOf.{Functions}
 use Rattle.host_model.specs.declared.funclet.Funclet.{Funclet}
 use Rattle.host_model.specs.HostStep.{host}
-use Rattle.host_model.specs.Machine as machines
 use Rattle.host_model.specs.Machine.{run}
 use Rattle.host_model.specs.Laws.{Begins, Covers}
 use Rattle.host_model.proofs.Longer.{begins}
@@ -29,14 +29,14 @@ use Rattle.whole_runs.proofs.Turns.{run_comes, run_returned, run_dies}
 use Rattle.whole_runs.proofs.Steps.{at_instruction, first_has_rule, none_has_no_rule}
 
 -- a run that has ended with these events covers them
-ended_so : (events : List Event) (e : RunEnd) (x : machines.Shown) → x ≡ record { events = events; end = Some e } → Covers events (Some e) x
+ended_so : (events : List Event) (e : RunEnd) (x : Shown RunEnd) → x ≡ record { events = events; end = Some e } → Covers events (Some e) x
 ended_so events e x same = record {
-  shows = ([], ap (λ (y : machines.Shown). y.events) same ∙ sym (append-nil events));
+  shows = ([], ap (λ (y : Shown RunEnd). y.events) same ∙ sym (append-nil events));
   ends = λ f h. same ∙ ap (λ (o : Option RunEnd). record { events = events; end = o }) h;
 }
 
 -- an end that is none of the machine's claims no end
-wild_so : (events : List Event) (end : Ended) (wild : is_calm (Some end) ≡ false) (x : machines.Shown) → Begins events x → ShowsAll (record { events = events; end = Some end }) x
+wild_so : (events : List Event) (end : Ended) (wild : is_calm (Some end) ≡ false) (x : Shown RunEnd) → Begins events x → ShowsAll (record { events = events; end = Some end }) x
 wild_so events (source.Exit v) wild x begun = absurd cc
 wild_so events (source.Unhandled code) wild x begun = absurd cc
 wild_so events (source.OutOfSteps n) wild x begun = absurd cc
@@ -79,7 +79,7 @@ module _ (t : Functions) (fs : List Funclet) (program : LinearProgram) (pace : �
         subst (λ (x : Seen). ShowsAll (shown x) (run t fs turns (host s) c.events)) (sym (v.acts (exec program n)))
         (wild_so (c.events ++ v.events) v.end v.wild (run t fs turns (host s) c.events) (
           v.front.0 ++ rest.0,
-          ap (λ (x : machines.Shown). x.events) (ap (λ k. run t fs k (host s) c.events) split ∙ run_comes t fs v.turns (turns - v.turns) s v.state c.events v.made v.comes)
+          ap (λ (x : Shown RunEnd). x.events) (ap (λ k. run t fs k (host s) c.events) split ∙ run_comes t fs v.turns (turns - v.turns) s v.state c.events v.made v.comes)
               ∙ rest.1 ∙ ap (λ (es : List Event). (c.events ++ es) ++ rest.0) (sym v.front.1) ∙ ap (λ (es : List Event). es ++ rest.0) (sym (append_assoc c.events v.events v.front.0))
               ∙ append_assoc (c.events ++ v.events) v.front.0 rest.0,
         ))
@@ -91,7 +91,7 @@ module _ (t : Functions) (fs : List Funclet) (program : LinearProgram) (pace : �
         let few = v.few in
         let split : turns ≡ v.turns + (turns - v.turns) = omega arith in
         subst (λ (x : Seen). ShowsAll (shown x) (run t fs turns (host s) c.events)) (sym (v.acts (exec program n)))
-        (subst (λ (x : machines.Shown). ShowsAll (shown (exec program n v.configuration)) x)
+        (subst (λ (x : Shown RunEnd). ShowsAll (shown (exec program n v.configuration)) x)
         (sym (ap (λ k. run t fs k (host s) c.events) split ∙ run_comes t fs v.turns (turns - v.turns) s v.state c.events v.events v.comes ∙ ap (run t fs (turns - v.turns) (host v.state)) (sym v.shown)))
         (rest (turns - v.turns) (omega arith)))
 

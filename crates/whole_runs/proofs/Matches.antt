@@ -41,7 +41,7 @@ module _ (t : Functions) (fs : List Funclet) (program : LinearProgram) (credit :
     acts = λ next. acts next ∙ ap (λ (es : List Event). Finished end es) (sym (append-nil c.events));
   }
 
-  -- a step that goes on unless the depth would be too great
+  -- a step that continues unless the depth would be too great
   pub matched_by_depth : (pace : ℕ) (Stands : State → Configuration → Type 0) (s : State) (c : Configuration) (i : Instruction)
       → (n held : ℕ) (store : Store) (before after : List Event) (d : Configuration) (turns : ℕ) (u : State)
       → ((next : Next) → act program i next c ≡ deeper n held store (c.events ++ before) (next d)) → d.events ≡ c.events ++ (before ++ after)

@@ -6,14 +6,14 @@ use Rattle.std.specs.Prelude.{Option}
 use Rattle.seh_num.specs.declared.event.Event.{Event}
 use Rattle.seh_num.specs.declared.end.RunEnd.{RunEnd}
 use Rattle.seh_num.specs.declared.end.RunEnd.TheVariants as ends
+use Rattle.seh_num.specs.Shown.{Shown}
 use Rattle.x64_machine.specs.Effect.{State}
 use Rattle.virtual_unwind.specs.CallerOf.{Functions}
 use Rattle.host_model.specs.declared.funclet.Funclet.{Funclet}
 use Rattle.host_model.specs.HostStep.{host}
-use Rattle.host_model.specs.Machine as machines
 use Rattle.host_model.specs.Machine.{run}
 use Rattle.c_model.specs.Laws.{IsPrefixOf}
-use Rattle.c_model.specs.Meaning.{Shown, is_calm}
+use Rattle.c_model.specs.Meaning.{is_calm}
 use Rattle.c_model.specs.declared.ended.Ended.{Ended}
 use Rattle.c_model.specs.declared.ended.Ended.TheVariants as source
 use Rattle.linear_code.specs.declared.instruction.Instruction.{Instruction}
@@ -39,19 +39,19 @@ pub prefix_after : (out a b : List Event) → IsPrefixOf a b → IsPrefixOf (out
 prefix_after out a b p = (p.0, append_assoc out a p.0 ∙ ap (λ (x : List Event). out ++ x) p.1)
 
 -- while a run has no end
-pub goes_on : (meant : Shown) (x : machines.Shown) (events : List Event) → x ≡ record { events = events; end = None } → IsPrefixOf events meant.events → ShowsNoMore meant x
+pub goes_on : (meant : Shown Ended) (x : Shown RunEnd) (events : List Event) → x ≡ record { events = events; end = None } → IsPrefixOf events meant.events → ShowsNoMore meant x
 goes_on meant x events same front = record {
-  shows = subst (λ (es : List Event). IsPrefixOf es meant.events) (sym (ap (λ (y : machines.Shown). y.events) same)) front;
-  ends = λ e h. absurd (let no : None ≡ Some e = sym (ap (λ (y : machines.Shown). y.end) same) ∙ h in cc);
+  shows = subst (λ (es : List Event). IsPrefixOf es meant.events) (sym (ap (λ (y : Shown RunEnd). y.events) same)) front;
+  ends = λ e h. absurd (let no : None ≡ Some e = sym (ap (λ (y : Shown RunEnd). y.end) same) ∙ h in cc);
 }
 
 -- a run that has ended as linear code has
-pub ended_as : (meant : Shown) (x : machines.Shown) (events : List Event) (e : RunEnd) → x ≡ record { events = events; end = Some e } → meant.events ≡ events → run_end_of meant.end ≡ Some e → ShowsNoMore meant x
+pub ended_as : (meant : Shown Ended) (x : Shown RunEnd) (events : List Event) (e : RunEnd) → x ≡ record { events = events; end = Some e } → meant.events ≡ events → run_end_of meant.end ≡ Some e → ShowsNoMore meant x
 ended_as meant x events e same shows ends =
-    let all : x.events ≡ meant.events = ap (λ (y : machines.Shown). y.events) same ∙ sym shows in
+    let all : x.events ≡ meant.events = ap (λ (y : Shown RunEnd). y.events) same ∙ sym shows in
     record {
       shows = prefix_same x.events meant.events all;
-      ends = λ f h. (ends ∙ sym (ap (λ (y : machines.Shown). y.end) same) ∙ h, all);
+      ends = λ f h. (ends ∙ sym (ap (λ (y : Shown RunEnd). y.end) same) ∙ h, all);
     }
 
 -- what ends so is not calm
@@ -60,7 +60,7 @@ not_wild end events wild calm = let no : false ≡ true = sym wild ∙ calm.calm
 
 module _ (t : Functions) (fs : List Funclet) where
   -- in the midst of turns that belong to a step
-  pub in_midst : (meant : Shown) (k m : ℕ) (s u : State) (out events : List Event) → Comes t fs k s events u → m < k → IsPrefixOf (out ++ events) meant.events → ShowsNoMore meant (run t fs m (host s) out)
+  pub in_midst : (meant : Shown Ended) (k m : ℕ) (s u : State) (out events : List Event) → Comes t fs k s events u → m < k → IsPrefixOf (out ++ events) meant.events → ShowsNoMore meant (run t fs m (host s) out)
   in_midst meant k m s u out events comes lt front =
       let x = midst t fs k m s u out events comes lt in
       goes_on meant (run t fs m (host s) out) (out ++ x.part) x.runs
@@ -90,7 +90,7 @@ module _ (t : Functions) (fs : List Funclet) (program : LinearProgram) (pace : �
           | inr le ↦ from (m - v.turns) (omega arith)
         ])
       where
-        meant : Shown
+        meant : Shown Ended
         meant = record { events = c.events ++ (v.events ++ v.last); end = Some (source.Unhandled v.code) }
 
         front : IsPrefixOf (c.events ++ v.events) meant.events
@@ -118,7 +118,7 @@ module _ (t : Functions) (fs : List Funclet) (program : LinearProgram) (pace : �
           | inr le ↦
               let some = v.some in
               let split : m ≡ v.turns + (m - v.turns) = omega arith in
-              subst (λ (x : machines.Shown). ShowsNoMore (shown (exec program n v.configuration)) x)
+              subst (λ (x : Shown RunEnd). ShowsNoMore (shown (exec program n v.configuration)) x)
               (sym (ap (λ k. run t fs k (host s) c.events) split ∙ run_comes t fs v.turns (m - v.turns) s v.state c.events v.events v.comes ∙ ap (run t fs (m - v.turns) (host v.state)) (sym v.shown)))
               (rest (m - v.turns) (omega arith))
         ])

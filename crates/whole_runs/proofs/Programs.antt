@@ -2,11 +2,12 @@
 use Rattle.std.proofs.Common.{◌≡◌, inl, inr, ℕ, ◌+◌, ◌-◌, ◌*◌, ◌≤◌, List, [], refl, sym, ap, subst, ◌∙◌, arith}
 use Rattle.std.proofs.lemmas.Bool.{cases_lt}
 use Rattle.std.specs.Prelude.{Option, ℤ}
+use Rattle.seh_num.specs.Shown.{Shown}
+use Rattle.seh_num.specs.declared.end.RunEnd.{RunEnd}
 use Rattle.x64_machine.specs.Effect.{State}
 use Rattle.virtual_unwind.specs.CallerOf.{Functions}
 use Rattle.host_model.specs.declared.funclet.Funclet.{Funclet}
 use Rattle.host_model.specs.HostStep.{host}
-use Rattle.host_model.specs.Machine as machines
 use Rattle.host_model.specs.Machine.{run}
 use Rattle.linear_code.specs.Program.{LinearProgram, LinearFunction}
 use Rattle.linear_machine.specs.Frames.{Configuration, Seen, with_some}
@@ -37,7 +38,7 @@ module _ (t : Functions) (fs : List Funclet) (program : LinearProgram) (pace : �
       let none = b.no_credit in
       let split : turns ≡ first + (turns - first) = omega arith in
       subst (λ (x : Seen). ShowsAll (shown x) (run t fs turns (host s) [])) (sym from_main)
-      (subst (λ (x : machines.Shown). ShowsAll (shown (exec program n (start program arg b.main))) x) (sym (ap (λ k. run t fs k (host s) []) split ∙ first_run (turns - first)))
+      (subst (λ (x : Shown RunEnd). ShowsAll (shown (exec program n (start program arg b.main))) x) (sym (ap (λ k. run t fs k (host s) []) split ∙ first_run (turns - first)))
       (runs_show_all t fs program pace credit n (turns - first) b.state (start program arg b.main) b.follows (subst HasRule from_main rule) (omega arith)))
 
   pub program_no_more : (m : ℕ) → IsCalm (seen program arg n) → m ≤ n → ShowsNoMore (shown (seen program arg n)) (run t fs m (host s) [])
@@ -47,7 +48,7 @@ module _ (t : Functions) (fs : List Funclet) (program : LinearProgram) (pace : �
         | inr le ↦
             let split : m ≡ first + (m - first) = omega arith in
             subst (λ (x : Seen). ShowsNoMore (shown x) (run t fs m (host s) [])) (sym from_main)
-            (subst (λ (x : machines.Shown). ShowsNoMore (shown (exec program n (start program arg b.main))) x) (sym (ap (λ k. run t fs k (host s) []) split ∙ first_run (m - first)))
+            (subst (λ (x : Shown RunEnd). ShowsNoMore (shown (exec program n (start program arg b.main))) x) (sym (ap (λ k. run t fs k (host s) []) split ∙ first_run (m - first)))
             (runs_show_no_more t fs program pace credit n (m - first) b.state (start program arg b.main) b.follows (subst IsCalm from_main calm) (omega arith)))
       ]
 

@@ -7,6 +7,7 @@ use Rattle.seh_num.specs.declared.end.RunEnd.{RunEnd}
 use Rattle.seh_num.specs.declared.end.RunEnd.TheVariants as ends
 use Rattle.seh_num.specs.declared.width.Width.TheVariants.{W32}
 use Rattle.seh_num.specs.Widths.{signed}
+use Rattle.seh_num.specs.Shown.{Shown}
 use Rattle.x64_instr.specs.declared.register.Reg.TheVariants.{Rax}
 use Rattle.x64_machine.specs.declared.context.Context.{Context}
 use Rattle.x64_machine.specs.Effect.{State, register}
@@ -14,7 +15,6 @@ use Rattle.virtual_unwind.specs.CallerOf.{Functions}
 use Rattle.host_model.specs.declared.funclet.Funclet.{Funclet}
 use Rattle.host_model.specs.Turns.{Continues}
 use Rattle.host_model.specs.HostStep.{host, turn}
-use Rattle.host_model.specs.Machine as machines
 use Rattle.host_model.specs.Machine.{run}
 use Rattle.linear_code.specs.declared.instruction.Instruction.{Instruction}
 use Rattle.linear_code.specs.Program.{LinearProgram}
@@ -32,11 +32,11 @@ use Rattle.whole_runs.proofs.Steps.{at_instruction, first_has_rule, none_has_no_
 use Rattle.whole_runs.proofs.NoMore.{not_wild}
 use Rattle.whole_runs.proofs.Programs.{from_main}
 
-abbrev HasNoEnd : machines.Shown → Type 0
+abbrev HasNoEnd : Shown RunEnd → Type 0
 HasNoEnd x = x.end ≡ None
 
-has_end : (x : machines.Shown) (es : List Event) (e : RunEnd) → x ≡ record { events = es; end = Some e } → HasNoEnd x → ⊥
-has_end x es e same none = let z : ◌≡◌ {A = Option RunEnd} None (Some e) = sym none ∙ ap (λ (y : machines.Shown). y.end) same in cc
+has_end : (x : Shown RunEnd) (es : List Event) (e : RunEnd) → x ≡ record { events = es; end = Some e } → HasNoEnd x → ⊥
+has_end x es e same none = let z : ◌≡◌ {A = Option RunEnd} None (Some e) = sym none ∙ ap (λ (y : Shown RunEnd). y.end) same in cc
 
 module _ (t : Functions) (fs : List Funclet) where
   -- after a turn that leads on

@@ -38,7 +38,7 @@ more_callers f None cs e = absurd cc
 more_callers f (Some fs) cs e = ap (λ (xs : List Context). Some (f.caller ∷ xs)) (same_some (map (λ (x : LiveFrame). x.caller) fs) cs e)
 
 module _ (t : Functions) (m : Memory) (w : WalkState) where
-  -- past a frame it goes on at the frame's caller
+  -- past a frame it continues at the frame's caller
   pub past_frame : (f : CallerFrame) (v : WalkState) (cs : List Context) → visited t m w ≡ Frame f v → GivesCallers t m v cs → GivesCallers t m w (f.context ∷ cs)
   unfolding walked
   past_frame f v cs e g = record { steps = suc g.steps; gives = gives }
@@ -47,7 +47,7 @@ module _ (t : Functions) (m : Memory) (w : WalkState) where
       gives zero le = absurd (omega arith)
       gives (suc k) le = ap (λ (x : Visited). callers_of (given_by (walked k t m) x)) e ∙ more_callers (record { at = f.frame; caller = f.context }) (walked k t m v) cs (g.gives k (omega arith))
 
-  -- past a return address of the host it goes on by the record there
+  -- past a return address of the host it continues by the record there
   pub past_host : (v : WalkState) (cs : List Context) → visited t m w ≡ Past v → GivesCallers t m v cs → GivesCallers t m w cs
   unfolding walked
   past_host v cs e g = record { steps = suc g.steps; gives = gives }

@@ -14,6 +14,7 @@ run_end (source.Exit v) = Some (ends.Exit v)
 run_end (source.Unhandled code) = Some (ends.Unhandled code)
 run_end e = None
 
+-- the end of a run, if the program has ended
 abbrev pub run_end_of : Option Ended → Option RunEnd
 run_end_of None = None
 run_end_of (Some e) = run_end e

@@ -1,16 +1,16 @@
 -- What whole runs show.
 use Rattle.std.specs.Prelude.{◌≡◌, ℕ, ◌+◌, ◌*◌, ◌≤◌, List, [], slice_get, ℤ, Some, None}
 use Rattle.seh_num.specs.declared.end.RunEnd.{RunEnd}
+use Rattle.seh_num.specs.Shown.{Shown}
 use Rattle.x64_machine.specs.declared.context.Context.{Context}
 use Rattle.x64_machine.specs.Effect.{State}
 use Rattle.virtual_unwind.specs.CallerOf.{Functions}
 use Rattle.host_model.specs.declared.funclet.Funclet.{Funclet}
 use Rattle.host_model.specs.HostStep.{host}
-use Rattle.host_model.specs.Machine as machines
 use Rattle.host_model.specs.Machine.{run}
 use Rattle.host_model.specs.Laws.{Covers}
-use Rattle.c_model.specs.Meaning.{Shown}
 use Rattle.c_model.specs.Laws.{IsPrefixOf}
+use Rattle.c_model.specs.declared.ended.Ended.{Ended}
 use Rattle.linear_code.specs.Program.{LinearProgram, LinearFunction}
 use Rattle.linear_machine.specs.Frames.{Configuration}
 use Rattle.linear_machine.specs.Run.{exec, start, seen, shown, linear_meaning}
@@ -22,12 +22,12 @@ use Rattle.whole_runs.specs.Matched.{Follows}
 
 -- a run of the machine shows these events at least; where the program has ended, the run has ended
 -- so and shows nothing else
-abbrev pub ShowsAll : Shown → machines.Shown → Type 0
+abbrev pub ShowsAll : Shown Ended → Shown RunEnd → Type 0
 ShowsAll meant machine = Covers meant.events (run_end_of meant.end) machine
 
 -- a run of the machine shows none but these events, from the first on; where it has ended, the
 -- program has ended so and shows nothing else
-pub record ShowsNoMore (meant : Shown) (machine : machines.Shown) : Type 0 where
+pub record ShowsNoMore (meant : Shown Ended) (machine : Shown RunEnd) : Type 0 where
   pub shows : IsPrefixOf machine.events meant.events
   pub ends : (e : RunEnd) → machine.end ≡ Some e
       → (run_end_of meant.end ≡ Some e) × (machine.events ≡ meant.events)
@@ -66,6 +66,7 @@ pub record Begins (t : Functions) (fs : List Funclet) (program : LinearProgram) 
   pub no_credit : credit (start program arg main) ≡ 0
   pub follows : Follows t fs program pace credit n state (start program arg main)
 
+-- a program's run shows all that its linear code shows
 abbrev pub ProgramsShowAll : Type 0
 ProgramsShowAll =
     (t : Functions) (fs : List Funclet) (program : LinearProgram) (pace : ℕ)
@@ -75,6 +76,7 @@ ProgramsShowAll =
     → first + pace * n ≤ turns
     → ShowsAll (linear_meaning program arg n) (run t fs turns (host s) [])
 
+-- a program's run shows no more than its linear code
 abbrev pub ProgramsShowNoMore : Type 0
 ProgramsShowNoMore =
     (t : Functions) (fs : List Funclet) (program : LinearProgram) (pace : ℕ)

@@ -27,7 +27,7 @@ use Rattle.whole_runs.specs.Ends.{HasRule}
 -- these are
 module _ (t : Functions) (fs : List Funclet) (program : LinearProgram) (pace : ℕ)
     (credit : Configuration → ℕ) where
-  -- linear code goes on, and the machine comes to a state that stands for its next configuration
+  -- linear code continues, and the machine comes to a state that stands for its next configuration
   pub record Moves (Stands : State → Configuration → Type 0) (s : State) (c : Configuration)
       (i : Instruction) : Type 0 where
     pub turns : ℕ
@@ -82,6 +82,7 @@ module _ (t : Functions) (fs : List Funclet) (program : LinearProgram) (pace : �
     pub wild : is_calm (Some end) ≡ false
     pub acts : (next : Next) → act program i next c ≡ Finished end (c.events ++ events)
 
+  -- turns of the machine match an instruction in one of four ways
   abbrev pub IsMatched : (State → Configuration → Type 0) → State → Configuration → Instruction
       → Type 0
   IsMatched Stands s c i = Moves Stands s c i ⊎ (Exits s c i ⊎ (Dies s c i ⊎ Fails s c i))

@@ -26,7 +26,7 @@ use Rattle.whole_runs.specs.Walked.{LiveFrame, walked}
 
 -- ---- what a turn does to the list
 
--- at a routine's first byte, what its caller goes on with: the return address at RSP, the stack
+-- at a routine's first byte, what its caller continues with: the return address at RSP, the stack
 -- pointer after the return, and the nonvolatile registers (Microsoft x64 ABI, "Caller/callee saved
 -- registers")
 abbrev pub caller_at : State → Context
@@ -37,12 +37,13 @@ caller_at s =
     }
 
 -- the routines that were entered below a stack pointer are gone: their return addresses were 8
--- bytes below where their callers go on
+-- bytes below where their callers continue
 -- (the stack pointers of the list rise from the first entry on, so those to drop are the first)
 abbrev pub if_below : List Context → List Context → Bool → List Context
 if_below others cs true = others
 if_below others cs false = cs
 
+-- callers whose frames are left are dropped
 abbrev pub drop_below : ℕ → List Context → List Context
 drop_below sp [] = []
 drop_below sp (c ∷ cs) = if_below (drop_below sp cs) (c ∷ cs) (nat_lt (rsp c) (sp + 8))
@@ -52,10 +53,12 @@ abbrev pub calls : Instr → Bool
 calls (instrs.Call to) = true
 calls i = false
 
+-- the instruction is a call
 abbrev pub is_call : Option (Instr × ℕ) → Bool
 is_call None = false
 is_call (Some x) = calls x.0
 
+-- a call adds its caller
 abbrev pub entered : State → List Context → Bool → List Context
 entered u cs true = caller_at u ∷ cs
 entered u cs false = cs
@@ -90,6 +93,7 @@ shadow_after t fs s u cs =
 
 -- ---- what the walk has to do with it
 
+-- the callers of live frames
 abbrev pub callers_of : Option (List LiveFrame) → Option (List Context)
 callers_of frames = option_map (map (λ (f : LiveFrame). f.caller)) frames
 
@@ -99,6 +103,7 @@ pub record GivesCallers (t : Functions) (m : Memory) (w : WalkState)
   pub steps : ℕ
   pub gives : (n : ℕ) → steps ≤ n → callers_of (walked n t m w) ≡ Some cs
 
+-- the walk from a state gives these callers, one after another
 abbrev pub WalkGives : Functions → State → List Context → Type 0
 WalkGives t s cs = GivesCallers t s.memory (record { context = context_of s.cpu; row = 0 }) cs
 

@@ -9,6 +9,7 @@ use Rattle.host_model.specs.Turns.{Turn, Continues, Ends}
 use Rattle.host_model.specs.HostStep.{turn}
 use Rattle.whole_runs.specs.Shadow.{caller_at, shadow_after, WalkGives}
 
+-- a state with the shadow beside it
 pub record Shadowed : Type 0 where
   pub state : State
   pub shadow : List Context

@@ -6,16 +6,18 @@ use Rattle.virtual_unwind.specs.CallerOf.{Functions}
 use Rattle.seh_walk.specs.declared.walk.WalkState.{WalkState}
 use Rattle.seh_walk.specs.Walk.{Visited, Over, Past, Frame, Broken, visited}
 
--- a frame: its stack pointer, and what its caller goes on with: the return address, the stack
+-- a frame: its stack pointer, and what its caller continues with: the return address, the stack
 -- pointer after the return, and the nonvolatile registers
 pub record LiveFrame : Type 0 where
   pub at : ℕ
   pub caller : Context
 
+-- a frame before others
 abbrev pub with_frame : LiveFrame → Option (List LiveFrame) → Option (List LiveFrame)
 with_frame f None = None
 with_frame f (Some frames) = Some (f ∷ frames)
 
+-- the live frames from one visit on
 abbrev pub given_by : (WalkState → Option (List LiveFrame)) → Visited → Option (List LiveFrame)
 given_by rest Over = Some []
 given_by rest (Past w) = rest w

@@ -29,6 +29,7 @@ use Rattle.x64_templates.specs.Frames.{Agrees}
 use Rattle.template_code.specs.Operations.{move, division, high_half}
 use Rattle.x64_templates.specs.Implements.{high_of, LeavesResult, Implements}
 use Rattle.x64_templates.proofs.Straight.{executes_one, executes_then}
+use Rattle.c_operations.proofs.SmallResults.{of_size}
 use Rattle.x64_templates.proofs.Compares.{low_is, low_below, twice, signed_low, signed_high, signed_twice, wrapped_below}
 
 -- ---- the numbers
@@ -99,10 +100,6 @@ divided_view v q r = record { rax = q; rcx = v.rcx; rdx = r; rest = v.rest; memo
 both_given : (s : Signedness) (z : Size) (v : MachineView) (q r : ℕ) → q < limit (width z) → r < limit (width z) → ((rip : ℕ) (f : Flags) → effect (machine v rip f) (by_rcx s z) ≡ with_quotient (machine v rip f) (width z) (Ok (q, r))) → Executes (by_rcx s z ∷ []) v (divided_view v q r)
 both_given s Int v q r lq lr h = executes_one (by_rcx s Int) v (divided_view v q r) (λ rip f. (f, h rip f ∙ ap (λ (a : ℕ). Ok (machine (divided_view v a (low W32 r)) rip f)) (low_is W32 q lq) ∙ ap (λ (a : ℕ). Ok (machine (divided_view v q a) rip f)) (low_is W32 r lr)))
 both_given s Long v q r lq lr h = executes_one (by_rcx s Long) v (divided_view v q r) (λ rip f. (f, h rip f ∙ ap (λ (a : ℕ). Ok (machine (divided_view v a (low W64 r)) rip f)) (low_is W64 q lq) ∙ ap (λ (a : ℕ). Ok (machine (divided_view v q a) rip f)) (low_is W64 r lr)))
-
-of_size : (z : Size) (n : ℕ) → n < limit (width z) → n < 2 ^ 64
-of_size Int n lt = omega arith
-of_size Long n lt = lt
 
 moved : (v : MachineView) (q r : ℕ) → r < 2 ^ 64 → Executes (move W64 Rax Rdx ∷ []) (divided_view v q r) (divided_view v r r)
 moved v q r lt = executes_one (move W64 Rax Rdx) (divided_view v q r) (divided_view v r r) (λ rip f. (f, ap (λ (a : ℕ). Ok (machine (divided_view v a r) rip f)) (let e : low W64 (low W64 r) ≡ r = omega arith in e)))

@@ -1,11 +1,12 @@
 use Rattle.std.proofs.Common.{rules, ap, ◌∙◌, subst, w64, FitsSigned}
 use Rattle.std.proofs.lemmas.Int.{to_z-of_z}
+use Rattle.seh_num.specs.Shown.{Shown}
+use Rattle.seh_num.specs.declared.end.RunEnd.{RunEnd}
 use Rattle.seh_host.specs.Running.{running_of, first_running}
 use Rattle.seh_host.specs.Turns.{end_within, taken_before}
 use Rattle.seh_io.specs.Streams.{Grew}
 use Rattle.seh_io.specs.Text.{text}
 use Rattle.seh_io.specs.Writer.{TookPart}
-use Rattle.host_model.specs.Machine.{Shown}
 use Rattle.seh.specs.Answers.{shown_by}
 use Rattle.seh.proofs.Shown.{shown_is}
 use Rattle.seh.proofs.exec.run_image.Goals as goal
@@ -14,11 +15,11 @@ pub returns-in-Ok-run : goal.returns-in-Ok-run
 returns-in-Ok-run g c =
     let fits : FitsSigned w64 c.args.options.argument = search rules in
     let same = shown_is c.args.options c.args.bytes.now c.in-Ok.image (running_of c.in-Ok-load.host) c.in-Ok.ensures.image (c.in-Ok-load.ensures.loaded ∙ ap (first_running c.in-Ok.image) (to_z-of_z w64 c.args.options.argument fits)) in
-    let ends = c.in-Ok-run.ensures.end ∙ ap (λ (s : Shown). end_within c.args.options.turns s.end) same in (
+    let ends = c.in-Ok-run.ensures.end ∙ ap (λ (s : Shown RunEnd). end_within c.args.options.turns s.end) same in (
       record { image = c.in-Ok.image; is = c.in-Ok.ensures.image; loads = c.in-Ok-load.ensures.accepted },
       ends,
       subst (λ t. Grew (g.O.Sink.taken c.args.out.now) t (g.O.Sink.taken c.run.new.sink))
-          (ap (λ (s : Shown). text s.events c.in-Ok-run.end c.args.options.trace) same ∙ ap (λ e. text (shown_by c.args.options c.args.bytes.now).events e c.args.options.trace) ends)
+          (ap (λ (s : Shown RunEnd). text s.events c.in-Ok-run.end c.args.options.trace) same ∙ ap (λ e. text (shown_by c.args.options c.args.bytes.now).events e c.args.options.trace) ends)
           c.in-Ok-run.ensures.text,
     )
 
@@ -31,7 +32,7 @@ returns g c =
       (
         taken_before c.in-Err-run.field-0,
         subst (λ t. TookPart (g.O.Sink.taken c.args.out.now) t (g.O.Sink.taken c.run.new.sink) (taken_before c.in-Err-run.field-0))
-            (ap (λ (s : Shown). text s.events (end_within c.args.options.turns s.end) c.args.options.trace) same)
+            (ap (λ (s : Shown RunEnd). text s.events (end_within c.args.options.turns s.end) c.args.options.trace) same)
             c.in-Err-run.ensures.part,
       ),
     )

@@ -1,4 +1,5 @@
--- The home space and the places of further arguments at the bottom of a caller's frame are its callee's (Microsoft x64 ABI, "Stack allocation"): a change of them leaves the list as it stands.
+-- The home space and the places of further arguments at the bottom of a caller's frame are its
+-- callee's (Microsoft x64 ABI, "Stack allocation"): a change of them leaves the list as it is.
 use Rattle.std.proofs.Common.{◌≡◌, ℕ, ◌+◌, ◌*◌, ◌≤◌, true, false, Option, Some, None, List, [], ◌∷◌, refl, sym, subst, ◌∙◌, arith, inr}
 use Rattle.host_layout.specs.declared.range.TheConstants.{STACK_START, STACK_END}
 use Rattle.flat_memory.specs.Memory.{Memory}
@@ -9,13 +10,13 @@ use Rattle.host_model.specs.declared.funclet.Funclet.{Funclet}
 use Rattle.template_code.specs.declared.layout.Layout.{Layout}
 use Rattle.linear_code.specs.Program.{LinearProgram, LinearBody}
 use Rattle.linear_machine.specs.Frames.{BodyName, FunctionBody, FuncletBody, body_of, Frame, Item, Waits, Searches, Unwinds}
-use Rattle.linked_stack.specs.Stack.{StackFrame, StackItem, Framed, Leaf, Searching, Unwinding, FrameStands, IsStack, after_frame}
+use Rattle.linked_stack.specs.Stack.{StackFrame, StackItem, Framed, Leaf, Searching, Unwinding, IsStack, after_frame}
 use Rattle.linked_stack.proofs.Visiting.{set_head}
 use Rattle.linked_stack.specs.ImagePlan.{Plan}
 use Rattle.linked_stack.specs.Linked.{Activation, activations_below, temporaries_end, HasActivation, HasPointers, IsAbove, Linked}
 use Rattle.linked_stack.specs.ListLaws.{Stands}
 use Rattle.linked_stack.proofs.Ends.{words_fit, end_within, in_stack}
-use Rattle.linked_stack.proofs.Kept.{ReadsSame, higher, words_kept, list_kept}
+use Rattle.linked_stack.proofs.Kept.{ReadsSame, higher, frame_above, words_kept, list_kept}
 use Rattle.linked_stack.proofs.ListKeeping.{reads_other}
 use Rattle.body_states.specs.Layouts.{IsFunctionLayout, IsLayoutIf, IsLaidOut, AreLaidOut}
 use Rattle.body_steps.specs.Stores.{KeepsStackBut}
@@ -24,22 +25,6 @@ module _ (m m' : Memory) (t : Functions) (fs : List Funclet) (program : LinearPr
   module _ (c : Context) (keeps : KeepsStackBut m m' (rsp c) (rsp c) (rsp c + room)) (start : STACK_START ≤ rsp c) where
     reads : ReadsSame m m' (rsp c + room) STACK_END
     reads = reads_other m m' (rsp c + room) STACK_END (record { bytes = λ x l u. keeps.bytes x (omega arith) u (inr l); protection = keeps.protection; code = keeps.code; no_more_code = keeps.no_more_code }) (omega arith) (omega arith)
-
-    frame_free : (f : StackFrame) → room ≤ f.size → rsp c + f.size + 8 ≤ STACK_END → FrameStands t m c f → FrameStands t m' c f
-    frame_free f le top s = record {
-      live = s.live;
-      not_filter = s.not_filter;
-      not_finally = s.not_finally;
-      found = s.found;
-      past_prologue = s.past_prologue;
-      not_epilogue = reads.tails f.entry.info.frame_register c.rip ∙ s.not_epilogue;
-      codes = s.codes;
-      no_register = s.no_register;
-      no_parents = s.no_parents;
-      kept = s.kept;
-      room = s.room;
-      returns = reads.words (rsp c + f.size) f.return_address (omega arith) top s.returns;
-    }
 
     -- the slots of a frame begin above it
     pub record AboveHome (y : Layout) (name : BodyName) (size : ℕ) : Type 0 where
@@ -107,7 +92,7 @@ module _ (m m' : Memory) (t : Functions) (fs : List Funclet) (program : LinearPr
         let ends = end_within m y (rsp c) f.size b.activation acts b.body w.activation in
         let outer = list_kept m m' t fs program p (after_frame c f) is below (activations_below b.body acts) (higher m m' STACK_END (rsp c + room) (rsp (after_frame c f)) (omega arith) reads) s.1 h.2 in
         record {
-          stack = (frame_free f a.frame (omega arith) s.0, outer.stack);
+          stack = (frame_above m m' STACK_END t fs program p (rsp c + room) c f reads (omega arith) (omega arith) s.0, outer.stack);
           linked = (
             record {
               framed = h.0.framed;
