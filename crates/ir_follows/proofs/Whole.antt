@@ -15,7 +15,7 @@ use Rattle.c_model.specs.State.{State, Value, Normal, Returned, Broke, Continued
 use Rattle.c_model.specs.Tasks.{Context}
 use Rattle.c_model.specs.Expressions.{no_exception, all, ended_call, enter}
 use Rattle.c_model.specs.Meaning as source
-use Rattle.c_model.specs.Meaning.{within, does, for_parameters, outside, ran, Shown, shows, meaning}
+use Rattle.c_model.specs.Meaning.{within, does, for_parameters, outside, ran, shows, meaning}
 use Rattle.c_model.specs.Laws.{IsPrefixOf}
 use Rattle.c_model.proofs.RemainingSteps.{enters_within}
 use Rattle.linear_code.specs.declared.slot.Slot.TheVariants.{Temporary}
