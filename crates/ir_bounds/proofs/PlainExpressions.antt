@@ -1,5 +1,5 @@
 -- The code of an expression uses a bounded number of temporaries, and locals that are there.
-use Rattle.std.proofs.Common.{◌≡◌, ℕ, suc, ◌+◌, ◌*◌, ◌<◌, ◌≤◌, ◌-◌, max, List, [], ◌∷◌, ◌++◌, length, refl, ap, subst, ◌∙◌, arith}
+use Rattle.std.proofs.Common.{◌≡◌, ℕ, suc, ◌+◌, ◌*◌, ◌<◌, ◌≤◌, List, [], ◌∷◌, ◌++◌, length, arith}
 use Rattle.std.specs.List.{AllByRecursion}
 use Rattle.std.specs.Prelude.{Bool, slice_get, Option, Some, None}
 use Rattle.c_operations.specs.declared.built_in.BuiltIn.{BuiltIn}
@@ -30,7 +30,7 @@ use Rattle.seh_ir.specs.Slots.{instruction_temporaries, instruction_passes}
 use Rattle.ir_expressions.specs.Expressions.{size_of, constant, copy, change, combine, conversion_code, unary_code, choice_code, code_code, abnormal_code, load_code, read_code, write_code, address_code, argument_count, chosen_of, expression_code, locate_code, arguments_code, node_code}
 use Rattle.ir_follows.specs.Fits.{ExpressionFits, LvalueFits, ArgumentsFit, NodeFits}
 use Rattle.ir_bounds.specs.Nesting.{parameters_for, expression_nesting, lvalue_nesting, arguments_nesting, node_nesting, expression_reads, lvalue_reads, arguments_read, node_reads}
-use Rattle.ir_bounds.specs.Slots.{IsAmong, IsField, IsPlain}
+use Rattle.ir_bounds.specs.Slots.{IsField, IsPlain}
 
 pub all_append : {X : Type 0} (P : X → Type 0) (xs ys : List X) → AllByRecursion P xs → AllByRecursion P ys → AllByRecursion P (xs ++ ys)
 all_append P [] ys h k = k
@@ -231,9 +231,9 @@ module _ (most n : ℕ) where
           )
       node_good (nodes.Comma e g) d at f le r = operands_good e g d at (copy (Temporary d) (Temporary (d + 1)) ∷ []) (expression_good e d at f.0 (omega arith) (omega arith)) (expression_good g (d + 1) (at + expression_size e) f.1 (omega arith) (omega arith)) (moved_good d (d + 1) (omega arith) (omega arith), tt)
       node_good (nodes.Call g es) d at f le r =
-          let function = f.1.0 in
-          let small = few g function f.1.1 in
-          let same = f.1.2 in
+          let function = f.1.function in
+          let small = few g function f.1.there in
+          let same = f.1.takes in
           append (arguments_code names es d at) (_ ∷ []) (arguments_good es d at f.0 (omega arith) r) ((omega arith, omega arith, omega arith), tt)
       node_good (nodes.CallBuiltIn k es) d at f le r =
           let small = built_in_few k in

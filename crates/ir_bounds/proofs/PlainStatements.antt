@@ -1,9 +1,9 @@
 -- The code of sound statements, and their filters and `__finally` blocks, use a bounded number of slots.
-use Rattle.std.proofs.Common.{◌≡◌, ℕ, suc, ◌+◌, ◌-◌, ◌*◌, ◌<◌, ◌≤◌, max, List, [], ◌∷◌, ◌++◌, length, refl, ap, sym, subst, ◌∙◌, arith, length-append}
+use Rattle.std.proofs.Common.{◌≡◌, ℕ, ◌+◌, ◌-◌, ◌*◌, ◌<◌, ◌≤◌, List, [], ◌∷◌, ◌++◌, length, refl, sym, subst, arith, length-append}
 use Rattle.std.proofs.lemmas.Bool.{ltb-true}
 use Rattle.std.proofs.lemmas.Option.{slice_get_within}
 use Rattle.std.specs.List.{AllByRecursion}
-use Rattle.std.specs.Prelude.{Bool, true, false, slice_get, Option, Some, None}
+use Rattle.std.specs.Prelude.{true, false, slice_get, Option, Some, None}
 use Rattle.c_operations.specs.declared.operation.Size.{Size}
 use Rattle.c_checked.specs.Expression.{Expression}
 use Rattle.c_checked.specs.Program.{Program, Function}
@@ -12,10 +12,10 @@ use Rattle.c_checked.specs.Sound.{Inside, funclets_in, funclets, filter_funclet,
 use Rattle.c_checked.specs.Statement.{Declared, Filter, Always, Funclet, Statement, Declare, Block, Evaluate, If, IfElse, For, DoWhile, Return, Break, Continue, Leave, TryExcept, TryFinally, Statements, Empty, Then}
 use Rattle.linear_code.specs.declared.slot.Slot.TheVariants.{Local, Temporary}
 use Rattle.linear_code.specs.declared.instruction.Instruction.{Instruction}
-use Rattle.linear_code.specs.declared.instruction.Instruction.TheVariants.{Jump, JumpIfZero, CallFinally, Landing, Separator}
+use Rattle.linear_code.specs.declared.instruction.Instruction.TheVariants.{JumpIfZero, CallFinally, Separator}
 use Rattle.linear_code.specs.declared.instruction.Instruction.TheVariants as instructions
 use Rattle.linear_code.specs.Program.{LinearProgram, LinearFunclet}
-use Rattle.ir_sizes.specs.Sizes.{expression_size, discarded_size, condition_size, declared_size, all_declared_size, returned_size, statement_size, statements_size, statement_notes, statements_notes}
+use Rattle.ir_sizes.specs.Sizes.{expression_size, discarded_size, condition_size, declared_size, all_declared_size, statement_size, statements_size, statement_notes, statements_notes}
 use Rattle.seh_ir.specs.declared.funclets.Owner.{Owner}
 use Rattle.ir_expressions.specs.declared.scope.Names.{Names}
 use Rattle.ir_expressions.specs.declared.scope.Way.{Way}
@@ -23,15 +23,14 @@ use Rattle.ir_expressions.specs.declared.scope.Way.TheVariants.{Nowhere, Jumps, 
 use Rattle.ir_expressions.specs.declared.scope.Scope.{Scope}
 use Rattle.ir_expressions.specs.Scope.{except_names, filter_names, finally_names, finally_scope, in_loop, in_try, in_except, in_guarded}
 use Rattle.seh_ir.specs.Slots.{temporaries_in, passed_in}
-use Rattle.ir_expressions.specs.Expressions.{constant, copy, expression_code}
+use Rattle.ir_expressions.specs.Expressions.{copy, expression_code}
 use Rattle.seh_ir.specs.Statements.{jump_code, return_code, leave_code, discarded_code, returned_code, condition_code, initialiser_code, declared_code, all_declared_code, landed, repeated, statement_code, statements_code}
-use Rattle.seh_ir.specs.Funclets as funclets_of
 use Rattle.seh_ir.specs.Funclets.{filter_funclets, finally_funclet, in_funclet, statement_funclets, statements_funclets}
 use Rattle.ir_linked.proofs.Numbers.{count_front, count_back, counted, filter_count, statement_count, statements_count}
 use Rattle.ir_linked.proofs.Segments.{StandsAt, front, back}
 use Rattle.ir_linked.proofs.SoundExpressions.{both_left, both_right, Knows, expression_fits}
 use Rattle.ir_bounds.specs.Nesting.{expression_nesting, expression_reads, most_of_optional, most_of_declared, most_of_filter, most_of_statement, most_of}
-use Rattle.ir_bounds.specs.Slots.{IsPlain, HasFlag, HasParent, IsSmallBody, IsSmallFunclet}
+use Rattle.ir_bounds.specs.Slots.{IsPlain, HasParent, IsSmallBody, IsSmallFunclet}
 use Rattle.ir_bounds.proofs.PlainExpressions.{NamesAmong, Good, AllGood, append, kept_good, constant_good, expression_good, all_append}
 
 -- ---- what all instructions of a body have, the body has

@@ -1,5 +1,5 @@
 -- The linear code of a sound program that is nested within the limits is small.
-use Rattle.std.proofs.Common.{◌≡◌, ℕ, zero, suc, ◌+◌, ◌*◌, ◌≤◌, ◌<◌, List, [], ◌∷◌, ◌++◌, length, map, refl, sym, ap, subst, ◌∙◌, arith, length-append}
+use Rattle.std.proofs.Common.{◌≡◌, ℕ, zero, suc, ◌+◌, ◌≤◌, ◌<◌, List, [], ◌∷◌, ◌++◌, length, map, refl, ap, subst, arith, length-append}
 use Rattle.std.proofs.lemmas.Bool.{leb-true}
 use Rattle.std.proofs.lemmas.List.{length-map}
 use Rattle.std.proofs.lemmas.Option.{slice_get_within}
@@ -18,11 +18,11 @@ use Rattle.seh_ir.specs.Lowered.{own_locals, all_locals, scope_of, lowered_funct
 use Rattle.ir_linked.proofs.Numbers.{count_front, count_back, statements_count}
 use Rattle.ir_linked.proofs.Segments.{StandsAt, front, back, stands_itself}
 use Rattle.ir_linked.proofs.SoundExpressions.{both_left, both_right, Knows}
-use Rattle.ir_bounds.specs.Nesting.{expression_nesting, expression_reads, most_of, IsShallow, AreShallow}
-use Rattle.ir_bounds.specs.Slots.{IsSmallFunction, IsSmallFunclet, IsSmall}
+use Rattle.ir_bounds.specs.Nesting.{IsShallow, AreShallow}
+use Rattle.ir_bounds.specs.Slots.{IsSmallFunction, IsSmallFunclet}
 use Rattle.ir_bounds.specs.Laws.{LoweredIsSmall}
 use Rattle.ir_bounds.proofs.PlainExpressions.{NamesAmong, append, constant_good, all_append}
-use Rattle.ir_bounds.proofs.PlainStatements.{Fitting, small_body, statements_good, all_funclets_small}
+use Rattle.ir_bounds.proofs.PlainStatements.{small_body, statements_good, all_funclets_small}
 
 the_same : {X : Type 0} (x y : X) → Some x ≡ Some y → x ≡ y
 the_same x y e = ap (λ o. elim o [ None ↦ x | Some z ↦ z ]) e

@@ -6,7 +6,7 @@ use Rattle.c_operations.specs.declared.field.Field.{Field}
 use Rattle.c_operations.specs.declared.field.Field.TheVariants.{ExceptionInformation}
 use Rattle.c_checked.specs.Expression as nodes
 use Rattle.c_checked.specs.Expression.{Expression, On, Node, Lvalue, Local, Global, Indirection, Element, Arguments, Done, Next}
-use Rattle.c_checked.specs.Program.{Program, Function}
+use Rattle.c_checked.specs.Program.{Function}
 use Rattle.c_checked.specs.Statement.{Declared, Filter, Always, Funclet, Statement, Declare, Block, Evaluate, If, IfElse, For, DoWhile, Return, Break, Continue, Leave, TryExcept, TryFinally, Statements, Empty, Then}
 use Rattle.ir_sizes.specs.Sizes.{statements_notes}
 

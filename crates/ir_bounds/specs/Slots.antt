@@ -1,5 +1,5 @@
 -- Linear code whose slots and arguments are within bounds.
-use Rattle.std.specs.Prelude.{ℕ, ◌<◌, ◌≤◌, List, length, Option, Some, None}
+use Rattle.std.specs.Prelude.{ℕ, ◌<◌, ◌≤◌, length, Option, Some, None}
 use Rattle.std.specs.List.{AllByRecursion}
 use Rattle.seh_num.specs.declared.limit.TheConstants.{MOST_PARAMETERS, MOST_GLOBALS}
 use Rattle.seh_num.specs.declared.size.TheConstants.{EXCEPTION_MAXIMUM_PARAMETERS}

@@ -20,8 +20,9 @@ pub enum ExceptionSource {
 /// What GetExceptionCode and AbnormalTermination mean.
 #[derive(Clone, Copy)]
 pub struct Names {
+    /// Where the code that GetExceptionCode answers is found.
     pub exception: ExceptionSource,
-    /// The local of a `__finally` block's flag.
+    /// The local of a `__finally` block's flag, or None outside of any.
     pub abnormal: Option<u64>,
     /// The first local that is free for a code or a flag.
     pub free: u64,
@@ -39,10 +40,15 @@ pub enum Way {
 /// The names; where `return`, `break`, `continue` and `__leave` lead.
 #[derive(Clone, Copy)]
 pub struct Scope {
+    /// What names mean here.
     pub names: Names,
+    /// Where `return` leads: the end of the function.
     pub exit: Way,
+    /// Where `break` leads: after the innermost loop.
     pub loop_end: Way,
+    /// Where `continue` leads: after the body of the innermost loop.
     pub loop_next: Way,
+    /// The label to which `__leave` jumps: the end of the innermost `__try` body.
     pub leave: Option<u64>,
 }
 

@@ -13,7 +13,7 @@ use Rattle.linear_code.specs.declared.slot.Slot.TheVariants.{Temporary}
 use Rattle.linear_code.specs.declared.instruction.Instruction.TheVariants as instructions
 use Rattle.linear_code.specs.declared.program.Region.{Region}
 use Rattle.linear_code.specs.Program.{LinearProgram}
-use Rattle.linear_machine.specs.Frames.{BodyName, FuncletBody, body_of, Item, Waits, Store, Configuration, Seen, Next, pick, deeper}
+use Rattle.linear_machine.specs.Frames.{BodyName, FuncletBody, body_of, Item, Store, Configuration, Seen, Next, pick, deeper}
 use Rattle.linear_machine.specs.Frames as machine
 use Rattle.linear_machine.specs.Regions.{holds, leads_to, stops}
 use Rattle.linear_machine.specs.Unwinding.{begin_finally, arrive, leave_region, unwind_body}

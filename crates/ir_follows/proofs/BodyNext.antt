@@ -96,7 +96,7 @@ module _ (program : Program) (linear : LinearProgram) (pace body : ℕ) where
           store = base';
           events = st.events ++ events.Finally m flag ∷ [];
         } in
-        let same : place k ≡ place (j + 1) = ap place placed.0 in
+        let same : place k ≡ place (j + 1) = ap place placed.numbered in
         let stays = noted_stays program linear pace body names z shapes context site base (1 + statements_notes last) (of_test flag) store standing kept.1 in
         let out = stays_out program linear pace body names names' shapes context base base' refl stays in
         let deep : length store.activations ≡ length st.frames = kept.0.activations ∙ sym kept.0.count in
@@ -110,8 +110,8 @@ module _ (program : Program) (linear : LinearProgram) (pace body : ℕ) where
         (sooner linear pace (at (place (j + 1))) low asked (price 16 1 y y) w o refl (events.Finally k flag ∷ [], refl)
         (subst (λ c. Claim linear pace (at c) asked (price 16 1 y y) w o) same
         (more linear pace (at (place k)) asked (price 1 0 x x) (price 16 1 y y) w o (omega arith, omega arith, omega arith)
-        (final_end j names below held flag context site pc temps (Stays program linear pace body names' shapes inner base') (Stays program linear pace body names shapes context base) (0 + statements_size last) out (λ st store p. out st store p) placed.1 (has_at linear (FuncletBody j) [] (statements_size last) (0 + statements_size last) (instructions.Return (Local names.free) ∷ []) (omega arith) placed.3) isf (at (place k)) asked x (all (within program n) last inner asked)
-        (all_runs program linear pace body n bih (finally_scope names) z shapes inner fsite base' last 0 asked base' (omega arith) (omega arith) placed.2 (record { around = tt; exit = tt; loop_end = tt; loop_next = tt })
+        (final_end j names below held flag context site pc temps (Stays program linear pace body names' shapes inner base') (Stays program linear pace body names shapes context base) (0 + statements_size last) out (λ st store p. out st store p) placed.funclet (has_at linear (FuncletBody j) [] (statements_size last) (0 + statements_size last) (instructions.Return (Local names.free) ∷ []) (omega arith) placed.returns) isf (at (place k)) asked x (all (within program n) last inner asked)
+        (all_runs program linear pace body n bih (finally_scope names) z shapes inner fsite base' last 0 asked base' (omega arith) (omega arith) placed.code (record { around = tt; exit = tt; loop_end = tt; loop_next = tt })
         (standing_finally program linear pace body names z shapes context site fsite base (statements_notes last) flag st store standing kept isf.same_found)
         (noted_kept program linear pace body names names' z shapes context base (of_test flag) st store refl standing.env.shape standing.past kept) (ap (λ h. h + 2) same_held)))))))
 

@@ -5,14 +5,14 @@ use Rattle.c_operations.specs.declared.operation.Operation.TheVariants as operat
 use Rattle.c_operations.specs.declared.operation.Pure.TheVariants as pures
 use Rattle.c_checked.specs.Expression.{Expression}
 use Rattle.c_checked.specs.Program.{Program}
-use Rattle.c_model.specs.State.{State, Value, Normal, Returned, Broke, Continued, LeftTry, Target, End, Outcome, Gives, choose, and_then}
+use Rattle.c_model.specs.State.{State, Value, Normal, Returned, Broke, Continued, LeftTry, Target, End, Outcome, Gives}
 use Rattle.c_model.specs.State as model
 use Rattle.c_model.specs.Tasks.{Context}
 use Rattle.c_model.specs.Statements.{optional, declare, in_loop}
 use Rattle.c_model.specs.Meaning.{within}
 use Rattle.linear_code.specs.declared.slot.Slot.TheVariants.{Temporary, Local}
 use Rattle.linear_code.specs.declared.instruction.Instruction.TheVariants as instructions
-use Rattle.linear_code.specs.declared.instruction.Instruction.TheVariants.{Compute, Jump, JumpIfZero, LocalUnwind, Separator}
+use Rattle.linear_code.specs.declared.instruction.Instruction.TheVariants.{Compute, LocalUnwind, Separator}
 use Rattle.linear_code.specs.Program.{LinearProgram}
 use Rattle.linear_machine.specs.Frames.{Store, Finished, with_some, set_local}
 use Rattle.linear_machine.specs.Instructions.{end_body}

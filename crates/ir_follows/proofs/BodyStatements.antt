@@ -93,14 +93,14 @@ module _ (program : Program) (linear : LinearProgram) (pace body : ℕ) (roomy :
         → C pc [] st store (price 16 1 (1 + optional_weight e) (1 + optional_weight e)) (pc + (returned_size e + 2)) (optional (within program n) 0 e context st (λ v st. Gives (Returned v) st))
     return_runs None notes pc st store steps light has standing kept held =
         go_on program linear pace body roomy n ih bih scope z shapes context site base pc (pc + 1) [] (0 ∷ []) st store store (price 1 0 0 0) (price 16 1 1 1) (pc + (1 + 2)) (Gives (Returned 0) st) (omega arith, omega arith, omega arith)
-        (λ k. constant_turn linear pace context site 0 0 (0 ∷ []) pc [] st store k (omega arith) has.1 refl)
-        (leaves_by program linear pace body roomy n ih bih scope z shapes context site base scope.exit (pc + 1) 0 st store (price 1 0 0 0) (omega arith) (omega arith) has.3 has.2 kept held)
+        (λ k. constant_turn linear pace context site 0 0 (0 ∷ []) pc [] st store k (omega arith) has.computes refl)
+        (leaves_by program linear pace body roomy n ih bih scope z shapes context site base scope.exit (pc + 1) 0 st store (price 1 0 0 0) (omega arith) (omega arith) has.leads has.returns kept held)
     return_runs (Some e) notes pc st store steps light has standing kept held =
         let w = expression_weight e in
         let done = pc + (expression_size e + 2) in
         statement_eval program linear pace body n ih e scope.names z shapes context site base notes pc st store (price 1 0 0 0) (price 16 1 (1 + w) (1 + w)) (W done) (λ v st. Gives (Returned v) st) steps (omega arith)
-        (omega arith, omega arith, omega arith, omega arith) has.0 has.1 standing kept held
-        (λ v mid after steps kept held. leaves_by program linear pace body roomy n ih bih scope z shapes context site base scope.exit (pc + expression_size e) v mid after (price 1 0 0 0) (omega arith) (omega arith) has.3 has.2 kept held)
+        (omega arith, omega arith, omega arith, omega arith) has.value has.computes standing kept held
+        (λ v mid after steps kept held. leaves_by program linear pace body roomy n ih bih scope z shapes context site base scope.exit (pc + expression_size e) v mid after (price 1 0 0 0) (omega arith) (omega arith) has.leads has.returns kept held)
 
     except_runs : (ss : Statements) (filter : Filter) (block : Statements) (pc : ℕ) (st : State) (store : Store) → st.steps_left ≤ n → statement_weight (TryExcept ss filter block) + body + 4 ≤ pace → Placed program linear pace body z.own site.body scope (TryExcept ss filter block) site.regions pc
         → In pc (pc + statement_size (TryExcept ss filter block)) → Sd (statement_notes (TryExcept ss filter block)) → K st store → st.held ≡ site.held
@@ -126,7 +126,7 @@ module _ (program : Program) (linear : LinearProgram) (pace body : ℕ) (roomy :
         (ends_at program linear pace body roomy n ih bih scope z shapes context site base pc [] st store (price 16 1 w w) done hi (o site.held) end
         (more linear pace (at (conf context site pc [] st store)) st (price 2 0 (x + y) (x + y)) (price 16 1 w w) (W done) (o site.held) (omega arith, omega arith, omega arith)
         (except_ends program linear pace body filter pc target hi (omega arith) (omega arith) context site K done x y pc scope.names.free scope.names scope z shapes base notes (at (conf context site pc [] st store)) st pcj body_out go inner
-        (same_length program linear pace body (below_slot context.activation scope.names.free) shapes base context.handlers (found linear pace context site) standing.env.handlers) has.1 has.2
+        (same_length program linear pace body (below_slot context.activation scope.names.free) shapes base context.handlers (found linear pace context site) standing.env.handlers) has.end has.landing
         (λ exc mid after low kept held.
         let base' = set_local after context.activation scope.names.free exc.code in
         let names' = except_names scope.names in
@@ -134,14 +134,14 @@ module _ (program : Program) (linear : LinearProgram) (pace body : ℕ) (roomy :
         let stays = noted_stays program linear pace body scope.names z shapes context site base (1 + statements_notes block) exc.code after here_standing kept.1 in
         block_claim program linear pace body (at (conf context site (target + 1) [] mid base')) mid (price 0 0 y y) scope context context.handlers exc site (Stays program linear pace body names' shapes context' base') K done (go exc mid)
         (stays_out program linear pace body scope.names names' shapes context base base' refl stays)
-        (all_runs program linear pace body n bih (in_except scope) z shapes context' site base' block (target + 1) mid base' (omega arith) (omega arith) has.3
+        (all_runs program linear pace body n bih (in_except scope) z shapes context' site base' block (target + 1) mid base' (omega arith) (omega arith) has.block
         (inner_except linear site.body scope site.regions (target + 1) done (part_in pc hi (target + 1) done (omega arith) (omega arith) inner))
         (standing_except program linear pace body scope.names z shapes context site base (statements_notes block) exc mid after here_standing kept)
         (noted_kept program linear pace body scope.names names' z shapes context base exc.code mid after refl standing.env.shape standing.past kept) held))
         (λ e store k f m fr. (subst (λ fs. Alike shapes f.memory fs store) (sym fr) (subst (λ mm. Alike shapes mm e.frames store) (sym m) k.0), k.1))
-        (bih.try_run ss (in_try done scope) z shapes within_it inside base pc st store steps (omega arith) has.0
+        (bih.try_run ss (in_try done scope) z shapes within_it inside base pc st store steps (omega arith) has.body
         (inside_except linear site.body scope filter target done site.regions pc hi pcj (omega arith) (omega arith) inner)
-        (standing_try program linear pace body filter scope.names z shapes context site base pc target (statements_notes ss) has.4 (fewer notes (statements_notes ss) (max_left (statements_notes ss) (1 + statements_notes block)) standing)) kept held))))
+        (standing_try program linear pace body filter scope.names z shapes context site base pc target (statements_notes ss) has.filter (fewer notes (statements_notes ss) (max_left (statements_notes ss) (1 + statements_notes block)) standing)) kept held))))
 
     guarded_runs : (ss : Statements) (k : ℕ) (last : Statements) (pc : ℕ) (st : State) (store : Store) → st.steps_left ≤ n → statement_weight (TryFinally ss k last) + body + 4 ≤ pace → Placed program linear pace body z.own site.body scope (TryFinally ss k last) site.regions pc
         → In pc (pc + statement_size (TryFinally ss k last)) → Sd (statement_notes (TryFinally ss k last)) → K st store → st.held ≡ site.held
@@ -160,9 +160,9 @@ module _ (program : Program) (linear : LinearProgram) (pace body : ℕ) (roomy :
         let o = finally_after body_out (λ flag st. within program n (RunFinally k last flag) context st) in
         ends_at program linear pace body roomy n ih bih scope z shapes context site base pc [] st store (price 16 1 w w) done hi o end
         (more linear pace (at (conf context site pc [] st store)) st (price 3 0 (x + y) (x + y)) (price 16 1 w w) (W done) o (omega arith, omega arith, omega arith)
-        (finally_ends program linear pace body n bih k last pc e0 hi (omega arith) (omega arith) scope z shapes context site base has.3 (fewer notes (1 + statements_notes last) (max_right (statements_notes ss) (1 + statements_notes last)) standing) (omega arith)
-        pc x (at (conf context site pc [] st store)) st body_out steps inner has.1 has.2
-        (bih.try_run ss (in_guarded e0 scope) z shapes context inside base pc st store steps (omega arith) has.0
+        (finally_ends program linear pace body n bih k last pc e0 hi (omega arith) (omega arith) scope z shapes context site base has.block (fewer notes (1 + statements_notes last) (max_right (statements_notes ss) (1 + statements_notes last)) standing) (omega arith)
+        pc x (at (conf context site pc [] st store)) st body_out steps inner has.end has.calls
+        (bih.try_run ss (in_guarded e0 scope) z shapes context inside base pc st store steps (omega arith) has.body
         (inside_finally linear site.body scope (k - 1) (e0 + 1) e0 site.regions pc hi e0 (omega arith) (omega arith) inner)
         (standing_guarded program linear pace body scope.names z shapes context site base pc (e0 + 1) (k - 1) (statements_notes ss) (fewer notes (statements_notes ss) (max_left (statements_notes ss) (1 + statements_notes last)) standing)) kept held)))
 
@@ -213,15 +213,15 @@ module _ (program : Program) (linear : LinearProgram) (pace body : ℕ) (roomy :
         let no : State → Outcome = λ st. within program n (Run t) context st in
         let q = ws + wt in
         statement_eval program linear pace body n ih c scope.names z shapes context site base notes pc st store (price 3 0 q q) (price 16 1 w w) (W done) (λ v st. choose (nat_eq v 0) no yes st) steps (omega arith)
-        (omega arith, omega arith, omega arith, omega arith) has.0 (has_front linear site.body site.regions pc code (JumpIfZero (Temporary 0) otherwise ∷ []) has.1) standing kept held
+        (omega arith, omega arith, omega arith, omega arith) has.condition (has_front linear site.body site.regions pc code (JumpIfZero (Temporary 0) otherwise ∷ []) has.test) standing kept held
         (λ v mid after steps kept held.
         chosen linear pace (nat_eq v 0) (conf context site pc1 (v ∷ []) mid after) (at (conf context site otherwise [] mid after)) (at (conf context site then [] mid after)) (price 2 0 q q) (price 3 0 q q) (W done) no yes mid (omega arith, omega arith, omega arith) refl
-        (λ k. test_turn linear pace context site otherwise v pc1 [] mid after k (has_after linear site.body site.regions pc (expression_size c) code (JumpIfZero (Temporary 0) otherwise ∷ []) (expression_length scope.names c 0 pc) has.1))
-        (sub_run t otherwise done mid after (price 2 0 q q) notes pc done steps (omega arith) (omega arith) (omega arith) refl has.4 (omega arith) (omega arith) inner (max_right (statement_notes s) (statement_notes t)) standing kept held end)
+        (λ k. test_turn linear pace context site otherwise v pc1 [] mid after k (has_after linear site.body site.regions pc (expression_size c) code (JumpIfZero (Temporary 0) otherwise ∷ []) (expression_length scope.names c 0 pc) has.test))
+        (sub_run t otherwise done mid after (price 2 0 q q) notes pc done steps (omega arith) (omega arith) (omega arith) refl has.no (omega arith) (omega arith) inner (max_right (statement_notes s) (statement_notes t)) standing kept held end)
         (normal_then program linear pace body (at (conf context site then [] mid after)) (λ st store. at (conf context site jump [] st store)) (W done) mid (price 0 0 ws ws) (price 1 0 0 0) (price 2 0 q q) (yes mid) (omega arith, omega arith, omega arith, omega arith) (omega arith)
-        (sub_run s then jump mid after (price 0 0 ws ws) notes pc done steps (omega arith) (omega arith) (omega arith) refl has.2 (omega arith) (omega arith) inner (max_left (statement_notes s) (statement_notes t)) standing kept held refl)
+        (sub_run s then jump mid after (price 0 0 ws ws) notes pc done steps (omega arith) (omega arith) (omega arith) refl has.yes (omega arith) (omega arith) inner (max_left (statement_notes s) (statement_notes t)) standing kept held refl)
         (λ st store low kept held.
-        go_on program linear pace body roomy n ih bih scope z shapes context site base jump label [] [] st store store (price 0 0 0 0) (price 1 0 0 0) done (Gives Normal st) (omega arith, omega arith, omega arith) (λ k. jump_turn linear pace context site label jump [] st store k has.3)
+        go_on program linear pace body roomy n ih bih scope z shapes context site base jump label [] [] st store store (price 0 0 0 0) (price 1 0 0 0) done (Gives Normal st) (omega arith, omega arith, omega arith) (λ k. jump_turn linear pace context site label jump [] st store k has.skip)
         (here program linear pace body roomy n ih bih scope z shapes context site base label done st store (price 0 0 0 0) end (omega arith) kept held))))
     statement_runs (For ds first c next s) pc st store steps light has inner standing kept held =
         let wd = all_declared_weight ds in
@@ -238,10 +238,10 @@ module _ (program : Program) (linear : LinearProgram) (pace body : ℕ) (roomy :
         ends_at program linear pace body roomy n ih bih scope z shapes context site base pc [] st store (price 16 1 w w) last hi (and_then (declare_each (within program n) ds context st) g) end
         (then_normal linear pace (at (conf context site pc [] st store)) (λ st store. at (conf context site begin [] st store)) (W last) st (price 0 0 wd wd) (price 1 0 (wf + wi) (wf + wi)) (price 16 1 w w) (declare_each (within program n) ds context st) g
         (omega arith, omega arith, omega arith, omega arith) (omega arith)
-        (declares_runs ds pc st store steps (omega arith) has.0 (part_in pc hi pc begin (omega arith) (omega arith) inner) (fewer (statement_notes s) 0 (omega arith) standing) kept held)
+        (declares_runs ds pc st store steps (omega arith) has.declared (part_in pc hi pc begin (omega arith) (omega arith) inner) (fewer (statement_notes s) 0 (omega arith) standing) kept held)
         (λ mid after low kept held.
-        discard_then program linear pace body roomy n ih bih scope z shapes context site base first 0 (statement_notes s) begin mid after (price 0 0 wi wi) (price 1 0 (wf + wi) (wf + wi)) last f (omega arith) (omega arith) (omega arith, omega arith, omega arith, omega arith) has.1 has.2 standing kept held
-        (λ v mid after steps kept held. bih.for_run c next s scope z shapes context site base iteration mid after steps (omega arith) has.3 (part_in pc hi iteration last (omega arith) (omega arith) inner) standing kept held)))
+        discard_then program linear pace body roomy n ih bih scope z shapes context site base first 0 (statement_notes s) begin mid after (price 0 0 wi wi) (price 1 0 (wf + wi) (wf + wi)) last f (omega arith) (omega arith) (omega arith, omega arith, omega arith, omega arith) has.first has.begins standing kept held
+        (λ v mid after steps kept held. bih.for_run c next s scope z shapes context site base iteration mid after steps (omega arith) has.iterations (part_in pc hi iteration last (omega arith) (omega arith) inner) standing kept held)))
     statement_runs (DoWhile s c) pc st store steps light has inner standing kept held =
         let wi = 1 + statement_weight s + expression_weight c in
         let w = 2 + statement_weight s + expression_weight c in

@@ -18,7 +18,6 @@ use Rattle.linear_runs.proofs.Joining.{more}
 use Rattle.linear_runs.proofs.SingleTurns.{chosen}
 use Rattle.linear_runs.proofs.Walks.{Around, around_part, holds_yes}
 use Rattle.ir_expressions.specs.declared.scope.Scope.{Scope}
-use Rattle.ir_expressions.specs.Scope.{except_names, in_try, in_except, in_guarded}
 use Rattle.ir_expressions.specs.Scope as scopes
 use Rattle.ir_sizes.specs.Sizes.{expression_size, discarded_size, condition_size, statement_size, statement_notes}
 use Rattle.ir_expressions.specs.Expressions.{expression_code}
@@ -74,11 +73,11 @@ module _ (program : Program) (linear : LinearProgram) (pace body : ℕ) (roomy :
         let end = for_end c next s pc in
         let f : ℕ → State → Outcome = λ w st. within program n (ForIteration c next s) context st in
         go_on program linear pace body roomy n ih bih scope z shapes context site base again (again + 1) [] [] st store store (price 2 0 wi wi) (price 3 pace wi wi) end (optional (within program n) 0 next context st f) (omega arith, omega arith, omega arith)
-        (λ k. separator_turn program linear pace body roomy n ih bih scope z shapes context site base again [] st store k has.4)
-        (discard_then program linear pace body roomy n ih bih scope z shapes context site base next 0 (statement_notes s) (again + 1) st store (price 1 pace wi wi) (price 2 0 wi wi) end f steps (omega arith) (omega arith, omega arith, omega arith, omega arith) has.1 has.5 standing kept held
+        (λ k. separator_turn program linear pace body roomy n ih bih scope z shapes context site base again [] st store k has.end)
+        (discard_then program linear pace body roomy n ih bih scope z shapes context site base next 0 (statement_notes s) (again + 1) st store (price 1 pace wi wi) (price 2 0 wi wi) end f steps (omega arith) (omega arith, omega arith, omega arith, omega arith) has.next has.steps standing kept held
         (λ v mid after steps kept held.
         go_on program linear pace body roomy n ih bih scope z shapes context site base (again + 1 + discarded_size next) pc [] [] mid after after (price 0 0 wi wi) (price 1 pace wi wi) end (within program n (ForIteration c next s) context mid) (omega arith, omega arith, omega arith)
-        (λ k. jump_turn linear pace context site pc (again + 1 + discarded_size next) [] mid after k has.6)
+        (λ k. jump_turn linear pace context site pc (again + 1 + discarded_size next) [] mid after k has.repeats)
         (bih.for_run c next s scope z shapes context site base pc mid after steps light has inner standing kept held)))
 
     -- the body, and what comes after it
@@ -95,7 +94,7 @@ module _ (program : Program) (linear : LinearProgram) (pace body : ℕ) (roomy :
         loop_ends program linear pace body roomy n ih bih scope z shapes context site base (at (conf context site start [] st store)) end again st (price 0 0 ws ws) (price 3 pace wi wi) (price 10 e wi wi) (within program n (Run s) context st)
         (λ st. optional (within program n) 0 next context st (λ w st. within program n (ForIteration c next s) context st)) (omega arith, omega arith, omega arith, omega arith) (omega arith)
         (λ mid after low kept held. for_tail c next s pc mid after (omega arith) light has inner standing kept held)
-        (bih.run s (scopes.in_loop end again scope) z shapes context site base start st store steps (omega arith) has.3 (inside_loop linear site.body scope site.regions pc end start again (omega arith) (omega arith) (omega arith) inner) standing kept held)
+        (bih.run s (scopes.in_loop end again scope) z shapes context site base start st store steps (omega arith) has.body (inside_loop linear site.body scope site.regions pc end start again (omega arith) (omega arith) (omega arith) inner) standing kept held)
 
     pub for_runs : (c next : Option Expression) (s : Statement) (pc : ℕ) (st : State) (store : Store) → st.steps_left ≤ n → 1 + optional_weight c + statement_weight s + optional_weight next + body + 4 ≤ pace → ForPlaced program linear pace body z.own site.body scope c next s site.regions pc
         → In pc (for_end c next s pc) → Sd (statement_notes s) → K st store → st.held ≡ site.held
@@ -116,10 +115,10 @@ module _ (program : Program) (linear : LinearProgram) (pace body : ℕ) (roomy :
         let code = expression_code scope.names c 0 pc in
         let go : State → Outcome = λ st. in_loop (within program n (Run s) context st) (λ st. optional (within program n) 0 next context st (λ w st. within program n (ForIteration (Some c) next s) context st)) in
         statement_eval program linear pace body n ih c scope.names z shapes context site base (statement_notes s) pc st store (price 15 pace wi wi) (price 16 1 wi wi) (W end) (λ v st. choose (nat_eq v 0) (λ st. Gives Normal st) go st) steps (omega arith)
-        (omega arith, omega arith, omega arith, omega arith) has.0 (has_front linear site.body site.regions pc code (JumpIfZero (Temporary 0) end ∷ []) has.2) standing kept held
+        (omega arith, omega arith, omega arith, omega arith) has.condition (has_front linear site.body site.regions pc code (JumpIfZero (Temporary 0) end ∷ []) has.tests) standing kept held
         (λ v mid after steps kept held.
         chosen linear pace (nat_eq v 0) (conf context site pc1 (v ∷ []) mid after) (at (conf context site end [] mid after)) (at (conf context site (pc1 + 1) [] mid after)) (price 10 0 wi wi) (price 15 pace wi wi) (W end) (λ st. Gives Normal st) go mid (omega arith, omega arith, omega arith) refl
-        (λ k. test_turn linear pace context site end v pc1 [] mid after k (has_after linear site.body site.regions pc (expression_size c) code (JumpIfZero (Temporary 0) end ∷ []) (expression_length scope.names c 0 pc) has.2))
+        (λ k. test_turn linear pace context site end v pc1 [] mid after k (has_after linear site.body site.regions pc (expression_size c) code (JumpIfZero (Temporary 0) end ∷ []) (expression_length scope.names c 0 pc) has.tests))
         (here program linear pace body roomy n ih bih scope z shapes context site base end end mid after (price 10 0 wi wi) refl (omega arith) kept held)
         (starts_at program linear pace body roomy n ih bih scope z shapes context site base (pc + (expression_size c + 1)) (pc1 + 1) [] mid after (price 10 0 wi wi) end (go mid) (sym start) (for_body (Some c) next s pc mid after 0 (omega arith) steps light has inner standing kept held)))
 
@@ -137,15 +136,15 @@ module _ (program : Program) (linear : LinearProgram) (pace body : ℕ) (roomy :
         let go : State → Outcome = λ st. within program n (DoIteration s c) context st in
         let f : ℕ → State → Outcome = λ v st. choose (nat_eq v 0) (λ st. Gives Normal st) go st in
         go_on program linear pace body roomy n ih bih scope z shapes context site base again (again + 1) [] [] st store store (price 4 0 wi wi) (price 5 pace wi wi) end (with_value (within program n (Eval c) context st) f) (omega arith, omega arith, omega arith)
-        (λ k. separator_turn program linear pace body roomy n ih bih scope z shapes context site base again [] st store k has.2)
+        (λ k. separator_turn program linear pace body roomy n ih bih scope z shapes context site base again [] st store k has.end)
         (statement_eval program linear pace body n ih c scope.names z shapes context site base (statement_notes s) (again + 1) st store (price 4 pace wi wi) (price 4 0 wi wi) (W end) f steps (omega arith)
-        (omega arith, omega arith, omega arith, omega arith) has.0 (has_front linear site.body site.regions (again + 1) code (JumpIfZero (Temporary 0) end ∷ []) has.3) standing kept held
+        (omega arith, omega arith, omega arith, omega arith) has.condition (has_front linear site.body site.regions (again + 1) code (JumpIfZero (Temporary 0) end ∷ []) has.tests) standing kept held
         (λ v mid after steps kept held.
         chosen linear pace (nat_eq v 0) (conf context site pc1 (v ∷ []) mid after) (at (conf context site end [] mid after)) (at (conf context site (pc1 + 1) [] mid after)) (price 2 0 wi wi) (price 4 pace wi wi) (W end) (λ st. Gives Normal st) go mid (omega arith, omega arith, omega arith) refl
-        (λ k. test_turn linear pace context site end v pc1 [] mid after k (has_after linear site.body site.regions (again + 1) (expression_size c) code (JumpIfZero (Temporary 0) end ∷ []) (expression_length scope.names c 0 (again + 1)) has.3))
+        (λ k. test_turn linear pace context site end v pc1 [] mid after k (has_after linear site.body site.regions (again + 1) (expression_size c) code (JumpIfZero (Temporary 0) end ∷ []) (expression_length scope.names c 0 (again + 1)) has.tests))
         (here program linear pace body roomy n ih bih scope z shapes context site base end end mid after (price 2 0 wi wi) refl (omega arith) kept held)
         (go_on program linear pace body roomy n ih bih scope z shapes context site base (pc1 + 1) pc [] [] mid after after (price 0 0 wi wi) (price 2 0 wi wi) end (go mid) (omega arith, omega arith, omega arith)
-        (λ k. jump_turn linear pace context site pc (pc1 + 1) [] mid after k has.4)
+        (λ k. jump_turn linear pace context site pc (pc1 + 1) [] mid after k has.repeats)
         (bih.do_run s c scope z shapes context site base pc mid after steps light has inner standing kept held))))
 
     pub do_runs : (s : Statement) (c : Expression) (pc : ℕ) (st : State) (store : Store) → st.steps_left ≤ n → 1 + statement_weight s + expression_weight c + body + 4 ≤ pace → DoPlaced program linear pace body z.own site.body scope s c site.regions pc
@@ -159,4 +158,4 @@ module _ (program : Program) (linear : LinearProgram) (pace body : ℕ) (roomy :
         loop_ends program linear pace body roomy n ih bih scope z shapes context site base (at (conf context site pc [] st store)) end again st (price 0 0 ws ws) (price 5 pace wi wi) (price 16 1 wi wi) (within program n (Run s) context st)
         (λ st. with_value (within program n (Eval c) context st) (λ v st. choose (nat_eq v 0) (λ st. Gives Normal st) (λ st. within program n (DoIteration s c) context st) st)) (omega arith, omega arith, omega arith, omega arith) (omega arith)
         (λ mid after low kept held. do_tail s c pc mid after (omega arith) light has inner standing kept held)
-        (bih.run s (scopes.in_loop end again scope) z shapes context site base pc st store steps (omega arith) has.1 (inside_loop linear site.body scope site.regions pc end pc again (omega arith) (omega arith) (omega arith) inner) standing kept held)
+        (bih.run s (scopes.in_loop end again scope) z shapes context site base pc st store steps (omega arith) has.body (inside_loop linear site.body scope site.regions pc end pc again (omega arith) (omega arith) (omega arith) inner) standing kept held)

@@ -5,7 +5,7 @@ use Rattle.std.proofs.lemmas.List.{length_push, take_at, drop_at}
 use Rattle.std.specs.Prelude.{Bool, take, nat_eq, get_or, slice_get, if◌then◌else◌, Some, None}
 use Rattle.seh_num.specs.declared.width.Width.TheVariants.{W64}
 use Rattle.c_checked.specs.Expression as nodes
-use Rattle.c_checked.specs.Expression.{Expression, On, Node, Lvalue, Local, Global, Indirection, Element, Arguments, Done, Next}
+use Rattle.c_checked.specs.Expression.{Arguments, Done, Next}
 use Rattle.c_checked.specs.Program.{Program}
 use Rattle.c_model.specs.State.{State, Value, Outcome, Gives}
 use Rattle.c_model.specs.Tasks.{Context}
@@ -128,14 +128,14 @@ module _ (program : Program) (linear : LinearProgram) (pace body : ℕ) (same_gl
         let d = length temps in
         let w = 1 + arguments_weight es in
         let pc1 = pc + arguments_size es in
-        let fn = fits.1.0 in
+        let fn = fits.1.function in
         let end : pc1 + 1 ≡ pc + (arguments_size es + 1) = omega arith in
         let part = pushed context site (pc + (arguments_size es + 1)) temps in
         arguments_runs es (Call f d (argument_count es) ∷ []) pc temps st store 13 1 w part (λ vs st. enter (within program n) (slice_get program.functions f) vs context st) steps (omega arith) (omega arith) fits.0 has kept held
         (λ vs mid after len steps kept held last.
         subst (λ q. G pc1 (temps ++ vs) mid after 13 w w w (pushed context site q temps) (enter (within program n) (slice_get program.functions f) vs context mid)) end
-        (subst (λ o. G pc1 (temps ++ vs) mid after 13 w w w (pushed context site (pc1 + 1) temps) (enter (within program n) o vs context mid)) (sym fits.1.1)
-        (called_runs f fn (argument_count es) pc1 temps vs mid after w w fits.1.1 len fits.1.2 steps (omega arith) (omega arith) last kept held)))
+        (subst (λ o. G pc1 (temps ++ vs) mid after 13 w w w (pushed context site (pc1 + 1) temps) (enter (within program n) o vs context mid)) (sym fits.1.there)
+        (called_runs f fn (argument_count es) pc1 temps vs mid after w w fits.1.there len fits.1.takes steps (omega arith) (omega arith) last kept held)))
 
     -- ---- built-in functions
 

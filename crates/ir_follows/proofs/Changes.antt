@@ -8,7 +8,7 @@ use Rattle.c_checked.specs.declared.expression.Conversion.{Conversion}
 use Rattle.c_checked.specs.declared.expression.Fixity.{Fixity}
 use Rattle.c_checked.specs.declared.expression.Fixity.TheVariants.{Postfix, Prefix}
 use Rattle.c_checked.specs.Expression as nodes
-use Rattle.c_checked.specs.Expression.{Expression, On, Node, Lvalue, Local, Global, Indirection, Element, Arguments, Done, Next}
+use Rattle.c_checked.specs.Expression.{Expression, Lvalue, Local, Global, Indirection, Element}
 use Rattle.c_checked.specs.Program.{Program}
 use Rattle.c_model.specs.State.{State, Value, Outcome, Gives, with_value}
 use Rattle.c_model.specs.Tasks.{Context, Eval}

@@ -16,7 +16,7 @@ use Rattle.c_model.specs.Meaning.{within}
 use Rattle.linear_code.specs.declared.slot.Slot.TheVariants.{Temporary}
 use Rattle.linear_code.specs.declared.instruction.Instruction.TheVariants as instructions
 use Rattle.linear_code.specs.Program.{LinearProgram, LinearFunction}
-use Rattle.linear_machine.specs.Frames.{Resumption, Item, Waits, Store, Configuration, deeper, with_temporary}
+use Rattle.linear_machine.specs.Frames.{Resumption, Waits, Store, Configuration, deeper, with_temporary}
 use Rattle.linear_machine.specs.Frames as machine
 use Rattle.linear_machine.specs.Regions.{regions_at, handlers}
 use Rattle.linear_machine.specs.Searching.{begin_filter, raise, resumed, answered}

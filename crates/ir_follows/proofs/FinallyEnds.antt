@@ -14,7 +14,7 @@ use Rattle.linear_code.specs.declared.program.Region.{Region}
 use Rattle.linear_code.specs.declared.program.RegionKind.TheVariants as regions
 use Rattle.linear_code.specs.declared.program.FuncletKind.TheVariants as kinds
 use Rattle.linear_code.specs.Program.{LinearProgram}
-use Rattle.linear_machine.specs.Frames.{FuncletBody, Item, Waits, Unwinds, Store, Configuration, Finished, Next, with_some, set_local, local_of, deeper}
+use Rattle.linear_machine.specs.Frames.{Item, Waits, Unwinds, Store, Configuration, Finished, Next, with_some, deeper}
 use Rattle.linear_machine.specs.Frames as machine
 use Rattle.linear_machine.specs.Regions.{handlers_in, handlers}
 use Rattle.linear_machine.specs.Unwinding.{flag_in, flag_of, begin_finally, run_finally, target_past, unwind}
@@ -29,7 +29,7 @@ use Rattle.ir_expressions.specs.declared.scope.Names.{Names}
 use Rattle.ir_expressions.specs.declared.scope.Scope.{Scope}
 use Rattle.ir_expressions.specs.declared.scope.Way.TheVariants.{Nowhere, Jumps}
 use Rattle.ir_expressions.specs.declared.scope.Way.TheVariants.{Unwinds as UnwindsTo}
-use Rattle.ir_expressions.specs.Scope.{finally_names, finally_scope, in_guarded}
+use Rattle.ir_expressions.specs.Scope.{in_guarded}
 use Rattle.ir_expressions.specs.declared.scope.Way as jumps
 use Rattle.ir_expressions.specs.Scope as scopes
 use Rattle.seh_ir.specs.Regions.{region}
@@ -95,7 +95,7 @@ module _ (program : Program) (linear : LinearProgram) (pace body : ℕ) where
         after linear pace s s' from st 0 0 x (price 1 0 y y) (price 1 0 (x + y) (x + y)) w' (and_then (within program n (RunFinally k last true) context st) (λ st. Gives how st)) (omega arith, omega arith, omega arith)
         (onto linear pace s (unwound linear pace context inside to temps st store pc) s' from st 0 0 x
         (λ j. starts linear (exec linear j) to (λ store. unwind linear (exec linear j) (target_past site.body to) site.below None st.events store) begin (end + 1) (k - 1) site.regions (conf context site pc temps st store) forth o
-        ∙ run_is k scope.names true to.held below (exec linear j) (conf context site pc temps st store) placed.1) p)
+        ∙ run_is k scope.names true to.held below (exec linear j) (conf context site pc temps st store) placed.funclet) p)
         (then_held linear pace s' (λ mid store'. unwound linear pace context site to temps mid store' pc) to.held w' st (price 0 0 y y) (price 1 0 0 0) (price 1 0 y y) (within program n (RunFinally k last true) context st) (λ st. Gives how st)
         (omega arith, omega arith, omega arith, omega arith)
         (bih.finally_run k last true to.held below scope.names z shapes context site base pc temps st store steps light placed isf standing kept held) go)
@@ -111,7 +111,7 @@ module _ (program : Program) (linear : LinearProgram) (pace body : ℕ) where
         let walked : handlers linear below None ≡ found linear pace context site = ap (λ rs. handlers_in rs context.activation (length site.below) ++ handlers linear site.below None) has.1 in
         let isf : IsFunclet program linear pace body (k - 1) (finally_site (k - 1) below site.held) context site pc [] = record { named = refl; bare = refl; same_found = walked; onward = λ next target st store. unwound_is program linear pace body target context site pc [] st store next has.1 } in
         first linear pace (conf context site pc [] st store) s' st st (price 1 0 y y) (price 2 0 y y) w (within program n (RunFinally k last false) context st) (omega arith, omega arith, omega arith) refl refl (prefix_self linear pace st.events)
-        (λ j. fetch linear pace (conf context site pc [] st store) (CallFinally (k - 1)) j has.0 ∙ run_is k scope.names false site.held below (exec linear j) (conf context site pc [] st store) placed.1)
+        (λ j. fetch linear pace (conf context site pc [] st store) (CallFinally (k - 1)) j has.0 ∙ run_is k scope.names false site.held below (exec linear j) (conf context site pc [] st store) placed.funclet)
         (plain_then s' (λ st store. at (conf context site (pc + 1) [] st store)) w st (price 0 0 y y) (price 1 0 0 0) (price 1 0 y y) (within program n (RunFinally k last false) context st) (omega arith, omega arith, omega arith, omega arith)
         (bih.finally_run k last false site.held below scope.names z shapes context site base pc [] st store steps light placed isf standing kept held)
         (λ mid store' low kept' held'. record {

@@ -12,7 +12,7 @@ use Rattle.c_model.specs.Meaning.{within}
 use Rattle.linear_code.specs.declared.slot.Slot.TheVariants.{Temporary}
 use Rattle.linear_code.specs.declared.instruction.Instruction.TheVariants as instructions
 use Rattle.linear_code.specs.Program.{LinearProgram, LinearFunction}
-use Rattle.linear_machine.specs.Frames.{FunctionBody, Item, Waits, Store, Configuration, Finished, Next, with_some, deeper}
+use Rattle.linear_machine.specs.Frames.{FunctionBody, Item, Waits, Store, Finished, with_some, deeper}
 use Rattle.linear_machine.specs.Frames as machine
 use Rattle.linear_machine.specs.Regions.{regions_at, handlers_in, handlers}
 use Rattle.linear_machine.specs.Unwinding.{target_past, unwind}

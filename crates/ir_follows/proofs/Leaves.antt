@@ -5,7 +5,7 @@ use Rattle.c_operations.specs.declared.field.Field.{Field}
 use Rattle.c_operations.specs.declared.field.Field.TheVariants as fields
 use Rattle.c_operations.specs.declared.operation.Size.{Size}
 use Rattle.c_checked.specs.Expression as nodes
-use Rattle.c_checked.specs.Expression.{Expression, On, Node, Lvalue, Local, Global, Indirection, Element, Arguments, Done, Next}
+use Rattle.c_checked.specs.Expression.{Node}
 use Rattle.c_checked.specs.Program.{Program}
 use Rattle.c_model.specs.State.{State, Value, Outcome, Gives}
 use Rattle.c_model.specs.Tasks.{Context}
@@ -14,7 +14,7 @@ use Rattle.linear_code.specs.declared.slot.Slot.TheVariants.{Temporary, Local as
 use Rattle.linear_code.specs.declared.instruction.Instruction.{Instruction}
 use Rattle.linear_code.specs.declared.instruction.Instruction.TheVariants.{Information}
 use Rattle.linear_code.specs.Program.{LinearProgram}
-use Rattle.linear_machine.specs.Frames.{Store, Configuration, Seen, pick, with_temporary}
+use Rattle.linear_machine.specs.Frames.{Store, with_temporary}
 use Rattle.linear_machine.specs.Frames as machine
 use Rattle.linear_machine.specs.Run.{exec}
 use Rattle.linear_runs.proofs.Stretch.{Part, Site, conf}

@@ -8,12 +8,12 @@ use Rattle.c_operations.specs.declared.operation.Pure.{Pure}
 use Rattle.c_operations.specs.declared.operation.Pure.TheVariants as pures
 use Rattle.c_operations.specs.Numbers.{result_of}
 use Rattle.c_checked.specs.Expression as nodes
-use Rattle.c_checked.specs.Expression.{Expression, On, Node, Lvalue, Local, Global, Indirection, Element, Arguments, Done, Next}
+use Rattle.c_checked.specs.Expression.{Expression, Node}
 use Rattle.c_checked.specs.Program.{Program}
 use Rattle.c_model.specs.State.{State, Value, Outcome, Gives, choose, with_value}
 use Rattle.c_model.specs.Tasks.{Context, Eval}
 use Rattle.c_model.specs.Expressions as model
-use Rattle.c_model.specs.Expressions.{of_test, converted, operate, locate, read, write}
+use Rattle.c_model.specs.Expressions.{of_test, operate}
 use Rattle.c_model.specs.Meaning.{within}
 use Rattle.linear_code.specs.declared.slot.Slot.TheVariants.{Temporary}
 use Rattle.linear_code.specs.declared.instruction.Instruction.{Instruction}

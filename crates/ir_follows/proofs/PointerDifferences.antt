@@ -8,7 +8,7 @@ use Rattle.seh_num.specs.Widths.{low}
 use Rattle.c_operations.specs.declared.operation.Operation.TheVariants as operations
 use Rattle.c_operations.specs.declared.operation.Pure.TheVariants as pures
 use Rattle.c_checked.specs.Expression as nodes
-use Rattle.c_checked.specs.Expression.{Expression, On, Node, Lvalue, Local, Global, Indirection, Element, Arguments, Done, Next}
+use Rattle.c_checked.specs.Expression.{Expression}
 use Rattle.c_checked.specs.Program.{Program}
 use Rattle.c_model.specs.State.{State, Value, Gives}
 use Rattle.c_model.specs.Tasks.{Context}
@@ -96,7 +96,7 @@ module _ (program : Program) (linear : LinearProgram) (pace body : ℕ) (same_gl
         (λ x y mid after steps kept held last.
         let q = result_of (pures.Subtract Long) x y in
         let v = apart size x y in
-        let small : size < 2 ^ 64 = let s = fits.3 in omega arith in
+        let small : size < 2 ^ 64 = let s = fits.2.small in omega arith in
         turn program linear pace body same_globals roomy n ih names info z shapes context site base around pc2 (pc2 + 1) ((temps ++ x ∷ []) ++ y ∷ []) (temps ++ q ∷ []) mid after 12 debt w w part (Gives (Value v) mid)
         (λ k. pure_turn linear pace context site (pures.Subtract Long) d d (d + 1) x y (λ u. temps ++ u ∷ []) pc2 ((temps ++ x ∷ []) ++ y ∷ []) mid after k refl (last.0, last.1, tt) (combining temps x y))
         (turn program linear pace body same_globals roomy n ih names info z shapes context site base around (pc2 + 1) (pc2 + 1 + 1) (temps ++ q ∷ []) ((temps ++ q ∷ []) ++ size ∷ []) mid after 11 debt w w part (Gives (Value v) mid)
@@ -104,6 +104,6 @@ module _ (program : Program) (linear : LinearProgram) (pace body : ℕ) (same_gl
         (turn program linear pace body same_globals roomy n ih names info z shapes context site base around (pc2 + 1 + 1) (pc2 + 1 + 1 + 1) ((temps ++ q ∷ []) ++ size ∷ []) (temps ++ v ∷ []) mid after 10 debt w w part (Gives (Value v) mid)
         (λ k.
         computes linear pace context site (operations.Divide Signed Long) d d (d + 1) q size (λ u. temps ++ u ∷ []) (pc2 + 1 + 1) ((temps ++ q ∷ []) ++ size ∷ []) mid after k refl last.2.2 (combining temps q size)
-        ∙ ap (computed linear (exec linear k) (Temporary d) (conf context site (pc2 + 1 + 1) ((temps ++ q ∷ []) ++ size ∷ []) mid after)) (divides (is_reserved linear.globals) q size after.memory fits.2 fits.3)
+        ∙ ap (computed linear (exec linear k) (Temporary d) (conf context site (pc2 + 1 + 1) ((temps ++ q ∷ []) ++ size ∷ []) mid after)) (divides (is_reserved linear.globals) q size after.memory fits.2.positive fits.2.small)
         ∙ computed_gives linear pace context site d (pc2 + 1 + 1) ((temps ++ q ∷ []) ++ size ∷ []) (temps ++ v ∷ []) mid after v after.memory (exec linear k) ((combining temps q size).writes v))
         (here_other program linear pace body same_globals roomy n ih names info z shapes context site base around (pc2 + 1 + 1 + 1) last_pc temps v mid after 10 debt w w end (omega arith) kept held))))

@@ -5,7 +5,7 @@ use Rattle.std.proofs.lemmas.List.{get_or-set_same, get_or-set_other, length-tak
 use Rattle.std.proofs.lemmas.Option.{slice_get_within}
 use Rattle.std.specs.Prelude.{get_or, set, take, slice_get, Some, None}
 use Rattle.flat_memory.specs.Memory.{Memory}
-use Rattle.c_model.specs.State.{State, frame_of}
+use Rattle.c_model.specs.State.{State}
 use Rattle.c_model.specs.State as model
 use Rattle.linear_machine.specs.Frames.{Store, set_local}
 

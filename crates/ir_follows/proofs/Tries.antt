@@ -10,7 +10,7 @@ use Rattle.linear_code.specs.declared.program.Region.{Region}
 use Rattle.linear_code.specs.declared.program.RegionKind.{RegionKind}
 use Rattle.linear_code.specs.declared.program.RegionKind.TheVariants as regions
 use Rattle.linear_code.specs.Program.{LinearProgram}
-use Rattle.linear_machine.specs.Frames.{BodyName, FuncletBody, Item, Waits, Unwinds, Store, Configuration, Seen, Finished, Next, with_some, set_local, deeper}
+use Rattle.linear_machine.specs.Frames.{BodyName, Unwinds, Store, set_local}
 use Rattle.linear_machine.specs.Frames as machine
 use Rattle.linear_machine.specs.Regions.{handlers_of}
 use Rattle.linear_runs.proofs.Stretch.{Part, Site, Picked, Kept, Price, found, Arrives, Claim}
@@ -20,7 +20,7 @@ use Rattle.ir_expressions.specs.declared.scope.ExceptionSource.{ExceptionSource}
 use Rattle.ir_expressions.specs.declared.scope.Scope.{Scope}
 use Rattle.ir_expressions.specs.declared.scope.ExceptionSource.TheVariants.{NoException, OfFilter, KeptIn}
 use Rattle.ir_expressions.specs.declared.scope.Way.TheVariants.{Nowhere, Jumps, Unwinds}
-use Rattle.ir_expressions.specs.Scope.{except_names, filter_names, finally_names, finally_scope, in_try, in_except, in_guarded}
+use Rattle.ir_expressions.specs.Scope.{except_names, filter_names, finally_names, in_try, in_except, in_guarded}
 use Rattle.ir_expressions.specs.declared.scope.Way as jumps
 use Rattle.ir_expressions.specs.Scope as scopes
 use Rattle.seh_ir.specs.Regions.{except_kind, region}
@@ -212,18 +212,18 @@ module _ (program : Program) (linear : LinearProgram) (pace body : ℕ) where
             (
               refl,
               record {
-                number = f.0;
-                funclet = f.1.0;
-                there = f.1.1;
-                kind = f.1.2;
+                number = f.numbered;
+                funclet = f.funclet.0;
+                there = f.funclet.1;
+                kind = f.funclet.2;
                 names = filter_names names;
                 source = refl;
                 shape = z;
                 has_shape = s.env.shape;
                 flag = s.env.flag;
-                code = f.2;
-                fits = f.3;
-                light = f.4;
+                code = f.code;
+                fits = f.fits;
+                light = f.light;
               },
             ),
             s.env.handlers,

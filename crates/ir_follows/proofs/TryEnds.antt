@@ -12,7 +12,7 @@ use Rattle.linear_code.specs.declared.slot.Slot.TheVariants.{Local}
 use Rattle.linear_code.specs.declared.instruction.Instruction.TheVariants.{Jump, Landing}
 use Rattle.linear_code.specs.declared.program.Region.{Region}
 use Rattle.linear_code.specs.Program.{LinearProgram}
-use Rattle.linear_machine.specs.Frames.{BodyName, FuncletBody, Item, Waits, Unwinds, Store, Configuration, Seen, Finished, Next, with_some, set_local, deeper}
+use Rattle.linear_machine.specs.Frames.{Unwinds, Store, Configuration, Finished, with_some, set_local}
 use Rattle.linear_machine.specs.Frames as machine
 use Rattle.linear_machine.specs.Regions.{handlers_in, handlers}
 use Rattle.linear_machine.specs.Unwinding.{target_past, unwind}

@@ -10,10 +10,15 @@ use Rattle.linear_machine.specs.Instructions.{is_constant, count_of}
 use Rattle.ir_expressions.specs.Expressions.{argument_count}
 
 -- a function that takes so many arguments
-abbrev pub IsCalled : Program → ℕ → ℕ → Type 0
-IsCalled program f count =
-    (function : Function) × (slice_get program.functions f ≡ Some function)
-    × (count ≡ length function.parameters)
+pub record IsCalled (program : Program) (f count : ℕ) : Type 0 where
+  pub function : Function
+  pub there : slice_get program.functions f ≡ Some function
+  pub takes : count ≡ length function.parameters
+
+-- the size of what pointers that are subtracted point to
+pub record IsElementSize (n : ℕ) : Type 0 where
+  pub positive : 0 < n
+  pub small : n < 2 ^ 63
 
 -- in a function with so many locals; the flag says that an exception's fields may be read
 abbrev mutual
@@ -49,7 +54,7 @@ abbrev mutual
       ExpressionFits program own info e × ExpressionFits program own info f
       × (is_constant o ≡ false)
   NodeFits program own info (nodes.PointerDifference n e f) =
-      ExpressionFits program own info e × ExpressionFits program own info f × (0 < n) × (n < 2 ^ 63)
+      ExpressionFits program own info e × ExpressionFits program own info f × IsElementSize n
   NodeFits program own info (nodes.Not e) = ExpressionFits program own info e
   NodeFits program own info (nodes.And e f) =
       ExpressionFits program own info e × ExpressionFits program own info f

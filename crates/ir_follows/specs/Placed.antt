@@ -50,6 +50,70 @@ for_end c next s iteration =
 abbrev pub do_end : Statement → Expression → ℕ → ℕ
 do_end s c at = at + statement_size s + 1 + expression_size c + 2
 
+-- ---- what is said of the parts of a statement, by their names
+
+pub record FilterParts (Numbered Kind Code Fits Light : Type 0) : Type 0 where
+  pub numbered : Numbered
+  pub funclet : Kind
+  pub code : Code
+  pub fits : Fits
+  pub light : Light
+
+pub record IfElseParts (Condition Test Yes Skip No : Type 0) : Type 0 where
+  pub condition : Condition
+  pub test : Test
+  pub yes : Yes
+  pub skip : Skip
+  pub no : No
+
+-- what is declared and evaluated first, and the iterations
+pub record ForParts (Declared' First Begins Iterations : Type 0) : Type 0 where
+  pub declared : Declared'
+  pub first : First
+  pub begins : Begins
+  pub iterations : Iterations
+
+pub record IterationParts (Condition Next Tests Body End Steps Repeats : Type 0) : Type 0 where
+  pub condition : Condition
+  pub next : Next
+  pub tests : Tests
+  pub body : Body
+  pub end : End
+  pub steps : Steps
+  pub repeats : Repeats
+
+pub record DoParts (Condition Body End Tests Repeats : Type 0) : Type 0 where
+  pub condition : Condition
+  pub body : Body
+  pub end : End
+  pub tests : Tests
+  pub repeats : Repeats
+
+pub record ReturnParts (Value Computes Returns Leads : Type 0) : Type 0 where
+  pub value : Value
+  pub computes : Computes
+  pub returns : Returns
+  pub leads : Leads
+
+pub record ExceptParts (Body End Landing' Block' Filter' : Type 0) : Type 0 where
+  pub body : Body
+  pub end : End
+  pub landing : Landing'
+  pub block : Block'
+  pub filter : Filter'
+
+pub record GuardedParts (Body End Calls Block' : Type 0) : Type 0 where
+  pub body : Body
+  pub end : End
+  pub calls : Calls
+  pub block : Block'
+
+pub record FinallyParts (Numbered Kind Code Returns : Type 0) : Type 0 where
+  pub numbered : Numbered
+  pub funclet : Kind
+  pub code : Code
+  pub returns : Returns
+
 -- in a function with so many locals
 module _ (program : Program) (linear : LinearProgram) (pace body own : ℕ) where
   abbrev pub OptionalFits : Option Expression → Type 0
@@ -59,10 +123,11 @@ module _ (program : Program) (linear : LinearProgram) (pace body own : ℕ) wher
   abbrev pub FilterPlaced : Names → Filter → Type 0
   FilterPlaced names Always = Unit {0}
   FilterPlaced names (Funclet k e) =
-      (k ≡ k - 1 + 1) × HasFunclet linear (k - 1) (λ funclet. funclet.kind ≡ kinds.Filter)
-      × HasAt linear (FuncletBody (k - 1)) [] 0
-      (expression_code (filter_names names) e 0 0 ++ Return (Temporary 0) ∷ [])
-      × ExpressionFits program own true e × (expression_weight e + body + 4 ≤ pace)
+      FilterParts (k ≡ k - 1 + 1)
+      (HasFunclet linear (k - 1) (λ funclet. funclet.kind ≡ kinds.Filter))
+      (HasAt linear (FuncletBody (k - 1)) [] 0
+      (expression_code (filter_names names) e 0 0 ++ Return (Temporary 0) ∷ []))
+      (ExpressionFits program own true e) (expression_weight e + body + 4 ≤ pace)
 
   abbrev pub DeclaredPlaced : BodyName → Names → Declared → List Region → ℕ → Type 0
   DeclaredPlaced b names d rs at =
@@ -88,36 +153,37 @@ module _ (program : Program) (linear : LinearProgram) (pace body own : ℕ) wher
     Placed b scope (IfElse c s t) rs at =
         let then = at + expression_size c + 1 in
         let otherwise = then + statement_size s + 1 in
-        ExpressionFits program own false c
-        × HasAt linear b rs at (expression_code scope.names c 0 at
-        ++ JumpIfZero (Temporary 0) otherwise ∷ []) × Placed b scope s rs then
-        × HasAt linear b rs (then + statement_size s) (Jump (otherwise + statement_size t) ∷ [])
-        × Placed b scope t rs otherwise
+        IfElseParts (ExpressionFits program own false c)
+        (HasAt linear b rs at (expression_code scope.names c 0 at
+        ++ JumpIfZero (Temporary 0) otherwise ∷ []))
+        (Placed b scope s rs then)
+        (HasAt linear b rs (then + statement_size s) (Jump (otherwise + statement_size t) ∷ []))
+        (Placed b scope t rs otherwise)
     Placed b scope (For ds first c next s) rs at =
         let begin = at + all_declared_size ds in
         let iteration = begin + discarded_size first in
         let start = iteration + condition_size c in
         let again = start + statement_size s in
         let end = for_end c next s iteration in
-        AllDeclaredPlaced b scope.names ds rs at × OptionalFits first
-        × HasAt linear b rs begin (discarded_code scope.names first begin)
-        × (OptionalFits c × OptionalFits next
-        × HasAt linear b rs iteration (condition_code scope.names c end iteration)
-        × Placed b (in_loop end again scope) s rs start
-        × HasAt linear b rs again (Separator ∷ [])
-        × HasAt linear b rs (again + 1) (discarded_code scope.names next (again + 1))
-        × HasAt linear b rs (again + 1 + discarded_size next) (Jump iteration ∷ []))
+        ForParts (AllDeclaredPlaced b scope.names ds rs at) (OptionalFits first)
+        (HasAt linear b rs begin (discarded_code scope.names first begin))
+        (IterationParts (OptionalFits c) (OptionalFits next)
+        (HasAt linear b rs iteration (condition_code scope.names c end iteration))
+        (Placed b (in_loop end again scope) s rs start)
+        (HasAt linear b rs again (Separator ∷ []))
+        (HasAt linear b rs (again + 1) (discarded_code scope.names next (again + 1)))
+        (HasAt linear b rs (again + 1 + discarded_size next) (Jump iteration ∷ [])))
     Placed b scope (DoWhile s c) rs at =
         let again = at + statement_size s in
         let end = do_end s c at in
-        ExpressionFits program own false c × Placed b (in_loop end again scope) s rs at
-        × HasAt linear b rs again (Separator ∷ [])
-        × HasAt linear b rs (again + 1) (expression_code scope.names c 0 (again + 1)
-        ++ JumpIfZero (Temporary 0) end ∷ [])
-        × HasAt linear b rs (again + 1 + expression_size c + 1) (Jump at ∷ [])
+        DoParts (ExpressionFits program own false c) (Placed b (in_loop end again scope) s rs at)
+        (HasAt linear b rs again (Separator ∷ []))
+        (HasAt linear b rs (again + 1) (expression_code scope.names c 0 (again + 1)
+        ++ JumpIfZero (Temporary 0) end ∷ []))
+        (HasAt linear b rs (again + 1 + expression_size c + 1) (Jump at ∷ []))
     Placed b scope (statements.Return e) rs at =
-        OptionalFits e × HasAt linear b rs at (returned_code scope.names e at)
-        × HasAt linear b rs (at + returned_size e) (return_code scope.exit) × IsWay scope.exit
+        ReturnParts (OptionalFits e) (HasAt linear b rs at (returned_code scope.names e at))
+        (HasAt linear b rs (at + returned_size e) (return_code scope.exit)) (IsWay scope.exit)
     Placed b scope Break rs at =
         IsWay scope.loop_end × HasAt linear b rs at (jump_code scope.loop_end)
     Placed b scope Continue rs at =
@@ -127,22 +193,25 @@ module _ (program : Program) (linear : LinearProgram) (pace body own : ℕ) wher
     Placed b scope (TryExcept body filter block) rs at =
         let target = at + statements_size body + 1 in
         let end = target + 1 + statements_size block in
-        AllPlaced b (in_try end scope) body (region at target (except_kind filter target) ∷ rs) at
-        × HasAt linear b (region at target (except_kind filter target) ∷ rs)
-        (at + statements_size body) (Jump end ∷ [])
-        × HasAt linear b rs target (Landing (Local scope.names.free) ∷ [])
-        × AllPlaced b (in_except scope) block rs (target + 1) × FilterPlaced scope.names filter
+        ExceptParts
+        (AllPlaced b (in_try end scope) body
+        (region at target (except_kind filter target) ∷ rs) at)
+        (HasAt linear b (region at target (except_kind filter target) ∷ rs)
+        (at + statements_size body) (Jump end ∷ []))
+        (HasAt linear b rs target (Landing (Local scope.names.free) ∷ []))
+        (AllPlaced b (in_except scope) block rs (target + 1)) (FilterPlaced scope.names filter)
     Placed b scope (TryFinally body k last) rs at =
         let end = at + statements_size body in
-        AllPlaced b (in_guarded end scope) body
-        (region at (end + 1) (regions.Finally (k - 1)) ∷ rs) at
-        × HasAt linear b (region at (end + 1) (regions.Finally (k - 1)) ∷ rs) end (Separator ∷ [])
-        × HasAt linear b rs (end + 1) (CallFinally (k - 1) ∷ Separator ∷ [])
-        × ((k ≡ k - 1 + 1) × HasFunclet linear (k - 1) (λ funclet. funclet.kind
-        ≡ kinds.Finally scope.names.free)
-        × AllPlaced (FuncletBody (k - 1)) (finally_scope scope.names) last [] 0
-        × HasAt linear (FuncletBody (k - 1)) [] (statements_size last)
-        (Return (Local scope.names.free) ∷ []))
+        GuardedParts
+        (AllPlaced b (in_guarded end scope) body
+        (region at (end + 1) (regions.Finally (k - 1)) ∷ rs) at)
+        (HasAt linear b (region at (end + 1) (regions.Finally (k - 1)) ∷ rs) end (Separator ∷ []))
+        (HasAt linear b rs (end + 1) (CallFinally (k - 1) ∷ Separator ∷ []))
+        (FinallyParts (k ≡ k - 1 + 1)
+        (HasFunclet linear (k - 1) (λ funclet. funclet.kind ≡ kinds.Finally scope.names.free))
+        (AllPlaced (FuncletBody (k - 1)) (finally_scope scope.names) last [] 0)
+        (HasAt linear (FuncletBody (k - 1)) [] (statements_size last)
+        (Return (Local scope.names.free) ∷ [])))
 
     pub AllPlaced : BodyName → Scope → Statements → List Region → ℕ → Type 0
     AllPlaced b scope Empty rs at = Unit {0}
@@ -155,30 +224,23 @@ module _ (program : Program) (linear : LinearProgram) (pace body own : ℕ) wher
       let start = at + condition_size c in
       let again = start + statement_size s in
       let end = for_end c next s at in
-      OptionalFits c × OptionalFits next
-      × HasAt linear b rs at (condition_code scope.names c end at)
-      × Placed b (in_loop end again scope) s rs start
-      × HasAt linear b rs again (Separator ∷ [])
-      × HasAt linear b rs (again + 1) (discarded_code scope.names next (again + 1))
-      × HasAt linear b rs (again + 1 + discarded_size next) (Jump at ∷ [])
+      IterationParts (OptionalFits c) (OptionalFits next)
+      (HasAt linear b rs at (condition_code scope.names c end at))
+      (Placed b (in_loop end again scope) s rs start)
+      (HasAt linear b rs again (Separator ∷ []))
+      (HasAt linear b rs (again + 1) (discarded_code scope.names next (again + 1)))
+      (HasAt linear b rs (again + 1 + discarded_size next) (Jump at ∷ []))
 
   abbrev pub DoPlaced : BodyName → Scope → Statement → Expression → List Region → ℕ → Type 0
-  DoPlaced b scope s c rs at =
-      let again = at + statement_size s in
-      let end = do_end s c at in
-      ExpressionFits program own false c × Placed b (in_loop end again scope) s rs at
-      × HasAt linear b rs again (Separator ∷ [])
-      × HasAt linear b rs (again + 1) (expression_code scope.names c 0 (again + 1)
-      ++ JumpIfZero (Temporary 0) end ∷ [])
-      × HasAt linear b rs (again + 1 + expression_size c + 1) (Jump at ∷ [])
+  DoPlaced b scope s c rs at = Placed b scope (DoWhile s c) rs at
 
   abbrev pub FinallyPlaced : Names → ℕ → Statements → Type 0
   FinallyPlaced names k last =
-      (k ≡ k - 1 + 1) × HasFunclet linear (k - 1) (λ funclet. funclet.kind
-      ≡ kinds.Finally names.free) × AllPlaced (FuncletBody (k - 1))
-      (finally_scope names) last [] 0
-      × HasAt linear (FuncletBody (k - 1)) [] (statements_size last)
-      (Return (Local names.free) ∷ [])
+      FinallyParts (k ≡ k - 1 + 1)
+      (HasFunclet linear (k - 1) (λ funclet. funclet.kind ≡ kinds.Finally names.free))
+      (AllPlaced (FuncletBody (k - 1)) (finally_scope names) last [] 0)
+      (HasAt linear (FuncletBody (k - 1)) [] (statements_size last)
+      (Return (Local names.free) ∷ []))
 
 module _ (program : Program) (linear : LinearProgram) (pace body : ℕ) where
   -- a function of this number stands in the linear code

@@ -6,7 +6,7 @@ use Rattle.c_operations.specs.declared.operation.Size.{Size}
 use Rattle.c_operations.specs.declared.operation.Size.TheVariants.{Int, Long}
 use Rattle.c_checked.specs.Program.{Program, Function}
 use Rattle.c_checked.specs.Sound as sound
-use Rattle.c_checked.specs.Sound.{Inside, IsSound, are_sizes, some_sizes, funclets, count_up, function_sound, functions_sound, main_sound, statements_sound}
+use Rattle.c_checked.specs.Sound.{Inside, are_sizes, some_sizes, funclets, count_up, function_sound, functions_sound, main_sound}
 use Rattle.linear_code.specs.declared.slot.Slot.TheVariants.{Temporary}
 use Rattle.linear_code.specs.declared.instruction.Instruction.TheVariants as instructions
 use Rattle.linear_machine.specs.Frames.{FunctionBody, function_body, body_of}

@@ -5,7 +5,7 @@ use Rattle.std.specs.Prelude.{true, false, slice_get, Option, Some, None}
 use Rattle.c_operations.specs.declared.operation.Size.{Size}
 use Rattle.c_checked.specs.Expression.{Expression}
 use Rattle.c_checked.specs.Program.{Program}
-use Rattle.c_checked.specs.Sound.{Inside, funclets_in, funclets, filter_funclet, count_up, optional_sound, condition_sound, test_sound, value_fits, declared_sound, all_declared_sound, result_sound, filter_sound, statement_sound, statements_sound}
+use Rattle.c_checked.specs.Sound.{Inside, funclets_in, funclets, filter_funclet, count_up, optional_sound, test_sound, value_fits, declared_sound, all_declared_sound, result_sound, filter_sound, statement_sound, statements_sound}
 use Rattle.c_checked.specs.Sound as sound
 use Rattle.c_checked.specs.Statement.{Declared, Filter, Always, Funclet, Statement, Declare, Block, Evaluate, If, IfElse, For, DoWhile, Return, Break, Continue, Leave, TryExcept, TryFinally, Statements, Empty, Then}
 use Rattle.linear_code.specs.declared.slot.Slot.TheVariants.{Local, Temporary}
@@ -166,13 +166,13 @@ module _ (program : Program) (linear : LinearProgram) (pace most own : ℕ) wher
         let same : k - 1 ≡ j = omega arith in
         let there : slice_get linear.funclets (k - 1) ≡ Some funclet = ap (slice_get linear.funclets) same ∙ h.0 in
         let home : body_of linear (FuncletBody (k - 1)) ≡ Some funclet.body = ap funclet_body there in
-        let knows : Knows program own true (record i.scope { code = true; information = true }) = record { functions = a.knows.functions; sizes = a.knows.sizes; information = refl } in (
-          omega arith,
-          (funclet, there, refl),
-          code_stands (FuncletBody (k - 1)) funclet.body home [] 0 funclet.body.code (stands_itself funclet.body.code) (whole_cover (FuncletBody (k - 1)) funclet.body home 0 (0 + length funclet.body.code)),
-          expression_fits program own true (record i.scope { code = true; information = true }) knows e (both_left _ _ ok),
-          omega arith,
-        )
+        let knows : Knows program own true (record i.scope { code = true; information = true }) = record { functions = a.knows.functions; sizes = a.knows.sizes; information = refl } in record {
+          numbered = omega arith;
+          funclet = (funclet, there, refl);
+          code = code_stands (FuncletBody (k - 1)) funclet.body home [] 0 funclet.body.code (stands_itself funclet.body.code) (whole_cover (FuncletBody (k - 1)) funclet.body home 0 (0 + length funclet.body.code));
+          fits = expression_fits program own true (record i.scope { code = true; information = true }) knows e (both_left _ _ ok);
+          light = omega arith;
+        }
 
     -- ---- statements
 
@@ -215,19 +215,19 @@ module _ (program : Program) (linear : LinearProgram) (pace most own : ℕ) wher
           let count = statement_count owner scope.names s in
           let after = (back lb.code at (at + expression_size t) code (test ∷ (yes ++ skip ∷ no)) (omega arith) h).1 in
           let second_part = back lb.code then (then + statement_size s) yes (skip ∷ no) (omega arith) after in
-          let at_skip = then + statement_size s in (
-            expression_fits program own false i.scope a.knows t (both_left _ _ (both_left _ _ (both_left _ _ ok))),
-            code_stands b lb there rs at (code ++ test ∷ []) (with_next lb.code at code test (yes ++ skip ∷ no) h)
-                (λ q lo hi. bare b rs (ry ++ rn) q (right_only ry rn q (outside s then q (inl (omega arith))) ∙ outside u otherwise q (inl (omega arith))) (c q lo (omega arith))),
-            place s b lb there i scope a owner rs then j (both_right _ _ (both_left _ _ ok)) (omega arith) (front lb.code then yes (skip ∷ no) after)
+          let at_skip = then + statement_size s in record {
+            condition = expression_fits program own false i.scope a.knows t (both_left _ _ (both_left _ _ (both_left _ _ ok)));
+            test = code_stands b lb there rs at (code ++ test ∷ []) (with_next lb.code at code test (yes ++ skip ∷ no) h)
+                (λ q lo hi. bare b rs (ry ++ rn) q (right_only ry rn q (outside s then q (inl (omega arith))) ∙ outside u otherwise q (inl (omega arith))) (c q lo (omega arith)));
+            yes = place s b lb there i scope a owner rs then j (both_right _ _ (both_left _ _ ok)) (omega arith) (front lb.code then yes (skip ∷ no) after)
                 (λ q lo hi. part b rs (ry ++ rn) ry q (left_only ry rn q (outside u otherwise q (inl (omega arith)))) (c q (omega arith) (omega arith)))
-                (front linear.funclets j fy fn f) (count_front (j + 1) (funclets_in s) (funclets_in u) n),
-            code_stands b lb there rs at_skip (skip ∷ []) (second_part.0, tt)
-                (λ q lo hi. bare b rs (ry ++ rn) q (right_only ry rn q (outside s then q (inr (omega arith))) ∙ outside u otherwise q (inl (omega arith))) (c q (omega arith) (omega arith))),
-            place u b lb there i scope a owner rs otherwise (j + length fy) (both_right _ _ ok) (omega arith) second_part.1
+                (front linear.funclets j fy fn f) (count_front (j + 1) (funclets_in s) (funclets_in u) n);
+            skip = code_stands b lb there rs at_skip (skip ∷ []) (second_part.0, tt)
+                (λ q lo hi. bare b rs (ry ++ rn) q (right_only ry rn q (outside s then q (inr (omega arith))) ∙ outside u otherwise q (inl (omega arith))) (c q (omega arith) (omega arith)));
+            no = place u b lb there i scope a owner rs otherwise (j + length fy) (both_right _ _ ok) (omega arith) second_part.1
                 (λ q lo hi. part b rs (ry ++ rn) rn q (right_only ry rn q (outside s then q (inr (omega arith)))) (c q (omega arith) (omega arith)))
-                (back linear.funclets j (j + length fy) fy fn refl f) (count_back (j + 1) (j + length fy + 1) (funclets_in s) (funclets_in u) (omega arith) n),
-          )
+                (back linear.funclets j (j + length fy) fy fn refl f) (count_back (j + 1) (j + length fy + 1) (funclets_in s) (funclets_in u) (omega arith) n);
+          }
       place (For ds first' t next s) b lb there i scope a owner rs at j ok light h c f n =
           let names = scope.names in
           let begin = at + all_declared_size ds in
@@ -254,20 +254,20 @@ module _ (program : Program) (linear : LinearProgram) (pace most own : ℕ) wher
           let h5 = back lb.code (again + 1) (again + 1 + discarded_size next) steps repeat (omega arith) h4.1 in
           let r = statement_regions s start in
           let before = λ (q : ℕ) (lo : at ≤ q) (hi : q < start). bare b rs r q (outside s start q (inl hi)) (c q lo (omega arith)) in
-          let following = λ (q : ℕ) (lo : again ≤ q) (hi : q < end). bare b rs r q (outside s start q (inr lo)) (c q (omega arith) (omega arith)) in (
-            all_declared_placed b lb there i.scope a.knows names ds rs at (both_left _ _ (both_left _ _ (both_left _ _ (both_left _ _ ok)))) (front lb.code at declares _ h) (λ q lo hi. before q lo (omega arith)),
-            optional_fits i.scope a.knows first' (both_right _ _ (both_left _ _ (both_left _ _ (both_left _ _ ok)))),
-            code_stands b lb there rs begin begins (front lb.code begin begins _ h1) (λ q lo hi. before q (omega arith) (omega arith)),
-            (
-              test_fits i.scope a.knows t (both_right _ _ (both_left _ _ (both_left _ _ ok))),
-              optional_fits i.scope a.knows next (both_right _ _ (both_left _ _ ok)),
-              code_stands b lb there rs iteration tests (front lb.code iteration tests _ h2) (λ q lo hi. before q (omega arith) (omega arith)),
-              place s b lb there (record i { loop = true }) inner (loop_alike i scope end again a) owner rs start j (both_right _ _ ok) (omega arith) (front lb.code start body _ h3) (λ q lo hi. c q (omega arith) (omega arith)) f n,
-              code_stands b lb there rs again (Separator ∷ []) (h4.0, tt) (λ q lo hi. following q lo (omega arith)),
-              code_stands b lb there rs (again + 1) steps (front lb.code (again + 1) steps repeat h4.1) (λ q lo hi. following q (omega arith) (omega arith)),
-              code_stands b lb there rs (again + 1 + discarded_size next) repeat h5 (λ q lo hi. following q (omega arith) (omega arith)),
-            ),
-          )
+          let following = λ (q : ℕ) (lo : again ≤ q) (hi : q < end). bare b rs r q (outside s start q (inr lo)) (c q (omega arith) (omega arith)) in record {
+            declared = all_declared_placed b lb there i.scope a.knows names ds rs at (both_left _ _ (both_left _ _ (both_left _ _ (both_left _ _ ok)))) (front lb.code at declares _ h) (λ q lo hi. before q lo (omega arith));
+            first = optional_fits i.scope a.knows first' (both_right _ _ (both_left _ _ (both_left _ _ (both_left _ _ ok))));
+            begins = code_stands b lb there rs begin begins (front lb.code begin begins _ h1) (λ q lo hi. before q (omega arith) (omega arith));
+            iterations = record {
+              condition = test_fits i.scope a.knows t (both_right _ _ (both_left _ _ (both_left _ _ ok)));
+              next = optional_fits i.scope a.knows next (both_right _ _ (both_left _ _ ok));
+              tests = code_stands b lb there rs iteration tests (front lb.code iteration tests _ h2) (λ q lo hi. before q (omega arith) (omega arith));
+              body = place s b lb there (record i { loop = true }) inner (loop_alike i scope end again a) owner rs start j (both_right _ _ ok) (omega arith) (front lb.code start body _ h3) (λ q lo hi. c q (omega arith) (omega arith)) f n;
+              end = code_stands b lb there rs again (Separator ∷ []) (h4.0, tt) (λ q lo hi. following q lo (omega arith));
+              steps = code_stands b lb there rs (again + 1) steps (front lb.code (again + 1) steps repeat h4.1) (λ q lo hi. following q (omega arith) (omega arith));
+              repeats = code_stands b lb there rs (again + 1 + discarded_size next) repeat h5 (λ q lo hi. following q (omega arith) (omega arith));
+            };
+          }
       place (DoWhile s t) b lb there i scope a owner rs at j ok light h c f n =
           let names = scope.names in
           let again = at + statement_size s in
@@ -282,22 +282,22 @@ module _ (program : Program) (linear : LinearProgram) (pace most own : ℕ) wher
           let h1 = back lb.code at again body (Separator ∷ (code ++ repeated end at)) (omega arith) h in
           let h2 = back lb.code (again + 1) (again + 1 + expression_size t) code (repeated end at) (omega arith) h1.1 in
           let r = statement_regions s at in
-          let following = λ (q : ℕ) (lo : again ≤ q) (hi : q < end). bare b rs r q (outside s at q (inr lo)) (c q (omega arith) (omega arith)) in (
-            expression_fits program own false i.scope a.knows t (both_left _ _ (both_left _ _ ok)),
-            place s b lb there (record i { loop = true }) inner (loop_alike i scope end again a) owner rs at j (both_right _ _ ok) (omega arith) (front lb.code at body _ h) (λ q lo hi. c q lo (omega arith)) f n,
-            code_stands b lb there rs again (Separator ∷ []) (h1.0, tt) (λ q lo hi. following q lo (omega arith)),
-            code_stands b lb there rs (again + 1) (code ++ test ∷ []) (with_next lb.code (again + 1) code test (Jump at ∷ []) h1.1) (λ q lo hi. following q (omega arith) (omega arith)),
-            code_stands b lb there rs (again + 1 + expression_size t + 1) (Jump at ∷ []) h2.1 (λ q lo hi. following q (omega arith) (omega arith)),
-          )
+          let following = λ (q : ℕ) (lo : again ≤ q) (hi : q < end). bare b rs r q (outside s at q (inr lo)) (c q (omega arith) (omega arith)) in record {
+            condition = expression_fits program own false i.scope a.knows t (both_left _ _ (both_left _ _ ok));
+            body = place s b lb there (record i { loop = true }) inner (loop_alike i scope end again a) owner rs at j (both_right _ _ ok) (omega arith) (front lb.code at body _ h) (λ q lo hi. c q lo (omega arith)) f n;
+            end = code_stands b lb there rs again (Separator ∷ []) (h1.0, tt) (λ q lo hi. following q lo (omega arith));
+            tests = code_stands b lb there rs (again + 1) (code ++ test ∷ []) (with_next lb.code (again + 1) code test (Jump at ∷ []) h1.1) (λ q lo hi. following q (omega arith) (omega arith));
+            repeats = code_stands b lb there rs (again + 1 + expression_size t + 1) (Jump at ∷ []) h2.1 (λ q lo hi. following q (omega arith) (omega arith));
+          }
       place (Return e) b lb there i scope a owner rs at j ok light h c f n =
           let code = returned_code scope.names e at in
           let l = returned_length scope.names e at in
-          let m = return_length scope.exit in (
-            result_fits i a.knows e (both_right _ _ ok),
-            code_stands b lb there rs at code (front lb.code at code (return_code scope.exit) h) (λ q lo hi. c q lo (omega arith)),
-            code_stands b lb there rs (at + returned_size e) (return_code scope.exit) (back lb.code at (at + returned_size e) code (return_code scope.exit) (omega arith) h) (λ q lo hi. c q (omega arith) (omega arith)),
-            a.exits (both_left _ _ ok),
-          )
+          let m = return_length scope.exit in record {
+            value = result_fits i a.knows e (both_right _ _ ok);
+            computes = code_stands b lb there rs at code (front lb.code at code (return_code scope.exit) h) (λ q lo hi. c q lo (omega arith));
+            returns = code_stands b lb there rs (at + returned_size e) (return_code scope.exit) (back lb.code at (at + returned_size e) code (return_code scope.exit) (omega arith) h) (λ q lo hi. c q (omega arith) (omega arith));
+            leads = a.exits (both_left _ _ ok);
+          }
       place Break b lb there i scope a owner rs at j ok light h c f n =
           let l = jump_length scope.loop_end in
           (a.ends ok, code_stands b lb there rs at (jump_code scope.loop_end) h (λ q lo hi. c q lo (omega arith)))
@@ -329,19 +329,19 @@ module _ (program : Program) (linear : LinearProgram) (pace most own : ℕ) wher
           let cn = length-append (funclets body) numbers in
           let nb = count_front (j + 1) (funclets body ++ numbers) (funclets block) n in
           let alone = λ (q : ℕ) (lo : at ≤ q) (hi : q < target). own_in try rh q lo hi ∙ ap (λ x. try ∷ x) (all_outside block (target + 1) q (inl (omega arith))) in
-          let past = λ (q : ℕ) (lo : target ≤ q). right_only rb (try ∷ rh) q (all_outside body at q (inr (omega arith))) ∙ own_out try rh q (inr lo) in (
-            place_all body b lb there (record i { body = true }) inner (try_alike i scope end a) owner (try ∷ rs) at j (both_left _ _ (both_left _ _ ok)) (omega arith) (front lb.code at guarded _ h)
+          let past = λ (q : ℕ) (lo : target ≤ q). right_only rb (try ∷ rh) q (all_outside body at q (inr (omega arith))) ∙ own_out try rh q (inr lo) in record {
+            body = place_all body b lb there (record i { body = true }) inner (try_alike i scope end a) owner (try ∷ rs) at j (both_left _ _ (both_left _ _ ok)) (omega arith) (front lb.code at guarded _ h)
                 (λ q lo hi. inside_own b rs try rb (try ∷ rh) q (alone q lo (omega arith)) (c q lo (omega arith)))
-                (front linear.funclets j fb (ff ++ fh) f) (count_front (j + 1) (funclets body) numbers nb),
-            code_stands b lb there (try ∷ rs) at_jump (Jump end ∷ []) (h1.0, tt)
-                (λ q lo hi. c q (omega arith) (omega arith) ∙ ap (λ x. x ++ rs) (right_only rb (try ∷ rh) q (all_outside body at q (inr lo)) ∙ alone q (omega arith) (omega arith))),
-            code_stands b lb there rs target (Landing (Local names.free) ∷ []) (h1.1.0, tt)
-                (λ q lo hi. bare b rs (rb ++ (try ∷ rh)) q (past q lo ∙ all_outside block (target + 1) q (inl (omega arith))) (c q (omega arith) (omega arith))),
-            place_all block b lb there (record i { scope = record i.scope { code = true } }) (in_except scope) (except_alike i scope a) owner rs (target + 1) (j + length fb + length ff) (both_right _ _ ok) (omega arith) h1.1.1
+                (front linear.funclets j fb (ff ++ fh) f) (count_front (j + 1) (funclets body) numbers nb);
+            end = code_stands b lb there (try ∷ rs) at_jump (Jump end ∷ []) (h1.0, tt)
+                (λ q lo hi. c q (omega arith) (omega arith) ∙ ap (λ x. x ++ rs) (right_only rb (try ∷ rh) q (all_outside body at q (inr lo)) ∙ alone q (omega arith) (omega arith)));
+            landing = code_stands b lb there rs target (Landing (Local names.free) ∷ []) (h1.1.0, tt)
+                (λ q lo hi. bare b rs (rb ++ (try ∷ rh)) q (past q lo ∙ all_outside block (target + 1) q (inl (omega arith))) (c q (omega arith) (omega arith)));
+            block = place_all block b lb there (record i { scope = record i.scope { code = true } }) (in_except scope) (except_alike i scope a) owner rs (target + 1) (j + length fb + length ff) (both_right _ _ ok) (omega arith) h1.1.1
                 (λ q lo hi. part b rs (rb ++ (try ∷ rh)) rh q (past q (omega arith)) (c q (omega arith) (omega arith)))
-                f2 (count_back (j + 1) (j + length fb + length ff + 1) (funclets body ++ numbers) (funclets block) (omega arith) n),
-            filter_placed i scope a owner filter (j + length fb) (both_right _ _ (both_left _ _ ok)) (omega arith) (front linear.funclets (j + length fb) ff fh f1) (count_back (j + 1) (j + length fb + 1) (funclets body) numbers (omega arith) nb),
-          )
+                f2 (count_back (j + 1) (j + length fb + length ff + 1) (funclets body ++ numbers) (funclets block) (omega arith) n);
+            filter = filter_placed i scope a owner filter (j + length fb) (both_right _ _ (both_left _ _ ok)) (omega arith) (front linear.funclets (j + length fb) ff fh f1) (count_back (j + 1) (j + length fb + 1) (funclets body) numbers (omega arith) nb);
+          }
       place (TryFinally body k last) b lb there i scope a owner rs at j ok light h c f n =
           let names = scope.names in
           let at_end = at + statements_size body in
@@ -367,23 +367,23 @@ module _ (program : Program) (linear : LinearProgram) (pace most own : ℕ) wher
           let ll = statements_length (finally_scope names) last 0 in
           let cover = whole_cover (FuncletBody (k - 1)) funclet.body home 0 (length funclet.body.code) in
           let wide = length-append code ends in
-          let past = λ (q : ℕ) (lo : at_end + 1 ≤ q). right_only rb (try ∷ []) q (all_outside body at q (inr (omega arith))) ∙ own_out try [] q (inr lo) in (
-            place_all body b lb there (record i { body = true }) inner (guarded_alike i scope at_end a) owner (try ∷ rs) at j (both_left _ _ ok) (omega arith) (front lb.code at guarded _ h)
+          let past = λ (q : ℕ) (lo : at_end + 1 ≤ q). right_only rb (try ∷ []) q (all_outside body at q (inr (omega arith))) ∙ own_out try [] q (inr lo) in record {
+            body = place_all body b lb there (record i { body = true }) inner (guarded_alike i scope at_end a) owner (try ∷ rs) at j (both_left _ _ ok) (omega arith) (front lb.code at guarded _ h)
                 (λ q lo hi. inside_own b rs try rb (try ∷ []) q (own_in try [] q lo (omega arith)) (c q lo (omega arith)))
-                (front linear.funclets j fb (funclet ∷ fl) f) (count_front (j + 1) (funclets body) (k ∷ funclets last) n),
-            code_stands b lb there (try ∷ rs) at_end (Separator ∷ []) (h1.0, tt)
-                (λ q lo hi. c q (omega arith) (omega arith) ∙ ap (λ x. x ++ rs) (right_only rb (try ∷ []) q (all_outside body at q (inr lo)) ∙ own_in try [] q (omega arith) (omega arith))),
-            code_stands b lb there rs (at_end + 1) (CallFinally (k - 1) ∷ Separator ∷ []) h1.1
-                (λ q lo hi. bare b rs (rb ++ (try ∷ [])) q (past q lo) (c q (omega arith) (omega arith))),
-            (
-              omega arith,
-              (funclet, stands, refl),
-              place_all last (FuncletBody (k - 1)) funclet.body home (in_finally i) (finally_scope names) (finally_alike i scope names a) (in_funclet (k - 1) owner) [] 0 (j + length fb + 1) (both_right _ _ ok) (omega arith)
-                  (front funclet.body.code 0 code ends whole) (λ q lo hi. cover q lo (omega arith)) f1.1 (both_right _ _ n1),
-              code_stands (FuncletBody (k - 1)) funclet.body home [] (statements_size last) ends (back funclet.body.code 0 (statements_size last) code ends (omega arith) whole)
-                  (λ q lo hi. bare (FuncletBody (k - 1)) [] (statements_regions last 0) q (all_outside last 0 q (inr (omega arith))) (cover q (omega arith) (omega arith))),
-            ),
-          )
+                (front linear.funclets j fb (funclet ∷ fl) f) (count_front (j + 1) (funclets body) (k ∷ funclets last) n);
+            end = code_stands b lb there (try ∷ rs) at_end (Separator ∷ []) (h1.0, tt)
+                (λ q lo hi. c q (omega arith) (omega arith) ∙ ap (λ x. x ++ rs) (right_only rb (try ∷ []) q (all_outside body at q (inr lo)) ∙ own_in try [] q (omega arith) (omega arith)));
+            calls = code_stands b lb there rs (at_end + 1) (CallFinally (k - 1) ∷ Separator ∷ []) h1.1
+                (λ q lo hi. bare b rs (rb ++ (try ∷ [])) q (past q lo) (c q (omega arith) (omega arith)));
+            block = record {
+              numbered = omega arith;
+              funclet = (funclet, stands, refl);
+              code = place_all last (FuncletBody (k - 1)) funclet.body home (in_finally i) (finally_scope names) (finally_alike i scope names a) (in_funclet (k - 1) owner) [] 0 (j + length fb + 1) (both_right _ _ ok) (omega arith)
+                  (front funclet.body.code 0 code ends whole) (λ q lo hi. cover q lo (omega arith)) f1.1 (both_right _ _ n1);
+              returns = code_stands (FuncletBody (k - 1)) funclet.body home [] (statements_size last) ends (back funclet.body.code 0 (statements_size last) code ends (omega arith) whole)
+                  (λ q lo hi. bare (FuncletBody (k - 1)) [] (statements_regions last 0) q (all_outside last 0 q (inr (omega arith))) (cover q (omega arith) (omega arith)));
+            };
+          }
 
       pub place_all : (ss : Statements) (b : BodyName) (lb : LinearBody) → body_of linear b ≡ Some lb → (i : Inside) (scope : Scope) → Alike i scope → (owner : Owner) (rs : List Region) (at j : ℕ)
           → statements_sound i ss ≡ true → statements_weight ss ≤ most → StandsAt lb.code at (statements_code scope ss at) → Cover b rs at (at + statements_size ss) (statements_regions ss at)

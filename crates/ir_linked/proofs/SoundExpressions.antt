@@ -69,7 +69,7 @@ built_in_count RaiseException = refl
 
 called : (program : Program) (s : Scope) (f : ℕ) (es : Arguments) (o : Option Function) → slice_get program.functions f ≡ o → call_fits o (argument_sizes s es) ≡ true → IsCalled program f (argument_count es)
 called program s f es None e h = absurd (cc)
-called program s f es (Some function) e h = (function, e, counted s function.parameters es h)
+called program s f es (Some function) e h = record { function = function; there = e; takes = counted s function.parameters es h }
 
 -- ---- expressions, where so many locals are, and where an exception's fields may be read or may not
 
@@ -109,7 +109,7 @@ module _ (program : Program) (own : ℕ) (info : Bool) where
       node_fits (nodes.PointerDifference n e f) h =
           let front = both_left _ _ (both_left _ _ (both_left _ _ h)) in
           let divisor = both_right _ _ h in
-          (expression_fits e (both_left _ _ front), expression_fits f (both_right _ _ front), ltb-true 0 n (both_left _ _ divisor), ltb-true n (2 ^ 63) (both_right _ _ divisor))
+          (expression_fits e (both_left _ _ front), expression_fits f (both_right _ _ front), record { positive = ltb-true 0 n (both_left _ _ divisor); small = ltb-true n (2 ^ 63) (both_right _ _ divisor) })
       node_fits (nodes.Not e) h = expression_fits e (both_left _ _ h)
       node_fits (nodes.And e f) h = (expression_fits e (both_left _ _ (both_left _ _ h)), expression_fits f (both_right _ _ (both_left _ _ h)))
       node_fits (nodes.Or e f) h = (expression_fits e (both_left _ _ (both_left _ _ h)), expression_fits f (both_right _ _ (both_left _ _ h)))

@@ -43,7 +43,7 @@ use Rattle.ir_typed.proofs.Moves.{Turn, Halts, Moves, pick_turn, some_turn, deep
 use Rattle.ir_typed.proofs.Scans.{Leads, depth_next, leads_at}
 use Rattle.ir_typed.proofs.DepthStatements.{BodyLeads}
 use Rattle.ir_typed.proofs.Stacked as stacked
-use Rattle.ir_typed.proofs.Stacked.{same_it, Left, left_are, handlers_are, aimed, here, further, is_landing, waits, stays_stacked, starts_stacked}
+use Rattle.ir_typed.proofs.Stacked.{same_it, handlers_are, aimed, here, further, waits, stays_stacked, starts_stacked}
 
 -- ---- places
 
@@ -163,7 +163,7 @@ module _ (program : LinearProgram) (whole : IsWhole program) (leads : (name : Bo
 
   resumed_turn : (resumption : Resumption) (c : Configuration) → IsRaisedIn program resumption (Waits c.frame ∷ c.below) → Items (Waits c.frame ∷ c.below) → Deep (Waits c.frame ∷ c.below) → Turn Ok (λ next. next (resumed resumption c))
   resumed_turn AfterCall c r s w = Moves _ (record { held = raised_back c.frame c.below r.0 0 s r.1; below = w.1 }) (λ next. refl)
-  resumed_turn SameOperation c r s w = Moves _ (record { held = held_all c.frame (instructions.Compute r.0 r.1 r.2 r.3) r.4 refl w.0; below = w.1 }) (λ next. refl)
+  resumed_turn SameOperation c r s w = Moves _ (record { held = held_all c.frame (instructions.Compute r.to r.operation r.first r.second) r.at refl w.0; below = w.1 }) (λ next. refl)
 
   answer_turn : (v : ℕ) (items : List Item) (es : List Event) (store : Store) → Items items → Deep items → Turn Ok (λ next. answer program next v items es store)
   answer_turn v [] es store s w = Halts (Stuck es) (λ next. refl)

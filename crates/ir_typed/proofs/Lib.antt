@@ -6,6 +6,7 @@ pub mod Stacked
 pub mod Working
 pub mod Results
 pub mod Numbers
+pub mod EveryExpression
 pub mod Calls
 pub mod Wholes
 pub mod Lowered

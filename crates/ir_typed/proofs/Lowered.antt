@@ -29,7 +29,7 @@ use Rattle.ir_typed.proofs.Wholes.{Fine, all_stand}
 
 module _ (program : Program) where
   callee : (f count : ℕ) → IsCalled program f count → IsCallee (lowered program) f count
-  callee f count c = record { function = lowered_function c.0; there = slice_get-map lowered_function program.functions f ∙ ap (option_map lowered_function) c.1; takes = c.2 }
+  callee f count c = record { function = lowered_function c.function; there = slice_get-map lowered_function program.functions f ∙ ap (option_map lowered_function) c.there; takes = c.takes }
 
   abbrev inside : Function → Inside
   inside fn = record { scope = record { functions = program.functions; sizes = fn.parameters ++ fn.locals; code = false; information = false; abnormal = false }; returns = fn.returns; loop = false; body = false; function = true }

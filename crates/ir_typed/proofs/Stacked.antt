@@ -324,7 +324,7 @@ module _ (program : LinearProgram) (bodies : AreBodies program) where
     computed_turn to o first second (Gives v memory) at =
         written_turn (record c { store = record c.store { memory = memory } }) to v (unlanded (instructions.Compute to o first second) at refl) refl refl refl refl
     computed_turn to o first second (Raises code access) at =
-        raise_turn (record { code = code.0; flag = false; access = access }) SameOperation c (to, o, first, second, at) (waits (instructions.Compute to o first second) at refl c.frame.temporaries tt)
+        raise_turn (record { code = code.0; flag = false; access = access }) SameOperation c (record { to = to; operation = o; first = first; second = second; at = at }) (waits (instructions.Compute to o first second) at refl c.frame.temporaries tt)
     computed_turn to o first second (Undefined a) at = Halts (Finished (ends.Undefined a) c.events) (λ next. refl)
 
     built_in_turn : (k : BuiltIn) (first : ℕ) (vs ts : List ℕ) → instruction_at program c ≡ Some (instructions.CallBuiltIn k first) → length ts ≡ first → Turn Ok (λ next. built_in program next k vs (with_last ts c))

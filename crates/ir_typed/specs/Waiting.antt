@@ -109,13 +109,19 @@ module _ (program : LinearProgram) where
 
   -- ---- suspended searches and unwindings
 
+  -- a body is at an operation
+  pub record IsAtOperation (w : Frame) : Type 0 where
+    pub to : Slot
+    pub operation : Operation
+    pub first : Slot
+    pub second : Slot
+    pub at : IsAt w (instructions.Compute to operation first second)
+
   -- the body that raised is at a call of RaiseException, or at an operation that faulted
   abbrev pub IsRaisedIn : Resumption → List Item → Type 0
   IsRaisedIn AfterCall (Waits w ∷ below) =
       (first : ℕ) × IsAt w (instructions.CallBuiltIn RaiseException first)
-  IsRaisedIn SameOperation (Waits w ∷ below) =
-      (to : Slot) × (o : Operation) × (first : Slot) × (second : Slot)
-      × IsAt w (instructions.Compute to o first second)
+  IsRaisedIn SameOperation (Waits w ∷ below) = IsAtOperation w
   IsRaisedIn resumption items = ⊥
 
   -- the regions that are left are those of the body below

@@ -17,8 +17,11 @@ pub enum RegionKind {
 /// The body of a `__try`: the instructions from `begin` up to, and without, `end`.
 #[derive(Clone, Copy, Debug, PartialEq, Eq)]
 pub struct Region {
+    /// The label of its first instruction.
     pub begin: u64,
+    /// The label after its last instruction, larger than `begin`.
     pub end: u64,
+    /// The handler of its `__try`.
     pub kind: RegionKind,
 }
 
@@ -32,6 +35,7 @@ pub struct IrBody {
     pub temporaries: u64,
     /// How many arguments after the fourth a call of this body passes at most, from 0 to 4.
     pub passed: u64,
+    /// The instructions. An instruction's label is its index.
     pub code: Vec<Instruction>,
     /// Inner regions before outer ones.
     pub regions: Vec<Region>,
@@ -40,7 +44,9 @@ pub struct IrBody {
 /// A function. Its parameters are its first locals.
 #[derive(Drop)]
 pub struct IrFunction {
+    /// How many parameters it has.
     pub parameters: u64,
+    /// Its code.
     pub body: IrBody,
 }
 
@@ -56,11 +62,13 @@ pub enum FuncletKind {
 /// A filter or a `__finally` block.
 #[derive(Drop)]
 pub struct IrFunclet {
+    /// Whether it is a filter or a `__finally` block.
     pub kind: FuncletKind,
     /// The number of the function whose locals it works on.
     pub function: u64,
     /// The number of the funclet whose body has its region, or None where the function's has it.
     pub parent: Option<u64>,
+    /// Its code.
     pub body: IrBody,
 }
 
@@ -71,6 +79,7 @@ pub struct IrProgram {
     pub globals: Vec<u8>,
     /// The number of `main`.
     pub main: u64,
+    /// In the order of the text. A function's number is its index.
     pub functions: Vec<IrFunction>,
     /// In the order of their numbers in the text, which are larger by 1.
     pub funclets: Vec<IrFunclet>,

@@ -24,8 +24,11 @@ use std::alloc::{AllocError, Global};
 /// body has their regions.
 #[derive(Clone, Copy)]
 pub struct Owner {
+    /// The function's number.
     pub function: u64,
+    /// How many locals an activation of it has, parameters, codes and flags among them.
     pub locals: u64,
+    /// The number of the funclet whose body has the regions, or None where the function's has them.
     pub parent: Option<u64>,
 }
 
