@@ -70,13 +70,8 @@ fn front_is_refused(
     length: &str,
     line: &str,
 ) -> Result<(), Fail> {
-    let Some(front) = length
-        .parse()
-        .ok()
-        .and_then(|length: usize| image.get(..length))
-    else {
-        panic!(rt; "no length: {length}")
-    };
+    let length: usize = length.parse().unwrap_or(usize::MAX);
+    let front = image.get(..length).unwrap_or(&[]);
     let refusal = format!(in alloc; "{line}\n")?;
     answers(rt, alloc, front, Status::Image, "", &refusal)
 }

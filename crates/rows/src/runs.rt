@@ -133,7 +133,7 @@ fn all_answer(rt: &impl Abort, alloc: Global, table: &str) -> Result<(), Fail> {
 /// The exit status is a signed number of 32 bits; a write of 32 bits clears the upper half; a byte
 /// that begins no instruction of the machine; and the guard below the stack.
 const CODE: &str = r"
-exec | fourteen | | Done 14 / exit 7
+exec | fourteen | - | Done 14 / exit 7
 exec | B8 FF FF FF FF C3 | mov eax,-1; ret | Done exit -1
 exec | 48 B9 FF FF FF FF FF FF FF FF B9 FE FF FF FF 48 B8 10 00 F0 7F 00 00 00 00 50 FF 14 24 59 C3 | mov rcx,-1; mov ecx,-2; mov rax,put; push rax; call [rsp]; pop rcx; ret | Done 4294967294 / exit 2146435088
 exec | 48 8B 01 | mov rax,[rcx] | Unhandled unhandled C0000005
@@ -149,7 +149,7 @@ fn code_runs_to_its_end(rt: HostRuntime) -> Result<(), Fail> {
 /// A recursion without end, and a loop.
 const LONG: &str = r"
 exec | 48 B8 00 10 00 40 01 00 00 00 FF D0 | mov rax,0x140001000; call rax | StackLimit stack limit 000000006FFFFFF8
-exec | endless | | OutOfTurns out of turns 10000000
+exec | endless | - | OutOfTurns out of turns 10000000
 ";
 
 #[test]
@@ -178,9 +178,9 @@ fn refuses_no_image(rt: HostRuntime) -> Result<(), Fail> {
     answers(&rt, rt.alloc(), short, refused, "", "image Layout 0\n")
 }
 
-// One field is wrong, and the others are right: the base of `load Place` is no multiple of 65,536,
-// below 4 GiB, and at 2^47; an image is a page more than 256 MiB; an entry point is in no section,
-// and in one that isn't executable. The second row's headers end a byte after the file.
+/// One field is wrong, and the others are right: the base of `load Place` is no multiple of 65,536,
+/// below 4 GiB, and at 2^47; an image is a page more than 256 MiB; an entry point is in no section,
+/// and in one that isn't executable. The second row's headers end a byte after the file.
 const FIELDS: &str = r"
 file+1 | 7A | image NotPe 0
 file+60 | 0A 01 | image Truncated 266
@@ -210,10 +210,10 @@ fn each_check_refuses(rt: HostRuntime) -> Result<(), Fail> {
 
 /// Of `mov rax,rcx; ret` the argument is the exit status, after two turns.
 const OPTIONS: &str = r"
-exec --turns 1 | fourteen | | OutOfTurns out of turns 1
-exec --turns 0 | fourteen | | OutOfTurns out of turns 0
-exec --turns 13 | fourteen | | Done 14 / exit 7
-exec --turns 9223372036854775807 | fourteen | | Done 14 / exit 7
+exec --turns 1 | fourteen | - | OutOfTurns out of turns 1
+exec --turns 0 | fourteen | - | OutOfTurns out of turns 0
+exec --turns 13 | fourteen | - | Done 14 / exit 7
+exec --turns 9223372036854775807 | fourteen | - | Done 14 / exit 7
 exec --arg 5 | 48 89 C8 C3 | mov rax,rcx; ret | Done exit 5
 exec --arg 9223372036854775807 | 48 89 C8 C3 | mov rax,rcx; ret | Done exit -1
 exec --arg 7 --turns 2 --trace | 48 89 C8 C3 | mov rax,rcx; ret | Done exit 7
