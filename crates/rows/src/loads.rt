@@ -1,20 +1,17 @@
 //! What `exec` answers for images with imports and with function tables, over memory.
 
-use crate::image::edited;
+use crate::image::{all_refused, edited};
 use crate::runs::answers;
 use crate::views::tables;
 use seh::status::Status;
-use seh::top::top;
-use seh_io::plain::{SliceSource, VecSink};
 use std::alloc::{AllocError, Global};
-use std::process::Abort;
 use std::test::Fail;
 use test_images::one_section::{Fields, OPTIONAL, PLAIN, headers};
 
-/// Where the section of [`importing`] begins in the file. It stands at 0x1000 in the image.
+/// Where the section of [`importing`] begins in the file. It is at 0x1000 in the image.
 const SECTION: usize = 272;
 
-/// Where the names of its imports stand in the file, 24 bytes for each.
+/// Where the names of its imports are in the file, 24 bytes for each.
 const NAMES: usize = SECTION + 0xB0;
 
 /// The entries of the lookup table, by the addresses of their names.
@@ -92,7 +89,7 @@ fn importing(alloc: Global) -> Result<Vec<u8>, AllocError> {
 
 // A library more has its slot over the first one, or over halves of the first two.
 #[test]
-fn binds_imports(rt: HostRuntime) -> Result<(), Fail> {
+fn imports_are_bound(rt: HostRuntime) -> Result<(), Fail> {
     let alloc = rt.alloc();
     let done = Status::Done;
     let bound = "2146435120\n2146435136\n2146435152\n2146435104\n2146435088\nexit 7\n";
@@ -111,28 +108,26 @@ fn binds_imports(rt: HostRuntime) -> Result<(), Fail> {
     answers(&rt, alloc, &image, done, bound, "")
 }
 
+/// One byte of the names, which begin at 448 with 24 bytes for each, is changed; and the first entry
+/// of the lookup table, which is at 336, is an ordinal.
+const IMPORTS: &str = r"
+file+548 | 78 | load Import 4
+file+549 | 63 | load Import 4
+file+548 | 00 | load Import 4
+file+450 | 72 | load Import 0
+file+498 | 2D | load Import 2
+file+343 | 80 | image ImportBad 0
+";
+
 #[test]
-fn refuses_imports(rt: HostRuntime) -> Result<(), Fail> {
-    let alloc = rt.alloc();
-    let cases: [(usize, &[u8], &str); 6] = [
-        (NAMES + 24 * 4 + 4, b"x", "load Import 4\n"),
-        (NAMES + 24 * 4 + 5, b"c", "load Import 4\n"),
-        (NAMES + 24 * 4 + 4, b"\0", "load Import 4\n"),
-        (NAMES + 2, b"r", "load Import 0\n"),
-        (NAMES + 24 * 2 + 2, b"-", "load Import 2\n"),
-        // The first entry of the lookup table is an ordinal.
-        (SECTION + 0x47, &[0x80], "image ImportBad 0\n"),
-    ];
-    for (at, new, refusal) in cases {
-        let image = edited(importing(alloc)?, at, new);
-        answers(&rt, alloc, &image, Status::Image, "", refusal)?;
-    }
-    Ok(())
+fn imports_are_refused(rt: HostRuntime) -> Result<(), Fail> {
+    let image = importing(rt.alloc())?;
+    all_refused(&rt, rt.alloc(), &image, IMPORTS)
 }
 
 // Of an image that is refused for four reasons one is mended after another.
 #[test]
-fn refuses_in_order(rt: HostRuntime) -> Result<(), Fail> {
+fn refusals_come_in_order(rt: HostRuntime) -> Result<(), Fail> {
     let alloc = rt.alloc();
     let refused = Status::Image;
     let entry = edited(importing(alloc)?, OPTIONAL + 17, &[0x20]);
@@ -145,89 +140,30 @@ fn refuses_in_order(rt: HostRuntime) -> Result<(), Fail> {
     answers(&rt, alloc, &table, refused, "", "table Misaligned 4098\n")
 }
 
-// The first info of an image is this, or a byte of its first two entries is changed.
-#[test]
-fn refuses_tables(rt: HostRuntime) -> Result<(), Fail> {
-    let alloc = rt.alloc();
-    // The infos begin at 0x110 of the file, and the entries at 0x128.
-    let cases: [(usize, &[u8], &str); 13] = [
-        (0x110, &[1, 7, 1, 0, 7, 1, 0, 0], "table Op 0 0\n"),
-        (0x110, &[1, 4, 1, 0, 4, 3, 0, 0], "table Op 0 0\n"),
-        (0x110, &[1, 4, 1, 0, 4, 6, 0, 0], "table Op 0 0\n"),
-        (0x110, &[0x29, 0, 0, 0], "table Flags 0\n"),
-        (
-            0x110,
-            &[1, 5, 2, 0, 2, 0x32, 5, 0x32],
-            "table CodeOrder 0 1\n",
-        ),
-        (
-            0x110,
-            &[0x21, 0, 0, 0, 0, 0x20, 0, 0, 31, 0x20, 0, 0, 0, 0x30, 0, 0],
-            "table ChainLong 0\n",
-        ),
-        (0x118, &[2, 0, 0, 0], "table Version 1 2\n"),
-        (0x128 + 12, &[0], "table Unsorted 1\n"),
-        (0x128 + 4, &[0], "table EmptyRange 0\n"),
-        (0x128 + 8, &[2], "table Misaligned 12290\n"),
-        (0x128 + 8, &[60], "table Truncated 12348\n"),
-        // The directory counts 25 bytes.
-        (OPTIONAL + 112 + 28, &[25], "table Truncated 12312\n"),
-        // The table is read.
-        (0x110, &[1], "load Entry 0\n"),
-    ];
-    for (at, new, refusal) in cases {
-        let infos = [
-            1, 0, 0, 0, 0, 0, 0, 0, 1, 0, 0, 0, 0, 0, 0, 0, 1, 0, 0, 0, 0, 0, 0, 0,
-        ];
-        let image = edited(tables(alloc, &infos, 2)?, at, new);
-        answers(&rt, alloc, &image, Status::Image, "", refusal)?;
-    }
-    Ok(())
-}
-
-/// The image of a program.
-fn compiled(rt: &impl Abort, alloc: Global, text: &[u8]) -> Result<Vec<u8>, Fail> {
-    let mut words = Vec::new(alloc);
-    words.push(String::from_str(alloc, "compile")?)?;
-    let mut source = SliceSource::new(text);
-    let mut out = VecSink::new(alloc);
-    let mut err = VecSink::new(alloc);
-    let status = top(alloc, &words, &mut source, &mut out, &mut err);
-    assert_eq!(rt; status, Status::Done);
-    Ok(out.bytes)
-}
+/// The infos begin at 272 of the file: the first info is replaced, or the second, from 280 on. The
+/// entries begin at 296: a byte of the first two is changed. Then the directory counts 25 bytes,
+/// and in the last row the table is read.
+const TABLES: &str = r"
+file+272 | 01 07 01 00 07 01 00 00 | table Op 0 0
+file+272 | 01 04 01 00 04 03 00 00 | table Op 0 0
+file+272 | 01 04 01 00 04 06 00 00 | table Op 0 0
+file+272 | 29 00 00 00 | table Flags 0
+file+272 | 01 05 02 00 02 32 05 32 | table CodeOrder 0 1
+file+272 | 21 00 00 00 00 20 00 00 1F 20 00 00 00 30 00 00 | table ChainLong 0
+file+280 | 02 00 00 00 | table Version 1 2
+file+308 | 00 | table Unsorted 1
+file+300 | 00 | table EmptyRange 0
+file+304 | 02 | table Misaligned 12290
+file+304 | 3C | table Truncated 12348
+optional+140 | 19 | table Truncated 12312
+file+272 | 01 | load Entry 0
+";
 
 #[test]
-fn refuses_damaged_programs(rt: HostRuntime) -> Result<(), Fail> {
-    let alloc = rt.alloc();
-    let refused = Status::Image;
-    let text = b"int main(void){ put(2+3*4); return 7; }";
-    let cases: [(usize, &[u8], &str); 4] = [
-        (0x44, &[0x4C, 1], "image Machine 332\n"),
-        (OPTIONAL, &[0x0B, 1], "image Magic 267\n"),
-        (OPTIONAL + 24, &[0, 0x10, 0, 0, 0], "load Place 4096\n"),
-        (OPTIONAL + 16, &[0, 0x10, 0, 0], "load Entry 4096\n"),
+fn tables_are_refused(rt: HostRuntime) -> Result<(), Fail> {
+    let infos = [
+        1, 0, 0, 0, 0, 0, 0, 0, 1, 0, 0, 0, 0, 0, 0, 0, 1, 0, 0, 0, 0, 0, 0, 0,
     ];
-    for (at, new, refusal) in cases {
-        let image = edited(compiled(&rt, alloc, text)?, at, new);
-        answers(&rt, alloc, &image, refused, "", refusal)?;
-    }
-    let whole = compiled(&rt, alloc, text)?;
-    let cuts: [(usize, &str); 10] = [
-        (0, "image Truncated 0\n"),
-        (63, "image Truncated 0\n"),
-        (64, "image Truncated 64\n"),
-        (87, "image Truncated 64\n"),
-        (88, "image Truncated 88\n"),
-        (100, "image Truncated 88\n"),
-        (199, "image Truncated 88\n"),
-        (200, "image Truncated 200\n"),
-        (327, "image Truncated 200\n"),
-        (328, "image Truncated 328\n"),
-    ];
-    for (len, refusal) in cuts {
-        let front = whole.get(..len).unwrap_or(&[]);
-        answers(&rt, alloc, front, refused, "", refusal)?;
-    }
-    Ok(())
+    let image = tables(rt.alloc(), &infos, 2)?;
+    all_refused(&rt, rt.alloc(), &image, TABLES)
 }

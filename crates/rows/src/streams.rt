@@ -12,62 +12,58 @@ use std::process::Abort;
 use std::test::Fail;
 use test_images::one_section::FOURTEEN;
 
-fn words(alloc: Global, line: &[&str]) -> Result<Vec<String>, AllocError> {
-    let mut words = Vec::new(alloc);
-    for word in line {
-        words.push(String::from_str(alloc, word)?)?;
-    }
-    Ok(words)
+/// Compares the answer for words that are no line of the command set: nothing is read.
+fn is_usage(rt: &impl Abort, alloc: Global, words: &[String]) {
+    let mut source = SliceSource::new(b"MZ");
+    let mut out = VecSink::new(alloc);
+    let mut err = VecSink::new(alloc);
+    let status = top(alloc, words, &mut source, &mut out, &mut err);
+    assert_eq!(rt; (status, status.code()), (Status::Usage, 1));
+    assert!(rt; out.bytes.is_empty());
+    assert_eq!(rt; err.bytes.as_slice(), b"usage\n".as_slice());
+    assert_eq!(rt; source.rest, b"MZ".as_slice());
 }
 
-fn plan(alloc: Global, failing: &[u64], most: usize) -> Result<Plan, AllocError>
-    requires { 0 < most }
-{
-    Ok(Plan::new(failing.to_vec(alloc)?, most))
-}
+/// Lines of words, of which the first is one empty word.
+const LINES: &str = r"
+
+exce
+exec exec
+compile x
+run --turns
+run --arg 01
+exec --turns
+exec --turns 9223372036854775808
+exec --turns -1
+exec --turns 007
+exec --turns +1
+exec --trace --trace
+exec --arg 1 --arg 1
+exec --loud
+exec -h
+--help
+help
+--version
+--trace exec
+";
 
 #[test]
-fn usage(rt: HostRuntime) -> Result<(), Fail> {
-    let lines: [&[&str]; 21] = [
-        &[],
-        &["exce"],
-        &["exec", "exec"],
-        &[""],
-        &["exec "],
-        &["compile", "x"],
-        &["run", "--turns"],
-        &["run", "--arg", "01"],
-        &["exec", "--turns"],
-        &["exec", "--turns", "9223372036854775808"],
-        &["exec", "--turns", "-1"],
-        &["exec", "--turns", "007"],
-        &["exec", "--turns", "+1"],
-        &["exec", "--trace", "--trace"],
-        &["exec", "--arg", "1", "--arg", "1"],
-        &["exec", "--loud"],
-        &["exec", "-h"],
-        &["--help"],
-        &["help"],
-        &["--version"],
-        &["--trace", "exec"],
-    ];
-    for line in lines {
-        let words = words(rt.alloc(), line)?;
-        let mut source = SliceSource::new(b"MZ");
-        let mut out = VecSink::new(rt.alloc());
-        let mut err = VecSink::new(rt.alloc());
-        let status = top(rt.alloc(), &words, &mut source, &mut out, &mut err);
-        assert_eq!(rt; (status, status.code()), (Status::Usage, 1));
-        assert!(rt; out.bytes.is_empty());
-        assert_eq!(rt; err.bytes.as_slice(), b"usage\n".as_slice());
-        // Nothing was read.
-        assert_eq!(rt; source.rest, b"MZ".as_slice());
+fn words_are_no_command(rt: HostRuntime) -> Result<(), Fail> {
+    let alloc = rt.alloc();
+    is_usage(&rt, alloc, &[]);
+    is_usage(&rt, alloc, &[String::from_str(alloc, "exec ")?]);
+    for line in LINES.lines().skip(1) {
+        let mut words = Vec::new(alloc);
+        for word in line.split(' ') {
+            words.push(String::from_str(alloc, word)?)?;
+        }
+        is_usage(&rt, alloc, &words);
     }
     Ok(())
 }
 
 #[test]
-fn statuses(rt: HostRuntime) {
+fn statuses_have_codes(rt: HostRuntime) {
     for (status, code) in [
         (Status::Done, 0),
         (Status::Usage, 1),
@@ -88,115 +84,184 @@ fn statuses(rt: HostRuntime) {
     }
 }
 
-/// A case: the calls of the source, of `out` and of `err` that fail, how many bytes each call of
-/// all three moves, and what then comes: the status, `out` and `err`.
-type Case<'a> = (
-    &'a [u64],
-    &'a [u64],
-    &'a [u64],
-    usize,
-    Status,
-    &'a str,
-    &'a str,
-);
+/// A case: the call of the source, of `out` and of `err` that fails, 0 where none does, and how many
+/// bytes each call of all three moves.
+#[derive(Clone, Copy, Debug)]
+struct Case {
+    read: u64,
+    write: u64,
+    line: u64,
+    most: usize,
+}
 
-/// Compares what a command answers for an input where calls fail.
+/// What comes of a case: the status, and the text of `out` and of `err`.
+#[derive(Clone, Copy, Debug)]
+struct Wanted<'a> {
+    status: &'a str,
+    text: &'a str,
+    refusal: &'a str,
+}
+
+/// A plan by which one call fails, if any.
+fn plan(alloc: Global, failing: u64, most: usize) -> Result<Plan, AllocError>
+    requires { 0 < most }
+{
+    let mut calls = Vec::new(alloc);
+    if failing != 0 {
+        calls.push(failing)?;
+    }
+    Ok(Plan::new(calls, most))
+}
+
+/// What a row `READ WRITE LINE MOST | STATUS | OUT | ERR` has.
+fn columns_of(row: &str) -> Option<(Case, Wanted<'_>)> {
+    let mut columns = row.split('|');
+    let mut numbers = columns.next()?.split_ascii_whitespace();
+    let case = Case {
+        read: numbers.next()?.parse().ok()?,
+        write: numbers.next()?.parse().ok()?,
+        line: numbers.next()?.parse().ok()?,
+        most: numbers.next()?.parse().ok()?,
+    };
+    let wanted = Wanted {
+        status: columns.next()?.trim(),
+        text: columns.next()?.trim(),
+        refusal: columns.next()?.trim(),
+    };
+    Some((case, wanted))
+}
+
+/// The text of a column, which has `/` in place of a line feed and `_` in place of a last space.
+fn text_of(alloc: Global, column: &str) -> Result<String, AllocError> {
+    let mut text = String::new(alloc);
+    for part in column.split_inclusive('/') {
+        match (part.strip_suffix('/'), part.strip_suffix('_')) {
+            (Some(line), _) => {
+                text.push_str(line)?;
+                text.push_str("\n")?;
+            }
+            (None, Some(front)) => {
+                text.push_str(front)?;
+                text.push_str(" ")?;
+            }
+            (None, None) => text.push_str(part)?,
+        }
+    }
+    Ok(text)
+}
+
+/// Compares what a command answers for an input where a call fails.
 fn answers_as(
     rt: &impl Abort,
     alloc: Global,
     command: &str,
     input: &[u8],
-    case: Case<'_>,
+    case: Case,
+    wanted: Wanted<'_>,
 ) -> Result<(), Fail> {
-    let (reads, writes, lines, most, status, text, refusal) = case;
-    if most == 0 {
+    if case.most == 0 {
         return Ok(());
     }
-    let words = words(alloc, &[command])?;
-    let mut source = MemSource::new(input.to_vec(alloc)?, plan(alloc, reads, most)?);
-    let mut out = MemSink::new(Vec::new(alloc), plan(alloc, writes, most)?);
-    let mut err = MemSink::new(Vec::new(alloc), plan(alloc, lines, most)?);
+    let mut words = Vec::new(alloc);
+    words.push(String::from_str(alloc, command)?)?;
+    let reads = plan(alloc, case.read, case.most)?;
+    let mut source = MemSource::new(input.to_vec(alloc)?, reads);
+    let mut out = MemSink::new(Vec::new(alloc), plan(alloc, case.write, case.most)?);
+    let mut err = MemSink::new(Vec::new(alloc), plan(alloc, case.line, case.most)?);
     let answer = top(alloc, &words, &mut source, &mut out, &mut err);
-    assert_eq!(rt; answer, status, "{text} {refusal}");
-    assert_eq!(rt; out.bytes.as_slice(), text.as_bytes());
-    assert_eq!(rt; err.bytes.as_slice(), refusal.as_bytes());
+    let status = format!(in alloc; "{answer:?}")?;
+    assert_eq!(rt; status.as_str(), wanted.status, "{command}: {case:?}");
+    let text = text_of(alloc, wanted.text)?;
+    assert_eq!(rt;
+        out.bytes.as_slice(),
+        text.as_bytes(),
+        "{command}: {case:?}"
+    );
+    let refusal = text_of(alloc, wanted.refusal)?;
+    assert_eq!(rt;
+        err.bytes.as_slice(),
+        refusal.as_bytes(),
+        "{command}: {case:?}"
+    );
     Ok(())
 }
 
+/// The same of each row of a table, which is one text.
+fn all_answer(
+    rt: &impl Abort,
+    alloc: Global,
+    command: &str,
+    input: &[u8],
+    table: &str,
+) -> Result<(), Fail> {
+    for row in table.lines().skip(1) {
+        match columns_of(row) {
+            None => assert!(rt; false, "no row: {row}"),
+            Some((case, wanted)) => answers_as(rt, alloc, command, input, case, wanted)?,
+        }
+    }
+    Ok(())
+}
+
+/// In the last two rows the line of a refusal can't be written.
+const EXEC: &str = r"
+0 0 0 4096 | Done       | 14/exit 7/ |
+0 0 0 1    | Done       | 14/exit 7/ |
+1 0 0 4096 | ReadFault  |            | read fault/
+2 0 0 4096 | ReadFault  |            | read fault/
+0 2 0 2    | WriteFault | 14         | write fault/
+0 1 0 2    | WriteFault |            | write fault/
+0 2 0 4096 | WriteFault | 14/        | write fault/
+1 0 2 5    | WriteFault |            | read_
+0 3 1 1    | WriteFault | 14         |
+";
+
 #[test]
-fn faults_of_exec(rt: HostRuntime) -> Result<(), Fail> {
-    let cases: [Case<'_>; 9] = [
-        (&[], &[], &[], 4096, Status::Done, "14\nexit 7\n", ""),
-        (&[], &[], &[], 1, Status::Done, "14\nexit 7\n", ""),
-        (&[1], &[], &[], 4096, Status::ReadFault, "", "read fault\n"),
-        (&[2], &[], &[], 4096, Status::ReadFault, "", "read fault\n"),
-        (&[], &[2], &[], 2, Status::WriteFault, "14", "write fault\n"),
-        (&[], &[1], &[], 2, Status::WriteFault, "", "write fault\n"),
-        (
-            &[],
-            &[2],
-            &[],
-            4096,
-            Status::WriteFault,
-            "14\n",
-            "write fault\n",
-        ),
-        // The line of a refusal can't be written.
-        (&[1], &[], &[2], 5, Status::WriteFault, "", "read "),
-        (&[], &[3], &[1], 1, Status::WriteFault, "14", ""),
-    ];
+fn streams_of_exec_fail(rt: HostRuntime) -> Result<(), Fail> {
     let bytes = of_code(rt.alloc(), &FOURTEEN)?;
-    for case in cases {
-        answers_as(&rt, rt.alloc(), "exec", &bytes, case)?;
-    }
-    Ok(())
+    all_answer(&rt, rt.alloc(), "exec", &bytes, EXEC)
 }
 
+/// A program that puts 14.
+const TEXT: &[u8] = b"int main(void){ put(2+3*4); return 7; }";
+
+const RUN: &str = r"
+0 0 0 1    | Done       | 14/exit 7/ |
+1 0 0 4096 | ReadFault  |            | read fault/
+3 0 0 16   | ReadFault  |            | read fault/
+0 2 0 2    | WriteFault | 14         | write fault/
+0 1 2 5    | WriteFault |            | write
+";
+
 #[test]
-fn faults_of_run(rt: HostRuntime) -> Result<(), Fail> {
-    let cases: [Case<'_>; 5] = [
-        (&[], &[], &[], 1, Status::Done, "14\nexit 7\n", ""),
-        (&[1], &[], &[], 4096, Status::ReadFault, "", "read fault\n"),
-        (&[3], &[], &[], 16, Status::ReadFault, "", "read fault\n"),
-        (&[], &[2], &[], 2, Status::WriteFault, "14", "write fault\n"),
-        (&[], &[1], &[2], 5, Status::WriteFault, "", "write"),
-    ];
-    let text = b"int main(void){ put(2+3*4); return 7; }";
-    for case in cases {
-        answers_as(&rt, rt.alloc(), "run", text, case)?;
-    }
-    Ok(())
+fn streams_of_run_fail(rt: HostRuntime) -> Result<(), Fail> {
+    all_answer(&rt, rt.alloc(), "run", TEXT, RUN)
 }
 
 /// A source that fails at its first call, or in the midst of the input: nothing is written.
+const SOURCES: &str = r"
+1 0 0 4096 | ReadFault | | read fault/
+2 0 0 4096 | ReadFault | | read fault/
+3 0 0 16   | ReadFault | | read fault/
+";
+
 #[test]
-fn faults_of_sources(rt: HostRuntime) -> Result<(), Fail> {
-    let cases: [Case<'_>; 3] = [
-        (&[1], &[], &[], 4096, Status::ReadFault, "", "read fault\n"),
-        (&[2], &[], &[], 4096, Status::ReadFault, "", "read fault\n"),
-        (&[3], &[], &[], 16, Status::ReadFault, "", "read fault\n"),
-    ];
-    let text = b"int main(void){ put(2+3*4); return 7; }";
-    let bytes = of_code(rt.alloc(), &FOURTEEN)?;
-    for case in cases {
-        answers_as(&rt, rt.alloc(), "compile", text, case)?;
-        answers_as(&rt, rt.alloc(), "meaning", text, case)?;
-        answers_as(&rt, rt.alloc(), "show", &bytes, case)?;
-    }
-    Ok(())
+fn sources_fail(rt: HostRuntime) -> Result<(), Fail> {
+    let alloc = rt.alloc();
+    all_answer(&rt, alloc, "compile", TEXT, SOURCES)?;
+    all_answer(&rt, alloc, "meaning", TEXT, SOURCES)?;
+    let bytes = of_code(alloc, &FOURTEEN)?;
+    all_answer(&rt, alloc, "show", &bytes, SOURCES)
 }
 
-/// `meaning` with sinks that take one byte at a call, or fail.
+/// Sinks that take one byte at a call, or fail.
+const MEANING: &str = r"
+0 0 0 1 | Done       | 14/exit 7/ |
+0 2 0 2 | WriteFault | 14         | write fault/
+0 1 2 5 | WriteFault |            | write
+";
+
 #[test]
-fn faults_of_meaning(rt: HostRuntime) -> Result<(), Fail> {
-    let cases: [Case<'_>; 3] = [
-        (&[], &[], &[], 1, Status::Done, "14\nexit 7\n", ""),
-        (&[], &[2], &[], 2, Status::WriteFault, "14", "write fault\n"),
-        (&[], &[1], &[2], 5, Status::WriteFault, "", "write"),
-    ];
-    let text = b"int main(void){ put(2+3*4); return 7; }";
-    for case in cases {
-        answers_as(&rt, rt.alloc(), "meaning", text, case)?;
-    }
-    Ok(())
+fn sinks_of_meaning_fail(rt: HostRuntime) -> Result<(), Fail> {
+    all_answer(&rt, rt.alloc(), "meaning", TEXT, MEANING)
 }

@@ -1,9 +1,8 @@
 //! What `show` writes of images, over memory.
 
 use crate::image::of_code;
+use crate::runs::answers_with;
 use seh::status::Status;
-use seh::top::top;
-use seh_io::plain::{SliceSource, VecSink};
 use std::alloc::{AllocError, Global};
 use std::process::Abort;
 use std::test::Fail;
@@ -67,16 +66,7 @@ pub fn shown(
     text: &str,
     refusal: &str,
 ) -> Result<(), Fail> {
-    let mut words = Vec::new(alloc);
-    words.push(String::from_str(alloc, "show")?)?;
-    let mut source = SliceSource::new(bytes);
-    let mut out = VecSink::new(alloc);
-    let mut err = VecSink::new(alloc);
-    let answer = top(alloc, &words, &mut source, &mut out, &mut err);
-    assert_eq!(rt; answer, status, "{text}{refusal}");
-    assert_eq!(rt; out.bytes.as_slice(), text.as_bytes());
-    assert_eq!(rt; err.bytes.as_slice(), refusal.as_bytes());
-    Ok(())
+    answers_with(rt, alloc, "show", bytes, status, text, refusal)
 }
 
 /// The infos of a prologue that pushes RBX and takes 32 bytes of stack; of one whose allocation has
@@ -86,7 +76,7 @@ const INFOS: [u8; 24] = [
 ];
 
 #[test]
-fn views(rt: HostRuntime) -> Result<(), Fail> {
+fn tables_are_shown(rt: HostRuntime) -> Result<(), Fail> {
     let alloc = rt.alloc();
     let done = Status::Done;
     let whole = tables(alloc, &INFOS, 3)?;

@@ -2,98 +2,73 @@
 //!
 //! The values are those of C's rules (C11, 6.3 and 6.5) with the widths of the Microsoft compiler.
 
-use crate::ways::{WAYS, all_show};
+use crate::ways::{WAYS, all_show, all_show_in};
 use std::test::Fail;
 
-/// Casts and unary operators.
-const UNARY: &str = r"
-# unary operators and casts of char:
-char edges[5] = {-128, -1, 0, 1, 127};
-void one(char a){
+/// The casts and unary operators of a type's edges.
+const UNARY_PROGRAM: &str = r"
+@type@ edges[@count@] = {@edges@};
+void one(@type@ a){
   put(-a); put(+a); put(~a); put(!a); put((char)a); put((unsigned char)a); put((short)a); put((unsigned short)a); put((int)a); put((unsigned)a); put((long long)a); put((unsigned long long)a);
   put(a++); put(a); put(--a); put(a--); put(++a);
-} int main(void){ int i; for (i = 0; i < 5; i++) one(edges[i]); return 0; }
+} int main(void){ int i; for (i = 0; i < @count@; i++) one(edges[i]); return 0; }";
+
+const UNARY: &str = r"
+# char:
+char | -128, -1, 0, 1, 127
 => 0 128 / -128 / 127 / 0 / -128 / 128 / -128 / 65408 / -128 / 4294967168 / -128 / -128 / -128 / -127 / -128 / -128 / -128
 1 / -1 / 0 / 0 / -1 / 255 / -1 / 65535 / -1 / 4294967295 / -1 / -1 / -1 / 0 / -1 / -1 / -1
 0 / 0 / -1 / 1 / 0 / 0 / 0 / 0 / 0 / 0 / 0 / 0 / 0 / 1 / 0 / 0 / 0
 -1 / 1 / -2 / 0 / 1 / 1 / 1 / 1 / 1 / 1 / 1 / 1 / 1 / 2 / 1 / 1 / 1
 -127 / 127 / -128 / 0 / 127 / 127 / 127 / 127 / 127 / 127 / 127 / 127 / 127 / -128 / 127 / 127 / 127
 exit 0
-# unary operators and casts of unsigned char:
-unsigned char edges[4] = {0, 1, 128, 255};
-void one(unsigned char a){
-  put(-a); put(+a); put(~a); put(!a); put((char)a); put((unsigned char)a); put((short)a); put((unsigned short)a); put((int)a); put((unsigned)a); put((long long)a); put((unsigned long long)a);
-  put(a++); put(a); put(--a); put(a--); put(++a);
-} int main(void){ int i; for (i = 0; i < 4; i++) one(edges[i]); return 0; }
+# unsigned char:
+unsigned char | 0, 1, 128, 255
 => 0 0 / 0 / -1 / 1 / 0 / 0 / 0 / 0 / 0 / 0 / 0 / 0 / 0 / 1 / 0 / 0 / 0
 -1 / 1 / -2 / 0 / 1 / 1 / 1 / 1 / 1 / 1 / 1 / 1 / 1 / 2 / 1 / 1 / 1
 -128 / 128 / -129 / 0 / -128 / 128 / 128 / 128 / 128 / 128 / 128 / 128 / 128 / 129 / 128 / 128 / 128
 -255 / 255 / -256 / 0 / -1 / 255 / 255 / 255 / 255 / 255 / 255 / 255 / 255 / 0 / 255 / 255 / 255
 exit 0
-# unary operators and casts of short:
-short edges[5] = {-32768, -1, 0, 1, 32767};
-void one(short a){
-  put(-a); put(+a); put(~a); put(!a); put((char)a); put((unsigned char)a); put((short)a); put((unsigned short)a); put((int)a); put((unsigned)a); put((long long)a); put((unsigned long long)a);
-  put(a++); put(a); put(--a); put(a--); put(++a);
-} int main(void){ int i; for (i = 0; i < 5; i++) one(edges[i]); return 0; }
+# short:
+short | -32768, -1, 0, 1, 32767
 => 0 32768 / -32768 / 32767 / 0 / 0 / 0 / -32768 / 32768 / -32768 / 4294934528 / -32768 / -32768 / -32768 / -32767 / -32768 / -32768 / -32768
 1 / -1 / 0 / 0 / -1 / 255 / -1 / 65535 / -1 / 4294967295 / -1 / -1 / -1 / 0 / -1 / -1 / -1
 0 / 0 / -1 / 1 / 0 / 0 / 0 / 0 / 0 / 0 / 0 / 0 / 0 / 1 / 0 / 0 / 0
 -1 / 1 / -2 / 0 / 1 / 1 / 1 / 1 / 1 / 1 / 1 / 1 / 1 / 2 / 1 / 1 / 1
 -32767 / 32767 / -32768 / 0 / -1 / 255 / 32767 / 32767 / 32767 / 32767 / 32767 / 32767 / 32767 / -32768 / 32767 / 32767 / 32767
 exit 0
-# unary operators and casts of unsigned short:
-unsigned short edges[4] = {0, 1, 32768, 65535};
-void one(unsigned short a){
-  put(-a); put(+a); put(~a); put(!a); put((char)a); put((unsigned char)a); put((short)a); put((unsigned short)a); put((int)a); put((unsigned)a); put((long long)a); put((unsigned long long)a);
-  put(a++); put(a); put(--a); put(a--); put(++a);
-} int main(void){ int i; for (i = 0; i < 4; i++) one(edges[i]); return 0; }
+# unsigned short:
+unsigned short | 0, 1, 32768, 65535
 => 0 0 / 0 / -1 / 1 / 0 / 0 / 0 / 0 / 0 / 0 / 0 / 0 / 0 / 1 / 0 / 0 / 0
 -1 / 1 / -2 / 0 / 1 / 1 / 1 / 1 / 1 / 1 / 1 / 1 / 1 / 2 / 1 / 1 / 1
 -32768 / 32768 / -32769 / 0 / 0 / 0 / -32768 / 32768 / 32768 / 32768 / 32768 / 32768 / 32768 / 32769 / 32768 / 32768 / 32768
 -65535 / 65535 / -65536 / 0 / -1 / 255 / -1 / 65535 / 65535 / 65535 / 65535 / 65535 / 65535 / 0 / 65535 / 65535 / 65535
 exit 0
-# unary operators and casts of int:
-int edges[5] = {-2147483648, -1, 0, 1, 2147483647};
-void one(int a){
-  put(-a); put(+a); put(~a); put(!a); put((char)a); put((unsigned char)a); put((short)a); put((unsigned short)a); put((int)a); put((unsigned)a); put((long long)a); put((unsigned long long)a);
-  put(a++); put(a); put(--a); put(a--); put(++a);
-} int main(void){ int i; for (i = 0; i < 5; i++) one(edges[i]); return 0; }
+# int:
+int | -2147483648, -1, 0, 1, 2147483647
 => 0 -2147483648 / -2147483648 / 2147483647 / 0 / 0 / 0 / 0 / 0 / -2147483648 / 2147483648 / -2147483648 / -2147483648 / -2147483648 / -2147483647 / -2147483648 / -2147483648 / -2147483648
 1 / -1 / 0 / 0 / -1 / 255 / -1 / 65535 / -1 / 4294967295 / -1 / -1 / -1 / 0 / -1 / -1 / -1
 0 / 0 / -1 / 1 / 0 / 0 / 0 / 0 / 0 / 0 / 0 / 0 / 0 / 1 / 0 / 0 / 0
 -1 / 1 / -2 / 0 / 1 / 1 / 1 / 1 / 1 / 1 / 1 / 1 / 1 / 2 / 1 / 1 / 1
 -2147483647 / 2147483647 / -2147483648 / 0 / -1 / 255 / -1 / 65535 / 2147483647 / 2147483647 / 2147483647 / 2147483647 / 2147483647 / -2147483648 / 2147483647 / 2147483647 / 2147483647
 exit 0
-# unary operators and casts of unsigned:
-unsigned edges[4] = {0, 1, 2147483648, 4294967295};
-void one(unsigned a){
-  put(-a); put(+a); put(~a); put(!a); put((char)a); put((unsigned char)a); put((short)a); put((unsigned short)a); put((int)a); put((unsigned)a); put((long long)a); put((unsigned long long)a);
-  put(a++); put(a); put(--a); put(a--); put(++a);
-} int main(void){ int i; for (i = 0; i < 4; i++) one(edges[i]); return 0; }
+# unsigned:
+unsigned | 0, 1, 2147483648, 4294967295
 => 0 0 / 0 / 4294967295 / 1 / 0 / 0 / 0 / 0 / 0 / 0 / 0 / 0 / 0 / 1 / 0 / 0 / 0
 4294967295 / 1 / 4294967294 / 0 / 1 / 1 / 1 / 1 / 1 / 1 / 1 / 1 / 1 / 2 / 1 / 1 / 1
 2147483648 / 2147483648 / 2147483647 / 0 / 0 / 0 / 0 / 0 / -2147483648 / 2147483648 / 2147483648 / 2147483648 / 2147483648 / 2147483649 / 2147483648 / 2147483648 / 2147483648
 1 / 4294967295 / 0 / 0 / -1 / 255 / -1 / 65535 / -1 / 4294967295 / 4294967295 / 4294967295 / 4294967295 / 0 / 4294967295 / 4294967295 / 4294967295
 exit 0
-# unary operators and casts of long long:
-long long edges[5] = {-9223372036854775808, -1, 0, 1, 9223372036854775807};
-void one(long long a){
-  put(-a); put(+a); put(~a); put(!a); put((char)a); put((unsigned char)a); put((short)a); put((unsigned short)a); put((int)a); put((unsigned)a); put((long long)a); put((unsigned long long)a);
-  put(a++); put(a); put(--a); put(a--); put(++a);
-} int main(void){ int i; for (i = 0; i < 5; i++) one(edges[i]); return 0; }
+# long long:
+long long | -9223372036854775808, -1, 0, 1, 9223372036854775807
 => 0 -9223372036854775808 / -9223372036854775808 / 9223372036854775807 / 0 / 0 / 0 / 0 / 0 / 0 / 0 / -9223372036854775808 / -9223372036854775808 / -9223372036854775808 / -9223372036854775807 / -9223372036854775808 / -9223372036854775808 / -9223372036854775808
 1 / -1 / 0 / 0 / -1 / 255 / -1 / 65535 / -1 / 4294967295 / -1 / -1 / -1 / 0 / -1 / -1 / -1
 0 / 0 / -1 / 1 / 0 / 0 / 0 / 0 / 0 / 0 / 0 / 0 / 0 / 1 / 0 / 0 / 0
 -1 / 1 / -2 / 0 / 1 / 1 / 1 / 1 / 1 / 1 / 1 / 1 / 1 / 2 / 1 / 1 / 1
 -9223372036854775807 / 9223372036854775807 / -9223372036854775808 / 0 / -1 / 255 / -1 / 65535 / -1 / 4294967295 / 9223372036854775807 / 9223372036854775807 / 9223372036854775807 / -9223372036854775808 / 9223372036854775807 / 9223372036854775807 / 9223372036854775807
 exit 0
-# unary operators and casts of unsigned long long:
-unsigned long long edges[4] = {0, 1, 9223372036854775808, 18446744073709551615};
-void one(unsigned long long a){
-  put(-a); put(+a); put(~a); put(!a); put((char)a); put((unsigned char)a); put((short)a); put((unsigned short)a); put((int)a); put((unsigned)a); put((long long)a); put((unsigned long long)a);
-  put(a++); put(a); put(--a); put(a--); put(++a);
-} int main(void){ int i; for (i = 0; i < 4; i++) one(edges[i]); return 0; }
+# unsigned long long:
+unsigned long long | 0, 1, 9223372036854775808, 18446744073709551615
 => 0 0 / 0 / -1 / 1 / 0 / 0 / 0 / 0 / 0 / 0 / 0 / 0 / 0 / 1 / 0 / 0 / 0
 -1 / 1 / -2 / 0 / 1 / 1 / 1 / 1 / 1 / 1 / 1 / 1 / 1 / 2 / 1 / 1 / 1
 -9223372036854775808 / -9223372036854775808 / 9223372036854775807 / 0 / 0 / 0 / 0 / 0 / 0 / 0 / -9223372036854775808 / -9223372036854775808 / -9223372036854775808 / -9223372036854775807 / -9223372036854775808 / -9223372036854775808 / -9223372036854775808
@@ -101,22 +76,35 @@ void one(unsigned long long a){
 exit 0
 ";
 
-/// Assignments that compute, of 8 and 16 bits.
-const NARROW: &str = r"
-# assignments of char:
-char v;
+/// The assignments that compute, of a type's least and greatest number.
+const ASSIGNMENTS: &str = r"
+@type@ v;
 int main(void){
-  v = -128; v += 1; put(v); v = -128; v += 3; put(v); v = -128; v += -1; put(v); v = 127; v += 1; put(v); v = 127; v += 3; put(v); v = 127; v += -1; put(v);
-  v = -128; v -= 1; put(v); v = -128; v -= 3; put(v); v = -128; v -= -1; put(v); v = 127; v -= 1; put(v); v = 127; v -= 3; put(v); v = 127; v -= -1; put(v);
-  v = -128; v *= 1; put(v); v = -128; v *= 3; put(v); v = -128; v *= -1; put(v); v = 127; v *= 1; put(v); v = 127; v *= 3; put(v); v = 127; v *= -1; put(v);
-  v = -128; v &= 1; put(v); v = -128; v &= 3; put(v); v = -128; v &= -1; put(v); v = 127; v &= 1; put(v); v = 127; v &= 3; put(v); v = 127; v &= -1; put(v);
-  v = -128; v |= 1; put(v); v = -128; v |= 3; put(v); v = -128; v |= -1; put(v); v = 127; v |= 1; put(v); v = 127; v |= 3; put(v); v = 127; v |= -1; put(v);
-  v = -128; v ^= 1; put(v); v = -128; v ^= 3; put(v); v = -128; v ^= -1; put(v); v = 127; v ^= 1; put(v); v = 127; v ^= 3; put(v); v = 127; v ^= -1; put(v);
-  v = -128; v <<= 1; put(v); v = -128; v <<= 7; put(v); v = -128; v <<= 33; put(v); v = 127; v <<= 1; put(v); v = 127; v <<= 7; put(v); v = 127; v <<= 33; put(v);
-  v = -128; v >>= 1; put(v); v = -128; v >>= 7; put(v); v = -128; v >>= 33; put(v); v = 127; v >>= 1; put(v); v = 127; v >>= 7; put(v); v = 127; v >>= 33; put(v);
-  v = -128; v /= 1; put(v); v = -128; v /= 3; put(v); v = -128; v /= -1; put(v); v = 127; v /= 1; put(v); v = 127; v /= 3; put(v); v = 127; v /= -1; put(v);
-  v = -128; v %= 1; put(v); v = -128; v %= 3; put(v); v = -128; v %= -1; put(v); v = 127; v %= 1; put(v); v = 127; v %= 3; put(v); v = 127; v %= -1; put(v);
-  return 0; }
+  v = @low@; v += 1; put(v); v = @low@; v += 3; put(v); v = @low@; v += -1; put(v); v = @high@; v += 1; put(v); v = @high@; v += 3; put(v); v = @high@; v += -1; put(v);
+  v = @low@; v -= 1; put(v); v = @low@; v -= 3; put(v); v = @low@; v -= -1; put(v); v = @high@; v -= 1; put(v); v = @high@; v -= 3; put(v); v = @high@; v -= -1; put(v);
+  v = @low@; v *= 1; put(v); v = @low@; v *= 3; put(v); v = @low@; v *= -1; put(v); v = @high@; v *= 1; put(v); v = @high@; v *= 3; put(v); v = @high@; v *= -1; put(v);
+  v = @low@; v &= 1; put(v); v = @low@; v &= 3; put(v); v = @low@; v &= -1; put(v); v = @high@; v &= 1; put(v); v = @high@; v &= 3; put(v); v = @high@; v &= -1; put(v);
+  v = @low@; v |= 1; put(v); v = @low@; v |= 3; put(v); v = @low@; v |= -1; put(v); v = @high@; v |= 1; put(v); v = @high@; v |= 3; put(v); v = @high@; v |= -1; put(v);
+  v = @low@; v ^= 1; put(v); v = @low@; v ^= 3; put(v); v = @low@; v ^= -1; put(v); v = @high@; v ^= 1; put(v); v = @high@; v ^= 3; put(v); v = @high@; v ^= -1; put(v);
+  v = @low@; v <<= 1; put(v); v = @low@; v <<= 7; put(v); v = @low@; v <<= 33; put(v); v = @high@; v <<= 1; put(v); v = @high@; v <<= 7; put(v); v = @high@; v <<= 33; put(v);
+  v = @low@; v >>= 1; put(v); v = @low@; v >>= 7; put(v); v = @low@; v >>= 33; put(v); v = @high@; v >>= 1; put(v); v = @high@; v >>= 7; put(v); v = @high@; v >>= 33; put(v);";
+
+/// The divisions after them, of a type in which none overflows.
+const DIVISIONS: &str = r"
+  v = @low@; v /= 1; put(v); v = @low@; v /= 3; put(v); v = @low@; v /= -1; put(v); v = @high@; v /= 1; put(v); v = @high@; v /= 3; put(v); v = @high@; v /= -1; put(v);
+  v = @low@; v %= 1; put(v); v = @low@; v %= 3; put(v); v = @low@; v %= -1; put(v); v = @high@; v %= 1; put(v); v = @high@; v %= 3; put(v); v = @high@; v %= -1; put(v);
+  return 0; }";
+
+/// The divisions of a type in which the least number divided by -1 overflows.
+const SIGNED_DIVISIONS: &str = r"
+  v = @low@; v /= 1; put(v); v = @low@; v /= 3; put(v); v = @high@; v /= 1; put(v); v = @high@; v /= 3; put(v); v = @high@; v /= -1; put(v);
+  v = @low@; v %= 1; put(v); v = @low@; v %= 3; put(v); v = @high@; v %= 1; put(v); v = @high@; v %= 3; put(v); v = @high@; v %= -1; put(v);
+  return 0; }";
+
+/// Of 8 and 16 bits.
+const NARROW: &str = r"
+# char:
+char | -128, 127
 => 0 -127 / -125 / 127 / -128 / -126 / 126
 127 / 125 / -127 / 126 / 124 / -128
 -128 / -128 / -128 / 127 / 125 / -127
@@ -128,20 +116,8 @@ int main(void){
 -128 / -42 / -128 / 127 / 42 / -127
 0 / -2 / 0 / 0 / 1 / 0
 exit 0
-# assignments of unsigned char:
-unsigned char v;
-int main(void){
-  v = 0; v += 1; put(v); v = 0; v += 3; put(v); v = 0; v += -1; put(v); v = 255; v += 1; put(v); v = 255; v += 3; put(v); v = 255; v += -1; put(v);
-  v = 0; v -= 1; put(v); v = 0; v -= 3; put(v); v = 0; v -= -1; put(v); v = 255; v -= 1; put(v); v = 255; v -= 3; put(v); v = 255; v -= -1; put(v);
-  v = 0; v *= 1; put(v); v = 0; v *= 3; put(v); v = 0; v *= -1; put(v); v = 255; v *= 1; put(v); v = 255; v *= 3; put(v); v = 255; v *= -1; put(v);
-  v = 0; v &= 1; put(v); v = 0; v &= 3; put(v); v = 0; v &= -1; put(v); v = 255; v &= 1; put(v); v = 255; v &= 3; put(v); v = 255; v &= -1; put(v);
-  v = 0; v |= 1; put(v); v = 0; v |= 3; put(v); v = 0; v |= -1; put(v); v = 255; v |= 1; put(v); v = 255; v |= 3; put(v); v = 255; v |= -1; put(v);
-  v = 0; v ^= 1; put(v); v = 0; v ^= 3; put(v); v = 0; v ^= -1; put(v); v = 255; v ^= 1; put(v); v = 255; v ^= 3; put(v); v = 255; v ^= -1; put(v);
-  v = 0; v <<= 1; put(v); v = 0; v <<= 7; put(v); v = 0; v <<= 33; put(v); v = 255; v <<= 1; put(v); v = 255; v <<= 7; put(v); v = 255; v <<= 33; put(v);
-  v = 0; v >>= 1; put(v); v = 0; v >>= 7; put(v); v = 0; v >>= 33; put(v); v = 255; v >>= 1; put(v); v = 255; v >>= 7; put(v); v = 255; v >>= 33; put(v);
-  v = 0; v /= 1; put(v); v = 0; v /= 3; put(v); v = 0; v /= -1; put(v); v = 255; v /= 1; put(v); v = 255; v /= 3; put(v); v = 255; v /= -1; put(v);
-  v = 0; v %= 1; put(v); v = 0; v %= 3; put(v); v = 0; v %= -1; put(v); v = 255; v %= 1; put(v); v = 255; v %= 3; put(v); v = 255; v %= -1; put(v);
-  return 0; }
+# unsigned char:
+unsigned char | 0, 255
 => 0 1 / 3 / 255 / 0 / 2 / 254
 255 / 253 / 1 / 254 / 252 / 0
 0 / 0 / 0 / 255 / 253 / 1
@@ -153,20 +129,8 @@ int main(void){
 0 / 0 / 0 / 255 / 85 / 1
 0 / 0 / 0 / 0 / 0 / 0
 exit 0
-# assignments of short:
-short v;
-int main(void){
-  v = -32768; v += 1; put(v); v = -32768; v += 3; put(v); v = -32768; v += -1; put(v); v = 32767; v += 1; put(v); v = 32767; v += 3; put(v); v = 32767; v += -1; put(v);
-  v = -32768; v -= 1; put(v); v = -32768; v -= 3; put(v); v = -32768; v -= -1; put(v); v = 32767; v -= 1; put(v); v = 32767; v -= 3; put(v); v = 32767; v -= -1; put(v);
-  v = -32768; v *= 1; put(v); v = -32768; v *= 3; put(v); v = -32768; v *= -1; put(v); v = 32767; v *= 1; put(v); v = 32767; v *= 3; put(v); v = 32767; v *= -1; put(v);
-  v = -32768; v &= 1; put(v); v = -32768; v &= 3; put(v); v = -32768; v &= -1; put(v); v = 32767; v &= 1; put(v); v = 32767; v &= 3; put(v); v = 32767; v &= -1; put(v);
-  v = -32768; v |= 1; put(v); v = -32768; v |= 3; put(v); v = -32768; v |= -1; put(v); v = 32767; v |= 1; put(v); v = 32767; v |= 3; put(v); v = 32767; v |= -1; put(v);
-  v = -32768; v ^= 1; put(v); v = -32768; v ^= 3; put(v); v = -32768; v ^= -1; put(v); v = 32767; v ^= 1; put(v); v = 32767; v ^= 3; put(v); v = 32767; v ^= -1; put(v);
-  v = -32768; v <<= 1; put(v); v = -32768; v <<= 7; put(v); v = -32768; v <<= 33; put(v); v = 32767; v <<= 1; put(v); v = 32767; v <<= 7; put(v); v = 32767; v <<= 33; put(v);
-  v = -32768; v >>= 1; put(v); v = -32768; v >>= 7; put(v); v = -32768; v >>= 33; put(v); v = 32767; v >>= 1; put(v); v = 32767; v >>= 7; put(v); v = 32767; v >>= 33; put(v);
-  v = -32768; v /= 1; put(v); v = -32768; v /= 3; put(v); v = -32768; v /= -1; put(v); v = 32767; v /= 1; put(v); v = 32767; v /= 3; put(v); v = 32767; v /= -1; put(v);
-  v = -32768; v %= 1; put(v); v = -32768; v %= 3; put(v); v = -32768; v %= -1; put(v); v = 32767; v %= 1; put(v); v = 32767; v %= 3; put(v); v = 32767; v %= -1; put(v);
-  return 0; }
+# short:
+short | -32768, 32767
 => 0 -32767 / -32765 / 32767 / -32768 / -32766 / 32766
 32767 / 32765 / -32767 / 32766 / 32764 / -32768
 -32768 / -32768 / -32768 / 32767 / 32765 / -32767
@@ -178,20 +142,8 @@ int main(void){
 -32768 / -10922 / -32768 / 32767 / 10922 / -32767
 0 / -2 / 0 / 0 / 1 / 0
 exit 0
-# assignments of unsigned short:
-unsigned short v;
-int main(void){
-  v = 0; v += 1; put(v); v = 0; v += 3; put(v); v = 0; v += -1; put(v); v = 65535; v += 1; put(v); v = 65535; v += 3; put(v); v = 65535; v += -1; put(v);
-  v = 0; v -= 1; put(v); v = 0; v -= 3; put(v); v = 0; v -= -1; put(v); v = 65535; v -= 1; put(v); v = 65535; v -= 3; put(v); v = 65535; v -= -1; put(v);
-  v = 0; v *= 1; put(v); v = 0; v *= 3; put(v); v = 0; v *= -1; put(v); v = 65535; v *= 1; put(v); v = 65535; v *= 3; put(v); v = 65535; v *= -1; put(v);
-  v = 0; v &= 1; put(v); v = 0; v &= 3; put(v); v = 0; v &= -1; put(v); v = 65535; v &= 1; put(v); v = 65535; v &= 3; put(v); v = 65535; v &= -1; put(v);
-  v = 0; v |= 1; put(v); v = 0; v |= 3; put(v); v = 0; v |= -1; put(v); v = 65535; v |= 1; put(v); v = 65535; v |= 3; put(v); v = 65535; v |= -1; put(v);
-  v = 0; v ^= 1; put(v); v = 0; v ^= 3; put(v); v = 0; v ^= -1; put(v); v = 65535; v ^= 1; put(v); v = 65535; v ^= 3; put(v); v = 65535; v ^= -1; put(v);
-  v = 0; v <<= 1; put(v); v = 0; v <<= 7; put(v); v = 0; v <<= 33; put(v); v = 65535; v <<= 1; put(v); v = 65535; v <<= 7; put(v); v = 65535; v <<= 33; put(v);
-  v = 0; v >>= 1; put(v); v = 0; v >>= 7; put(v); v = 0; v >>= 33; put(v); v = 65535; v >>= 1; put(v); v = 65535; v >>= 7; put(v); v = 65535; v >>= 33; put(v);
-  v = 0; v /= 1; put(v); v = 0; v /= 3; put(v); v = 0; v /= -1; put(v); v = 65535; v /= 1; put(v); v = 65535; v /= 3; put(v); v = 65535; v /= -1; put(v);
-  v = 0; v %= 1; put(v); v = 0; v %= 3; put(v); v = 0; v %= -1; put(v); v = 65535; v %= 1; put(v); v = 65535; v %= 3; put(v); v = 65535; v %= -1; put(v);
-  return 0; }
+# unsigned short:
+unsigned short | 0, 65535
 => 0 1 / 3 / 65535 / 0 / 2 / 65534
 65535 / 65533 / 1 / 65534 / 65532 / 0
 0 / 0 / 0 / 65535 / 65533 / 1
@@ -205,47 +157,10 @@ int main(void){
 exit 0
 ";
 
-/// Assignments that compute, of 32 and 64 bits.
-const WIDE: &str = r"
-# assignments of int:
-int v;
-int main(void){
-  v = -2147483648; v += 1; put(v); v = -2147483648; v += 3; put(v); v = -2147483648; v += -1; put(v); v = 2147483647; v += 1; put(v); v = 2147483647; v += 3; put(v); v = 2147483647; v += -1; put(v);
-  v = -2147483648; v -= 1; put(v); v = -2147483648; v -= 3; put(v); v = -2147483648; v -= -1; put(v); v = 2147483647; v -= 1; put(v); v = 2147483647; v -= 3; put(v); v = 2147483647; v -= -1; put(v);
-  v = -2147483648; v *= 1; put(v); v = -2147483648; v *= 3; put(v); v = -2147483648; v *= -1; put(v); v = 2147483647; v *= 1; put(v); v = 2147483647; v *= 3; put(v); v = 2147483647; v *= -1; put(v);
-  v = -2147483648; v &= 1; put(v); v = -2147483648; v &= 3; put(v); v = -2147483648; v &= -1; put(v); v = 2147483647; v &= 1; put(v); v = 2147483647; v &= 3; put(v); v = 2147483647; v &= -1; put(v);
-  v = -2147483648; v |= 1; put(v); v = -2147483648; v |= 3; put(v); v = -2147483648; v |= -1; put(v); v = 2147483647; v |= 1; put(v); v = 2147483647; v |= 3; put(v); v = 2147483647; v |= -1; put(v);
-  v = -2147483648; v ^= 1; put(v); v = -2147483648; v ^= 3; put(v); v = -2147483648; v ^= -1; put(v); v = 2147483647; v ^= 1; put(v); v = 2147483647; v ^= 3; put(v); v = 2147483647; v ^= -1; put(v);
-  v = -2147483648; v <<= 1; put(v); v = -2147483648; v <<= 7; put(v); v = -2147483648; v <<= 33; put(v); v = 2147483647; v <<= 1; put(v); v = 2147483647; v <<= 7; put(v); v = 2147483647; v <<= 33; put(v);
-  v = -2147483648; v >>= 1; put(v); v = -2147483648; v >>= 7; put(v); v = -2147483648; v >>= 33; put(v); v = 2147483647; v >>= 1; put(v); v = 2147483647; v >>= 7; put(v); v = 2147483647; v >>= 33; put(v);
-  v = -2147483648; v /= 1; put(v); v = -2147483648; v /= 3; put(v); v = 2147483647; v /= 1; put(v); v = 2147483647; v /= 3; put(v); v = 2147483647; v /= -1; put(v);
-  v = -2147483648; v %= 1; put(v); v = -2147483648; v %= 3; put(v); v = 2147483647; v %= 1; put(v); v = 2147483647; v %= 3; put(v); v = 2147483647; v %= -1; put(v);
-  return 0; }
-=> 0 -2147483647 / -2147483645 / 2147483647 / -2147483648 / -2147483646 / 2147483646
-2147483647 / 2147483645 / -2147483647 / 2147483646 / 2147483644 / -2147483648
--2147483648 / -2147483648 / -2147483648 / 2147483647 / 2147483645 / -2147483647
-0 / 0 / -2147483648 / 1 / 3 / 2147483647
--2147483647 / -2147483645 / -1 / 2147483647 / 2147483647 / -1
--2147483647 / -2147483645 / 2147483647 / 2147483646 / 2147483644 / -2147483648
-0 / 0 / 0 / -2 / -128 / -2
--1073741824 / -16777216 / -1073741824 / 1073741823 / 16777215 / 1073741823
--2147483648 / -715827882 / 2147483647 / 715827882 / -2147483647
-0 / -2 / 0 / 1 / 0
-exit 0
-# assignments of unsigned:
-unsigned v;
-int main(void){
-  v = 0; v += 1; put(v); v = 0; v += 3; put(v); v = 0; v += -1; put(v); v = 4294967295; v += 1; put(v); v = 4294967295; v += 3; put(v); v = 4294967295; v += -1; put(v);
-  v = 0; v -= 1; put(v); v = 0; v -= 3; put(v); v = 0; v -= -1; put(v); v = 4294967295; v -= 1; put(v); v = 4294967295; v -= 3; put(v); v = 4294967295; v -= -1; put(v);
-  v = 0; v *= 1; put(v); v = 0; v *= 3; put(v); v = 0; v *= -1; put(v); v = 4294967295; v *= 1; put(v); v = 4294967295; v *= 3; put(v); v = 4294967295; v *= -1; put(v);
-  v = 0; v &= 1; put(v); v = 0; v &= 3; put(v); v = 0; v &= -1; put(v); v = 4294967295; v &= 1; put(v); v = 4294967295; v &= 3; put(v); v = 4294967295; v &= -1; put(v);
-  v = 0; v |= 1; put(v); v = 0; v |= 3; put(v); v = 0; v |= -1; put(v); v = 4294967295; v |= 1; put(v); v = 4294967295; v |= 3; put(v); v = 4294967295; v |= -1; put(v);
-  v = 0; v ^= 1; put(v); v = 0; v ^= 3; put(v); v = 0; v ^= -1; put(v); v = 4294967295; v ^= 1; put(v); v = 4294967295; v ^= 3; put(v); v = 4294967295; v ^= -1; put(v);
-  v = 0; v <<= 1; put(v); v = 0; v <<= 7; put(v); v = 0; v <<= 33; put(v); v = 4294967295; v <<= 1; put(v); v = 4294967295; v <<= 7; put(v); v = 4294967295; v <<= 33; put(v);
-  v = 0; v >>= 1; put(v); v = 0; v >>= 7; put(v); v = 0; v >>= 33; put(v); v = 4294967295; v >>= 1; put(v); v = 4294967295; v >>= 7; put(v); v = 4294967295; v >>= 33; put(v);
-  v = 0; v /= 1; put(v); v = 0; v /= 3; put(v); v = 0; v /= -1; put(v); v = 4294967295; v /= 1; put(v); v = 4294967295; v /= 3; put(v); v = 4294967295; v /= -1; put(v);
-  v = 0; v %= 1; put(v); v = 0; v %= 3; put(v); v = 0; v %= -1; put(v); v = 4294967295; v %= 1; put(v); v = 4294967295; v %= 3; put(v); v = 4294967295; v %= -1; put(v);
-  return 0; }
+/// Of 32 and 64 bits, unsigned.
+const UNSIGNED: &str = r"
+# unsigned:
+unsigned | 0, 4294967295
 => 0 1 / 3 / 4294967295 / 0 / 2 / 4294967294
 4294967295 / 4294967293 / 1 / 4294967294 / 4294967292 / 0
 0 / 0 / 0 / 4294967295 / 4294967293 / 1
@@ -257,45 +172,8 @@ int main(void){
 0 / 0 / 0 / 4294967295 / 1431655765 / 1
 0 / 0 / 0 / 0 / 0 / 0
 exit 0
-# assignments of long long:
-long long v;
-int main(void){
-  v = -9223372036854775807 - 1; v += 1; put(v); v = -9223372036854775807 - 1; v += 3; put(v); v = -9223372036854775807 - 1; v += -1; put(v); v = 9223372036854775807; v += 1; put(v); v = 9223372036854775807; v += 3; put(v); v = 9223372036854775807; v += -1; put(v);
-  v = -9223372036854775807 - 1; v -= 1; put(v); v = -9223372036854775807 - 1; v -= 3; put(v); v = -9223372036854775807 - 1; v -= -1; put(v); v = 9223372036854775807; v -= 1; put(v); v = 9223372036854775807; v -= 3; put(v); v = 9223372036854775807; v -= -1; put(v);
-  v = -9223372036854775807 - 1; v *= 1; put(v); v = -9223372036854775807 - 1; v *= 3; put(v); v = -9223372036854775807 - 1; v *= -1; put(v); v = 9223372036854775807; v *= 1; put(v); v = 9223372036854775807; v *= 3; put(v); v = 9223372036854775807; v *= -1; put(v);
-  v = -9223372036854775807 - 1; v &= 1; put(v); v = -9223372036854775807 - 1; v &= 3; put(v); v = -9223372036854775807 - 1; v &= -1; put(v); v = 9223372036854775807; v &= 1; put(v); v = 9223372036854775807; v &= 3; put(v); v = 9223372036854775807; v &= -1; put(v);
-  v = -9223372036854775807 - 1; v |= 1; put(v); v = -9223372036854775807 - 1; v |= 3; put(v); v = -9223372036854775807 - 1; v |= -1; put(v); v = 9223372036854775807; v |= 1; put(v); v = 9223372036854775807; v |= 3; put(v); v = 9223372036854775807; v |= -1; put(v);
-  v = -9223372036854775807 - 1; v ^= 1; put(v); v = -9223372036854775807 - 1; v ^= 3; put(v); v = -9223372036854775807 - 1; v ^= -1; put(v); v = 9223372036854775807; v ^= 1; put(v); v = 9223372036854775807; v ^= 3; put(v); v = 9223372036854775807; v ^= -1; put(v);
-  v = -9223372036854775807 - 1; v <<= 1; put(v); v = -9223372036854775807 - 1; v <<= 7; put(v); v = -9223372036854775807 - 1; v <<= 33; put(v); v = 9223372036854775807; v <<= 1; put(v); v = 9223372036854775807; v <<= 7; put(v); v = 9223372036854775807; v <<= 33; put(v);
-  v = -9223372036854775807 - 1; v >>= 1; put(v); v = -9223372036854775807 - 1; v >>= 7; put(v); v = -9223372036854775807 - 1; v >>= 33; put(v); v = 9223372036854775807; v >>= 1; put(v); v = 9223372036854775807; v >>= 7; put(v); v = 9223372036854775807; v >>= 33; put(v);
-  v = -9223372036854775807 - 1; v /= 1; put(v); v = -9223372036854775807 - 1; v /= 3; put(v); v = 9223372036854775807; v /= 1; put(v); v = 9223372036854775807; v /= 3; put(v); v = 9223372036854775807; v /= -1; put(v);
-  v = -9223372036854775807 - 1; v %= 1; put(v); v = -9223372036854775807 - 1; v %= 3; put(v); v = 9223372036854775807; v %= 1; put(v); v = 9223372036854775807; v %= 3; put(v); v = 9223372036854775807; v %= -1; put(v);
-  return 0; }
-=> 0 -9223372036854775807 / -9223372036854775805 / 9223372036854775807 / -9223372036854775808 / -9223372036854775806 / 9223372036854775806
-9223372036854775807 / 9223372036854775805 / -9223372036854775807 / 9223372036854775806 / 9223372036854775804 / -9223372036854775808
--9223372036854775808 / -9223372036854775808 / -9223372036854775808 / 9223372036854775807 / 9223372036854775805 / -9223372036854775807
-0 / 0 / -9223372036854775808 / 1 / 3 / 9223372036854775807
--9223372036854775807 / -9223372036854775805 / -1 / 9223372036854775807 / 9223372036854775807 / -1
--9223372036854775807 / -9223372036854775805 / 9223372036854775807 / 9223372036854775806 / 9223372036854775804 / -9223372036854775808
-0 / 0 / 0 / -2 / -128 / -8589934592
--4611686018427387904 / -72057594037927936 / -1073741824 / 4611686018427387903 / 72057594037927935 / 1073741823
--9223372036854775808 / -3074457345618258602 / 9223372036854775807 / 3074457345618258602 / -9223372036854775807
-0 / -2 / 0 / 1 / 0
-exit 0
-# assignments of unsigned long long:
-unsigned long long v;
-int main(void){
-  v = 0; v += 1; put(v); v = 0; v += 3; put(v); v = 0; v += -1; put(v); v = 18446744073709551615; v += 1; put(v); v = 18446744073709551615; v += 3; put(v); v = 18446744073709551615; v += -1; put(v);
-  v = 0; v -= 1; put(v); v = 0; v -= 3; put(v); v = 0; v -= -1; put(v); v = 18446744073709551615; v -= 1; put(v); v = 18446744073709551615; v -= 3; put(v); v = 18446744073709551615; v -= -1; put(v);
-  v = 0; v *= 1; put(v); v = 0; v *= 3; put(v); v = 0; v *= -1; put(v); v = 18446744073709551615; v *= 1; put(v); v = 18446744073709551615; v *= 3; put(v); v = 18446744073709551615; v *= -1; put(v);
-  v = 0; v &= 1; put(v); v = 0; v &= 3; put(v); v = 0; v &= -1; put(v); v = 18446744073709551615; v &= 1; put(v); v = 18446744073709551615; v &= 3; put(v); v = 18446744073709551615; v &= -1; put(v);
-  v = 0; v |= 1; put(v); v = 0; v |= 3; put(v); v = 0; v |= -1; put(v); v = 18446744073709551615; v |= 1; put(v); v = 18446744073709551615; v |= 3; put(v); v = 18446744073709551615; v |= -1; put(v);
-  v = 0; v ^= 1; put(v); v = 0; v ^= 3; put(v); v = 0; v ^= -1; put(v); v = 18446744073709551615; v ^= 1; put(v); v = 18446744073709551615; v ^= 3; put(v); v = 18446744073709551615; v ^= -1; put(v);
-  v = 0; v <<= 1; put(v); v = 0; v <<= 7; put(v); v = 0; v <<= 33; put(v); v = 18446744073709551615; v <<= 1; put(v); v = 18446744073709551615; v <<= 7; put(v); v = 18446744073709551615; v <<= 33; put(v);
-  v = 0; v >>= 1; put(v); v = 0; v >>= 7; put(v); v = 0; v >>= 33; put(v); v = 18446744073709551615; v >>= 1; put(v); v = 18446744073709551615; v >>= 7; put(v); v = 18446744073709551615; v >>= 33; put(v);
-  v = 0; v /= 1; put(v); v = 0; v /= 3; put(v); v = 0; v /= -1; put(v); v = 18446744073709551615; v /= 1; put(v); v = 18446744073709551615; v /= 3; put(v); v = 18446744073709551615; v /= -1; put(v);
-  v = 0; v %= 1; put(v); v = 0; v %= 3; put(v); v = 0; v %= -1; put(v); v = 18446744073709551615; v %= 1; put(v); v = 18446744073709551615; v %= 3; put(v); v = 18446744073709551615; v %= -1; put(v);
-  return 0; }
+# unsigned long long:
+unsigned long long | 0, 18446744073709551615
 => 0 1 / 3 / -1 / 0 / 2 / -2
 -1 / -3 / 1 / -2 / -4 / 0
 0 / 0 / 0 / -1 / -3 / 1
@@ -306,6 +184,36 @@ int main(void){
 0 / 0 / 0 / 9223372036854775807 / 144115188075855871 / 2147483647
 0 / 0 / 0 / -1 / 6148914691236517205 / 1
 0 / 0 / 0 / 0 / 0 / 0
+exit 0
+";
+
+/// Of 32 and 64 bits, signed.
+const SIGNED: &str = r"
+# int:
+int | -2147483648, 2147483647
+=> 0 -2147483647 / -2147483645 / 2147483647 / -2147483648 / -2147483646 / 2147483646
+2147483647 / 2147483645 / -2147483647 / 2147483646 / 2147483644 / -2147483648
+-2147483648 / -2147483648 / -2147483648 / 2147483647 / 2147483645 / -2147483647
+0 / 0 / -2147483648 / 1 / 3 / 2147483647
+-2147483647 / -2147483645 / -1 / 2147483647 / 2147483647 / -1
+-2147483647 / -2147483645 / 2147483647 / 2147483646 / 2147483644 / -2147483648
+0 / 0 / 0 / -2 / -128 / -2
+-1073741824 / -16777216 / -1073741824 / 1073741823 / 16777215 / 1073741823
+-2147483648 / -715827882 / 2147483647 / 715827882 / -2147483647
+0 / -2 / 0 / 1 / 0
+exit 0
+# long long:
+long long | -9223372036854775807 - 1, 9223372036854775807
+=> 0 -9223372036854775807 / -9223372036854775805 / 9223372036854775807 / -9223372036854775808 / -9223372036854775806 / 9223372036854775806
+9223372036854775807 / 9223372036854775805 / -9223372036854775807 / 9223372036854775806 / 9223372036854775804 / -9223372036854775808
+-9223372036854775808 / -9223372036854775808 / -9223372036854775808 / 9223372036854775807 / 9223372036854775805 / -9223372036854775807
+0 / 0 / -9223372036854775808 / 1 / 3 / 9223372036854775807
+-9223372036854775807 / -9223372036854775805 / -1 / 9223372036854775807 / 9223372036854775807 / -1
+-9223372036854775807 / -9223372036854775805 / 9223372036854775807 / 9223372036854775806 / 9223372036854775804 / -9223372036854775808
+0 / 0 / 0 / -2 / -128 / -8589934592
+-4611686018427387904 / -72057594037927936 / -1073741824 / 4611686018427387903 / 72057594037927935 / 1073741823
+-9223372036854775808 / -3074457345618258602 / 9223372036854775807 / 3074457345618258602 / -9223372036854775807
+0 / -2 / 0 / 1 / 0
 exit 0
 ";
 
@@ -346,24 +254,27 @@ exit 0
 
 /// Casts to each type, and operators of one operand.
 #[test]
-fn unary(rt: HostRuntime) -> Result<(), Fail> {
-    all_show(&rt, rt.alloc(), &WAYS, UNARY)
+fn unary_operators_and_casts(rt: HostRuntime) -> Result<(), Fail> {
+    all_show_in(&rt, rt.alloc(), &WAYS, &[UNARY_PROGRAM], UNARY)
 }
 
 /// Each operator that assigns, of 8 and 16 bits.
 #[test]
-fn narrow(rt: HostRuntime) -> Result<(), Fail> {
-    all_show(&rt, rt.alloc(), &WAYS, NARROW)
+fn narrow_assignments(rt: HostRuntime) -> Result<(), Fail> {
+    all_show_in(&rt, rt.alloc(), &WAYS, &[ASSIGNMENTS, DIVISIONS], NARROW)
 }
 
 /// Each operator that assigns, of 32 and 64 bits.
 #[test]
-fn wide(rt: HostRuntime) -> Result<(), Fail> {
-    all_show(&rt, rt.alloc(), &WAYS, WIDE)
+fn wide_assignments(rt: HostRuntime) -> Result<(), Fail> {
+    let program = [ASSIGNMENTS, DIVISIONS];
+    all_show_in(&rt, rt.alloc(), &WAYS, &program, UNSIGNED)?;
+    let program = [ASSIGNMENTS, SIGNED_DIVISIONS];
+    all_show_in(&rt, rt.alloc(), &WAYS, &program, SIGNED)
 }
 
 /// An operand is converted to the common type.
 #[test]
-fn mixed(rt: HostRuntime) -> Result<(), Fail> {
+fn operands_of_two_types(rt: HostRuntime) -> Result<(), Fail> {
     all_show(&rt, rt.alloc(), &WAYS, MIXED)
 }

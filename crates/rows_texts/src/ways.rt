@@ -135,16 +135,62 @@ fn shows(
     Ok(())
 }
 
-/// The same of each row of a table and each of the ways, with and without `--trace`.
+/// The same by each of the ways, with and without `--trace`.
+fn shows_by_all(rt: &impl Abort, alloc: Global, ways: &[&str], row: Row<'_>) -> Result<(), Fail> {
+    for way in ways {
+        shows(rt, alloc, way, row, true)?;
+        shows(rt, alloc, way, row, false)?;
+    }
+    Ok(())
+}
+
+/// The same of each row of a table.
 pub fn all_show(rt: &impl Abort, alloc: Global, ways: &[&str], table: &str) -> Result<(), Fail> {
     for part in table.split("\n# ").skip(1) {
         match row_of(part) {
             None => assert!(rt; false, "no row: {part}"),
+            Some(row) => shows_by_all(rt, alloc, ways, row)?,
+        }
+    }
+    Ok(())
+}
+
+/// The program that the parts of a program are for `TYPE | EDGES`: `@type@` is the type, `@edges@`
+/// the edges, separated by commas, `@count@` their number, `@low@` and `@high@` the first and the
+/// last of them.
+fn program_of(alloc: Global, parts: &[&str], row: &str) -> Result<String, AllocError> {
+    let (name, edges) = row.split_once(" | ").unwrap_or((row, ""));
+    let count = format!(in alloc; "{}", edges.split(", ").count())?;
+    let mut text = String::new(alloc);
+    for part in parts {
+        for (number, piece) in part.split('@').enumerate() {
+            text.push_str(match (number % 2, piece) {
+                (0, _) => piece,
+                (_, "type") => name,
+                (_, "edges") => edges,
+                (_, "count") => &count,
+                (_, "low") => edges.split(", ").next().unwrap_or(""),
+                _ => edges.split(", ").last().unwrap_or(""),
+            })?;
+        }
+    }
+    Ok(text)
+}
+
+/// The same of each row of a table whose texts say for what a program is that is in parts.
+pub fn all_show_in(
+    rt: &impl Abort,
+    alloc: Global,
+    ways: &[&str],
+    parts: &[&str],
+    table: &str,
+) -> Result<(), Fail> {
+    for part in table.split("\n# ").skip(1) {
+        match row_of(part) {
+            None => assert!(rt; false, "no row: {part}"),
             Some(row) => {
-                for way in ways {
-                    shows(rt, alloc, way, row, true)?;
-                    shows(rt, alloc, way, row, false)?;
-                }
+                let text = program_of(alloc, parts, row.text)?;
+                shows_by_all(rt, alloc, ways, Row { text: &text, ..row })?;
             }
         }
     }

@@ -27,6 +27,7 @@ use std::alloc::{AllocError, Global};
 use std::process::Abort;
 use std::test::Fail;
 use test_images::tables::table_image;
+use test_images::words::number_of;
 use virtual_unwind::UnwindErr;
 use virtual_unwind::frame::Caller;
 use virtual_unwind::unwinding::caller;
@@ -100,16 +101,10 @@ struct Boundary<'a> {
 
 /// A number in hexadecimal.
 fn number(rt: &impl Abort, word: &str) -> u64 {
-    let mut value = 0u64;
-    for byte in word.bytes() {
-        let digit = match byte {
-            b'0'..=b'9' => byte - b'0',
-            b'A'..=b'F' => byte - b'A' + 10,
-            _ => panic!(rt; "no number: {word}"),
-        };
-        value = value.wrapping_mul(16).wrapping_add(digit as u64);
+    match number_of(word) {
+        Some(value) => value,
+        None => panic!(rt; "no number: {word}"),
     }
-    value
 }
 
 /// Appends the bytes that words spell.

@@ -1,46 +1,48 @@
 //! Operators and operands by the C standard's rules (C11, 6.4.4 and 6.5).
 
+use crate::rows::{Reader, all_told};
 use c_lex::lexing::lex;
 use c_lex::punctuator::Punctuator;
-use c_lex::token::IntegerType;
+use c_lex::token::{IntegerType, Kind};
 use c_parse_atom::information::information;
 use c_parse_atom::laws::laws;
 use c_parse_atom::operands::{integer, literal, name};
 use c_parse_atom::operators::{assignment_of, binary_of, follows, increment_of, level, unary_of};
-use c_syntax::expression::{Field, Identifier, Literal};
-use c_syntax::operator::{Arithmetic, BinaryOperator, Comparison, Increment, UnaryOperator};
+use c_syntax::expression::{Identifier, Literal};
+use c_syntax::operator::{Arithmetic, Increment, UnaryOperator};
+use std::alloc::Global;
 use std::process::Abort;
 use std::test::Fail;
 
-#[test]
-fn operators(rt: HostRuntime) {
-    laws();
-    for (punctuator, operator, of) in [
-        (
-            Punctuator::Percent,
-            BinaryOperator::Arithmetic(Arithmetic::Remainder),
-            4,
-        ),
-        (
-            Punctuator::ShiftRight,
-            BinaryOperator::Arithmetic(Arithmetic::ShiftRight),
-            6,
-        ),
-        (
-            Punctuator::LessEqual,
-            BinaryOperator::Comparison(Comparison::LessEqual),
-            7,
-        ),
-        (
-            Punctuator::NotEqual,
-            BinaryOperator::Comparison(Comparison::NotEqual),
-            8,
-        ),
-        (Punctuator::BarBar, BinaryOperator::LogicalOr, 13),
-    ] {
-        assert_eq!(rt; binary_of(punctuator), Some(operator));
-        assert_eq!(rt; level(operator), of);
+/// The operator that a text's first punctuator is, and its level.
+pub fn operator_of(alloc: Global, text: &[u8]) -> Result<String, Fail> {
+    let tokens = lex(alloc, text)?;
+    if let Some(Kind::Punctuator(punctuator)) = tokens.first().map(|token| token.kind) {
+        if let Some(operator) = binary_of(punctuator) {
+            let level = level(operator);
+            return Ok(format!(in alloc; "{operator:?} {level}")?);
+        }
     }
+    Ok(String::from_str(alloc, "no binary operator")?)
+}
+
+/// Binary operators by the lines of the grammar, from multiplication, 4, on.
+const OPERATORS: &str = r"
+% => Arithmetic(Remainder) 4
+>> => Arithmetic(ShiftRight) 6
+<= => Comparison(LessEqual) 7
+!= => Comparison(NotEqual) 8
+|| => LogicalOr 13
+";
+
+#[test]
+fn binary_operators_have_levels(rt: HostRuntime) -> Result<(), Fail> {
+    laws();
+    all_told(&rt, rt.alloc(), Reader::Operator, OPERATORS)
+}
+
+#[test]
+fn punctuators_are_operators(rt: HostRuntime) {
     assert_eq!(rt;
         assignment_of(Punctuator::CaretAssign),
         Some(Some(Arithmetic::ExclusiveOr))
@@ -57,7 +59,7 @@ fn operators(rt: HostRuntime) {
 }
 
 #[test]
-fn operands(rt: HostRuntime) -> Result<(), Fail> {
+fn operands_are_literals_and_names(rt: HostRuntime) -> Result<(), Fail> {
     let tokens = lex(rt.alloc(), b"7u x '\\xff' ,")?;
     let seven = Literal::Integer {
         value: 7,
@@ -83,34 +85,27 @@ fn operands(rt: HostRuntime) -> Result<(), Fail> {
     Ok(())
 }
 
-#[test]
-fn records(rt: HostRuntime) -> Result<(), Fail> {
-    for (text, field) in [
-        (
-            b"GetExceptionInformation()->ExceptionRecord->ExceptionCode".as_slice(),
-            Some(Field::Code),
-        ),
-        (
-            b"GetExceptionInformation()->ExceptionRecord->ExceptionInformation[1]".as_slice(),
-            Some(Field::Information { index: 1, at: 65 }),
-        ),
-        (
-            b"GetExceptionInformation()->ExceptionRecord->ExceptionAddress".as_slice(),
-            None,
-        ),
-        (
-            b"GetExceptionInformation()->Context->ExceptionFlags".as_slice(),
-            None,
-        ),
-    ] {
-        let tokens = lex(rt.alloc(), text)?;
-        match information(text, &tokens) {
-            Some((at, found, rest)) => {
-                assert_eq!(rt; Some(found), field, "of {text:?}");
-                assert_eq!(rt; (at, rest.len()), (0, 0), "of {text:?}");
-            }
-            None => assert!(rt; field.is_none(), "{text:?} is refused"),
+/// The field that a text names: its place, and how many tokens follow.
+pub fn information_of(alloc: Global, text: &[u8]) -> Result<String, Fail> {
+    let tokens = lex(alloc, text)?;
+    match information(text, &tokens) {
+        None => Ok(String::from_str(alloc, "no field")?),
+        Some((at, field, rest)) => {
+            let left = rest.len();
+            Ok(format!(in alloc; "{field:?} {at} {left}")?)
         }
     }
-    Ok(())
+}
+
+/// Fields of the exception's record (Microsoft C reference, "GetExceptionInformation").
+const FIELDS: &str = r"
+GetExceptionInformation()->ExceptionRecord->ExceptionCode => Code 0 0
+GetExceptionInformation()->ExceptionRecord->ExceptionInformation[1] => Information { index: 1, at: 65 } 0 0
+GetExceptionInformation()->ExceptionRecord->ExceptionAddress => no field
+GetExceptionInformation()->Context->ExceptionFlags => no field
+";
+
+#[test]
+fn fields_of_the_record_are_named(rt: HostRuntime) -> Result<(), Fail> {
+    all_told(&rt, rt.alloc(), Reader::Information, FIELDS)
 }

@@ -1,10 +1,10 @@
 //! Expressions by the C standard's rules (C11, 6.5), with the places of operators.
 
+use crate::rows::{Reader, all_told, refusal_of};
 use c_lex::lexing::lex;
-use c_parse_expr::expressions::{Parsed, expression};
-use c_parse_expr::refusal::ParseErr;
+use c_parse_expr::expressions::expression;
 use c_syntax::expression::Expr;
-use std::process::Abort;
+use std::alloc::Global;
 use std::test::Fail;
 
 /// The place of an expression's own operator, or of its first token.
@@ -26,133 +26,135 @@ fn place(expr: &Expr) -> u64 {
     }
 }
 
-/// Each text is an expression: the place of its operator, how many expressions stand around a part,
-/// and how many tokens follow.
-#[test]
-fn accepted(rt: HostRuntime) -> Result<(), Fail> {
-    for (text, at, over, left) in [
-        (b"x".as_slice(), 0, 0, 0),
-        (b"'a'".as_slice(), 0, 0, 0),
-        (b"a - b - c".as_slice(), 6, 2, 0),
-        (b"a - b * c".as_slice(), 2, 2, 0),
-        (b"a * b - c".as_slice(), 6, 2, 0),
-        (b"a << b + c".as_slice(), 2, 2, 0),
-        (b"a == b < c".as_slice(), 2, 2, 0),
-        (b"a & b == c".as_slice(), 2, 2, 0),
-        (b"a || b && c".as_slice(), 2, 2, 0),
-        (b"a | b ^ c & d".as_slice(), 2, 3, 0),
-        (b"a = b = c".as_slice(), 2, 2, 0),
-        (b"a += b , c".as_slice(), 7, 2, 0),
-        (b"a ? b : c ? d : e".as_slice(), 2, 2, 0),
-        (b"a ? b , c : d".as_slice(), 2, 2, 0),
-        (b"a || b ? c : d".as_slice(), 7, 2, 0),
-        (b"(char)x + y".as_slice(), 8, 2, 0),
-        (b"(unsigned long **)x[1]".as_slice(), 0, 2, 0),
-        (b"(x) + y".as_slice(), 4, 2, 0),
-        (b"-x++".as_slice(), 0, 2, 0),
-        (b"++*x".as_slice(), 0, 2, 0),
-        (b"!~-+*&x".as_slice(), 0, 6, 0),
-        (b"a[b][c]++".as_slice(), 7, 3, 0),
-        (b"f()".as_slice(), 0, 0, 0),
-        (b"f(a, b = c, (d, e))".as_slice(), 0, 3, 0),
-        (b"*p = q[1] , r".as_slice(), 10, 3, 0),
-        (
-            b"GetExceptionInformation()->ExceptionRecord->ExceptionInformation[1] + 2".as_slice(),
-            68,
-            1,
-            0,
-        ),
-        (b"a ; b".as_slice(), 0, 0, 2),
-        (b"a ) + b".as_slice(), 0, 0, 3),
-        (b"a b".as_slice(), 0, 0, 1),
-    ] {
-        let tokens = lex(rt.alloc(), text)?;
-        match expression(rt.alloc(), text, 64, 16, &tokens) {
-            Ok(found) => {
-                assert_eq!(rt; place(&found.expr), at, "of {text:?}");
-                assert_eq!(rt; found.over, over, "of {text:?}");
-                assert_eq!(rt; found.rest.len(), left, "of {text:?}");
-            }
-            Err(err) => assert!(rt; false, "{text:?} is refused: {err:?}"),
+/// The place of an expression's operator, how many expressions stand around a part, and how many
+/// tokens follow; or its refusal.
+pub fn told_of(alloc: Global, text: &[u8], room: u64) -> Result<String, Fail> {
+    let tokens = lex(alloc, text)?;
+    match expression(alloc, text, room, 16, &tokens) {
+        Err(refusal) => Ok(refusal_of(alloc, refusal)?),
+        Ok(found) => {
+            let at = place(&found.expr);
+            let left = found.rest.len();
+            Ok(format!(in alloc; "{at} {} {left}", found.over)?)
         }
     }
-    Ok(())
 }
+
+/// Each text is an expression.
+const EXPRESSIONS: &str = r"
+x => 0 0 0
+'a' => 0 0 0
+a - b - c => 6 2 0
+a - b * c => 2 2 0
+a * b - c => 6 2 0
+a << b + c => 2 2 0
+a == b < c => 2 2 0
+a & b == c => 2 2 0
+a || b && c => 2 2 0
+a | b ^ c & d => 2 3 0
+a = b = c => 2 2 0
+a += b , c => 7 2 0
+a ? b : c ? d : e => 2 2 0
+a ? b , c : d => 2 2 0
+a || b ? c : d => 7 2 0
+(char)x + y => 8 2 0
+(unsigned long **)x[1] => 0 2 0
+(x) + y => 4 2 0
+-x++ => 0 2 0
+++*x => 0 2 0
+!~-+*&x => 0 6 0
+a[b][c]++ => 7 3 0
+f() => 0 0 0
+f(a, b = c, (d, e)) => 0 3 0
+*p = q[1] , r => 10 3 0
+GetExceptionInformation()->ExceptionRecord->ExceptionInformation[1] + 2 => 68 1 0
+a ; b => 0 0 2
+a ) + b => 0 0 3
+a b => 0 0 1
+";
 
 /// Each text is refused at the first token with which no expression continues.
+const REFUSED: &str = r"
+ => Unexpected 0
+a + => Unexpected 3
++ ; => Unexpected 2
+int => Unexpected 0
+(a => Unexpected 2
+(int) => Unexpected 5
+(int x => Unexpected 5
+a[1; => Unexpected 3
+a ? b => Unexpected 5
+a ? b ; => Unexpected 6
+a ? b : ; => Unexpected 8
+a + b = c => Unexpected 6
+(int)x = c => Unexpected 7
+a ? b : c = d => Unexpected 10
+++ (int)x => Unexpected 4
+f(a; => Unexpected 3
+f(a,) => Unexpected 4
+f(, => Unexpected 2
+f()() => Unexpected 3
+1 ( => Unexpected 2
+a++ ( => Unexpected 4
+GetExceptionInformation(1 => Unexpected 24
+GetExceptionInformation()->Context => Unexpected 27
+GetExceptionInformation()->ExceptionRecord->ExceptionAddress => Unexpected 44
+GetExceptionInformation()->ExceptionRecord->ExceptionInformation[x] => Unexpected 65
+GetExceptionInformation()->ExceptionRecord->ExceptionInformation[1 => Unexpected 66
+";
+
+/// With room for one expression around each part.
+const ROOM_FOR_ONE: &str = r"
+a + b => 2 1 0
+a + b + c => TooDeep 6
+a + b * c => TooDeep 6
+a = b = c => TooDeep 6
+((a)) => TooDeep 1
+(int)-a => TooDeep 5
+a[b]++ => TooDeep 4
+a[b + c] => TooDeep 4
+f(a, b) => 0 1 0
+a ? b : c + d => TooDeep 10
+";
+
+/// With room for none.
+const ROOM_FOR_NONE: &str = r"
+f(a, b) => TooDeep 2
+f(+a) => TooDeep 2
+f() => 0 0 0
+-a => TooDeep 0
+(a => TooDeep 0
+a , b => TooDeep 2
+a ? b : c => TooDeep 2
+";
+
 #[test]
-fn refused(rt: HostRuntime) -> Result<(), Fail> {
-    for (text, at) in [
-        (b"".as_slice(), 0),
-        (b"a +".as_slice(), 3),
-        (b"+ ;".as_slice(), 2),
-        (b"int".as_slice(), 0),
-        (b"(a".as_slice(), 2),
-        (b"(int)".as_slice(), 5),
-        (b"(int x".as_slice(), 5),
-        (b"a[1;".as_slice(), 3),
-        (b"a ? b".as_slice(), 5),
-        (b"a ? b ;".as_slice(), 6),
-        (b"a ? b : ;".as_slice(), 8),
-        (b"a + b = c".as_slice(), 6),
-        (b"(int)x = c".as_slice(), 7),
-        (b"a ? b : c = d".as_slice(), 10),
-        (b"++ (int)x".as_slice(), 4),
-        (b"f(a;".as_slice(), 3),
-        (b"f(a,)".as_slice(), 4),
-        (b"f(,".as_slice(), 2),
-        (b"f()()".as_slice(), 3),
-        (b"1 (".as_slice(), 2),
-        (b"a++ (".as_slice(), 4),
-        (b"GetExceptionInformation(1".as_slice(), 24),
-        (b"GetExceptionInformation()->Context".as_slice(), 27),
-        (
-            b"GetExceptionInformation()->ExceptionRecord->ExceptionAddress".as_slice(),
-            44,
-        ),
-        (
-            b"GetExceptionInformation()->ExceptionRecord->ExceptionInformation[x]".as_slice(),
-            65,
-        ),
-        (
-            b"GetExceptionInformation()->ExceptionRecord->ExceptionInformation[1".as_slice(),
-            66,
-        ),
-    ] {
-        let tokens = lex(rt.alloc(), text)?;
-        match expression(rt.alloc(), text, 64, 16, &tokens) {
-            Ok(_) => assert!(rt; false, "{text:?} is accepted"),
-            Err(err) => assert_eq!(rt; err, ParseErr::Unexpected { at }, "of {text:?}"),
-        }
-    }
-    Ok(())
+fn operators_bind_by_their_levels(rt: HostRuntime) -> Result<(), Fail> {
+    all_told(
+        &rt,
+        rt.alloc(),
+        Reader::Expression { room: 64 },
+        EXPRESSIONS,
+    )
 }
 
-/// With room for one expression around each part, and with none.
 #[test]
-fn limits(rt: HostRuntime) -> Result<(), Fail> {
-    for (text, room, deep) in [
-        (b"a + b".as_slice(), 1, None),
-        (b"a + b + c".as_slice(), 1, Some(6)),
-        (b"a + b * c".as_slice(), 1, Some(6)),
-        (b"a = b = c".as_slice(), 1, Some(6)),
-        (b"((a))".as_slice(), 1, Some(1)),
-        (b"(int)-a".as_slice(), 1, Some(5)),
-        (b"a[b]++".as_slice(), 1, Some(4)),
-        (b"a[b + c]".as_slice(), 1, Some(4)),
-        (b"f(a, b)".as_slice(), 1, None),
-        (b"f(a, b)".as_slice(), 0, Some(2)),
-        (b"f(+a)".as_slice(), 0, Some(2)),
-        (b"f()".as_slice(), 0, None),
-        (b"-a".as_slice(), 0, Some(0)),
-        (b"(a".as_slice(), 0, Some(0)),
-        (b"a , b".as_slice(), 0, Some(2)),
-        (b"a ? b : c".as_slice(), 0, Some(2)),
-        (b"a ? b : c + d".as_slice(), 1, Some(10)),
-    ] {
-        let tokens = lex(rt.alloc(), text)?;
-        let err = expression(rt.alloc(), text, room, 16, &tokens).err();
-        assert_eq!(rt; err, deep.map(|at| ParseErr::TooDeep { at }), "of {text:?}");
-    }
-    Ok(())
+fn no_expression_continues(rt: HostRuntime) -> Result<(), Fail> {
+    all_told(&rt, rt.alloc(), Reader::Expression { room: 64 }, REFUSED)
+}
+
+#[test]
+fn expressions_nest_within_their_room(rt: HostRuntime) -> Result<(), Fail> {
+    all_told(
+        &rt,
+        rt.alloc(),
+        Reader::Expression { room: 1 },
+        ROOM_FOR_ONE,
+    )?;
+    all_told(
+        &rt,
+        rt.alloc(),
+        Reader::Expression { room: 0 },
+        ROOM_FOR_NONE,
+    )
 }

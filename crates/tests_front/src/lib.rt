@@ -9,6 +9,8 @@ mod expressions;
 #[cfg(test)]
 mod programs;
 #[cfg(test)]
+mod rows;
+#[cfg(test)]
 mod starts;
 #[cfg(test)]
 mod statements;

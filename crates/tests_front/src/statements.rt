@@ -1,384 +1,149 @@
 //! Statements by the C standard's rules (C11, 6.8) and the Microsoft C reference, with the places
 //! of refusals: a fault is at the first token with which no program within the limits continues.
+//!
+//! A row's text is `ROOM LOCALS FUNCLETS: ITEMS`: the room for statements around each, what is left
+//! of the counts, and the items of a block after the opening brace.
 
+use crate::rows::{Reader, all_told, refusal_of};
 use c_lex::lexing::lex;
-use c_parse_expr::refusal::ParseErr;
 use c_parse_stmt::left::Left;
 use c_parse_stmt::statements::items;
-use c_syntax::limit::Count;
 use std::alloc::Global;
-use std::process::Abort;
 use std::test::Fail;
 
-/// A block's items without expressions, after the opening brace: how many there are, and what is
-/// left of the counts.
-#[test]
-fn blocks(rt: HostRuntime) -> Result<(), Fail> {
-    for (text, room, locals, funclets, found) in [
-        (b"}".as_slice(), 0, 0, 0, (0, 0, 0)),
-        (
-            b"; break; continue; __leave; return; }".as_slice(),
-            1,
-            0,
-            0,
-            (5, 0, 0),
-        ),
-        (
-            b"int a, *b; { unsigned long c; } {} }".as_slice(),
-            1,
-            3,
-            0,
-            (3, 0, 0),
-        ),
-        (b"int a, *b; }".as_slice(), 0, 9, 1, (1, 7, 1)),
-        (
-            b"__try { int a; } __finally { } }".as_slice(),
-            1,
-            2,
-            2,
-            (1, 1, 1),
-        ),
-        (
-            b"__try { __try {} __finally {} } __finally {} ; }".as_slice(),
-            2,
-            0,
-            2,
-            (2, 0, 0),
-        ),
-    ] {
-        let tokens = lex(rt.alloc(), text)?;
-        match items(rt.alloc(), text, room, Left { locals, funclets }, &tokens) {
-            Ok((read, left, rest)) => {
-                assert_eq!(rt;
-                    (read.len(), left.locals, left.funclets),
-                    found,
-                    "of {text:?}"
-                );
-                assert!(rt; rest.is_empty(), "of {text:?}");
-            }
-            Err(refusal) => assert!(rt; false, "{text:?} is refused: {refusal:?}"),
+/// The three numbers that a row begins with.
+fn given_of(words: &str) -> Option<(u64, Left)> {
+    let mut words = words.split(' ');
+    let room = words.next()?.parse().ok()?;
+    let locals = words.next()?.parse().ok()?;
+    let funclets = words.next()?.parse().ok()?;
+    Some((room, Left { locals, funclets }))
+}
+
+/// How many items there are, and what is left of the counts of locals and funclets; or the refusal.
+pub fn told_of(alloc: Global, row: &str) -> Result<String, Fail> {
+    let Some((given, text)) = row.split_once(": ") else {
+        return Ok(String::from_str(alloc, "no numbers")?);
+    };
+    let Some((room, left)) = given_of(given) else {
+        return Ok(String::from_str(alloc, "not three numbers")?);
+    };
+    let tokens = lex(alloc, text.as_bytes())?;
+    match items(alloc, text.as_bytes(), room, left, &tokens) {
+        Err(refusal) => Ok(refusal_of(alloc, refusal)?),
+        Ok((_, _, [_, ..])) => Ok(String::from_str(alloc, "tokens are left")?),
+        Ok((read, left, [])) => {
+            let count = read.len();
+            Ok(format!(in alloc; "{count} {} {}", left.locals, left.funclets)?)
         }
     }
-    Ok(())
 }
+
+/// Items without expressions.
+const BLOCKS: &str = r"
+0 0 0: } => 0 0 0
+1 0 0: ; break; continue; __leave; return; } => 5 0 0
+1 3 0: int a, *b; { unsigned long c; } {} } => 3 0 0
+0 9 1: int a, *b; } => 1 7 1
+1 2 2: __try { int a; } __finally { } } => 1 1 1
+2 0 2: __try { __try {} __finally {} } __finally {} ; } => 2 0 0
+";
 
 /// Refusals without expressions before them.
-#[test]
-fn refusals(rt: HostRuntime) -> Result<(), Fail> {
-    let many = |at, what| ParseErr::TooMany { at, what };
-    for (text, room, locals, funclets, refusal) in [
-        (b"".as_slice(), 1, 0, 0, ParseErr::Unexpected { at: 0 }),
-        (b"; ".as_slice(), 1, 0, 0, ParseErr::Unexpected { at: 2 }),
-        (
-            b"break }".as_slice(),
-            1,
-            0,
-            0,
-            ParseErr::Unexpected { at: 6 },
-        ),
-        (b"; ;}".as_slice(), 0, 0, 0, ParseErr::TooDeep { at: 0 }),
-        (
-            b"int a; __try".as_slice(),
-            0,
-            9,
-            9,
-            ParseErr::TooDeep { at: 7 },
-        ),
-        (
-            b"else }".as_slice(),
-            0,
-            0,
-            0,
-            ParseErr::Unexpected { at: 0 },
-        ),
-        (
-            b"int a = 1; }".as_slice(),
-            0,
-            1,
-            0,
-            ParseErr::TooDeep { at: 6 },
-        ),
-        (b"{ ; } }".as_slice(), 1, 0, 0, ParseErr::TooDeep { at: 2 }),
-        (b"{ 1; } }".as_slice(), 1, 0, 0, ParseErr::TooDeep { at: 2 }),
-        (b"; if".as_slice(), 1, 0, 0, ParseErr::TooDeep { at: 2 }),
-        (
-            b"do ; while".as_slice(),
-            1,
-            0,
-            0,
-            ParseErr::TooDeep { at: 0 },
-        ),
-        (
-            b"return x; }".as_slice(),
-            1,
-            0,
-            0,
-            ParseErr::TooDeep { at: 7 },
-        ),
-        (
-            b"return }".as_slice(),
-            1,
-            0,
-            0,
-            ParseErr::Unexpected { at: 7 },
-        ),
-        (b"int }".as_slice(), 0, 1, 0, ParseErr::Unexpected { at: 4 }),
-        (
-            b"int a + 1; }".as_slice(),
-            0,
-            1,
-            0,
-            ParseErr::Unexpected { at: 6 },
-        ),
-        (b"int a, b; }".as_slice(), 0, 1, 0, many(5, Count::Locals)),
-        (
-            b"int a; signed b; }".as_slice(),
-            0,
-            1,
-            0,
-            many(7, Count::Locals),
-        ),
-        (b"for (int".as_slice(), 2, 0, 0, many(5, Count::Locals)),
-        (
-            b"__try ;".as_slice(),
-            2,
-            0,
-            1,
-            ParseErr::Unexpected { at: 6 },
-        ),
-        (
-            b"__try {} ;".as_slice(),
-            2,
-            0,
-            1,
-            ParseErr::Unexpected { at: 9 },
-        ),
-        (
-            b"__try {} __except".as_slice(),
-            1,
-            0,
-            1,
-            ParseErr::TooDeep { at: 9 },
-        ),
-        (
-            b"__try {} __finally".as_slice(),
-            2,
-            0,
-            0,
-            many(9, Count::Funclets),
-        ),
-        (
-            b"__try {} __finally".as_slice(),
-            1,
-            0,
-            0,
-            many(0, Count::Funclets),
-        ),
-    ] {
-        let tokens = lex(rt.alloc(), text)?;
-        let found = items(rt.alloc(), text, room, Left { locals, funclets }, &tokens);
-        assert_eq!(rt; found.err(), Some(refusal), "of {text:?}");
-    }
-    Ok(())
-}
+const REFUSED: &str = r"
+1 0 0:  => Unexpected 0
+1 0 0: ;  => Unexpected 2
+1 0 0: break } => Unexpected 6
+0 0 0: ; ;} => TooDeep 0
+0 9 9: int a; __try => TooDeep 7
+0 0 0: else } => Unexpected 0
+0 1 0: int a = 1; } => TooDeep 6
+1 0 0: { ; } } => TooDeep 2
+1 0 0: { 1; } } => TooDeep 2
+1 0 0: ; if => TooDeep 2
+1 0 0: do ; while => TooDeep 0
+1 0 0: return x; } => TooDeep 7
+1 0 0: return } => Unexpected 7
+0 1 0: int } => Unexpected 4
+0 1 0: int a + 1; } => Unexpected 6
+0 1 0: int a, b; } => TooMany 5 Locals
+0 1 0: int a; signed b; } => TooMany 7 Locals
+2 0 0: for (int => TooMany 5 Locals
+2 0 1: __try ; => Unexpected 6
+2 0 1: __try {} ; => Unexpected 9
+1 0 1: __try {} __except => TooDeep 9
+2 0 0: __try {} __finally => TooMany 9 Funclets
+1 0 0: __try {} __finally => TooMany 0 Funclets
+";
 
-/// Statements with expressions, after the opening brace of a function: they are read whole.
-#[test]
-fn statements(rt: HostRuntime) -> Result<(), Fail> {
-    for (text, locals, funclets, found) in [
-        (
-            b"int a = 1, *b = &a; a = *b + 1; return a; }".as_slice(),
-            2,
-            0,
-            (3, 0, 0),
-        ),
-        (b"if (a) if (b) ; else ; }".as_slice(), 0, 0, (1, 0, 0)),
-        (
-            b"if (a) ; else if (b) ; else { } }".as_slice(),
-            0,
-            0,
-            (1, 0, 0),
-        ),
-        (
-            b"while (a) do ; while (b, c); }".as_slice(),
-            0,
-            0,
-            (1, 0, 0),
-        ),
-        (
-            b"for (int i = 0, j; i < 9; i++) ; for (;;) break; }".as_slice(),
-            2,
-            0,
-            (2, 0, 0),
-        ),
-        (
-            b"__try { f(); } __except (1) { } }".as_slice(),
-            0,
-            0,
-            (1, 0, 0),
-        ),
-        (
-            b"__try { } __except ((EXCEPTION_EXECUTE_HANDLER)) { } }".as_slice(),
-            0,
-            0,
-            (1, 0, 0),
-        ),
-        (
-            b"__try { } __except (f()) { } }".as_slice(),
-            0,
-            1,
-            (1, 0, 0),
-        ),
-    ] {
-        let tokens = lex(rt.alloc(), text)?;
-        match items(rt.alloc(), text, 65, Left { locals, funclets }, &tokens) {
-            Ok((read, left, rest)) => {
-                assert_eq!(rt;
-                    (read.len(), left.locals, left.funclets),
-                    found,
-                    "of {text:?}"
-                );
-                assert!(rt; rest.is_empty(), "of {text:?}");
-            }
-            Err(refusal) => assert!(rt; false, "{text:?} is refused: {refusal:?}"),
-        }
-    }
-    Ok(())
-}
+/// Statements with expressions.
+const STATEMENTS: &str = r"
+65 2 0: int a = 1, *b = &a; a = *b + 1; return a; } => 3 0 0
+65 0 0: if (a) if (b) ; else ; } => 1 0 0
+65 0 0: if (a) ; else if (b) ; else { } } => 1 0 0
+65 0 0: while (a) do ; while (b, c); } => 1 0 0
+65 2 0: for (int i = 0, j; i < 9; i++) ; for (;;) break; } => 2 0 0
+65 0 0: __try { f(); } __except (1) { } } => 1 0 0
+65 0 0: __try { } __except ((EXCEPTION_EXECUTE_HANDLER)) { } } => 1 0 0
+65 0 1: __try { } __except (f()) { } } => 1 0 0
+";
 
 /// Refusals after expressions.
+const REFUSED_AFTER_EXPRESSIONS: &str = r"
+1 0 0: a } => TooDeep 0
+2 0 0: a } => Unexpected 2
+2 0 0: if a => Unexpected 3
+2 0 0: if (a ; => Unexpected 6
+2 0 0: if (a) b => TooDeep 7
+2 0 0: if (a) ; else b => TooDeep 14
+2 0 0: if (a) ; else ; else => Unexpected 16
+2 1 0: if (a) int => Unexpected 7
+2 0 0: do ; until => Unexpected 5
+2 0 0: do ; while (a) } => Unexpected 15
+1 1 0: int a = 1, b => TooMany 9 Locals
+";
+
+/// Where no filter may have a number, each text is refused at the first token with which no filter
+/// continues that accepts whatever was raised.
+const REFUSED_IN_FILTERS: &str = r"
+2 0 0: __try {} __except (1 + => TooMany 21 Funclets
+2 0 0: __try {} __except (f => TooMany 19 Funclets
+2 0 0: __try {} __except (2 => TooMany 19 Funclets
+2 0 0: __try {} __except () => Unexpected 19
+2 0 0: __try {} __except (int => Unexpected 19
+2 0 0: __try {} __except ((int => TooMany 20 Funclets
+2 0 0: __try {} __except (1( => Unexpected 20
+2 0 0: __try {} __except (EXCEPTION_EXECUTE_HANDLER( => TooMany 44 Funclets
+2 0 0: __try {} __except $64$($1 + => TooMany 84 Funclets
+2 0 0: __try {} __except $65$($1 + => TooDeep 85
+2 0 0: __try {} __except $65$($int => TooMany 83 Funclets
+2 0 0: __try {} __except $66$($1 => TooDeep 83
+2 0 0: __try {} __except ((1) ; => Unexpected 23
+2 0 0: __try {} __except (1) ; => Unexpected 22
+2 0 0: __try {} __except (1) => Unexpected 21
+";
+
 #[test]
-fn refusals_following_expressions(rt: HostRuntime) -> Result<(), Fail> {
-    for (text, room, locals, funclets, refusal) in [
-        (b"a }".as_slice(), 1, 0, 0, ParseErr::TooDeep { at: 0 }),
-        (b"a }".as_slice(), 2, 0, 0, ParseErr::Unexpected { at: 2 }),
-        (b"if a".as_slice(), 2, 0, 0, ParseErr::Unexpected { at: 3 }),
-        (
-            b"if (a ;".as_slice(),
-            2,
-            0,
-            0,
-            ParseErr::Unexpected { at: 6 },
-        ),
-        (b"if (a) b".as_slice(), 2, 0, 0, ParseErr::TooDeep { at: 7 }),
-        (
-            b"if (a) ; else b".as_slice(),
-            2,
-            0,
-            0,
-            ParseErr::TooDeep { at: 14 },
-        ),
-        (
-            b"if (a) ; else ; else".as_slice(),
-            2,
-            0,
-            0,
-            ParseErr::Unexpected { at: 16 },
-        ),
-        (
-            b"if (a) int".as_slice(),
-            2,
-            1,
-            0,
-            ParseErr::Unexpected { at: 7 },
-        ),
-        (
-            b"do ; until".as_slice(),
-            2,
-            0,
-            0,
-            ParseErr::Unexpected { at: 5 },
-        ),
-        (
-            b"do ; while (a) }".as_slice(),
-            2,
-            0,
-            0,
-            ParseErr::Unexpected { at: 15 },
-        ),
-        (
-            b"int a = 1, b".as_slice(),
-            1,
-            1,
-            0,
-            ParseErr::TooMany {
-                at: 9,
-                what: Count::Locals,
-            },
-        ),
-    ] {
-        let tokens = lex(rt.alloc(), text)?;
-        let found = items(rt.alloc(), text, room, Left { locals, funclets }, &tokens);
-        assert_eq!(rt; found.err(), Some(refusal), "of {text:?}");
-    }
-    Ok(())
+fn blocks_are_read_whole(rt: HostRuntime) -> Result<(), Fail> {
+    all_told(&rt, rt.alloc(), Reader::Items, BLOCKS)
 }
 
-/// Where no filter may have a number, each text in a block is refused at the first token with which
-/// no filter continues that accepts whatever was raised.
 #[test]
-fn refusals_in_filters(rt: HostRuntime) -> Result<(), Fail> {
-    let many = |at| ParseErr::TooMany {
-        at,
-        what: Count::Funclets,
-    };
-    let left = Left {
-        locals: 0,
-        funclets: 0,
-    };
-    for (text, refusal) in [
-        (b"__try {} __except (1 +".as_slice(), many(21)),
-        (b"__try {} __except (f".as_slice(), many(19)),
-        (b"__try {} __except (2".as_slice(), many(19)),
-        (
-            b"__try {} __except ()".as_slice(),
-            ParseErr::Unexpected { at: 19 },
-        ),
-        (
-            b"__try {} __except (int".as_slice(),
-            ParseErr::Unexpected { at: 19 },
-        ),
-        (b"__try {} __except ((int".as_slice(), many(20)),
-        (
-            b"__try {} __except (1(".as_slice(),
-            ParseErr::Unexpected { at: 20 },
-        ),
-        (
-            b"__try {} __except (EXCEPTION_EXECUTE_HANDLER(".as_slice(),
-            many(44),
-        ),
-        (
-            b"__try {} __except ((((((((((((((((((((((((((((((((((((((((((((((((((((((((((((((((1 +".as_slice(),
-            many(84),
-        ),
-        (
-            b"__try {} __except (((((((((((((((((((((((((((((((((((((((((((((((((((((((((((((((((1 +".as_slice(),
-            ParseErr::TooDeep { at: 85 },
-        ),
-        (
-            b"__try {} __except (((((((((((((((((((((((((((((((((((((((((((((((((((((((((((((((((int".as_slice(),
-            many(83),
-        ),
-        (
-            b"__try {} __except ((((((((((((((((((((((((((((((((((((((((((((((((((((((((((((((((((1".as_slice(),
-            ParseErr::TooDeep { at: 83 },
-        ),
-        (
-            b"__try {} __except ((1) ;".as_slice(),
-            ParseErr::Unexpected { at: 23 },
-        ),
-        (
-            b"__try {} __except (1) ;".as_slice(),
-            ParseErr::Unexpected { at: 22 },
-        ),
-        (
-            b"__try {} __except (1)".as_slice(),
-            ParseErr::Unexpected { at: 21 },
-        ),
-    ] {
-        let tokens = lex(rt.alloc(), text)?;
-        let found = items(rt.alloc(), text, 2, left, &tokens);
-        assert_eq!(rt; found.err(), Some(refusal), "of {text:?}");
-    }
-    Ok(())
+fn no_block_continues(rt: HostRuntime) -> Result<(), Fail> {
+    all_told(&rt, rt.alloc(), Reader::Items, REFUSED)
+}
+
+#[test]
+fn statements_are_read_whole(rt: HostRuntime) -> Result<(), Fail> {
+    all_told(&rt, rt.alloc(), Reader::Items, STATEMENTS)
+}
+
+#[test]
+fn no_statement_continues(rt: HostRuntime) -> Result<(), Fail> {
+    all_told(&rt, rt.alloc(), Reader::Items, REFUSED_AFTER_EXPRESSIONS)
+}
+
+#[test]
+fn no_accepting_filter_continues(rt: HostRuntime) -> Result<(), Fail> {
+    all_told(&rt, rt.alloc(), Reader::Items, REFUSED_IN_FILTERS)
 }

@@ -1,348 +1,243 @@
 //! Texts and their tokens by the rules of C11, 6.4, and what is refused.
 
-use c_lex::keyword::Keyword;
+use crate::rows::{Reader, all_told};
 use c_lex::laws::laws;
 use c_lex::lexing::{LexErr, lex};
-use c_lex::punctuator::Punctuator;
-use c_lex::reserved::Reserved;
-use c_lex::token::IntegerType::{Int, LongLong, Unsigned, UnsignedLongLong};
-use c_lex::token::{IntegerType, Kind, Token};
-use std::alloc::Global;
+use c_lex::token::{Kind, Token};
+use std::alloc::{AllocError, Global};
 use std::process::Abort;
 use std::test::Fail;
 
-/// The text is one token.
-fn single(rt: &impl Abort, alloc: Global, text: &[u8], kind: Kind) -> Result<(), LexErr> {
-    let end = text.len() as u64;
-    let found = lex(alloc, text)?;
-    assert_eq!(rt;
-        found.as_slice(),
-        [Token {
-            kind,
-            start: 0,
-            end
-        }]
-        .as_slice(),
-        "of {text:?}"
-    );
-    Ok(())
-}
-
-/// The text is refused so.
-fn refused(rt: &impl Abort, alloc: Global, text: &[u8], want: LexErr) {
-    match lex(alloc, text) {
-        Ok(_) => assert!(rt; false, "{text:?} has tokens"),
-        Err(error) => assert_eq!(rt; error, want, "of {text:?}"),
+/// What a token is: an integer's value and type, or the token's kind.
+fn kind_of(alloc: Global, kind: Kind) -> Result<String, AllocError> {
+    match kind {
+        Kind::Integer { value, of } => { format!(in alloc; "{value} {of:?}") }
+        _ => { format!(in alloc; "{kind:?}") }
     }
 }
 
-#[test]
-fn names(rt: HostRuntime) -> Result<(), Fail> {
-    for text in [
-        b"a".as_slice(),
-        b"Z",
-        b"_",
-        b"__",
-        b"_0",
-        b"a1b2_C3",
-        b"iff",
-        b"i",
-        b"If",
-        b"INT",
-        b"int_",
-        b"_try",
-        b"__Try",
-        b"try",
-        b"ExceptionRecord",
-        b"RaiseException",
-        b"EXCEPTION_EXECUTE_HANDLER",
-        b"abcdefghijklmnopqrstuvwxyzABCDEFGHIJKLMNOPQRSTUVWXYZ_0123456789",
-    ] {
-        single(&rt, rt.alloc(), text, Kind::Identifier)?;
+/// The words of a refusal: its name and its place.
+fn refusal_of(alloc: Global, refusal: LexErr) -> Result<String, AllocError> {
+    match refusal {
+        LexErr::BadByte { at } => { format!(in alloc; "BadByte {at}") }
+        LexErr::OpenComment { at } => { format!(in alloc; "OpenComment {at}") }
+        LexErr::BadChar { at } => { format!(in alloc; "BadChar {at}") }
+        LexErr::BigLiteral { at } => { format!(in alloc; "BigLiteral {at}") }
+        LexErr::Memory => String::from_str(alloc, "Memory"),
     }
+}
+
+/// What a text is that is one token.
+pub fn token_of(alloc: Global, text: &[u8]) -> Result<String, Fail> {
+    let tokens = lex(alloc, text)?;
+    match tokens.as_slice() {
+        [
+            Token {
+                kind,
+                start: 0,
+                end,
+            },
+        ] if *end == text.len() as u64 => Ok(kind_of(alloc, *kind)?),
+        _ => Ok(String::from_str(alloc, "not one token")?),
+    }
+}
+
+/// The tokens of a text, each with where it starts and ends; or its refusal.
+pub fn tokens_of(alloc: Global, text: &[u8]) -> Result<String, Fail> {
+    let tokens = match lex(alloc, text) {
+        Ok(tokens) => tokens,
+        Err(refusal) => return Ok(refusal_of(alloc, refusal)?),
+    };
+    let mut told = String::new(alloc);
+    for token in tokens.iter() {
+        let comma = if told.is_empty() { "" } else { ", " };
+        let kind = kind_of(alloc, token.kind)?;
+        let part = format!(in alloc; "{comma}{kind} {} {}", token.start, token.end)?;
+        told.push_str(&part)?;
+    }
+    Ok(told)
+}
+
+/// The tokens of a text that no row of a table can have.
+fn told(rt: &impl Abort, alloc: Global, text: &[u8], wanted: &str) -> Result<(), Fail> {
+    let found = tokens_of(alloc, text)?;
+    assert_eq!(rt; found.as_str(), wanted, "of {text:?}");
     Ok(())
 }
 
-#[test]
-fn integers(rt: HostRuntime) -> Result<(), Fail> {
-    for (text, value, of) in [
-        // Decimal: int, long long, unsigned long long.
-        (b"1".as_slice(), 1, Int),
-        (b"9", 9, Int),
-        (b"1234567890", 1_234_567_890, Int),
-        (b"2147483647", 2_147_483_647, Int),
-        (b"2147483648", 2_147_483_648, LongLong),
-        (b"4294967295", 4_294_967_295, LongLong),
-        (b"9223372036854775807", 9_223_372_036_854_775_807, LongLong),
-        (
-            b"9223372036854775808",
-            9_223_372_036_854_775_808,
-            UnsignedLongLong,
-        ),
-        (
-            b"18446744073709551615",
-            18_446_744_073_709_551_615,
-            UnsignedLongLong,
-        ),
-        // Octal and hexadecimal: int, unsigned, long long, unsigned long long.
-        (b"0", 0, Int),
-        (b"00", 0, Int),
-        (b"01234567", 342_391, Int),
-        (b"017777777777", 2_147_483_647, Int),
-        (b"020000000000", 2_147_483_648, Unsigned),
-        (b"037777777777", 4_294_967_295, Unsigned),
-        (b"040000000000", 4_294_967_296, LongLong),
-        (
-            b"0777777777777777777777",
-            9_223_372_036_854_775_807,
-            LongLong,
-        ),
-        (
-            b"01000000000000000000000",
-            9_223_372_036_854_775_808,
-            UnsignedLongLong,
-        ),
-        (
-            b"01777777777777777777777",
-            18_446_744_073_709_551_615,
-            UnsignedLongLong,
-        ),
-        (b"0x0", 0, Int),
-        (b"0x89abcdef", 2_309_737_967, Unsigned),
-        (b"0X1234567", 19_088_743, Int),
-        (b"0xABCDEF", 11_259_375, Int),
-        (b"0x7FFFFFFF", 2_147_483_647, Int),
-        (b"0x80000000", 2_147_483_648, Unsigned),
-        (b"0XFFFFFFFF", 4_294_967_295, Unsigned),
-        (b"0x100000000", 4_294_967_296, LongLong),
-        (b"0x7fffffffffffffff", 9_223_372_036_854_775_807, LongLong),
-        (
-            b"0x8000000000000000",
-            9_223_372_036_854_775_808,
-            UnsignedLongLong,
-        ),
-        (
-            b"0xffffffffffffffff",
-            18_446_744_073_709_551_615,
-            UnsignedLongLong,
-        ),
-    ] {
-        single(&rt, rt.alloc(), text, Kind::Integer { value, of })?;
-    }
-    Ok(())
-}
+const NAMES: &str = r"
+a => Identifier
+Z => Identifier
+_ => Identifier
+__ => Identifier
+_0 => Identifier
+a1b2_C3 => Identifier
+iff => Identifier
+i => Identifier
+If => Identifier
+INT => Identifier
+int_ => Identifier
+_try => Identifier
+__Try => Identifier
+try => Identifier
+ExceptionRecord => Identifier
+RaiseException => Identifier
+EXCEPTION_EXECUTE_HANDLER => Identifier
+abcdefghijklmnopqrstuvwxyzABCDEFGHIJKLMNOPQRSTUVWXYZ_0123456789 => Identifier
+";
 
 #[test]
-fn suffixes(rt: HostRuntime) -> Result<(), Fail> {
-    for (text, value, of) in [
-        (b"1u".as_slice(), 1, Unsigned),
-        (b"1U", 1, Unsigned),
-        (b"1l", 1, Int),
-        (b"1L", 1, Int),
-        (b"1ll", 1, LongLong),
-        (b"1LL", 1, LongLong),
-        (b"1ul", 1, Unsigned),
-        (b"1uL", 1, Unsigned),
-        (b"1Ul", 1, Unsigned),
-        (b"1UL", 1, Unsigned),
-        (b"1lu", 1, Unsigned),
-        (b"1lU", 1, Unsigned),
-        (b"1Lu", 1, Unsigned),
-        (b"1LU", 1, Unsigned),
-        (b"1ull", 1, UnsignedLongLong),
-        (b"1uLL", 1, UnsignedLongLong),
-        (b"1Ull", 1, UnsignedLongLong),
-        (b"1ULL", 1, UnsignedLongLong),
-        (b"1llu", 1, UnsignedLongLong),
-        (b"1llU", 1, UnsignedLongLong),
-        (b"1LLu", 1, UnsignedLongLong),
-        (b"1LLU", 1, UnsignedLongLong),
-        (b"0u", 0, Unsigned),
-        (b"0xAu", 10, Unsigned),
-        (b"010ll", 8, LongLong),
-        (b"4294967295u", 4_294_967_295, Unsigned),
-        (b"4294967296u", 4_294_967_296, UnsignedLongLong),
-        (b"2147483648l", 2_147_483_648, LongLong),
-        (b"0x80000000L", 2_147_483_648, Unsigned),
-        (
-            b"9223372036854775807ll",
-            9_223_372_036_854_775_807,
-            LongLong,
-        ),
-        (
-            b"9223372036854775808ll",
-            9_223_372_036_854_775_808,
-            UnsignedLongLong,
-        ),
-    ] {
-        single(&rt, rt.alloc(), text, Kind::Integer { value, of })?;
-    }
-    Ok(())
+fn words_are_identifiers(rt: HostRuntime) -> Result<(), Fail> {
+    all_told(&rt, rt.alloc(), Reader::Token, NAMES)
 }
 
+/// Decimal literals: int, long long, unsigned long long.
+const DECIMAL: &str = r"
+1 => 1 Int
+9 => 9 Int
+1234567890 => 1234567890 Int
+2147483647 => 2147483647 Int
+2147483648 => 2147483648 LongLong
+4294967295 => 4294967295 LongLong
+9223372036854775807 => 9223372036854775807 LongLong
+9223372036854775808 => 9223372036854775808 UnsignedLongLong
+18446744073709551615 => 18446744073709551615 UnsignedLongLong
+";
+
+/// Octal and hexadecimal literals: int, unsigned, long long, unsigned long long.
+const OCTAL_AND_HEXADECIMAL: &str = r"
+0 => 0 Int
+00 => 0 Int
+01234567 => 342391 Int
+017777777777 => 2147483647 Int
+020000000000 => 2147483648 Unsigned
+037777777777 => 4294967295 Unsigned
+040000000000 => 4294967296 LongLong
+0777777777777777777777 => 9223372036854775807 LongLong
+01000000000000000000000 => 9223372036854775808 UnsignedLongLong
+01777777777777777777777 => 18446744073709551615 UnsignedLongLong
+0x0 => 0 Int
+0x89abcdef => 2309737967 Unsigned
+0X1234567 => 19088743 Int
+0xABCDEF => 11259375 Int
+0x7FFFFFFF => 2147483647 Int
+0x80000000 => 2147483648 Unsigned
+0XFFFFFFFF => 4294967295 Unsigned
+0x100000000 => 4294967296 LongLong
+0x7fffffffffffffff => 9223372036854775807 LongLong
+0x8000000000000000 => 9223372036854775808 UnsignedLongLong
+0xffffffffffffffff => 18446744073709551615 UnsignedLongLong
+";
+
 #[test]
-fn characters(rt: HostRuntime) -> Result<(), Fail> {
+fn literals_have_the_first_type_that_holds_them(rt: HostRuntime) -> Result<(), Fail> {
+    all_told(&rt, rt.alloc(), Reader::Token, DECIMAL)?;
+    all_told(&rt, rt.alloc(), Reader::Token, OCTAL_AND_HEXADECIMAL)
+}
+
+/// `long` has 32 bits, so that `l` alone changes no type.
+const SUFFIXES: &str = r"
+1u => 1 Unsigned
+1U => 1 Unsigned
+1l => 1 Int
+1L => 1 Int
+1ll => 1 LongLong
+1LL => 1 LongLong
+1ul => 1 Unsigned
+1uL => 1 Unsigned
+1Ul => 1 Unsigned
+1UL => 1 Unsigned
+1lu => 1 Unsigned
+1lU => 1 Unsigned
+1Lu => 1 Unsigned
+1LU => 1 Unsigned
+1ull => 1 UnsignedLongLong
+1uLL => 1 UnsignedLongLong
+1Ull => 1 UnsignedLongLong
+1ULL => 1 UnsignedLongLong
+1llu => 1 UnsignedLongLong
+1llU => 1 UnsignedLongLong
+1LLu => 1 UnsignedLongLong
+1LLU => 1 UnsignedLongLong
+0u => 0 Unsigned
+0xAu => 10 Unsigned
+010ll => 8 LongLong
+4294967295u => 4294967295 Unsigned
+4294967296u => 4294967296 UnsignedLongLong
+2147483648l => 2147483648 LongLong
+0x80000000L => 2147483648 Unsigned
+9223372036854775807ll => 9223372036854775807 LongLong
+9223372036854775808ll => 9223372036854775808 UnsignedLongLong
+";
+
+#[test]
+fn suffixes_narrow_the_types(rt: HostRuntime) -> Result<(), Fail> {
+    all_told(&rt, rt.alloc(), Reader::Token, SUFFIXES)
+}
+
+const ESCAPES: &str = r#"
+'\n' => CharacterConstant(10)
+'\t' => CharacterConstant(9)
+'\r' => CharacterConstant(13)
+'\0' => CharacterConstant(0)
+'\\' => CharacterConstant(92)
+'\'' => CharacterConstant(39)
+'\"' => CharacterConstant(34)
+'"' => CharacterConstant(34)
+'\x00' => CharacterConstant(0)
+'\x7f' => CharacterConstant(127)
+'\x80' => CharacterConstant(-128)
+'\xFF' => CharacterConstant(-1)
+'\xaB' => CharacterConstant(-85)
+'\x09' => CharacterConstant(9)
+"#;
+
+#[test]
+fn characters_are_signed(rt: HostRuntime) -> Result<(), Fail> {
+    let alloc = rt.alloc();
     for byte in 32..127u8 {
         if byte != b'\'' && byte != b'\\' {
-            let text = [b'\'', byte, b'\''];
-            single(&rt, rt.alloc(), &text, Kind::CharacterConstant(byte as i8))?;
+            let found = token_of(alloc, &[b'\'', byte, b'\''])?;
+            let wanted = format!(in alloc; "CharacterConstant({byte})")?;
+            assert_eq!(rt; found, wanted);
         }
     }
-    for (text, value) in [
-        (b"'\\n'".as_slice(), 10),
-        (b"'\\t'", 9),
-        (b"'\\r'", 13),
-        (b"'\\0'", 0),
-        (b"'\\\\'", 92),
-        (b"'\\''", 39),
-        (b"'\\\"'", 34),
-        (b"'\"'", 34),
-        (b"'\\x00'", 0),
-        (b"'\\x7f'", 127),
-        (b"'\\x80'", -128),
-        (b"'\\xFF'", -1),
-        (b"'\\xaB'", -85),
-        (b"'\\x09'", 9),
-    ] {
-        single(&rt, rt.alloc(), text, Kind::CharacterConstant(value))?;
-    }
-    Ok(())
+    all_told(&rt, alloc, Reader::Token, ESCAPES)
 }
 
-const NAME: Kind = Kind::Identifier;
-
-const fn int(value: u64) -> Kind {
-    Kind::Integer { value, of: Int }
-}
-
-/// The text has these tokens, each with where it starts and ends.
-fn list(
-    rt: &impl Abort,
-    alloc: Global,
-    text: &[u8],
-    want: &[(Kind, u64, u64)],
-) -> Result<(), LexErr> {
-    let mut tokens = Vec::new(alloc);
-    for (kind, start, end) in want {
-        tokens.push(Token {
-            kind: *kind,
-            start: *start,
-            end: *end,
-        })?;
-    }
-    assert_eq!(rt;
-        lex(alloc, text)?.as_slice(),
-        tokens.as_slice(),
-        "of {text:?}"
-    );
-    Ok(())
-}
+/// Each token is the longest that there is.
+const LONGEST: &str = r"
+a>>=b => Identifier 0 1, Punctuator(ShiftRightAssign) 1 4, Identifier 4 5
+a+++b => Identifier 0 1, Punctuator(PlusPlus) 1 3, Punctuator(Plus) 3 4, Identifier 4 5
+p--->q => Identifier 0 1, Punctuator(MinusMinus) 1 3, Punctuator(Arrow) 3 5, Identifier 5 6
+<<<= => Punctuator(ShiftLeft) 0 2, Punctuator(LessEqual) 2 4
+|||= => Punctuator(BarBar) 0 2, Punctuator(BarAssign) 2 4
+/ /= => Punctuator(Slash) 0 1, Punctuator(SlashAssign) 2 4
+if1 1if => Identifier 0 3, 1 Int 4 5, Keyword(If) 5 7
+1abc => 1 Int 0 1, Identifier 1 4
+08 => 0 Int 0 1, 8 Int 1 2
+0x => 0 Int 0 1, Identifier 1 2
+0xg => 0 Int 0 1, Identifier 1 3
+1lul => 1 Unsigned 0 3, Identifier 3 4
+1lL => 1 Int 0 2, Identifier 2 3
+1uu => 1 Unsigned 0 2, Identifier 2 3
+0b1 => 0 Int 0 1, Identifier 1 3
+'a''b' => CharacterConstant(97) 0 3, CharacterConstant(98) 3 6
+";
 
 #[test]
-fn longest_tokens(rt: HostRuntime) -> Result<(), Fail> {
-    let punctuator = Kind::Punctuator;
-    let alloc = rt.alloc();
-    list(
-        &rt,
-        alloc,
-        b"a>>=b",
-        &[
-            (NAME, 0, 1),
-            (punctuator(Punctuator::ShiftRightAssign), 1, 4),
-            (NAME, 4, 5),
-        ],
-    )?;
-    list(
-        &rt,
-        alloc,
-        b"a+++b",
-        &[
-            (NAME, 0, 1),
-            (punctuator(Punctuator::PlusPlus), 1, 3),
-            (punctuator(Punctuator::Plus), 3, 4),
-            (NAME, 4, 5),
-        ],
-    )?;
-    list(
-        &rt,
-        alloc,
-        b"p--->q",
-        &[
-            (NAME, 0, 1),
-            (punctuator(Punctuator::MinusMinus), 1, 3),
-            (punctuator(Punctuator::Arrow), 3, 5),
-            (NAME, 5, 6),
-        ],
-    )?;
-    list(
-        &rt,
-        alloc,
-        b"<<<=",
-        &[
-            (punctuator(Punctuator::ShiftLeft), 0, 2),
-            (punctuator(Punctuator::LessEqual), 2, 4),
-        ],
-    )?;
-    list(
-        &rt,
-        alloc,
-        b"|||=",
-        &[
-            (punctuator(Punctuator::BarBar), 0, 2),
-            (punctuator(Punctuator::BarAssign), 2, 4),
-        ],
-    )?;
-    list(
-        &rt,
-        alloc,
-        b"/ /=",
-        &[
-            (punctuator(Punctuator::Slash), 0, 1),
-            (punctuator(Punctuator::SlashAssign), 2, 4),
-        ],
-    )?;
-    list(
-        &rt,
-        alloc,
-        b"if1 1if",
-        &[
-            (NAME, 0, 3),
-            (int(1), 4, 5),
-            (Kind::Keyword(Keyword::If), 5, 7),
-        ],
-    )?;
-    Ok(())
+fn tokens_are_the_longest(rt: HostRuntime) -> Result<(), Fail> {
+    all_told(&rt, rt.alloc(), Reader::Tokens, LONGEST)
 }
 
-#[test]
-fn longest_literals(rt: HostRuntime) -> Result<(), Fail> {
-    let alloc = rt.alloc();
-    let one = Kind::Integer {
-        value: 1,
-        of: Unsigned,
-    };
-    list(&rt, alloc, b"1abc", &[(int(1), 0, 1), (NAME, 1, 4)])?;
-    list(&rt, alloc, b"08", &[(int(0), 0, 1), (int(8), 1, 2)])?;
-    list(&rt, alloc, b"0x", &[(int(0), 0, 1), (NAME, 1, 2)])?;
-    list(&rt, alloc, b"0xg", &[(int(0), 0, 1), (NAME, 1, 3)])?;
-    list(&rt, alloc, b"1lul", &[(one, 0, 3), (NAME, 3, 4)])?;
-    list(&rt, alloc, b"1lL", &[(int(1), 0, 2), (NAME, 2, 3)])?;
-    list(&rt, alloc, b"1uu", &[(one, 0, 2), (NAME, 2, 3)])?;
-    list(&rt, alloc, b"0b1", &[(int(0), 0, 1), (NAME, 1, 3)])?;
-    list(
-        &rt,
-        alloc,
-        b"'a''b'",
-        &[
-            (Kind::CharacterConstant(97), 0, 3),
-            (Kind::CharacterConstant(98), 3, 6),
-        ],
-    )?;
-    Ok(())
-}
+/// Comments end at the first end, and separate tokens.
+const COMMENTS: &str = r"
+a/*b*/c => Identifier 0 1, Identifier 6 7
+/*a*/b*/ => Identifier 5 6, Punctuator(Star) 6 7, Punctuator(Slash) 7 8
+";
 
 #[test]
-fn blanks(rt: HostRuntime) -> Result<(), Fail> {
+fn white_space_and_comments_separate_tokens(rt: HostRuntime) -> Result<(), Fail> {
     let alloc = rt.alloc();
     for text in [
         b"".as_slice(),
@@ -356,26 +251,15 @@ fn blanks(rt: HostRuntime) -> Result<(), Fail> {
         b"/* \x00\xff @ ' \" // \n ** / * */",
         b"/**//**/",
     ] {
-        list(&rt, alloc, text, &[])?;
+        told(&rt, alloc, text, "")?;
     }
-    list(&rt, alloc, b"a//b\nc", &[(NAME, 0, 1), (NAME, 5, 6)])?;
-    list(&rt, alloc, b"a/*b*/c", &[(NAME, 0, 1), (NAME, 6, 7)])?;
-    list(
-        &rt,
-        alloc,
-        b"/*a*/b*/",
-        &[
-            (NAME, 5, 6),
-            (Kind::Punctuator(Punctuator::Star), 6, 7),
-            (Kind::Punctuator(Punctuator::Slash), 7, 8),
-        ],
-    )?;
-    list(&rt, alloc, b"//\\\na", &[(NAME, 4, 5)])?;
-    Ok(())
+    told(&rt, alloc, b"a//b\nc", "Identifier 0 1, Identifier 5 6")?;
+    told(&rt, alloc, b"//\\\na", "Identifier 4 5")?;
+    all_told(&rt, alloc, Reader::Tokens, COMMENTS)
 }
 
 #[test]
-fn bad_bytes(rt: HostRuntime) {
+fn bytes_begin_no_token(rt: HostRuntime) -> Result<(), Fail> {
     let alloc = rt.alloc();
     for byte in 0..=255u8 {
         let bad = match byte {
@@ -383,73 +267,75 @@ fn bad_bytes(rt: HostRuntime) {
             _ => false,
         };
         if bad {
-            refused(&rt, alloc, &[byte], LexErr::BadByte { at: 0 });
-            refused(&rt, alloc, &[b'a', b' ', byte], LexErr::BadByte { at: 2 });
-            refused(&rt, alloc, &[byte, b'\''], LexErr::BadByte { at: 0 });
+            told(&rt, alloc, &[byte], "BadByte 0")?;
+            told(&rt, alloc, &[b'a', b' ', byte], "BadByte 2")?;
+            told(&rt, alloc, &[byte, b'\''], "BadByte 0")?;
         }
     }
+    Ok(())
 }
 
-#[test]
-fn open_comments(rt: HostRuntime) {
-    for (text, at) in [
-        (b"/*".as_slice(), 0),
-        (b"/*/", 0),
-        (b"/**", 0),
-        (b"/* * / @", 0),
-        (b"/**//*", 4),
-        (b"a /* x", 2),
-        (b"int a /* x", 6),
-        (b"//\n/*", 3),
-    ] {
-        refused(&rt, rt.alloc(), text, LexErr::OpenComment { at });
-    }
-}
+const OPEN_COMMENTS: &str = r"
+/* => OpenComment 0
+/*/ => OpenComment 0
+/** => OpenComment 0
+/* * / @ => OpenComment 0
+/**//* => OpenComment 4
+a /* x => OpenComment 2
+int a /* x => OpenComment 6
+";
 
 #[test]
-fn bad_characters(rt: HostRuntime) {
-    for (text, at) in [
-        (b"'".as_slice(), 0),
-        (b"''", 0),
-        (b"'a", 0),
-        (b"'ab'", 0),
-        (b"'\n'", 0),
-        (b"'\x1f'", 0),
-        (b"'\x7f'", 0),
-        (b"'\xc3'", 0),
-        (b"'\\'", 0),
-        (b"'\\a'", 0),
-        (b"'\\N'", 0),
-        (b"'\\n", 0),
-        (b"'\\00'", 0),
-        (b"'\\x'", 0),
-        (b"'\\x8'", 0),
-        (b"'\\x8", 0),
-        (b"'\\xg0'", 0),
-        (b"'\\x800'", 0),
-        (b"'\\X80'", 0),
-        (b"'a''", 3),
-        (b"a'", 1),
-        (b"int main(void){ return 'ab'; }", 23),
-    ] {
-        refused(&rt, rt.alloc(), text, LexErr::BadChar { at });
-    }
+fn comments_have_ends(rt: HostRuntime) -> Result<(), Fail> {
+    told(&rt, rt.alloc(), b"//\n/*", "OpenComment 3")?;
+    all_told(&rt, rt.alloc(), Reader::Tokens, OPEN_COMMENTS)
 }
 
+const BAD_CHARACTERS: &str = r"
+' => BadChar 0
+'' => BadChar 0
+'a => BadChar 0
+'ab' => BadChar 0
+'\' => BadChar 0
+'\a' => BadChar 0
+'\N' => BadChar 0
+'\n => BadChar 0
+'\00' => BadChar 0
+'\x' => BadChar 0
+'\x8' => BadChar 0
+'\x8 => BadChar 0
+'\xg0' => BadChar 0
+'\x800' => BadChar 0
+'\X80' => BadChar 0
+'a'' => BadChar 3
+a' => BadChar 1
+int main(void){ return 'ab'; } => BadChar 23
+";
+
 #[test]
-fn big_literals(rt: HostRuntime) {
-    for (text, at) in [
-        (b"18446744073709551616".as_slice(), 0),
-        (b"18446744073709551616u", 0),
-        (b"99999999999999999999999999999999999999999999999999", 0),
-        (b"02000000000000000000000", 0),
-        (b"0x10000000000000000", 0),
-        (b"0xFFFFFFFFFFFFFFFF0ull", 0),
-        (b"1 + 18446744073709551616", 4),
-        (b"int main(void){ return 18446744073709551616; }", 23),
-    ] {
-        refused(&rt, rt.alloc(), text, LexErr::BigLiteral { at });
-    }
+fn quotes_begin_one_character(rt: HostRuntime) -> Result<(), Fail> {
+    let alloc = rt.alloc();
+    told(&rt, alloc, b"'\n'", "BadChar 0")?;
+    told(&rt, alloc, b"'\x1f'", "BadChar 0")?;
+    told(&rt, alloc, b"'\x7f'", "BadChar 0")?;
+    told(&rt, alloc, b"'\xc3'", "BadChar 0")?;
+    all_told(&rt, alloc, Reader::Tokens, BAD_CHARACTERS)
+}
+
+const BIG_LITERALS: &str = r"
+18446744073709551616 => BigLiteral 0
+18446744073709551616u => BigLiteral 0
+99999999999999999999999999999999999999999999999999 => BigLiteral 0
+02000000000000000000000 => BigLiteral 0
+0x10000000000000000 => BigLiteral 0
+0xFFFFFFFFFFFFFFFF0ull => BigLiteral 0
+1 + 18446744073709551616 => BigLiteral 4
+int main(void){ return 18446744073709551616; } => BigLiteral 23
+";
+
+#[test]
+fn literals_are_below_2_to_the_64(rt: HostRuntime) -> Result<(), Fail> {
+    all_told(&rt, rt.alloc(), Reader::Tokens, BIG_LITERALS)
 }
 
 #[test]

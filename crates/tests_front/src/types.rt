@@ -1,36 +1,33 @@
 //! Types by the C standard's rules (C11, 6.7.2 and 6.7.6), with `long` of 32 bits.
 
+use crate::rows::{Reader, all_told};
 use c_lex::lexing::lex;
 use c_parse_type::specifiers::c_type;
-use c_syntax::expression::{Base, CType};
 use std::alloc::Global;
-use std::process::Abort;
 use std::test::Fail;
 
-#[test]
-fn types(rt: HostRuntime) -> Result<(), Fail> {
-    for (text, base, pointers) in [
-        (b"int x".as_slice(), Base::Int, 0),
-        (b"long int x".as_slice(), Base::Int, 0),
-        (b"signed x".as_slice(), Base::Int, 0),
-        (b"signed char*x".as_slice(), Base::Char, 1),
-        (
-            b"unsigned long long int**x".as_slice(),
-            Base::UnsignedLongLong,
-            2,
-        ),
-        (b"unsigned short x".as_slice(), Base::UnsignedShort, 0),
-        (b"void*x".as_slice(), Base::Void, 1),
-    ] {
-        let tokens = lex(rt.alloc(), text)?;
-        let found = c_type(&tokens);
-        assert!(rt; found.is_some(), "{text:?} begins with no type");
-        if let Some((of, rest)) = found {
-            assert_eq!(rt; of, CType { base, pointers }, "of {text:?}");
-            assert_eq!(rt; rest.len(), 1, "of {text:?}");
-        }
+/// The type that a text begins with: its base, and how many pointers; one token is after it.
+pub fn type_of(alloc: Global, text: &[u8]) -> Result<String, Fail> {
+    let tokens = lex(alloc, text)?;
+    match c_type(&tokens) {
+        Some((found, [_])) => { Ok(format!(in alloc; "{:?} {}", found.base, found.pointers)?) }
+        Some(_) => Ok(String::from_str(alloc, "not one token")?),
+        None => Ok(String::from_str(alloc, "no type")?),
     }
-    let tokens = lex(rt.alloc(), b"x int")?;
-    assert!(rt; c_type(&tokens).is_none());
-    Ok(())
+}
+
+const TYPES: &str = r"
+int x => Int 0
+long int x => Int 0
+signed x => Int 0
+signed char*x => Char 1
+unsigned long long int**x => UnsignedLongLong 2
+unsigned short x => UnsignedShort 0
+void*x => Void 1
+x int => no type
+";
+
+#[test]
+fn texts_begin_with_types(rt: HostRuntime) -> Result<(), Fail> {
+    all_told(&rt, rt.alloc(), Reader::Type, TYPES)
 }

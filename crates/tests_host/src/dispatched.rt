@@ -9,13 +9,13 @@ use std::alloc::Global;
 use std::process::Abort;
 use std::test::Fail;
 use test_images::code::{
-    ACCEPTED_FAULT, CONTINUED_ACCESS, CONTINUED_IN_VAIN, CONTINUED_RAISE, FILTER_AND_FINALLY,
-    LOCAL_UNWIND, RAISE_IN_FILTER, RAISE_IN_FINALLY,
+    ACCEPTED_FAULT, CONTINUED_IN_VAIN, CONTINUED_RAISE, LOCAL_UNWIND, RAISE_IN_FILTER,
 };
 use test_images::forged::{
     HARMS_KIND, HARMS_MARK, HARMS_ROW, HARMS_SAVED_STATE, PUSHES_AT_ADDRESS_8, RAISES_AT_THE_GUARD,
     RETURNS_AS_FILTER, RETURNS_AS_FINALLY, UNWINDS_TO_NO_FRAME, plain, raising,
 };
+use test_images::handled::{continued_access, filter_and_finally, raise_in_finally};
 use test_images::{Parts, built, fixed, scope};
 
 /// Runs an image with its trace, and compares the text.
@@ -61,46 +61,18 @@ fn shows_one(
 
 #[test]
 fn a_filter_accepts_and_a_finally_block_runs(rt: HostRuntime) -> Result<(), Fail> {
-    let scopes = [
-        scope(0x2004, 0x2019, 0x2039, 0),
-        scope(0x2004, 0x2019, 0x2052, 0x2024),
-    ];
-    let functions = [
-        fixed(0x2000, 0x2039, &scopes),
-        fixed(0x2039, 0x2052, &[]),
-        fixed(0x2052, 0x2060, &[]),
-    ];
-    let parts = Parts {
-        data: &[],
-        text: FILTER_AND_FINALLY,
-        handler: 0x2060,
-        functions: &functions,
-    };
+    let bytes = filter_and_finally(rt.alloc())?;
     let lines =
         "raise E0000001 0\nfilter 2\nanswer 2\nfinally 1 1\n1\nexcept E0000001\n3\nexit 0\n";
-    shows(&rt, rt.alloc(), parts, lines)
+    shows_of(&rt, rt.alloc(), &bytes, lines)
 }
 
 #[test]
 fn unwindings_collide(rt: HostRuntime) -> Result<(), Fail> {
-    let scopes = [
-        scope(0x2004, 0x2019, 0x2033, 0),
-        scope(0x2004, 0x2019, 0x205C, 0x2019),
-    ];
-    let functions = [
-        fixed(0x2000, 0x202E, &scopes),
-        fixed(0x2033, 0x205C, &[]),
-        fixed(0x205C, 0x206A, &[]),
-    ];
-    let parts = Parts {
-        data: &[],
-        text: RAISE_IN_FINALLY,
-        handler: 0x206A,
-        functions: &functions,
-    };
+    let bytes = raise_in_finally(rt.alloc())?;
     let lines = "raise E0000001 0\nfilter 2\nanswer 1\nfinally 1 1\n1\nraise E0000002 0\nfilter 2\n\
                  answer 1\nexcept E0000002\n5\nexit 7\n";
-    shows(&rt, rt.alloc(), parts, lines)
+    shows_of(&rt, rt.alloc(), &bytes, lines)
 }
 
 #[test]
@@ -136,17 +108,9 @@ fn a_noncontinuable_exception_is_not(rt: HostRuntime) -> Result<(), Fail> {
 
 #[test]
 fn an_access_is_made_again(rt: HostRuntime) -> Result<(), Fail> {
-    let record = scope(0x2013, 0x2016, 0x2029, 0x201F);
+    let bytes = continued_access(rt.alloc())?;
     let lines = "raise C0000005 0 write 0000000020000000\nfilter 1\nanswer -1\n5\nexit 7\n";
-    shows_one(
-        &rt,
-        rt.alloc(),
-        &[],
-        CONTINUED_ACCESS,
-        record,
-        [0x2029, 0x2029, 0x2047],
-        lines,
-    )
+    shows_of(&rt, rt.alloc(), &bytes, lines)
 }
 
 #[test]
