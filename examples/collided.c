@@ -1,4 +1,5 @@
-// An exception in a __finally block that an unwinding runs: its own unwinding replaces the older one.
+// An exception in a __finally block that an unwinding runs: its own unwinding replaces the older
+// one.
 int main(void) {
   __try {
     __try {

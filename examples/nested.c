@@ -1,4 +1,5 @@
-// An exception in a filter searches from there, then from the first raise; accepted, it takes its place.
+// An exception in a filter searches from there, then from the first raise; accepted, it takes its
+// place.
 int count;
 int bad(void) {
   count = count + 1;

@@ -3,7 +3,7 @@ use Rattle.std.proofs.Common.{◌≡◌, ℕ, List, ◌++◌, refl, sym, ap, ◌
 use Rattle.std.specs.Prelude.{Bool, unwrap_or}
 use Rattle.seh_num.specs.declared.event.Event.{Event}
 use Rattle.seh_io.specs.Text.{lines}
-use Rattle.seh_io.specs.Writer.{lines-append}
+use Rattle.seh_io.specs.Successive.{lines_append}
 use Rattle.c_model.specs.declared.ended.Ended.{Ended}
 use Rattle.c_model.specs.declared.ended.Ended.TheVariants.{OutOfSteps}
 use Rattle.c_interpret.specs.Texts.{ended_within}
@@ -17,7 +17,7 @@ pub front_of_text : (trace : Bool) (shown rest events : List Event) (end part ot
     → lines trace events ++ end ≡ part ++ (others ++ (lines trace rest ++ end))
 front_of_text trace shown rest events end part others b f =
     ap (λ es. lines trace es ++ end) (sym f)
-    ∙ ap (λ t. t ++ end) (lines-append trace shown rest)
+    ∙ ap (λ t. t ++ end) (lines_append trace shown rest)
     ∙ append_assoc (lines trace shown) (lines trace rest) end
     ∙ ap (λ t. t ++ (lines trace rest ++ end)) b
     ∙ append_assoc part others (lines trace rest ++ end)

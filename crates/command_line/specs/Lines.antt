@@ -11,7 +11,10 @@ use Rattle.command_line.specs.declared.command.Command.TheVariants.{Compile, Exe
 use Rattle.command_line.specs.declared.command.RunOptions.{RunOptions}
 use Rattle.command_line.specs.declared.reading.TheConstants.{DEFAULT_TURNS}
 
--- ---- the commands as `clap` reads them: `compile`, `show`, and `exec`, `run` and `meaning` with `--turns N`, `--arg N` and `--trace`, each at most once and in any order
+-- ---- the commands as `clap` reads them
+
+-- `compile` and `show`; and `exec`, `run` and `meaning` with `--turns N`, `--arg N` and `--trace`,
+-- each at most once and in any order
 
 abbrev pub number_option : Text → Rule
 number_option name = record (new_rule name) { long = Some name; action = Some Set }

@@ -7,7 +7,8 @@ use Rattle.seh_num.specs.Shown.{Shown}
 use Rattle.seh_io.specs.Streams.{Grew}
 use Rattle.seh_io.specs.Text.{lines, end_line, text}
 use Rattle.seh_io.specs.declared.receiver.Lines.{Lines}
-use Rattle.seh_io.specs.Writer.{Writer, writer_of, Wrote, TookEvents, wrote_more, took_none, took_more, TookPart, lines-append}
+use Rattle.seh_io.specs.Writer.{Writer, writer_of, Wrote, TookEvents, TookPart}
+use Rattle.seh_io.specs.Successive.{wrote_more, took_none, took_more, lines_append}
 use Rattle.seh_io.proofs.Writers.{wrote_nothing, ran_part}
 use Rattle.virtual_unwind.specs.CallerOf.{Functions}
 use Rattle.host_model.specs.declared.funclet.Funclet.{Funclet}
@@ -66,7 +67,7 @@ module _ (n k : ℕ) (trace : Bool) (r r' : Running) (x z : Writer) (le : k ≤ 
       let rest = shown_in_turns r.functions r.funclets (n - k) (made k r).host in
       let sum : n ≡ k + (n - k) = omega arith in
       let all : shown_made n r ≡ shown_made k r ++ rest = ap (λ m. shown_made m r) sum ∙ shown_more r.functions r.funclets k (n - k) r.host in
-      subst (λ t. Wrote x t z) (sym (ap (lines trace) all ∙ lines-append trace (shown_made k r) rest))
+      subst (λ t. Wrote x t z) (sym (ap (lines trace) all ∙ lines_append trace (shown_made k r) rest))
       (wrote_more x z z (lines trace (shown_made k r)) (lines trace rest) w (wrote_nothing z (lines trace rest) was))
 
   pub written : (z.failed ≡ false → (made n r ≡ made k r) × (shown_made n r ≡ shown_made k r)) → (j : ℕ) → k ≤ j + 1 → (more : List ℕ) × Grew x.taken (lines trace (shown_made j r) ++ more) z.taken → Written n trace r x r' z

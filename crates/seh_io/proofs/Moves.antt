@@ -5,21 +5,19 @@ use Rattle.std.specs.Option.{ForSome}
 use Rattle.std.proofs.lemmas.List.{take_all, take-append-drop, length-take-le, drop-drop}
 use Rattle.std.proofs.Math.Seq.{take-add, take-append_seam}
 use Rattle.seh_io.specs.Streams.{Lost, Grew}
+use Rattle.seh_io.specs.Successive.{grew_more}
 
 pub lost_nothing : (a : Option (List ℕ)) → Lost a [] a
-lost_nothing a all told = (all, refl, told)
+lost_nothing a all known = (all, refl, known)
 
 pub lost_more : (a b c : Option (List ℕ)) (xs ys : List ℕ) → Lost a xs b → Lost b ys c → Lost a (xs ++ ys) c
-lost_more a b c xs ys p q all told =
-    let first = p all told in
+lost_more a b c xs ys p q all known =
+    let first = p all known in
     let second = q first.0 first.2 in
     (second.0, first.1 ∙ ap (λ t. xs ++ t) second.1 ∙ sym (append_assoc xs ys second.0), second.2)
 
 pub grew_nothing : (a : Option (List ℕ)) → Grew a [] a
-grew_nothing a before told = told ∙ ap Some (sym (append-nil before))
-
-pub grew_more : (a b c : Option (List ℕ)) (xs ys : List ℕ) → Grew a xs b → Grew b ys c → Grew a (xs ++ ys) c
-grew_more a b c xs ys p q before told = q (before ++ xs) (p before told) ∙ ap Some (append_assoc before xs ys)
+grew_nothing a before known = known ∙ ap Some (sym (append-nil before))
 
 -- the next n bytes of a piece, as a slice of what follows the first i
 pub next_bytes : (i n : ℕ) (xs : List ℕ) → take i xs ++ take n (take (length xs - i) (drop i xs)) ≡ take (i + n) xs
@@ -38,13 +36,13 @@ grew_still a b c xs ys n e p q =
 
 -- a source that has lost more than so many bytes held more
 pub held_more : (a b : Option (List ℕ)) (xs : List ℕ) (most : ℕ) → Lost a xs b → most < length xs → ForSome a (λ all. most < length all)
-held_more a b xs most p h all told =
-    let first = p all told in
+held_more a b xs most p h all known =
+    let first = p all known in
     omega (arith, ap length first.1, length-append xs first.0)
 
 -- n bytes from a place on, laid over the front of a buffer
 pub laid : (bytes got buf : List ℕ) (at n : ℕ) → at + n ≤ length bytes → got ≡ take n (drop at bytes) → Lost (Some (drop at bytes)) (take n (got ++ drop n buf)) (Some (drop (at + n) bytes))
-laid bytes got buf at n within copied all told =
+laid bytes got buf at n within copied all known =
     let rest = drop at bytes in
     let size : length got ≡ n = ap length copied ∙ length-take-le n rest (omega (arith, length-drop at bytes)) in
     let front : take n (got ++ drop n buf) ≡ take n rest = ap (λ k. take k (got ++ drop n buf)) (sym size) ∙ take-append_seam got (drop n buf) ∙ copied in

@@ -1,15 +1,12 @@
 -- What a writer did with one text.
-use Rattle.std.proofs.Common.{◌≡◌, ℕ, ◌+◌, ◌≤◌, List, [], ◌++◌, take, drop, length, arith, refl, sym, ap, ◌∙◌, add-zero, min, subst, true, false, Bool}
+use Rattle.std.proofs.Common.{◌≡◌, ℕ, ◌+◌, ◌≤◌, List, [], ◌++◌, take, drop, length, arith, refl, sym, ap, add-zero, min, subst, true, false}
 use Rattle.std.specs.Prelude.{Option, Result, Ok, Err, MatchResult, OnOk, IfErr}
-use Rattle.std.proofs.lemmas.Bool.{true≢false}
 use Rattle.std.proofs.lemmas.List.{length-take-le, take-append-drop}
 use Rattle.seh_io.specs.Streams.{Grew, Rose, last_count}
-use Rattle.seh_io.specs.Writer.{Writer, writer, Wrote, TookPart, wrote_more}
+use Rattle.seh_io.specs.Writer.{Writer, writer, Wrote, TookPart}
 use Rattle.seh_io.specs.declared.writing.WriteFault.{WriteFault}
 use Rattle.seh_io.proofs.Moves.{grew_nothing}
-
-not_both : (b : Bool) {A : Type 0} → b ≡ true → b ≡ false → A
-not_both b p q = absurd (true≢false (sym p ∙ q))
+use Rattle.seh_io.specs.Successive.{not_both, wrote_more}
 
 -- one that has failed writes nothing
 pub wrote_nothing : (w : Writer) (text : List ℕ) → w.failed ≡ true → Wrote w text w

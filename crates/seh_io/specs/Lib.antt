@@ -2,3 +2,4 @@ pub mod Streams
 pub mod Reading
 pub mod Text
 pub mod Writer
+pub mod Successive

@@ -1,14 +1,12 @@
 -- A writer of text over a sink, which writes nothing more once a write has failed.
-use Rattle.std.specs.Prelude.{◌≡◌, ℕ, ◌+◌, ◌≤◌, ◌<◌, min, Bool, true, false, List, [], ◌∷◌, ◌++◌, length}
-use Rattle.std.specs.Prelude.{Option, Some}
-use Rattle.std.proofs.Common.{arith, refl, sym, ap, ◌∙◌, append_assoc, append-nil, add-zero, length-append, inl, inr, subst}
-use Rattle.std.proofs.lemmas.Bool.{cases_Bool, true≢false}
+use Rattle.std.specs.Prelude.{◌≡◌, ℕ, ◌+◌, ◌≤◌, Bool, true, false, List, [], ◌++◌, length, Option}
 use Rattle.seh_num.specs.declared.event.Event.{Event}
 use Rattle.seh_io.specs.declared.receiver.Lines.{Lines}
-use Rattle.seh_io.specs.Streams.{Rose, Grew, Counts, last_count}
-use Rattle.seh_io.specs.Text.{line, lines}
+use Rattle.seh_io.specs.Streams.{Rose, Grew, Counts}
+use Rattle.seh_io.specs.Text.{lines}
 
--- whether a write has failed, how many bytes were taken in all, and what its sink tells
+-- whether a write has failed, how many bytes were taken in all, and what is known of its sink: the
+-- bytes that it took, and its count of faults
 pub record Writer : Type 0 where
   pub failed : Bool
   pub count : ℕ
@@ -19,7 +17,7 @@ abbrev pub writer : Bool → ℕ → Option (List ℕ) → ℕ → Writer
 writer failed count taken faults =
     record { failed = failed; count = count; taken = taken; faults = faults }
 
--- what `Lines` is, over a sink of which `taken` and `faults` tell
+-- what `Lines` is, over a sink with these ghost functions
 abbrev pub writer_of : {X : Type 0} → (X → Option (List ℕ)) → (X → ℕ) → Lines X → Writer
 writer_of taken faults lines =
     writer lines.failed lines.taken (taken lines.sink.now) (faults lines.sink.now)
@@ -36,7 +34,7 @@ pub record Wrote (old : Writer) (text : List ℕ) (new : Writer) : Type 0 where
   pub faults : old.faults ≤ new.faults
   pub counted : Counts (old.count + length part) new.count
 
--- what became of a text that a `Lines` was given, over a sink of which `taken` and `faults` tell
+-- what became of a text that a `Lines` was given, over a sink with these ghost functions
 abbrev pub PutText : {X : Type 0} → (X → Option (List ℕ)) → (X → ℕ) → Lines X → List ℕ → Lines X
     → Type 0
 PutText taken faults old text new =
@@ -62,106 +60,3 @@ pub record TookPart (taken : Option (List ℕ)) (text : List ℕ) (taken' : Opti
 -- a list that lacks no event has gained just these
 abbrev pub Kept : Bool → List Event → List Event → Bool → List Event → Type 0
 Kept lacks kept events lacks' kept' = lacks' ≡ false → (lacks ≡ false) × (kept' ≡ kept ++ events)
-
--- ---- one text after another
-
-grew_more : (a b c : Option (List ℕ)) (xs ys : List ℕ) → Grew a xs b → Grew b ys c
-    → Grew a (xs ++ ys) c
-grew_more a b c xs ys p q before told =
-    q (before ++ xs) (p before told) ∙ ap Some (append_assoc before xs ys)
-
-not_both : (b : Bool) {A : Type 0} → b ≡ true → b ≡ false → A
-not_both b p q = absurd (true≢false (sym p ∙ q))
-
-pub wrote_none : (w : Writer) → Wrote w [] w
-wrote_none w = record {
-  part = [];
-  begins = ([], refl);
-  grew = λ before told. told ∙ ap Some (sym (append-nil before));
-  whole = λ _. refl;
-  nothing = λ was. (refl, was);
-  cause = λ is was. not_both w.failed was is;
-  faults = omega arith;
-  counted = ap (λ n. min n last_count) (sym (add-zero w.count));
-}
-
-module _ (x y z : Writer) (t u : List ℕ) (p : Wrote x t y) (q : Wrote y u z) where
-  -- where the first text was written whole
-  went_on : y.failed ≡ false → Wrote x (t ++ u) z
-  went_on is = record {
-    part = p.part ++ q.part;
-    begins = (
-      q.begins.0,
-      ap (λ s. s ++ u) (sym (p.whole is)) ∙ ap (λ s. p.part ++ s) q.begins.1
-          ∙ sym (append_assoc p.part q.part q.begins.0),
-    );
-    grew = grew_more x.taken y.taken z.taken p.part q.part p.grew q.grew;
-    whole = λ done. ap (λ s. s ++ q.part) (p.whole is) ∙ ap (λ s. t ++ s) (q.whole done);
-    nothing = λ was. not_both y.failed ((p.nothing was).1) is;
-    cause =
-        λ _ was. (λ below. let rose = q.cause is was below in let rising = p.faults in omega arith);
-    faults = omega (arith, p.faults, q.faults);
-    counted = omega (arith, p.counted, q.counted, length-append p.part q.part);
-  }
-
-  -- where it wasn't, so that nothing of the second was
-  stopped : y.failed ≡ true → Wrote x (t ++ u) z
-  stopped was =
-      let none : q.part ≡ [] = (q.nothing was).0 in
-      let same : p.part ++ q.part ≡ p.part = ap (λ s. p.part ++ s) none ∙ append-nil p.part in
-      record {
-        part = p.part ++ q.part;
-        begins = (
-          p.begins.0 ++ u,
-          ap (λ s. s ++ u) p.begins.1 ∙ append_assoc p.part p.begins.0 u
-              ∙ ap (λ s. s ++ (p.begins.0 ++ u)) (sym same),
-        );
-        grew = grew_more x.taken y.taken z.taken p.part q.part p.grew q.grew;
-        whole = λ done. not_both z.failed ((q.nothing was).1) done;
-        nothing = λ before. (same ∙ (p.nothing before).0, (q.nothing was).1);
-        cause =
-            λ is _. (λ below. let rising = q.faults in let rose : y.faults < last_count
-            → x.faults < y.faults = p.cause is was in omega (arith, rose));
-        faults = omega (arith, p.faults, q.faults);
-        counted = omega (arith, p.counted, q.counted, length-append p.part q.part);
-      }
-
-  pub wrote_more : Wrote x (t ++ u) z
-  wrote_more = elim (cases_Bool y.failed) [ inl was ↦ stopped was | inr is ↦ went_on is ]
-
-pub lines-append : (trace : Bool) (es fs : List Event)
-    → lines trace (es ++ fs) ≡ lines trace es ++ lines trace fs
-lines-append trace [] fs = refl
-lines-append trace (e ∷ es) fs =
-    ap (λ t. line trace e ++ t) (lines-append trace es fs)
-    ∙ sym (append_assoc (line trace e) (lines trace es) (lines trace fs))
-
-pub took_none : {X : Type 0} (taken : X → Option (List ℕ)) (faults : X → ℕ) (x : Lines X)
-    → TookEvents taken faults x [] x
-took_none taken faults x =
-    record { wrote = wrote_none (writer_of taken faults x); trace = refl; same_reference = refl }
-
-pub took_more : {X : Type 0} (taken : X → Option (List ℕ)) (faults : X → ℕ) (x y z : Lines X)
-    (es fs : List Event) → TookEvents taken faults x es y → TookEvents taken faults y fs z
-    → TookEvents taken faults x (es ++ fs) z
-took_more taken faults x y z es fs p q =
-    let x' = writer_of taken faults x in
-    let y' = writer_of taken faults y in
-    let z' = writer_of taken faults z in
-    let q' = subst (λ (b : Bool). Wrote y' (lines b fs) z') p.trace q.wrote in
-    record {
-      wrote = subst (λ t. Wrote x' t z') (sym (lines-append x.trace es fs))
-          (wrote_more x' y' z' (lines x.trace es) (lines x.trace fs) p.wrote q');
-      trace = q.trace ∙ p.trace;
-      same_reference = q.same_reference ∙ p.same_reference;
-    }
-
-pub kept_none : (lacks : Bool) (kept : List Event) → Kept lacks kept [] lacks kept
-kept_none lacks kept is = (is, sym (append-nil kept))
-
-pub kept_more : (a b c : Bool) (xs ys zs es fs : List Event) → Kept a xs es b ys → Kept b ys fs c zs
-    → Kept a xs (es ++ fs) c zs
-kept_more a b c xs ys zs es fs p q is =
-    let second = q is in
-    let first = p second.0 in
-    (first.0, second.1 ∙ ap (λ t. t ++ fs) first.1 ∙ append_assoc xs es fs)

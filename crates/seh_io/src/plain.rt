@@ -15,6 +15,7 @@ pub struct SliceSource<'a> {
 }
 
 impl<'a> SliceSource<'a> {
+    /// A source of these bytes, of which none was given.
     pub fn new(bytes: &'a [u8]) -> SliceSource<'a>
         ensures { result.rest.now ≡ bytes.now }
     {
@@ -46,6 +47,7 @@ pub struct VecSink {
 }
 
 impl VecSink {
+    /// A sink that has taken nothing.
     pub fn new(alloc: Global) -> VecSink
         ensures empty { result.bytes.items ≡ [] }
         ensures faults { result.faults ≡ 0 }

@@ -69,9 +69,11 @@ impl Plan {
 /// A source over bytes of its own.
 #[derive(Debug, Drop)]
 pub struct MemSource {
+    /// All bytes, those that were given first.
     pub bytes: Vec<u8>,
     /// How many of the bytes were given.
     pub given: usize,
+    /// Which reads fail, and how many bytes the others give.
     pub plan: Plan,
     ghost within: { given ≤ vec_len bytes },
 }
@@ -133,6 +135,7 @@ impl Source for MemSource {
 pub struct MemSink {
     /// The bytes that were taken.
     pub bytes: Vec<u8>,
+    /// Which writes fail, and how many bytes the others take.
     pub plan: Plan,
 }
 

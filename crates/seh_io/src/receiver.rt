@@ -4,7 +4,8 @@ ghost use Rattle.std.specs.Prelude.{◌≡◌, ℕ, ◌≤◌, List, [], ◌∷�
 ghost use Rattle.seh_num.specs.declared.event.Event.{Event as Event'};
 ghost use Rattle.seh_io.specs.Streams.{Rose, Grew};
 ghost use Rattle.seh_io.specs.Text.{line, end_line, lines, text};
-ghost use Rattle.seh_io.specs.Writer.{PutText, TookPart, TookEvents, took_none, took_more, Kept, kept_none, kept_more};
+ghost use Rattle.seh_io.specs.Writer.{PutText, TookPart, TookEvents, Kept};
+ghost use Rattle.seh_io.specs.Successive.{took_none, took_more, kept_none, kept_more};
 
 use crate::sink::Sink;
 use crate::text::{end_line, event_line};
@@ -41,6 +42,7 @@ pub fn replay<V: Events>(to: &mut V, events: &[Event])
 /// A receiver that writes the lines of a run's text to a sink. It keeps its first fault, and writes
 /// nothing after it.
 pub struct Lines<'a, O> {
+    /// Where the lines are written.
     pub sink: &'a mut O,
     /// Whether all events are shown, or only what is put.
     pub trace: bool,
@@ -162,6 +164,7 @@ pub fn put_text<O: Sink>(
 /// A receiver that keeps the events in a list.
 #[derive(Debug, Drop)]
 pub struct EventList {
+    /// The events, in the order in which they were taken.
     pub events: Vec<Event>,
     /// Whether memory for an event ran out, so that the list lacks events.
     pub lacks: bool,

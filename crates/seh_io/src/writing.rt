@@ -5,9 +5,10 @@ ghost use Rattle.seh_io.specs.Streams.{Rose, Grew};
 
 use crate::sink::Sink;
 
-/// A write met a fault of the sink, which had taken so many bytes of the text from the front.
+/// A write failed, by a fault of the sink.
 #[derive(Clone, Copy, Debug, PartialEq, Eq)]
 pub struct WriteFault {
+    /// How many bytes of the text the sink had taken before, from the front.
     pub taken: u64,
 }
 

@@ -1,5 +1,5 @@
-//! Standard input, output and error as a source and sinks. They tell nothing of their bytes, and
-//! count their faults; what reaches them is the outside, and no contract speaks of it.
+//! Standard input, output and error as a source and sinks. Of their bytes nothing is known; they
+//! count their faults. What reaches them is the outside, and no contract speaks of it.
 
 ghost use Rattle.std.specs.Prelude.{None};
 
@@ -11,11 +11,12 @@ use std::io::{ErrorKind, Read, Write};
 #[derive(Drop)]
 pub struct Input<R> {
     reader: R,
-    /// One for each read that failed; it stands still at 2^64 - 1.
+    /// One for each read that failed; it stays at 2^64 - 1.
     faults: u64,
 }
 
 impl<R: Read> Input<R> {
+    /// A source that has had no fault.
     pub fn new(reader: R) -> Input<R> {
         Input { reader, faults: 0 }
     }
@@ -43,12 +44,12 @@ impl<R: Read> Source for Input<R> {
 #[derive(Drop)]
 pub struct Output<W> {
     writer: W,
-    /// One for each write that failed, or took nothing of a piece with bytes; it stands still at
-    /// 2^64 - 1.
+    /// One for each write that failed, or took nothing of a piece with bytes; it stays at 2^64 - 1.
     faults: u64,
 }
 
 impl<W: Write> Output<W> {
+    /// A sink that has had no fault.
     pub fn new(writer: W) -> Output<W> {
         Output { writer, faults: 0 }
     }

@@ -6,7 +6,8 @@ use Rattle.eh_tables.specs.declared.range.RuntimeFunction.{RuntimeFunction}
 use Rattle.eh_tables.specs.declared.refusal.TableErr.{TableErr}
 use Rattle.eh_tables.specs.Tables.{Tables, entry_at, no_range, end_before, directory}
 use Rattle.seh_io.specs.Streams.{Grew}
-use Rattle.seh_io.specs.Writer.{Writer, Wrote, TookPart, wrote_more, wrote_none}
+use Rattle.seh_io.specs.Writer.{Writer, Wrote, TookPart}
+use Rattle.seh_io.specs.Successive.{wrote_more, wrote_none}
 use Rattle.table_view.specs.View.{entry_lines, all_lines, count_line, table_lines, view}
 
 pub same : (x z : Writer) (t t' : List ℕ) → Wrote x t z → t ≡ t' → Wrote x t' z
