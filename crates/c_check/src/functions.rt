@@ -23,12 +23,15 @@ use c_types::types::{is_void, size_of};
 use indexmap::IndexMap;
 use std::alloc::{AllocError, Global};
 
-/// The functions so far; the number of the next filter or `__finally` block, which are numbered
-/// through the whole program; and the least fault.
+/// What a walk over the functions of a program carries along.
 #[derive(Drop)]
 pub struct Progress {
+    /// The functions so far.
     pub done: Vec<Function>,
+    /// The number of the next filter or `__finally` block: they are numbered through the whole
+    /// program, from 1.
     pub number: u32,
+    /// The least fault so far.
     pub worst: Least,
 }
 

@@ -14,5 +14,6 @@ pub struct Checked {
     pub main: u64,
     /// The bytes of the globals at the start, from the first address of the data on.
     pub globals: Vec<u8>,
+    /// Every name, type and jump is right (C11, 6.2 to 6.8).
     pub ghost sound: { IsSound (program_of functions.items main globals.items) },
 }

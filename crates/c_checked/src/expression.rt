@@ -28,7 +28,9 @@ pub enum Conversion {
 /// The width of an object in memory, and the signedness of its type.
 #[derive(Clone, Copy, Debug, PartialEq, Eq)]
 pub struct Access {
+    /// How many bits it has.
     pub width: Width,
+    /// Whether its highest bit is a sign.
     pub signedness: Signedness,
 }
 
@@ -69,7 +71,9 @@ pub enum Lvalue {
 #[derive(Drop)]
 #[cycle(tree)]
 pub struct Expr {
+    /// What computes the value.
     pub node: Node,
+    /// What the value becomes then.
     pub conversion: Conversion,
 }
 

@@ -9,10 +9,12 @@ use c_operations::operation::Size;
 pub struct Function {
     /// The name's bytes.
     pub name: Vec<u8>,
+    /// The parameters, which are the first locals.
     pub parameters: Vec<Size>,
     /// The locals that aren't parameters.
     pub locals: Vec<Size>,
     /// None where the function returns nothing.
     pub returns: Option<Size>,
+    /// The statements of its block.
     pub body: Vec<Stmt>,
 }

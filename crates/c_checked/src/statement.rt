@@ -5,7 +5,9 @@ use crate::expression::Expr;
 /// A declared local by its index, with its initialiser (C11, 6.7.9).
 #[derive(Drop)]
 pub struct Declared {
+    /// Its index among the function's locals, parameters first.
     pub local: u64,
+    /// Its initialiser, if it has one.
     pub value: Option<Expr>,
 }
 

@@ -10,10 +10,15 @@ use c_syntax::expression::Identifier;
 /// record and AbnormalTermination mean something.
 #[derive(Clone, Copy)]
 pub struct Context<'t, 's> {
+    /// The program's text.
     pub text: &'t [u8],
+    /// The names that are visible there, innermost block first.
     pub scopes: &'s Scopes<'t, 's>,
+    /// Whether GetExceptionCode means something: in a filter and in the block of an `__except`.
     pub code: bool,
+    /// Whether GetExceptionInformation means something: in a filter alone.
     pub information: bool,
+    /// Whether AbnormalTermination means something: in a `__finally` block.
     pub abnormal: bool,
 }
 

@@ -7,10 +7,12 @@ ghost use Rattle.c_expressions.specs.Kept.{broken, AddsFaults};
 
 use c_resolved::fault::Fault;
 
-/// A broken rule, and its place in bytes from the text's begin.
+/// A broken rule, and its place.
 #[derive(Clone, Copy, Drop)]
 pub struct Broken {
+    /// The place, in bytes from the text's begin.
     pub at: u64,
+    /// The rule.
     pub fault: Fault,
 }
 
@@ -44,6 +46,7 @@ fn is_earlier(a: Broken, b: Broken) -> bool
 /// earliest rule.
 #[derive(Clone, Copy, Drop)]
 pub struct Least {
+    /// None while no rule is broken.
     pub found: Option<Broken>,
 }
 

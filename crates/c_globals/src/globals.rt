@@ -26,13 +26,16 @@ use seh_num::extension::{wrap, zero_extend};
 use seh_num::width::Width;
 use std::alloc::{AllocError, Global};
 
-/// The names of the file, the bytes of the globals so far, how many functions there are so far, and
-/// the least fault.
+/// What a walk over the declarations of a file carries along.
 #[derive(Drop)]
 pub struct File<'a> {
+    /// The names of the file so far.
     pub names: IndexMap<&'a [u8], Entity<'a>>,
+    /// The bytes of the globals so far, from the first address of the data on.
     pub bytes: Vec<u8>,
+    /// How many functions there are so far, which is the number of the next one.
     pub functions: u64,
+    /// The least fault so far.
     pub worst: Least,
 }
 

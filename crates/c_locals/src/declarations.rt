@@ -32,7 +32,9 @@ use std::alloc::{AllocError, Global};
 /// What a `for` does first: what it declares, or what it evaluates (C11, 6.8.5.3).
 #[derive(Drop)]
 pub struct Beginning {
+    /// The locals that it declares.
     pub declared: Vec<Declared>,
+    /// The expression that it evaluates, if it declares none.
     pub first: Option<Checked>,
 }
 

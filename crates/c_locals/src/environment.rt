@@ -25,27 +25,35 @@ pub enum Reach {
     Near,
 }
 
-/// Where a statement is: the text, the names of the blocks around its own and of the file, and the
-/// function's result; what `break` and `continue`, `__leave` and `return` find; whether
-/// GetExceptionCode and AbnormalTermination mean something.
+/// Where a statement is, and what names and jumps mean there.
 #[derive(Clone, Copy)]
 pub struct Environment<'t, 's> {
+    /// The program's text.
     pub text: &'t [u8],
+    /// The names of the file and of the blocks around the statement's own.
     pub outer: &'s Scopes<'t, 's>,
+    /// The type that the function returns.
     pub returns: CType,
+    /// What `break` and `continue` find.
     pub loops: Reach,
+    /// What `__leave` finds.
     pub body: Reach,
+    /// What `return` finds.
     pub function: Reach,
+    /// Whether GetExceptionCode means something.
     pub code: bool,
+    /// Whether AbnormalTermination means something.
     pub abnormal: bool,
 }
 
-/// What a walk over a function carries along: the sizes of its locals so far, parameters first; the
-/// number of the next filter or `__finally` block; the least fault.
+/// What a walk over a function carries along.
 #[derive(Drop)]
 pub struct Walk {
+    /// The sizes of its locals so far, parameters first.
     pub sizes: Vec<Size>,
+    /// The number of the next filter or `__finally` block.
     pub number: u32,
+    /// The least fault so far.
     pub worst: Least,
 }
 

@@ -31,7 +31,9 @@ pub enum TextErr {
 /// The program of a text, as it was read and as it was checked.
 #[derive(Drop)]
 pub struct Accepted {
+    /// As it was read.
     pub program: Program,
+    /// As it was checked.
     pub checked: Checked,
 }
 
