@@ -1,5 +1,7 @@
 //! The names by which images import the services of their host.
 
+/// The library of which they are imported (own).
+pub const LIBRARY: &[u8] = b"sehhost.dll";
 /// Raises an exception.
 pub const RAISE_EXCEPTION: &[u8] = b"RaiseException";
 /// The language handler of C.

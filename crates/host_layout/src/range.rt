@@ -1,5 +1,8 @@
 //! The ranges of memory (own): each from its start to below its end, in whole pages.
 
+ghost use Rattle.std.specs.Prelude.{◌≡◌, ◌<◌, ◌^◌};
+ghost use Rattle.host_layout.specs.Ranges as spec;
+
 use crate::limit::MOST_IMAGE;
 
 /// The bytes of a page of memory (Intel manual, volume 3, "Paging").
@@ -38,3 +41,11 @@ pub const ARENA_END: u64 = 0x2010_0000;
 pub const HOST_PAGE_START: u64 = 0x7FF0_0000;
 
 pub const HOST_PAGE_END: u64 = 0x7FF0_1000;
+
+/// A size in bytes, rounded up to whole pages.
+pub fn pages(size: u64) -> u64
+    requires { size < 2 ^ 63 }
+    ensures { result ≡ spec.pages size }
+{
+    size.div_ceil(PAGE) * PAGE
+}

@@ -2,11 +2,12 @@
 use Rattle.std.proofs.Common.{◌≡◌, ℕ, suc, ◌+◌, ◌-◌, ◌*◌, ◌%◌, ◌<◌, ◌≤◌, Bool, true, false, ◌&&◌, ◌||◌, ◌==◌, leb, List, [], ◌∷◌, ◌++◌, length, drop, map, min, Result, Ok, Err, refl, sym, ap, subst, ◌∙◌, append_assoc, arith}
 use Rattle.std.proofs.lemmas.List.{append-nil, length-take}
 use Rattle.std.proofs.lemmas.Bool.{and_parts, eqb-true, leb-true}
+use Rattle.host_layout.specs.declared.range.TheConstants.{PAGE}
 use Rattle.pe_image.specs.declared.refusal.ImageErr.{ImageErr}
 use Rattle.pe_image.specs.declared.refusal.ImageErr.TheVariants as refusals
 use Rattle.pe_image.specs.declared.table.SectionHeader.{SectionHeader}
 use Rattle.pe_image.specs.Answer.{◌>>=◌, unless}
-use Rattle.pe_image.specs.Image.{Section, AreAscending}
+use Rattle.pe_image.specs.Image.{Section, IsPlacedAfter, AreAscending}
 use Rattle.pe_image.specs.Reading.{header_at, headers_from, is_laid_out, all_laid_out, section_of, sections_of}
 
 -- sections that were read before, in front of those that are still read
@@ -78,10 +79,15 @@ laid_out_rise : (bytes : List ℕ) (limit index end : ℕ) (hs : List SectionHea
 laid_out_rise bytes limit index end [] e = tt
 laid_out_rise bytes limit index end (s ∷ hs) e =
     let both = passed (is_laid_out (length bytes) limit end s) (refusals.Layout index) (all_laid_out (length bytes) limit (index + 1) (s.address + s.size) hs) e in
-    let fits = and_parts (((s.raw_size == 0) || leb (s.raw_at + s.raw_size) (length bytes)) && (s.address % 4096 == 0) && leb end s.address) (leb (s.address + s.size) limit) both.0 in
-    let above = and_parts (((s.raw_size == 0) || leb (s.raw_at + s.raw_size) (length bytes)) && (s.address % 4096 == 0)) (leb end s.address) fits.0 in
-    let aligned = and_parts ((s.raw_size == 0) || leb (s.raw_at + s.raw_size) (length bytes)) (s.address % 4096 == 0) above.0 in
-    (leb-true end s.address above.1, eqb-true (s.address % 4096) 0 aligned.1, omega (arith, length-take (min s.size s.raw_size) (drop s.raw_at bytes)), laid_out_rise bytes limit (index + 1) (s.address + s.size) hs both.1)
+    let fits = and_parts (((s.raw_size == 0) || leb (s.raw_at + s.raw_size) (length bytes)) && (s.address % PAGE == 0) && leb end s.address) (leb (s.address + s.size) limit) both.0 in
+    let above = and_parts (((s.raw_size == 0) || leb (s.raw_at + s.raw_size) (length bytes)) && (s.address % PAGE == 0)) (leb end s.address) fits.0 in
+    let aligned = and_parts ((s.raw_size == 0) || leb (s.raw_at + s.raw_size) (length bytes)) (s.address % PAGE == 0) above.0 in
+    let placed : IsPlacedAfter end (section_of bytes s) = record {
+      above = leb-true end s.address above.1;
+      aligned = eqb-true (s.address % PAGE) 0 aligned.1;
+      stored = omega (arith, length-take (min s.size s.raw_size) (drop s.raw_at bytes));
+    } in
+    (placed, laid_out_rise bytes limit (index + 1) (s.address + s.size) hs both.1)
 
 mapped_rise : (bytes : List ℕ) (hs : List SectionHeader) (r : Result Unit ImageErr) (ss : List Section) → (r ≡ Ok tt → AreAscending 0 (map (section_of bytes) hs)) → (r >>= λ _. Ok (map (section_of bytes) hs)) ≡ Ok ss → AreAscending 0 ss
 mapped_rise bytes hs (Ok x) ss up e = let same : map (section_of bytes) hs ≡ ss = cc in subst (AreAscending 0) same (up refl)

@@ -7,15 +7,15 @@ use Rattle.pe_image.specs.Image.{Section, AreAscending, stores_byte, section_or,
 
 lies_above : (end : ℕ) (ss : List Section) (k : ℕ) (d : Section) → AreAscending end ss → k < length ss → end ≤ (get_or ss k d).address
 lies_above end [] k d up lt = absurd (omega arith)
-lies_above end (s ∷ ss) zero d up lt = up.0
-lies_above end (s ∷ ss) (suc k) d up lt = let above = lies_above (s.address + s.size) ss k d up.3 (omega arith) in omega (arith, up.0)
+lies_above end (s ∷ ss) zero d up lt = up.0.above
+lies_above end (s ∷ ss) (suc k) d up lt = let above = lies_above (s.address + s.size) ss k d up.1 (omega arith) in omega (arith, up.0.above)
 
 pub addresses_rise : (end : ℕ) (ss : List Section) → AreAscending end ss → IsNonDecreasingBy (λ s. s.address) ss
 addresses_rise end [] up i j d le lt = absurd (omega arith)
 addresses_rise end (s ∷ ss) up zero zero d le lt = omega arith
-addresses_rise end (s ∷ ss) up zero (suc j) d le lt = let above = lies_above (s.address + s.size) ss j d up.3 (omega arith) in omega arith
+addresses_rise end (s ∷ ss) up zero (suc j) d le lt = let above = lies_above (s.address + s.size) ss j d up.1 (omega arith) in omega arith
 addresses_rise end (s ∷ ss) up (suc i) zero d le lt = absurd (omega arith)
-addresses_rise end (s ∷ ss) up (suc i) (suc j) d le lt = addresses_rise (s.address + s.size) ss up.3 i j d (omega arith) (omega arith)
+addresses_rise end (s ∷ ss) up (suc i) (suc j) d le lt = addresses_rise (s.address + s.size) ss up.1 i j d (omega arith) (omega arith)
 
 below_holds_none : (rva : ℕ) (s : Section) → rva < s.address → stores_byte rva s ≡ false
 below_holds_none rva s lt = and_left (leb s.address rva) (ltb rva (s.address + length s.raw)) (lt-leb s.address rva lt)
@@ -41,9 +41,9 @@ last_below rva end (s ∷ ss) zero d up lt le above =
       | inr past ↦ ap (λ b. stored_in rva (section_or None s b)) (above_holds_none rva s past) ∙ sym (drop_all (rva - s.address) s.raw (omega arith))
     ])
 last_below rva end (s ∷ ss) (suc k) d up lt le above =
-    let later = lies_above (s.address + s.size) ss k d up.3 (omega arith) in
-    ap (λ b. stored_in rva (section_or (section_at rva ss) s b)) (above_holds_none rva s (omega (arith, up.2)))
-    ∙ last_below rva (s.address + s.size) ss k d up.3 (omega arith) le (λ j e h1 h2. above (suc j) e (omega arith) (omega arith))
+    let later = lies_above (s.address + s.size) ss k d up.1 (omega arith) in
+    ap (λ b. stored_in rva (section_or (section_at rva ss) s b)) (above_holds_none rva s (omega (arith, up.0.stored)))
+    ∙ last_below rva (s.address + s.size) ss k d up.1 (omega arith) le (λ j e h1 h2. above (suc j) e (omega arith) (omega arith))
 
 -- the same by how many begin at or below it
 pub begun_before : (rva n : ℕ) (ss : List Section) (s : Section) → AreAscending 0 ss → n ≤ length ss → n ≢ 0 → s ≡ get_or ss (n - 1) s
@@ -69,16 +69,16 @@ stores end rva s le e =
 
 storing : (end rva : ℕ) (ss : List Section) (s : Section) → AreAscending end ss → section_at rva ss ≡ Some s → StoresByte end rva s
 storing end rva [] s up e = cc
-storing end rva (t ∷ ss) s up e = by_case (storing (t.address + t.size) rva ss s up.3) (stores_byte rva t) refl e
+storing end rva (t ∷ ss) s up e = by_case (storing (t.address + t.size) rva ss s up.1) (stores_byte rva t) refl e
   where
     by_case : (section_at rva ss ≡ Some s → StoresByte (t.address + t.size) rva s) → (b : Bool) → stores_byte rva t ≡ b → section_or (section_at rva ss) t b ≡ Some s → StoresByte end rva s
-    by_case others true is found = let same : t ≡ s = cc in subst (StoresByte end rva) same (stores end rva t up.0 is)
-    by_case others false is found = let later = others found in record { above = omega (arith, up.0, later.above); begun = later.begun; within = later.within }
+    by_case others true is found = let same : t ≡ s = cc in subst (StoresByte end rva) same (stores end rva t up.0.above is)
+    by_case others false is found = let later = others found in record { above = omega (arith, up.0.above, later.above); begun = later.begun; within = later.within }
 
 -- an address in the section of another has this section too
 section_stays : (end rva at : ℕ) (ss : List Section) (s : Section) → AreAscending end ss → section_at rva ss ≡ Some s → s.address ≤ at → at < s.address + length s.raw → section_at at ss ≡ Some s
 section_stays end rva at [] s up e le lt = cc
-section_stays end rva at (t ∷ ss) s up e le lt = by_case (λ found. section_stays (t.address + t.size) rva at ss s up.3 found le lt) (stores_byte rva t) refl e
+section_stays end rva at (t ∷ ss) s up e le lt = by_case (λ found. section_stays (t.address + t.size) rva at ss s up.1 found le lt) (stores_byte rva t) refl e
   where
     by_case : (section_at rva ss ≡ Some s → section_at at ss ≡ Some s) → (b : Bool) → stores_byte rva t ≡ b → section_or (section_at rva ss) t b ≡ Some s → section_or (section_at at ss) t (stores_byte at t) ≡ Some s
     by_case others true is found =
@@ -88,8 +88,8 @@ section_stays end rva at (t ∷ ss) s up e le lt = by_case (λ found. section_st
         ap (section_or (section_at at ss) t) (and_from (leb t.address at) (ltb at (t.address + length t.raw)) (le-leb t.address at le') (lt-ltb at (t.address + length t.raw) lt'))
         ∙ ap (λ (u : Section). Some u) (sym same)
     by_case others false is found =
-        let later = storing (t.address + t.size) rva ss s up.3 found in
-        ap (section_or (section_at at ss) t) (above_holds_none at t (omega (arith, up.2, later.above)))
+        let later = storing (t.address + t.size) rva ss s up.1 found in
+        ap (section_or (section_at at ss) t) (above_holds_none at t (omega (arith, up.0.stored, later.above)))
         ∙ others found
 
 -- the bytes after some that a section stores are stored there

@@ -1,5 +1,7 @@
 -- An image as it is read, and what is stored in it.
 use Rattle.std.specs.Prelude.{◌≡◌, ℕ, ◌+◌, ◌-◌, ◌%◌, ◌≤◌, bit_and, Bool, true, false, not, ◌&&◌, ◌==◌, nat_lt, nat_le, List, [], ◌∷◌, length, take, drop, Option, Some, None}
+use Rattle.host_layout.specs.declared.range.TheConstants.{PAGE}
+use Rattle.pe_image.specs.declared.layout.TheConstants.{IMAGE_SCN_MEM_EXECUTE, IMAGE_SCN_MEM_READ, IMAGE_SCN_MEM_WRITE}
 use Rattle.pe_image.specs.declared.directory.DataDirectory.{DataDirectory}
 
 -- a section: where it lies from the image base on, how many bytes it takes there, those that the
@@ -25,27 +27,29 @@ pub record Image : Type 0 where
 abbrev pub has_flag : ℕ → Section → Bool
 has_flag mask s = not (bit_and s.flags mask == 0)
 
--- IMAGE_SCN_MEM_EXECUTE
 abbrev pub is_executable : Section → Bool
-is_executable s = has_flag 0x20000000 s
+is_executable s = has_flag IMAGE_SCN_MEM_EXECUTE s
 
--- IMAGE_SCN_MEM_WRITE
 abbrev pub is_writable : Section → Bool
-is_writable s = has_flag 0x80000000 s
+is_writable s = has_flag IMAGE_SCN_MEM_WRITE s
 
--- one of these two or IMAGE_SCN_MEM_READ: what may run or be written may be read too
+-- what may run or be written may be read too
 abbrev pub is_readable : Section → Bool
-is_readable s = has_flag 0xE0000000 s
+is_readable s =
+    has_flag (IMAGE_SCN_MEM_EXECUTE + IMAGE_SCN_MEM_READ + IMAGE_SCN_MEM_WRITE) s
 
 -- ---- the order of sections
 
--- each section begins with a page, at or above the end of the one before, and what is stored of it
+-- a section begins with a page, at or above the end of the one before, and what is stored of it
 -- lies within its size
+pub record IsPlacedAfter (end : ℕ) (s : Section) : Type 0 where
+  pub above : end ≤ s.address
+  pub aligned : s.address % PAGE ≡ 0
+  pub stored : length s.raw ≤ s.size
+
 abbrev pub AreAscending : ℕ → List Section → Type 0
 AreAscending end [] = Unit {0}
-AreAscending end (s ∷ ss) =
-    (end ≤ s.address) × (s.address % 4096 ≡ 0) × (length s.raw ≤ s.size)
-    × AreAscending (s.address + s.size) ss
+AreAscending end (s ∷ ss) = IsPlacedAfter end s × AreAscending (s.address + s.size) ss
 
 -- ---- what is stored
 

@@ -3,6 +3,7 @@
 -- can't go on, by its index over all libraries.
 use Rattle.std.specs.Prelude.{ℕ, zero, suc, ◌+◌, ◌^◌, Bool, true, false, ◌&&◌, ◌==◌, nat_lt, nat_le, List, [], length, take, drop, position, option_map, option_and_then, Option, Some, None, Result, Ok, Err}
 use Rattle.byteorder.specs.Endian.{little_number}
+use Rattle.pe_image.specs.declared.layout.TheConstants.{DESCRIPTOR_SIZE, IMPORT_LOOKUP_TABLE, TIME_DATE_STAMP, FORWARDER_CHAIN, LIBRARY_NAME, IMPORT_ADDRESS_TABLE, LOOKUP_ENTRY_SIZE, IMAGE_ORDINAL_FLAG64, HINT_SIZE, ADDRESS_COUNT}
 use Rattle.pe_image.specs.declared.directory.DataDirectory.{DataDirectory}
 use Rattle.pe_image.specs.declared.refusal.ImageErr.{ImageErr}
 use Rattle.pe_image.specs.declared.refusal.ImageErr.TheVariants as refusals
@@ -21,13 +22,14 @@ pub record Import : Type 0 where
 abbrev pub terminated : List ℕ → Option (List ℕ)
 terminated bytes = option_map (λ n. take n bytes) (position (λ b. b == 0) bytes)
 
--- a name follows a hint of two bytes
+-- a name follows a hint
 abbrev pub unless_short : Option (List ℕ) → Bool → Option (List ℕ)
 unless_short name true = name
 unless_short name false = None
 
 abbrev pub hinted : List ℕ → Option (List ℕ)
-hinted bytes = unless_short (terminated (drop 2 bytes)) (nat_le 2 (length bytes))
+hinted bytes =
+    unless_short (terminated (drop HINT_SIZE bytes)) (nat_le HINT_SIZE (length bytes))
 
 abbrev pub name_at : List Section → ℕ → Option (List ℕ)
 name_at ss rva = hinted (stored_in rva (section_at rva ss))
@@ -35,7 +37,7 @@ name_at ss rva = hinted (stored_in rva (section_at rva ss))
 abbrev pub with_slot : ℕ → List ℕ → List ℕ → Option Import
 with_slot slot name bytes = Some (record { name = name; slot = slot })
 
--- by its entry in the lookup table, of which bit 63 says that it is an ordinal
+-- by its entry in the lookup table, which can be an ordinal
 abbrev pub unless_ordinal : Option Import → Bool → Option Import
 unless_ordinal import true = import
 unless_ordinal import false = None
@@ -43,13 +45,13 @@ unless_ordinal import false = None
 abbrev pub import_at : List Section → ℕ → ℕ → Option Import
 import_at ss slot entry =
     unless_ordinal (option_and_then (λ name. option_and_then (with_slot slot name)
-    (stored ss slot 8)) (name_at ss entry)) (nat_lt entry (2 ^ 63))
+    (stored ss slot LOOKUP_ENTRY_SIZE)) (name_at ss entry)) (nat_lt entry IMAGE_ORDINAL_FLAG64)
 
 -- ---- one library
 
 -- there are at most as many entries and libraries as addresses
 abbrev pub max_count : ℕ
-max_count = 4294967296
+max_count = ADDRESS_COUNT
 
 abbrev pub next_entry : List Section → ℕ → ℕ → Result (List Import) ImageErr → ℕ
     → Result (List Import) ImageErr
@@ -63,8 +65,10 @@ next_entry ss index slot others (suc k) = do
 unfoldable pub library : ℕ → List Section → ℕ → ℕ → ℕ → Result (List Import) ImageErr
 library zero ss index look slot = Err (refusals.ImportBad index)
 library (suc n) ss index look slot = do
-  entry ← or_refused (stored ss look 8) (refusals.ImportBad index)
-  next_entry ss index slot (library n ss (index + 1) (look + 8) (slot + 8)) (little_number 8 entry)
+  entry ← or_refused (stored ss look LOOKUP_ENTRY_SIZE) (refusals.ImportBad index)
+  next_entry ss index slot
+      (library n ss (index + 1) (look + LOOKUP_ENTRY_SIZE) (slot + LOOKUP_ENTRY_SIZE))
+      (little_number LOOKUP_ENTRY_SIZE entry)
 
 -- ---- all libraries
 
@@ -72,8 +76,9 @@ library (suc n) ss index look slot = do
 -- table
 abbrev pub is_zero : List ℕ → Bool
 is_zero d =
-    (field 4 d 0 == 0) && (field 4 d 4 == 0) && (field 4 d 8 == 0) && (field 4 d 12 == 0) &&
-    (field 4 d 16 == 0)
+    (field 4 d IMPORT_LOOKUP_TABLE == 0) && (field 4 d TIME_DATE_STAMP == 0) &&
+    (field 4 d FORWARDER_CHAIN == 0) && (field 4 d LIBRARY_NAME == 0) &&
+    (field 4 d IMPORT_ADDRESS_TABLE == 0)
 
 -- a lookup table at 0 means the address table
 abbrev pub lookups : ℕ → ℕ → ℕ
@@ -82,7 +87,9 @@ lookups (suc k) slots = suc k
 
 abbrev pub entries_of : List Section → ℕ → List ℕ → Result (List Import) ImageErr
 entries_of ss index d =
-    library max_count ss index (lookups (field 4 d 0) (field 4 d 16)) (field 4 d 16)
+    library max_count ss index
+    (lookups (field 4 d IMPORT_LOOKUP_TABLE) (field 4 d IMPORT_ADDRESS_TABLE))
+    (field 4 d IMPORT_ADDRESS_TABLE)
 
 abbrev pub next_library : (List Import → Result (List Import) ImageErr)
     → Result (List Import) ImageErr → Bool → Result (List Import) ImageErr
@@ -95,9 +102,9 @@ next_library others these false = do
 unfoldable pub libraries : ℕ → List Section → ℕ → ℕ → Result (List Import) ImageErr
 libraries zero ss index at = Err (refusals.ImportBad index)
 libraries (suc n) ss index at = do
-  d ← or_refused (stored ss at 20) (refusals.ImportBad index)
-  next_library (λ xs. libraries n ss (index + length xs) (at + 20)) (entries_of ss index d)
-      (is_zero d)
+  d ← or_refused (stored ss at DESCRIPTOR_SIZE) (refusals.ImportBad index)
+  next_library (λ xs. libraries n ss (index + length xs) (at + DESCRIPTOR_SIZE))
+      (entries_of ss index d) (is_zero d)
 
 -- an import directory of size 0 is none
 abbrev pub unless_none : Result (List Import) ImageErr → Bool → Result (List Import) ImageErr

@@ -1,7 +1,9 @@
 -- How an image is read: fields by their places in the PE format, and the checks in their order.
 use Rattle.std.specs.Prelude.{◌≡◌, ℕ, zero, suc, ◌+◌, ◌*◌, ◌/◌, ◌%◌, ◌≤◌, Bool, ◌&&◌, ◌||◌, ◌==◌, nat_lt, nat_le, if◌then◌else◌, List, [], ◌∷◌, length, take, drop, map, min, Result, Ok, Err}
+use Rattle.host_layout.specs.declared.range.TheConstants.{PAGE}
+use Rattle.host_layout.specs.Ranges.{pages}
 use Rattle.pe_image.specs.declared.directory.DataDirectory.{DataDirectory}
-use Rattle.pe_image.specs.declared.layout.TheConstants.{DOS_HEADER_SIZE, DOS_SIGNATURE, E_LFANEW, FILE_HEADER_SIZE, PE_SIGNATURE, MACHINE, MACHINE_X64, NUMBER_OF_SECTIONS, SIZE_OF_OPTIONAL_HEADER, MAGIC_PE32_PLUS, ADDRESS_OF_ENTRY_POINT, IMAGE_BASE, SIZE_OF_IMAGE, NUMBER_OF_RVA_AND_SIZES, DIRECTORIES, DIRECTORY_SIZE, IMPORT_DIRECTORY, EXCEPTION_DIRECTORY, SECTION_HEADER_SIZE, VIRTUAL_SIZE, VIRTUAL_ADDRESS, SIZE_OF_RAW_DATA, POINTER_TO_RAW_DATA, CHARACTERISTICS, PAGE_SIZE}
+use Rattle.pe_image.specs.declared.layout.TheConstants.{DOS_HEADER_SIZE, IMAGE_DOS_SIGNATURE, E_LFANEW, FILE_HEADER_SIZE, IMAGE_NT_SIGNATURE, MACHINE, IMAGE_FILE_MACHINE_AMD64, NUMBER_OF_SECTIONS, SIZE_OF_OPTIONAL_HEADER, IMAGE_NT_OPTIONAL_HDR64_MAGIC, ADDRESS_OF_ENTRY_POINT, IMAGE_BASE, SIZE_OF_IMAGE, NUMBER_OF_RVA_AND_SIZES, DIRECTORIES, DIRECTORY_SIZE, IMAGE_DIRECTORY_ENTRY_IMPORT, IMAGE_DIRECTORY_ENTRY_EXCEPTION, SECTION_HEADER_SIZE, VIRTUAL_SIZE, VIRTUAL_ADDRESS, SIZE_OF_RAW_DATA, POINTER_TO_RAW_DATA, CHARACTERISTICS, SIZE_IN_DIRECTORY}
 use Rattle.pe_image.specs.declared.refusal.ImageErr.{ImageErr}
 use Rattle.pe_image.specs.declared.refusal.ImageErr.TheVariants as refusals
 use Rattle.pe_image.specs.declared.table.SectionHeader.{SectionHeader}
@@ -62,19 +64,19 @@ sections_size bytes = SECTION_HEADER_SIZE * section_count bytes
 abbrev pub file_header : List ℕ → Result Unit ImageErr
 file_header bytes = do
   _ ← unless (is_there bytes 0 DOS_HEADER_SIZE) (refusals.Truncated 0)
-  _ ← unless (field 2 bytes 0 == DOS_SIGNATURE) (refusals.NotPe 0)
+  _ ← unless (field 2 bytes 0 == IMAGE_DOS_SIGNATURE) (refusals.NotPe 0)
   _ ← unless (is_there bytes (signature_at bytes) FILE_HEADER_SIZE)
       (refusals.Truncated (signature_at bytes))
-  _ ← unless (field 4 bytes (signature_at bytes) == PE_SIGNATURE)
+  _ ← unless (field 4 bytes (signature_at bytes) == IMAGE_NT_SIGNATURE)
       (refusals.NotPe (signature_at bytes))
-  unless (machine bytes == MACHINE_X64) (refusals.Machine (machine bytes))
+  unless (machine bytes == IMAGE_FILE_MACHINE_AMD64) (refusals.Machine (machine bytes))
 
 -- then the optional header and the section table
 abbrev pub optional_header : List ℕ → Result Unit ImageErr
 optional_header bytes = do
   _ ← unless (is_there bytes (optional_at bytes) DIRECTORIES && nat_le DIRECTORIES
       (optional_size bytes)) (refusals.Truncated (optional_at bytes))
-  _ ← unless (magic bytes == MAGIC_PE32_PLUS) (refusals.Magic (magic bytes))
+  _ ← unless (magic bytes == IMAGE_NT_OPTIONAL_HDR64_MAGIC) (refusals.Magic (magic bytes))
   _ ← unless (nat_le (DIRECTORIES + directories_size bytes) (optional_size bytes) && is_there bytes
       (directories_at bytes) (directories_size bytes))
       (refusals.Truncated (directories_at bytes))
@@ -98,7 +100,7 @@ directory bytes k =
     if nat_lt k (directory_count bytes)
     then record {
       rva = field 4 bytes (directories_at bytes + DIRECTORY_SIZE * k);
-      size = field 4 bytes (directories_at bytes + DIRECTORY_SIZE * k + 4);
+      size = field 4 bytes (directories_at bytes + DIRECTORY_SIZE * k + SIZE_IN_DIRECTORY);
     }
     else record { rva = 0; size = 0 }
 
@@ -127,7 +129,7 @@ headers_from bytes (suc n) at = header_at bytes at ∷ headers_from bytes n (at 
 abbrev pub is_laid_out : ℕ → ℕ → ℕ → SectionHeader → Bool
 is_laid_out file_size limit end s =
     ((s.raw_size == 0) || nat_le (s.raw_at + s.raw_size) file_size) &&
-    (s.address % PAGE_SIZE == 0) && nat_le end s.address && nat_le (s.address + s.size) limit
+    (s.address % PAGE == 0) && nat_le end s.address && nat_le (s.address + s.size) limit
 
 -- section by section, from an index on and after an end
 abbrev pub all_laid_out : ℕ → ℕ → ℕ → ℕ → List SectionHeader → Result Unit ImageErr
@@ -155,7 +157,7 @@ sections_of bytes limit hs = do
 
 -- SizeOfImage, rounded up to whole pages
 abbrev pub image_end : List ℕ → ℕ
-image_end bytes = (image_size bytes + 4095) / 4096 * 4096
+image_end bytes = pages (image_size bytes)
 
 abbrev pub image_with : List ℕ → List Section → Image
 image_with bytes sections = record {
@@ -163,8 +165,8 @@ image_with bytes sections = record {
   entry = entry_point bytes;
   size = image_size bytes;
   sections = sections;
-  imports = directory bytes IMPORT_DIRECTORY;
-  exceptions = directory bytes EXCEPTION_DIRECTORY;
+  imports = directory bytes IMAGE_DIRECTORY_ENTRY_IMPORT;
+  exceptions = directory bytes IMAGE_DIRECTORY_ENTRY_EXCEPTION;
 }
 
 -- by its headers and its sections

@@ -12,19 +12,16 @@ ghost use Rattle.pe_image.specs.Names.{AreEnds};
 
 use crate::directory::DataDirectory;
 use crate::fields::{u32_at, u64_at};
-use crate::layout::{DESCRIPTOR_SIZE, IMPORT_ADDRESS_TABLE, LOOKUP_ENTRY_SIZE};
+use crate::layout::{
+    ADDRESS_COUNT, DESCRIPTOR_SIZE, FORWARDER_CHAIN, IMAGE_ORDINAL_FLAG64, IMPORT_ADDRESS_TABLE,
+    IMPORT_LOOKUP_TABLE, LIBRARY_NAME, LOOKUP_ENTRY_SIZE, TIME_DATE_STAMP,
+};
 use crate::names::read_name;
 use crate::refusal::ImageErr;
 use crate::section::{SectionView, stored_from};
 use std::alloc::{AllocError, Global};
 use std::collections::BTreeMap;
 use std::marker::Model;
-
-/// As many as there are addresses: no lookup table has more entries, and no image more libraries.
-const MOST: u64 = 1 << 32;
-
-/// The bit of a lookup entry that says that it is an ordinal.
-const ORDINAL: u64 = 1 << 63;
 
 /// A name that an image imports, and the address of its slot in the import address table, relative
 /// to the image base.
@@ -83,7 +80,7 @@ fn read_import<'a>(
     ensures import { IfOk result (λ i. i ≡ spec.import_at sections.now slot entry) }
     ensures ends { OnOk result (AreEnds sections.now ends.new) }
 {
-    if ORDINAL <= entry {
+    if IMAGE_ORDINAL_FLAG64 <= entry {
         return Ok(None);
     }
     let Some(name) = read_name(ends, sections, entry)? else {
@@ -111,7 +108,7 @@ fn read_library<'a>(
         (spec.library spec.max_count sections.now (length imports.old.items) lookups slots)) }
     ensures ends { OnOk result (AreEnds sections.now ends.new) }
 {
-    for n in 0..MOST {
+    for n in 0..ADDRESS_COUNT {
         let index = imports.len() as u64;
         let Some(entry) = stored(sections, lookups + LOOKUP_ENTRY_SIZE * n, LOOKUP_ENTRY_SIZE)
         else {
@@ -146,7 +143,7 @@ pub fn read_imports<'a>(
     if directory.size == 0 {
         return Ok(imports);
     }
-    for n in 0..MOST {
+    for n in 0..ADDRESS_COUNT {
         let at = directory.rva as u64 + DESCRIPTOR_SIZE * n;
         let Some(descriptor) = stored(sections, at, DESCRIPTOR_SIZE) else {
             return Err(ImageErr::ImportBad {
@@ -172,11 +169,12 @@ pub fn read_imports<'a>(
 
 /// Where the lookup table of a descriptor lies: its address table, where the field is 0.
 fn lookups(descriptor: &[u8]) -> u64
-    requires { 20 ≤ length descriptor.now }
-    ensures value { result ≡ spec.lookups (field 4 descriptor.now 0) (field 4 descriptor.now 16) }
+    requires { DESCRIPTOR_SIZE ≤ length descriptor.now }
+    ensures value { result ≡ spec.lookups (field 4 descriptor.now IMPORT_LOOKUP_TABLE)
+        (field 4 descriptor.now IMPORT_ADDRESS_TABLE) }
     ensures fits { result < 2 ^ 32 }
 {
-    match u32_at(descriptor, 0) {
+    match u32_at(descriptor, IMPORT_LOOKUP_TABLE) {
         0 => u32_at(descriptor, IMPORT_ADDRESS_TABLE) as u64,
         rva => rva as u64,
     }
@@ -184,13 +182,13 @@ fn lookups(descriptor: &[u8]) -> u64
 
 /// Whether all fields of a descriptor are 0.
 fn is_zero(descriptor: &[u8]) -> bool
-    requires { 20 ≤ length descriptor.now }
+    requires { DESCRIPTOR_SIZE ≤ length descriptor.now }
     ensures { result ≡ spec.is_zero descriptor.now }
 {
-    u32_at(descriptor, 0) == 0
-        && u32_at(descriptor, 4) == 0
-        && u32_at(descriptor, 8) == 0
-        && u32_at(descriptor, 12) == 0
+    u32_at(descriptor, IMPORT_LOOKUP_TABLE) == 0
+        && u32_at(descriptor, TIME_DATE_STAMP) == 0
+        && u32_at(descriptor, FORWARDER_CHAIN) == 0
+        && u32_at(descriptor, LIBRARY_NAME) == 0
         && u32_at(descriptor, IMPORT_ADDRESS_TABLE) == 0
 }
 

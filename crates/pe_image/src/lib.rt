@@ -11,9 +11,9 @@
 #![tactic(auto)]
 
 mod directory;
-mod fields;
+pub mod fields;
 mod imports;
-mod layout;
+pub mod layout;
 mod names;
 mod reading;
 mod refusal;

@@ -6,12 +6,14 @@ ghost use Rattle.pe_image.specs.Reading as spec;
 use crate::directory::DataDirectory;
 use crate::fields::{u16_at, u32_at, u64_at};
 use crate::layout::{
-    ADDRESS_OF_ENTRY_POINT, DIRECTORIES, DIRECTORY_SIZE, DOS_HEADER_SIZE, DOS_SIGNATURE, E_LFANEW,
-    FILE_HEADER_SIZE, IMAGE_BASE, MACHINE, MACHINE_X64, MAGIC_PE32_PLUS, NUMBER_OF_RVA_AND_SIZES,
-    NUMBER_OF_SECTIONS, PAGE_SIZE, PE_SIGNATURE, SECTION_HEADER_SIZE, SIZE_OF_IMAGE,
-    SIZE_OF_OPTIONAL_HEADER,
+    ADDRESS_OF_ENTRY_POINT, DIRECTORIES, DIRECTORY_SIZE, DOS_HEADER_SIZE, E_LFANEW,
+    FILE_HEADER_SIZE, IMAGE_BASE, IMAGE_DOS_SIGNATURE, IMAGE_FILE_MACHINE_AMD64,
+    IMAGE_NT_OPTIONAL_HDR64_MAGIC, IMAGE_NT_SIGNATURE, IMAGE_NUMBEROF_DIRECTORY_ENTRIES, MACHINE,
+    NUMBER_OF_RVA_AND_SIZES, NUMBER_OF_SECTIONS, SECTION_HEADER_SIZE, SIZE_IN_DIRECTORY,
+    SIZE_OF_IMAGE, SIZE_OF_OPTIONAL_HEADER,
 };
 use crate::refusal::ImageErr;
+use host_layout::range::pages;
 
 /// Checks the headers up to the file header.
 fn check_file_header(bytes: &[u8]) -> Result<(), ImageErr>
@@ -23,7 +25,7 @@ fn check_file_header(bytes: &[u8]) -> Result<(), ImageErr>
     if size < DOS_HEADER_SIZE {
         return Err(ImageErr::Truncated { at: 0 });
     }
-    if u16_at(bytes, 0) != DOS_SIGNATURE {
+    if u16_at(bytes, 0) != IMAGE_DOS_SIGNATURE {
         return Err(ImageErr::NotPe { at: 0 });
     }
     let signature_at = u32_at(bytes, E_LFANEW) as usize;
@@ -31,11 +33,11 @@ fn check_file_header(bytes: &[u8]) -> Result<(), ImageErr>
     if size < signature_at + FILE_HEADER_SIZE {
         return Err(ImageErr::Truncated { at });
     }
-    if u32_at(bytes, signature_at) != PE_SIGNATURE {
+    if u32_at(bytes, signature_at) != IMAGE_NT_SIGNATURE {
         return Err(ImageErr::NotPe { at });
     }
     let machine = u16_at(bytes, signature_at + MACHINE);
-    if machine != MACHINE_X64 {
+    if machine != IMAGE_FILE_MACHINE_AMD64 {
         let found = machine as u64;
         return Err(ImageErr::Machine { found });
     }
@@ -58,7 +60,7 @@ fn check_optional_header(bytes: &[u8]) -> Result<(), ImageErr>
         return Err(ImageErr::Truncated { at });
     }
     let magic = u16_at(bytes, optional_at);
-    if magic != MAGIC_PE32_PLUS {
+    if magic != IMAGE_NT_OPTIONAL_HDR64_MAGIC {
         let found = magic as u64;
         return Err(ImageErr::Magic { found });
     }
@@ -129,7 +131,7 @@ pub fn image_end(bytes: &[u8]) -> u64
     requires { spec.HasHeaders bytes.now }
     ensures { result ≡ spec.image_end bytes.now }
 {
-    (image_size(bytes) as u64).div_ceil(PAGE_SIZE as u64) * PAGE_SIZE as u64
+    pages(image_size(bytes) as u64)
 }
 
 /// ImageBase.
@@ -151,7 +153,7 @@ pub fn entry_point(bytes: &[u8]) -> u32
 /// The directory of an index; one that NumberOfRvaAndSizes doesn't count is empty.
 pub fn directory(bytes: &[u8], index: usize) -> DataDirectory
     requires headers { spec.HasHeaders bytes.now }
-    requires known { index < 16 }
+    requires known { index < IMAGE_NUMBEROF_DIRECTORY_ENTRIES }
     ensures { result ≡ spec.directory bytes.now index }
 {
     let optional_at = optional_at(bytes);
@@ -159,7 +161,7 @@ pub fn directory(bytes: &[u8], index: usize) -> DataDirectory
         let at = optional_at + DIRECTORIES + DIRECTORY_SIZE * index;
         DataDirectory {
             rva: u32_at(bytes, at),
-            size: u32_at(bytes, at + 4),
+            size: u32_at(bytes, at + SIZE_IN_DIRECTORY),
         }
     } else {
         DataDirectory { rva: 0, size: 0 }

@@ -4,16 +4,8 @@ ghost use Rattle.std.specs.Prelude.{◌≡◌, ℕ, ◌<◌, ◌≤◌, ◌-◌,
 ghost use Rattle.pe_image.specs.Image.{Section, AreAscending, section_at, stored_in};
 ghost use Rattle.pe_image.specs.Image as spec;
 
+use crate::layout::{IMAGE_SCN_MEM_EXECUTE, IMAGE_SCN_MEM_READ, IMAGE_SCN_MEM_WRITE};
 use std::marker::Model;
-
-/// IMAGE_SCN_MEM_EXECUTE.
-const MEM_EXECUTE: u32 = 0x2000_0000;
-
-/// IMAGE_SCN_MEM_READ.
-const MEM_READ: u32 = 0x4000_0000;
-
-/// IMAGE_SCN_MEM_WRITE.
-const MEM_WRITE: u32 = 0x8000_0000;
 
 /// A section of an image: where it lies, and what the file stores of it.
 #[derive(Drop)]
@@ -95,21 +87,21 @@ impl<'a> SectionView<'a> {
     pub fn is_executable(&self) -> bool
         ensures { result ≡ spec.is_executable self.now }
     {
-        self.flags & MEM_EXECUTE != 0
+        self.flags & IMAGE_SCN_MEM_EXECUTE != 0
     }
 
     /// Whether its bytes may be written.
     pub fn is_writable(&self) -> bool
         ensures { result ≡ spec.is_writable self.now }
     {
-        self.flags & MEM_WRITE != 0
+        self.flags & IMAGE_SCN_MEM_WRITE != 0
     }
 
     /// Whether its bytes may be read: what may run or be written may be read too.
     pub fn is_readable(&self) -> bool
         ensures { result ≡ spec.is_readable self.now }
     {
-        self.flags & (MEM_EXECUTE | MEM_READ | MEM_WRITE) != 0
+        self.flags & (IMAGE_SCN_MEM_EXECUTE | IMAGE_SCN_MEM_READ | IMAGE_SCN_MEM_WRITE) != 0
     }
 }
 

@@ -7,11 +7,12 @@ ghost use Rattle.pe_image.specs.Reading.{headers_from, sections_of};
 
 use crate::fields::u32_at;
 use crate::layout::{
-    CHARACTERISTICS, PAGE_SIZE, POINTER_TO_RAW_DATA, SECTION_HEADER_SIZE, SIZE_OF_RAW_DATA,
-    VIRTUAL_ADDRESS, VIRTUAL_SIZE,
+    CHARACTERISTICS, POINTER_TO_RAW_DATA, SECTION_HEADER_SIZE, SIZE_OF_RAW_DATA, VIRTUAL_ADDRESS,
+    VIRTUAL_SIZE,
 };
 use crate::refusal::ImageErr;
 use crate::section::SectionView;
+use host_layout::range::PAGE;
 use std::alloc::Global;
 
 /// A section header (PE format, "Section Table").
@@ -22,8 +23,9 @@ pub struct SectionHeader {
     pub size: u32,
     /// Where it lies in the image.
     pub address: u32,
-    /// How many bytes of raw data it has, and where they are in the file.
+    /// How many bytes of raw data it has.
     pub raw_size: u32,
+    /// Where they are in the file.
     pub raw_at: u32,
     /// Its characteristics.
     pub flags: u32,
@@ -33,7 +35,7 @@ impl SectionHeader {
     ghost use Rattle.pe_image.specs.Reading as spec;
 
     fn read(bytes: &[u8], at: usize) -> SectionHeader
-        requires { at + 40 ≤ length bytes.now }
+        requires { at + SECTION_HEADER_SIZE ≤ length bytes.now }
         ensures { result ≡ spec.header_at bytes.now at }
     {
         let virtual_size = u32_at(bytes, at + VIRTUAL_SIZE);
@@ -69,7 +71,7 @@ impl SectionHeader {
         ensures { result ≡ spec.is_laid_out file_size limit end self.now }
     {
         (self.raw_size == 0 || self.raw_end() <= file_size)
-            && self.address % PAGE_SIZE == 0
+            && self.address as u64 % PAGE == 0
             && end <= self.address as u64
             && self.end() <= limit
     }
@@ -97,7 +99,7 @@ pub fn sections<'a>(
     count: usize,
     limit: u64,
 ) -> Result<Vec<SectionView<'a>>, ImageErr>
-    requires { at + 40 * count ≤ length bytes.now }
+    requires { at + SECTION_HEADER_SIZE * count ≤ length bytes.now }
     ensures answer { Gives (λ v. v.items) result
         (sections_of bytes.now limit (headers_from bytes.now count at)) }
     ensures ascending { IfOk result (λ v. AreAscending 0 v.items) }

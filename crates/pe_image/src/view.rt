@@ -8,7 +8,7 @@ ghost use Rattle.pe_image.specs.Reading.{IsImage, IsRefused};
 
 use crate::directory::DataDirectory;
 use crate::imports::{Import, bound_names, read_imports, stored};
-use crate::layout::{EXCEPTION_DIRECTORY, IMPORT_DIRECTORY};
+use crate::layout::{IMAGE_DIRECTORY_ENTRY_EXCEPTION, IMAGE_DIRECTORY_ENTRY_IMPORT};
 use crate::reading::{
     check_headers, directory, entry_point, image_base, image_end, image_size, section_count,
     sections_at,
@@ -73,7 +73,7 @@ impl<'a> ImageView<'a> {
         let count = section_count(bytes);
         let end = image_end(bytes);
         let sections = sections(alloc, bytes, at, count, end)?;
-        let import_directory = directory(bytes, IMPORT_DIRECTORY);
+        let import_directory = directory(bytes, IMAGE_DIRECTORY_ENTRY_IMPORT);
         let imports = read_imports(alloc, &sections, import_directory)?;
         let names = bound_names(alloc, &imports)?;
         Ok(ImageView {
@@ -82,7 +82,7 @@ impl<'a> ImageView<'a> {
             size: image_size(bytes),
             sections,
             import_directory,
-            exceptions: directory(bytes, EXCEPTION_DIRECTORY),
+            exceptions: directory(bytes, IMAGE_DIRECTORY_ENTRY_EXCEPTION),
             imports,
             names,
         })
