@@ -7,13 +7,13 @@ use Rattle.c_operations.specs.declared.operation.Size.{Size}
 use Rattle.c_checked.specs.Expression.{Expression}
 use Rattle.c_checked.specs.Program.{Program, Function}
 use Rattle.c_checked.specs.Sound as sound
-use Rattle.c_checked.specs.Sound.{Inside, IsSound, optional_sound, test_sound, value_fits, declared_sound, all_declared_sound, result_sound, filter_sound, expression_sound, statement_sound, statements_sound, function_sound, functions_sound}
+use Rattle.c_checked.specs.Sound.{Inside, optional_sound, test_sound, value_fits, declared_sound, all_declared_sound, result_sound, expression_sound, statement_sound, statements_sound, functions_sound}
 use Rattle.c_checked.specs.Statement.{Declared, Filter, Always, Funclet, Statement, Declare, Block, Evaluate, If, IfElse, For, DoWhile, Return, Break, Continue, Leave, TryExcept, TryFinally, Statements, Empty, Then}
 use Rattle.linear_code.specs.declared.slot.Slot.{Slot}
 use Rattle.linear_code.specs.declared.slot.Slot.TheVariants.{Local, Temporary}
 use Rattle.linear_code.specs.declared.instruction.Instruction.{Instruction}
 use Rattle.linear_code.specs.declared.instruction.Instruction.TheVariants as instructions
-use Rattle.linear_code.specs.declared.instruction.Instruction.TheVariants.{Jump, JumpIfZero, CallFinally, Separator}
+use Rattle.linear_code.specs.declared.instruction.Instruction.TheVariants.{JumpIfZero, CallFinally, Separator}
 use Rattle.linear_code.specs.declared.program.FuncletKind.{FuncletKind}
 use Rattle.linear_code.specs.declared.program.FuncletKind.TheVariants as kinds
 use Rattle.linear_code.specs.Program.{LinearBody, LinearFunction, LinearFunclet}

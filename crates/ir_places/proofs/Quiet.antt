@@ -1,14 +1,13 @@
 -- The code of an expression runs no `__finally` block.
 use Rattle.std.proofs.Common.{◌≡◌, ℕ, ◌+◌, List, [], ◌∷◌, ◌++◌, refl}
 use Rattle.std.specs.List.{AllByRecursion}
-use Rattle.std.specs.Prelude.{false, Option, Some, None}
+use Rattle.std.specs.Prelude.{false, Option}
 use Rattle.c_operations.specs.declared.operation.Operation.TheVariants as operations
 use Rattle.c_operations.specs.declared.operation.Pure.{Pure}
 use Rattle.c_operations.specs.declared.operation.Pure.TheVariants as pures
 use Rattle.c_operations.specs.declared.operation.Signedness.TheVariants.{Signed}
 use Rattle.c_operations.specs.declared.operation.Size.TheVariants.{Long}
 use Rattle.c_checked.specs.declared.expression.Conversion.{Conversion}
-use Rattle.c_checked.specs.declared.expression.Conversion.TheVariants.{Kept, Extend, Scale}
 use Rattle.c_checked.specs.Expression as nodes
 use Rattle.c_checked.specs.Expression.{Expression, On, Node, Lvalue, Global, Indirection, Element, Arguments, Done, Next}
 use Rattle.linear_code.specs.declared.slot.Slot.TheVariants.{Temporary}
@@ -19,6 +18,7 @@ use Rattle.ir_expressions.specs.declared.scope.Names.{Names}
 use Rattle.ir_sizes.specs.Sizes.{address_count, locate_size, read_size, conversion_size, expression_size}
 use Rattle.ir_expressions.specs.Expressions.{constant, copy, combine, conversion_code, unary_code, choice_code, code_code, abnormal_code, read_code, write_code, address_code, chosen_of, expression_code, locate_code, arguments_code, node_code}
 use Rattle.ir_bounds.proofs.PlainExpressions.{all_append}
+use Rattle.ir_typed.proofs.EveryExpression.{HoldsOfOperations, conversion_every, unary_every, choice_every, read_every, write_every, address_every, flag_every}
 use Rattle.ir_places.specs.Followed.{runs_blocks}
 
 abbrev pub IsQuiet : Instruction → Type 0
@@ -30,44 +30,43 @@ AllQuiet code = AllByRecursion IsQuiet code
 append : (xs ys : List Instruction) → AllQuiet xs → AllQuiet ys → AllQuiet (xs ++ ys)
 append xs ys h k = all_append IsQuiet xs ys h k
 
+operations_quiet : HoldsOfOperations IsQuiet
+operations_quiet = record {
+  of_constant = λ d n. refl;
+  of_copy = λ to from. refl;
+  of_change = λ d o. refl;
+  of_combine = λ d o. refl;
+  of_load = λ w address to. refl;
+  of_store = λ access address from to. refl;
+  of_jump = λ label. refl;
+  of_test = λ d label. refl;
+}
+
 conversion_quiet : (c : Conversion) (d : ℕ) → AllQuiet (conversion_code c d)
-conversion_quiet Kept d = tt
-conversion_quiet (Extend s from size) d = (refl, tt)
-conversion_quiet (Scale s from by) d = (refl, (refl, (refl, tt)))
+conversion_quiet = conversion_every IsQuiet operations_quiet
 
 unary_quiet : (o : Pure) (d : ℕ) → AllQuiet (unary_code o d)
-unary_quiet pures.First d = tt
-unary_quiet o d = (refl, (refl, tt))
+unary_quiet = unary_every IsQuiet operations_quiet
 
 choice_quiet : (d at instead other : ℕ) → AllQuiet (choice_code d at instead other)
-choice_quiet d at instead other = (refl, (refl, (refl, (refl, tt))))
+choice_quiet = choice_every IsQuiet operations_quiet
 
 read_quiet : (p : Lvalue) (address to : ℕ) → AllQuiet (read_code p address to)
-read_quiet (nodes.Local x) address to = (refl, tt)
-read_quiet (Global access a) address to = (refl, (refl, tt))
-read_quiet (Indirection access e) address to = (refl, (refl, tt))
-read_quiet (Element access e i) address to = (refl, (refl, tt))
+read_quiet = read_every IsQuiet operations_quiet
 
 write_quiet : (p : Lvalue) (address from to : ℕ) → IsQuiet (write_code p address from to)
-write_quiet (nodes.Local x) address from to = refl
-write_quiet (Global access a) address from to = refl
-write_quiet (Indirection access e) address from to = refl
-write_quiet (Element access e i) address from to = refl
+write_quiet = write_every IsQuiet operations_quiet
 
 address_quiet : (p : Lvalue) (d : ℕ) (located : List Instruction) → AllQuiet located → AllQuiet (address_code p d located)
-address_quiet (nodes.Local x) d located h = (refl, tt)
-address_quiet (Global access a) d located h = h
-address_quiet (Indirection access e) d located h = h
-address_quiet (Element access e i) d located h = h
+address_quiet = address_every IsQuiet operations_quiet
+
+flag_quiet : (s : Option ℕ) (d : ℕ) → IsQuiet (abnormal_code s d)
+flag_quiet = flag_every IsQuiet operations_quiet
 
 code_quiet : (s : ExceptionSource) (d : ℕ) → IsQuiet (code_code s d)
 code_quiet NoException d = refl
 code_quiet OfFilter d = refl
 code_quiet (KeptIn x) d = refl
-
-flag_quiet : (s : Option ℕ) (d : ℕ) → IsQuiet (abnormal_code s d)
-flag_quiet None d = refl
-flag_quiet (Some x) d = refl
 
 module _ (names : Names) where
   -- the operands of an operator, the second in the next temporary, and what comes after them

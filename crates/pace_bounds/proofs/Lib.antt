@@ -1,4 +1,2 @@
-pub mod LightOperators
-pub mod LightExpressions
-pub mod LightStatements
+pub mod ResolvedWeights
 pub mod Pace

@@ -9,7 +9,7 @@ use Rattle.ir_follows.specs.Laws.{NoMore}
 use Rattle.ir_linked.specs.Pace.{pace_of}
 use Rattle.ir_linked.proofs.Lowered.{lowered_follows, lowered_shows_no_more}
 use Rattle.pace_bounds.specs.Laws.{pace_in, program_of, PaceIsBounded, AcceptedFollows, AcceptedShowsNoMore}
-use Rattle.pace_bounds.proofs.LightStatements.{resolved_weight}
+use Rattle.pace_bounds.proofs.ResolvedWeights.{resolved_weight}
 
 mul_le : (k a b : ℕ) → a ≤ b → k * a ≤ k * b
 mul_le k a b le =
