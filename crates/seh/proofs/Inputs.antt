@@ -1,5 +1,5 @@
--- What comes of a text comes of the input that it was.
-use Rattle.std.proofs.Common.{◌≡◌, ◌+◌, ◌<◌, ◌≤◌, ℕ, min, List, [], length, append-nil, ◌∙◌, take, drop, Option, Result, Ok, Err, sym, ap, arith, inr}
+-- What comes of a text or an image comes of the input that it was.
+use Rattle.std.proofs.Common.{◌≡◌, ◌+◌, ◌<◌, ◌≤◌, ℕ, min, List, [], length, append-nil, ◌∙◌, take, drop, Option, Result, Ok, Err, sym, ap, arith, refl, inl, inr}
 use Rattle.std.proofs.lemmas.List.{take-append-drop, length-take-le}
 use Rattle.seh_io.specs.Streams.{Grew, last_count}
 use Rattle.seh_io.specs.Writer.{TookPart}
@@ -9,7 +9,7 @@ use Rattle.seh.specs.declared.refusal.Refusal.TheVariants as refusals
 use Rattle.seh.specs.Streams.{Stream}
 use Rattle.command_line.specs.declared.command.RunOptions.{RunOptions}
 use Rattle.seh.specs.Meanings.{IsMeaningAnswer, IsMeaningInputAnswer}
-use Rattle.seh.specs.Answers.{text_limit, IsInput, LostFew, IsCompileAnswer, IsTextRunAnswer, IsInputAnswer}
+use Rattle.seh.specs.Answers.{text_limit, image_limit, Judged, IsRunAnswer, IsShowAnswer, IsInput, LostFew, IsCompileAnswer, IsTextRunAnswer, IsInputRefusal, IsInputAnswer}
 
 -- what was read whole was lost from the front
 lost_all : (limit : ℕ) (source source' : Stream) (bytes : List ℕ) → IsInput limit source source' bytes → LostFew limit source source'
@@ -46,6 +46,34 @@ from_meaning options text source source' out out' (Err (refusals.Text e)) input 
 from_meaning options text source source' out out' (Err refusals.WriteFault) input h = record { bytes = text; input = input; comes = h }
 from_meaning options text source source' out out' (Err refusals.NoMemory) input h = inr (record { bytes = text; input = input; front = h })
 from_meaning options text source source' out out' (Err r) input h = absurd h
+
+-- of an image that was run
+pub from_image : (options : RunOptions) (bytes : List ℕ) (source source' out out' : Stream) (answer : Result Outcome Refusal) → IsInput image_limit source source' bytes → IsRunAnswer options bytes out out' answer → IsInputAnswer image_limit (IsRunAnswer options) source source' out out' answer
+from_image options bytes source source' out out' (Ok done) input h = record { bytes = bytes; input = input; comes = h }
+from_image options bytes source source' out out' (Err (refusals.Image e)) input h = record { bytes = bytes; input = input; comes = h }
+from_image options bytes source source' out out' (Err (refusals.Load e)) input h = record { bytes = bytes; input = input; comes = h }
+from_image options bytes source source' out out' (Err refusals.WriteFault) input h = record { bytes = bytes; input = input; comes = h }
+from_image options bytes source source' out out' (Err r) input h = absurd h
+
+-- of an image whose function table was shown
+pub from_shown : (bytes : List ℕ) (source source' out out' : Stream) (answer : Result Outcome Refusal) → IsInput image_limit source source' bytes → IsShowAnswer bytes out out' answer → IsInputAnswer image_limit IsShowAnswer source source' out out' answer
+from_shown bytes source source' out out' (Ok done) input h = record { bytes = bytes; input = input; comes = h }
+from_shown bytes source source' out out' (Err (refusals.Image e)) input h = record { bytes = bytes; input = input; comes = h }
+from_shown bytes source source' out out' (Err refusals.WriteFault) input h = record { bytes = bytes; input = input; comes = h }
+from_shown bytes source source' out out' (Err r) input h = absurd h
+
+-- what wasn't read is the answer
+pub refused_input : (limit : ℕ) (judged : Judged) (source source' out : Stream) (e : Refusal) → IsInputRefusal limit source source' e → IsInputAnswer limit judged source source' out out (Err e)
+refused_input limit judged source source' out refusals.ReadFault h = (h, refl)
+refused_input limit judged source source' out (refusals.TooLong most) h = (h, refl)
+refused_input limit judged source source' out refusals.NoMemory h = (h, refl)
+refused_input limit judged source source' out e h = absurd h
+
+pub refused_meaning : (options : RunOptions) (source source' out : Stream) (e : Refusal) → IsInputRefusal text_limit source source' e → IsMeaningInputAnswer options source source' out out (Err e)
+refused_meaning options source source' out refusals.ReadFault h = (h, refl)
+refused_meaning options source source' out (refusals.TooLong most) h = (h, refl)
+refused_meaning options source source' out refusals.NoMemory h = inl (h, refl)
+refused_meaning options source source' out e h = absurd h
 
 -- a front of a text was taken
 pub took_front : (taken : Option (List ℕ)) (text : List ℕ) (taken' : Option (List ℕ)) (count : ℕ) → count < length text → Grew taken (take count text) taken' → TookPart taken text taken' count

@@ -10,7 +10,7 @@ use Rattle.c_interpret.specs.declared.interpret.MeanErr.{MeanErr}
 use Rattle.c_interpret.specs.declared.interpret.MeanErr.TheVariants.{Write, Memory}
 use Rattle.c_interpret.specs.Texts as texts
 use Rattle.command_line.specs.declared.command.RunOptions.{RunOptions}
-use Rattle.seh.specs.Meanings.{IsProgramOf, TookFront, shown_of, text_of}
+use Rattle.seh.specs.Meanings.{IsProgramOf, TookMeaningFront, shown_of, text_of}
 use Rattle.seh.specs.Streams.{Stream}
 
 module _ (options : RunOptions) (p : Program) (again : ℤ) (same : again ≡ options.argument) where
@@ -31,13 +31,13 @@ module _ (options : RunOptions) (p : Program) (again : ℤ) (same : again ≡ op
 
   pub front_same : (text : List ℕ) (out out' : Stream) → IsProgramOf text p
       → (part : List ℕ) × ((rest : List ℕ) × (texts.text options.trace options.turns shown ≡ part ++ rest)) × Grew out.bytes part out'.bytes
-      → TookFront options text out out'
-  front_same text out out' is h = record { program = p; is = is; part = h.0; begins = (h.1.0, sym text_same ∙ h.1.1); grew = h.2 }
+      → TookMeaningFront options text out out'
+  front_same text out out' is h = record { program = p; is = is; took = (h.0, (h.1.0, sym text_same ∙ h.1.1), h.2) }
 
   pub write_same : (e : MeanErr) (n : ℕ) → e ≡ Write n → (a b : Option (List ℕ)) → texts.TookFront e a (texts.text options.trace options.turns shown) b → TookPart a (text_of options p) b n
   write_same e n is a b h = part_same a b n (subst (λ x. texts.TookFront x a (texts.text options.trace options.turns shown) b) is h)
 
-  pub memory_same : (e : MeanErr) → e ≡ Memory → (text : List ℕ) (out out' : Stream) → IsProgramOf text p → texts.TookFront e out.bytes (texts.text options.trace options.turns shown) out'.bytes → TookFront options text out out'
+  pub memory_same : (e : MeanErr) → e ≡ Memory → (text : List ℕ) (out out' : Stream) → IsProgramOf text p → texts.TookFront e out.bytes (texts.text options.trace options.turns shown) out'.bytes → TookMeaningFront options text out out'
   memory_same e is text out out' found h = front_same text out out' found (subst (λ x. texts.TookFront x out.bytes (texts.text options.trace options.turns shown) out'.bytes) is h)
 
 pub rose_of : (e : MeanErr) (n : ℕ) → e ≡ Write n → (f f' : ℕ) → texts.HasCause e f f' → Rose f f'

@@ -136,16 +136,26 @@ IsTooLong limit source = ForSome source.bytes (λ held. limit < length held)
 abbrev pub LostFew : ℕ → Stream → Stream → Type 0
 LostFew limit source source' = LostAtMost (limit + 1) source.bytes source'.bytes
 
+-- why a source's bytes weren't read: a fault of the source, more bytes than the limit, or want of
+-- memory
+abbrev pub IsInputRefusal : ℕ → Stream → Stream → Refusal → Type 0
+IsInputRefusal limit source source' refusals.ReadFault =
+    Rose source.faults source'.faults × LostFew limit source source'
+IsInputRefusal limit source source' (refusals.TooLong most) =
+    (most ≡ limit) × IsTooLong limit source × LostFew limit source source'
+IsInputRefusal limit source source' refusals.NoMemory = LostFew limit source source'
+IsInputRefusal limit source source' e = ⊥
+
 -- a command that reads its input has this answer by its cause, from the source and the sink before
 -- and after
 abbrev pub IsInputAnswer : ℕ → Judged → Stream → Stream → Stream → Stream → Result Outcome Refusal
     → Type 0
 IsInputAnswer limit judged source source' out out' (Err refusals.Usage) = ⊥
 IsInputAnswer limit judged source source' out out' (Err refusals.ReadFault) =
-    Rose source.faults source'.faults × LostFew limit source source' × Quiet out out'
+    IsInputRefusal limit source source' refusals.ReadFault × Quiet out out'
 IsInputAnswer limit judged source source' out out' (Err (refusals.TooLong most)) =
-    (most ≡ limit) × IsTooLong limit source × LostFew limit source source' × Quiet out out'
+    IsInputRefusal limit source source' (refusals.TooLong most) × Quiet out out'
 IsInputAnswer limit judged source source' out out' (Err refusals.NoMemory) =
-    LostFew limit source source' × Quiet out out'
+    IsInputRefusal limit source source' refusals.NoMemory × Quiet out out'
 IsInputAnswer limit judged source source' out out' answer =
     FromInput limit judged source source' out out' answer

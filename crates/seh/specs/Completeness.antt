@@ -14,7 +14,7 @@ use Rattle.seh.specs.Images.{IsCompiled}
 use Rattle.seh.specs.Streams.{Stream}
 use Rattle.seh.specs.Answers.{end_by, IsCompileAnswer, IsRunAnswer}
 
--- want of memory, wherever it was met
+-- want of memory, in whatever part
 abbrev pub IsWantOfMemory : Refusal → Type 0
 IsWantOfMemory refusals.NoMemory = Unit {0}
 IsWantOfMemory (refusals.Text texts.Memory) = Unit {0}
@@ -23,21 +23,21 @@ IsWantOfMemory (refusals.Load loads.Memory) = Unit {0}
 IsWantOfMemory r = ⊥
 
 -- an answer is this outcome, unless the sink has a fault or memory is wanting
-abbrev pub ComesTo : Outcome → Result Outcome Refusal → Type 0
-ComesTo done (Ok outcome) = outcome ≡ done
-ComesTo done (Err refusals.WriteFault) = Unit {0}
-ComesTo done (Err r) = IsWantOfMemory r
+abbrev pub AnswersWith : Outcome → Result Outcome Refusal → Type 0
+AnswersWith done (Ok outcome) = outcome ≡ done
+AnswersWith done (Err refusals.WriteFault) = Unit {0}
+AnswersWith done (Err r) = IsWantOfMemory r
 
 -- what `compile` answers to an accepted text: that its image was written
 abbrev pub AcceptedTextsCompile : Type 0
 AcceptedTextsCompile =
     (source : List ℕ) (xs : List ExternalDeclaration) → IsAccepted source xs
     → (out out' : Stream) (answer : Result Outcome Refusal)
-    → IsCompileAnswer source out out' answer → ComesTo Compiled answer
+    → IsCompileAnswer source out out' answer → AnswersWith Compiled answer
 
 -- what `exec` answers to the image that a text was compiled to: the end of its run
 abbrev pub CompiledImagesRun : Type 0
 CompiledImagesRun =
     (source image : List ℕ) → IsCompiled source image
     → (options : RunOptions) (out out' : Stream) (answer : Result Outcome Refusal)
-    → IsRunAnswer options image out out' answer → ComesTo (Ran (end_by options image)) answer
+    → IsRunAnswer options image out out' answer → AnswersWith (Ran (end_by options image)) answer

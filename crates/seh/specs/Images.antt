@@ -26,8 +26,8 @@ pace text = pace_in (length text)
 
 -- in m turns a run of the image shows no more than the program shows within (m + 1) * pace steps,
 -- where these are calm, and ends only as they end
-abbrev pub ShowsNothingMore : (text image : List ℕ) → Program → Type 0
-ShowsNothingMore text image program =
+abbrev pub ShowsNoMoreByLength : (text image : List ℕ) → Program → Type 0
+ShowsNoMoreByLength text image program =
     (arg m n : ℕ) → arg < 2 ^ 63 → (m + 1) * pace text ≤ n → Calm program (pos arg) n ≡ true
     → ShowsNoMore (meaning program (pos arg) n) (machine image (pos arg) m)
 
@@ -53,7 +53,7 @@ pub record IsCompiled (text image : List ℕ) : Type 0 where
   pub linked : IsWritten image (resolve text whole).program
   pub table : HasTable (resolve text whole).program
   pub realises : Realises image (resolve text whole).program
-  pub no_more : ShowsNothingMore text image (resolve text whole).program
+  pub no_more : ShowsNoMoreByLength text image (resolve text whole).program
   pub frames : FindsCallers (lowered (resolve text whole).program)
   pub walks : GivesTheShadow text image (resolve text whole).program
 

@@ -7,12 +7,13 @@ use Rattle.c_checked.specs.Program.{Program}
 use Rattle.c_model.specs.Meaning as model
 use Rattle.c_text.specs.Texts.{IsCheckedAs, IsRefused}
 use Rattle.c_interpret.specs.Texts as texts
+use Rattle.c_interpret.specs.declared.interpret.MeanErr.TheVariants.{Memory}
 use Rattle.command_line.specs.declared.command.RunOptions.{RunOptions}
 use Rattle.seh.specs.declared.outcome.Outcome.{Outcome}
 use Rattle.seh.specs.declared.outcome.Outcome.TheVariants.{Meant}
 use Rattle.seh.specs.declared.refusal.Refusal.{Refusal}
 use Rattle.seh.specs.declared.refusal.Refusal.TheVariants as refusals
-use Rattle.seh.specs.Answers.{text_limit, Quiet, Judged, IsInput, FromInput, IsTooLong, LostFew}
+use Rattle.seh.specs.Answers.{text_limit, Quiet, Judged, IsInput, IsInputAnswer}
 use Rattle.seh.specs.Streams.{Stream}
 
 -- what a text means within the steps of the options, from their argument
@@ -28,12 +29,10 @@ pub record IsProgramOf (text : List ℕ) (p : Program) : Type 0 where
   pub checked : IsCheckedAs text declarations p
 
 -- a part of the text of the meaning was taken, from the front
-pub record TookFront (options : RunOptions) (text : List ℕ) (out out' : Stream) : Type 0 where
+pub record TookMeaningFront (options : RunOptions) (text : List ℕ) (out out' : Stream) : Type 0 where
   pub program : Program
   pub is : IsProgramOf text program
-  pub part : List ℕ
-  pub begins : (rest : List ℕ) × (text_of options program ≡ part ++ rest)
-  pub grew : Grew out.bytes part out'.bytes
+  pub took : texts.TookFront Memory out.bytes (text_of options program) out'.bytes
 
 -- the whole text of the meaning, with its end; the refusal of the text; or a part of the text,
 -- where the sink had a fault or memory was wanting
@@ -46,25 +45,20 @@ IsMeaningAnswer options text out out' (Err (refusals.Text e)) = IsRefused text e
 IsMeaningAnswer options text out out' (Err refusals.WriteFault) =
     (p : Program) × IsProgramOf text p × Rose out.faults out'.faults
     × ((count : ℕ) × TookPart out.bytes (text_of options p) out'.bytes count)
-IsMeaningAnswer options text out out' (Err refusals.NoMemory) = TookFront options text out out'
+IsMeaningAnswer options text out out' (Err refusals.NoMemory) = TookMeaningFront options text out out'
 IsMeaningAnswer options text out out' answer = ⊥
 
 -- want of memory comes before anything is written, or in the middle of the text
 pub record TookOfInput (options : RunOptions) (source source' out out' : Stream) : Type 0 where
   pub bytes : List ℕ
   pub input : IsInput text_limit source source' bytes
-  pub front : TookFront options bytes out out'
+  pub front : TookMeaningFront options bytes out out'
 
 abbrev pub IsMeaningInputAnswer : RunOptions → Stream → Stream → Stream → Stream
     → Result Outcome Refusal → Type 0
-IsMeaningInputAnswer options source source' out out' (Err refusals.Usage) = ⊥
-IsMeaningInputAnswer options source source' out out' (Err refusals.ReadFault) =
-    Rose source.faults source'.faults × LostFew text_limit source source' × Quiet out out'
-IsMeaningInputAnswer options source source' out out' (Err (refusals.TooLong most)) =
-    (most ≡ text_limit) × IsTooLong text_limit source × LostFew text_limit source source'
-    × Quiet out out'
 IsMeaningInputAnswer options source source' out out' (Err refusals.NoMemory) =
-    (LostFew text_limit source source' × Quiet out out')
+    IsInputAnswer text_limit (IsMeaningAnswer options) source source' out out'
+    (Err refusals.NoMemory)
     ⊎ TookOfInput options source source' out out'
 IsMeaningInputAnswer options source source' out out' answer =
-    FromInput text_limit (IsMeaningAnswer options) source source' out out' answer
+    IsInputAnswer text_limit (IsMeaningAnswer options) source source' out out' answer

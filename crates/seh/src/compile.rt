@@ -5,10 +5,10 @@ ghost use Rattle.seh.specs.Answers.{text_limit, IsCompileAnswer, IsInputAnswer};
 ghost use Rattle.seh.specs.Streams.{stream};
 
 use crate::image::image_of;
+use crate::input::read_input;
 use crate::outcome::Outcome;
 use crate::refusal::Refusal;
 use host_layout::limit::MOST_TEXT;
-use seh_io::reading::{ReadErr, read_all};
 use seh_io::sink::Sink;
 use seh_io::source::Source;
 use seh_io::writing::put_all;
@@ -40,10 +40,8 @@ pub fn compile<S: Source, O: Sink>(
         (stream S.left S.faults src.old) (stream S.left S.faults src.new)
         (stream O.taken O.faults out.old) (stream O.taken O.faults out.new) result }
 {
-    match read_all(alloc, src, MOST_TEXT) {
+    match read_input(alloc, src, MOST_TEXT) {
         Ok(text) => compile_text(alloc, &text, out),
-        Err(ReadErr::Fault) => Err(Refusal::ReadFault),
-        Err(ReadErr::TooLong { limit }) => Err(Refusal::TooLong { limit }),
-        Err(ReadErr::Memory) => Err(Refusal::NoMemory),
+        Err(refusal) => Err(refusal),
     }
 }

@@ -8,6 +8,7 @@
 pub mod compile;
 pub mod exec;
 pub mod image;
+pub mod input;
 pub mod laws;
 pub mod meaning;
 pub mod outcome;

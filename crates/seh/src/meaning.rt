@@ -5,13 +5,13 @@ ghost use Rattle.std.specs.Prelude.{◌≤◌, length};
 ghost use Rattle.seh.specs.Meanings.{IsMeaningAnswer, IsMeaningInputAnswer};
 ghost use Rattle.seh.specs.Streams.{stream};
 
+use crate::input::read_input;
 use crate::outcome::Outcome;
 use crate::refusal::Refusal;
 use c_interpret::interpret::{MeanErr, interpret};
 use c_text::accepting::accept;
 use command_line::command::RunOptions;
 use host_layout::limit::MOST_TEXT;
-use seh_io::reading::{ReadErr, read_all};
 use seh_io::sink::Sink;
 use seh_io::source::Source;
 use std::alloc::Global;
@@ -54,10 +54,8 @@ pub fn meaning<S: Source, O: Sink>(
         (stream S.left S.faults src.old) (stream S.left S.faults src.new)
         (stream O.taken O.faults out.old) (stream O.taken O.faults out.new) result }
 {
-    match read_all(alloc, src, MOST_TEXT) {
+    match read_input(alloc, src, MOST_TEXT) {
         Ok(text) => mean_text(alloc, options, &text, out),
-        Err(ReadErr::Fault) => Err(Refusal::ReadFault),
-        Err(ReadErr::TooLong { limit }) => Err(Refusal::TooLong { limit }),
-        Err(ReadErr::Memory) => Err(Refusal::NoMemory),
+        Err(refusal) => Err(refusal),
     }
 }

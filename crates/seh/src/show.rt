@@ -4,11 +4,11 @@ ghost use Rattle.std.specs.Prelude.{◌≡◌};
 ghost use Rattle.seh.specs.Answers.{image_limit, IsShowAnswer, IsInputAnswer};
 ghost use Rattle.seh.specs.Streams.{stream};
 
+use crate::input::read_input;
 use crate::outcome::Outcome;
 use crate::refusal::Refusal;
 use host_layout::limit::MOST_IMAGE;
 use pe_image::ImageView;
-use seh_io::reading::{ReadErr, read_all};
 use seh_io::sink::Sink;
 use seh_io::source::Source;
 use std::alloc::Global;
@@ -35,10 +35,8 @@ pub fn show<S: Source, O: Sink>(alloc: Global, src: &mut S, out: &mut O) -> Resu
         (stream S.left S.faults src.old) (stream S.left S.faults src.new)
         (stream O.taken O.faults out.old) (stream O.taken O.faults out.new) result }
 {
-    match read_all(alloc, src, MOST_IMAGE) {
+    match read_input(alloc, src, MOST_IMAGE) {
         Ok(bytes) => show_image(alloc, &bytes, out),
-        Err(ReadErr::Fault) => Err(Refusal::ReadFault),
-        Err(ReadErr::TooLong { limit }) => Err(Refusal::TooLong { limit }),
-        Err(ReadErr::Memory) => Err(Refusal::NoMemory),
+        Err(refusal) => Err(refusal),
     }
 }

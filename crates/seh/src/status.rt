@@ -25,7 +25,7 @@ pub enum Status {
     TooLong,
     /// Nobody handled an exception.
     Unhandled,
-    /// The stack met its guard.
+    /// The guard below the stack was accessed.
     StackLimit,
     /// The turns were used up.
     OutOfTurns,

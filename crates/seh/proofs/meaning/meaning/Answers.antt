@@ -1,16 +1,13 @@
-use Rattle.std.proofs.Common.{◌∙◌, ◌≤◌, length, arith}
-use Rattle.seh.specs.Answers.{text_limit}
-use Rattle.seh.proofs.Inputs.{from_meaning}
+use Rattle.std.proofs.Common.{List, ℕ, subst, sym}
+use Rattle.seh.specs.Answers.{text_limit, IsInput}
+use Rattle.seh.proofs.Inputs.{from_meaning, refused_meaning}
 use Rattle.seh.proofs.meaning.meaning.Goals as goal
 
 pub returns-in-Ok : goal.returns-in-Ok
 returns-in-Ok g c =
-    let few = c.in-Ok.ensures.within in
-    let long = c.deref.ensures.len in
     from_meaning _ _ _ _ _ _ c.mean_text.result
-    (record {
-      within = omega arith;
-      all = λ held told. c.deref.ensures.value ∙ c.in-Ok.ensures.all held told;
-      emptied = c.in-Ok.ensures.emptied;
-    })
+    (subst (λ (bytes : List ℕ). IsInput text_limit _ _ bytes) (sym c.deref.ensures.value) c.in-Ok.ensures.read)
     c.mean_text.ensures
+
+pub returns-in-Err : goal.returns-in-Err
+returns-in-Err g c = refused_meaning _ _ _ _ c.in-Err.refusal c.in-Err.ensures.refused
