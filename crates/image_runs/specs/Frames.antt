@@ -3,7 +3,7 @@ use Rattle.std.specs.Prelude.{◌≡◌, ℕ, ◌+◌, slice_get, Some, None}
 use Rattle.x64_machine.specs.Effect.{State}
 use Rattle.frame_rules.specs.Rules.{Stands}
 use Rattle.frame_rules.specs.States.{IsEntry}
-use Rattle.pe_write.specs.declared.service.Service.{Service}
+use Rattle.host_layout.specs.declared.imported.ImportedService.{ImportedService}
 use Rattle.c_checked.specs.Program.{Program}
 use Rattle.linear_code.specs.Program.{LinearProgram}
 use Rattle.seh_ir.specs.Lowered.{lowered}
@@ -30,7 +30,7 @@ pub record FindsCallers (p : LinearProgram) : Type 0 where
       → slice_get (placed p) index ≡ Some x → x.routine.frame ≡ None
       → IsIn e s (leaf p x) x.begin (end_of x) → FindsCaller p e s
   pub thunks :
-      (service : Service) (e s : State)
+      (service : ImportedService) (e s : State)
       → IsIn e s (thunk_of p service)
       (thunk_at (site_of p).text service) (thunk_at (site_of p).text service + 6)
       → FindsCaller p e s

@@ -12,8 +12,8 @@ use Rattle.x64_instr.specs.declared.instruction.Instr.{Instr}
 use Rattle.x64_encode.specs.Chosen.{chosen, modrm}
 use Rattle.pe_image.specs.Image.{Section, Image}
 use Rattle.pe_image.specs.Imports.{Import}
-use Rattle.pe_write.specs.declared.service.Service as pe
-use Rattle.pe_write.specs.declared.service.Service.TheVariants as imports
+use Rattle.host_layout.specs.declared.imported.ImportedService.{ImportedService}
+use Rattle.host_layout.specs.declared.imported.ImportedService.TheVariants as imports
 use Rattle.pe_write.specs.ImportTables.{name_of, import_tables, slot_of}
 use Rattle.pe_write.specs.ImportTables as importing
 use Rattle.pe_write.specs.Program.{Program, image_of, sections_of, imports_of, sizes_of, rdata_at, end_at}
@@ -118,10 +118,10 @@ module _ (program : LinearProgram) (c : IsCompiled program) where
 
   -- ---- the front
 
-  abbrev t : pe.Service → List ℕ
+  abbrev t : ImportedService → List ℕ
   t v = chosen (service_thunk s.text s.rdata v)
 
-  six : (v : pe.Service) → length (t v) ≡ 6
+  six : (v : ImportedService) → length (t v) ≡ 6
   six v = ap length (thunk_bytes _)
 
   record Front : Type 0 where
@@ -175,7 +175,7 @@ module _ (program : LinearProgram) (c : IsCompiled program) where
   unfolding mapped
   fixed a le lt = ap (λ (o : Option Section). is_writable (mode_in o a).rights) (tables_there program c a le lt)
 
-  abbrev named : pe.Service → ℕ → Import
+  abbrev named : ImportedService → ℕ → Import
   named v at = record { name = name_of v; slot = at }
 
   abbrev i0 : Import
@@ -229,7 +229,7 @@ module _ (program : LinearProgram) (c : IsCompiled program) where
   Serves at service = HasService (functions_of program) (funclets_of program) program (plan_of program) (sites_of program) m at service
 
   -- the thunk at a place of the text, through a slot
-  serves : (v : pe.Service) (service : Service) (at n : ℕ) → IsCodeAt m (T + n) (t v) → at ≡ image_base + thunk_at s.text v → thunk_at s.text v ≡ s.text + n → n ≤ 24 → slot_of v ≤ 120 → 88 ≤ slot_of v
+  serves : (v : ImportedService) (service : Service) (at n : ℕ) → IsCodeAt m (T + n) (t v) → at ≡ image_base + thunk_at s.text v → thunk_at s.text v ≡ s.text + n → n ≤ 24 → slot_of v ≤ 120 → 88 ≤ slot_of v
       → number_at m.byte 8 (image_base + (r + slot_of v)) ≡ address_of service → Serves at service
   serves v service at n code here' place' few high least bound =
       let l = low in

@@ -4,8 +4,8 @@ use Rattle.std.specs.Prelude.{option_and_then}
 use Rattle.std.proofs.lemmas.Bool.{ne_eqb, lt-ltb}
 use Rattle.byteorder.specs.Endian.{little_number}
 use Rattle.pe_image.specs.declared.refusal.ImageErr.{ImageErr}
-use Rattle.pe_write.specs.declared.service.Service.{Service}
-use Rattle.pe_write.specs.declared.service.Service.TheVariants.{RaiseException, CSpecificHandler, LocalUnwind, Protect, Put}
+use Rattle.host_layout.specs.declared.imported.ImportedService.{ImportedService}
+use Rattle.host_layout.specs.declared.imported.ImportedService.TheVariants.{RaiseException, CSpecificHandler, LocalUnwind, Protect, Put}
 use Rattle.pe_image.specs.Answer.{onto}
 use Rattle.pe_image.specs.Field.{field}
 use Rattle.pe_image.specs.Image.{Section, section_at, stored_in, stored, whole}
@@ -34,7 +34,7 @@ abbrev entry : ℕ → ℕ → List ℕ
 entry r k = take 8 (drop k (import_tables r))
 
 -- an entry of the lookup table at k that names a service by the hint at n, and its slot at j
-record Names (r k j n : ℕ) (s : Service) : Type 0 where
+record Names (r k j n : ℕ) (s : ImportedService) : Type 0 where
   pub look : there r k 8 ≡ Some (entry r k)
   pub slot : there r j 8 ≡ Some (entry r j)
   pub value : little_number 8 (entry r k) ≡ r + n
@@ -104,7 +104,7 @@ module _ (ss : List Section) (r : ℕ) (low : r + 222 < 2 ^ 32) (here : (k : ℕ
   at_place : (rva k n : ℕ) → rva ≡ r + k → k < 222 → stored ss rva n ≡ there r k n
   at_place rva k n e lt = ap (λ a. stored ss a n) e ∙ ap (λ b. whole n (take n b)) (here k lt)
 
-  one : (k j n : ℕ) (s : Service) → Names r k j n s → (xs : List Import) (left rest index look slot : ℕ) → left ≡ rest + 1 → look ≡ r + k → slot ≡ r + j → k < 222 → j < 222 → n < 222 → n ≢ 0
+  one : (k j n : ℕ) (s : ImportedService) → Names r k j n s → (xs : List Import) (left rest index look slot : ℕ) → left ≡ rest + 1 → look ≡ r + k → slot ≡ r + j → k < 222 → j < 222 → n < 222 → n ≢ 0
       → onto xs (library left ss index look slot) ≡ onto (xs ++ (record { name = name_of s; slot = slot } ∷ [])) (library rest ss (index + 1) (look + 8) (slot + 8))
   one k j n s is xs left rest index look slot e at slot_at lk lj ln ne =
       let bytes = at_place look k 8 at lk ∙ is.look in

@@ -1,76 +1,56 @@
 -- The tables of `.rdata` by which a written image imports the services of its host (PE format, "The
 -- .idata Section"): one library, whose names have no hints. All addresses are relative to the image
 -- base.
-use Rattle.std.specs.Prelude.{ℕ, ◌+◌, ◌%◌, List, [], ◌∷◌, ◌++◌, length, codes}
+use Rattle.std.specs.Prelude.{ℕ, ◌+◌, ◌*◌, ◌%◌, List, [], ◌∷◌, ◌++◌, length}
 use Rattle.std.specs.List.{flat_map}
-use Rattle.host_layout.specs.declared.name.TheConstants as names
-use Rattle.pe_write.specs.declared.service.Service.{Service}
-use Rattle.pe_write.specs.declared.service.Service.TheVariants.{RaiseException, CSpecificHandler, LocalUnwind, Protect, Put}
+use Rattle.host_layout.specs.declared.imported.ImportedService.{ImportedService}
+use Rattle.host_layout.specs.declared.name.TheConstants.{LIBRARY}
+pub use Rattle.host_layout.specs.Imported.{name_of, number_of, services}
+use Rattle.pe_image.specs.declared.layout.TheConstants.{DESCRIPTOR_SIZE, HINT_SIZE, LOOKUP_ENTRY_SIZE}
+use Rattle.pe_write.specs.declared.import_tables.TheConstants.{LOOKUPS_AT, SLOTS_AT, NAMES_AT, LIBRARY_AT, TABLES_SIZE, UNREAD_FIELDS_SIZE}
 use Rattle.pe_image.specs.Imports.{Import}
 use Rattle.pe_image.specs.Numbers.{u32, u64, zeros}
 
--- ---- what is imported
+-- ---- where each table lies in `.rdata`, whose beginning is at an address
 
-abbrev pub library : List ℕ
-library = codes "sehhost.dll"
-
-abbrev pub name_of : Service → List ℕ
-name_of RaiseException = names.RAISE_EXCEPTION.now
-name_of CSpecificHandler = names.C_SPECIFIC_HANDLER.now
-name_of LocalUnwind = names.LOCAL_UNWIND.now
-name_of Protect = names.PROTECT.now
-name_of Put = names.PUT.now
-
--- in the order of their slots
-abbrev pub services : List Service
-services = RaiseException ∷ CSpecificHandler ∷ LocalUnwind ∷ Protect ∷ Put ∷ []
-
--- ---- where each table lies in `.rdata`
-
--- after two descriptors
 abbrev pub lookups_at : ℕ → ℕ
-lookups_at at = at + 40
+lookups_at at = at + LOOKUPS_AT
 
--- each table has an entry for each service, and one of 0
 abbrev pub slots_at : ℕ → ℕ
-slots_at at = at + 88
+slots_at at = at + SLOTS_AT
 
 abbrev pub names_at : ℕ → ℕ
-names_at at = at + 136
+names_at at = at + NAMES_AT
 
 abbrev pub library_at : ℕ → ℕ
-library_at at = at + 210
+library_at at = at + LIBRARY_AT
 
 -- all of them
 abbrev pub tables_size : ℕ
-tables_size = 222
+tables_size = TABLES_SIZE
 
 -- the slot of a service, from the front of `.rdata` on
-abbrev pub slot_of : Service → ℕ
-slot_of RaiseException = 88
-slot_of CSpecificHandler = 96
-slot_of LocalUnwind = 104
-slot_of Protect = 112
-slot_of Put = 120
+abbrev pub slot_of : ImportedService → ℕ
+slot_of s = SLOTS_AT + LOOKUP_ENTRY_SIZE * number_of s
 
 -- ---- the tables
 
 -- a hint of 0, the name and the 0 that ends it, filled up to an even length
-unfoldable pub hint_name : Service → List ℕ
-hint_name s = zeros 2 ++ name_of s ++ zeros (1 + (length (name_of s) + 1) % 2)
+unfoldable pub hint_name : ImportedService → List ℕ
+hint_name s = zeros HINT_SIZE ++ name_of s ++ zeros (1 + (length (name_of s) + 1) % 2)
 
-abbrev pub hint_name_size : Service → ℕ
-hint_name_size s = 3 + length (name_of s) + (length (name_of s) + 1) % 2
+abbrev pub hint_name_size : ImportedService → ℕ
+hint_name_size s = HINT_SIZE + length (name_of s) + 1 + (length (name_of s) + 1) % 2
 
 -- the address of each name, of which the first is there, and 0
-abbrev pub addresses : ℕ → List Service → List ℕ
+abbrev pub addresses : ℕ → List ImportedService → List ℕ
 addresses at [] = u64 0
 addresses at (s ∷ ss) = u64 at ++ addresses (at + hint_name_size s) ss
 
 unfoldable pub descriptor : ℕ → List ℕ
 descriptor at =
     u32 (lookups_at at)
-    ++ zeros 8
+    ++ zeros UNREAD_FIELDS_SIZE  -- TimeDateStamp, ForwarderChain
     ++ u32 (library_at at)
     ++ u32 (slots_at at)
 
@@ -78,16 +58,17 @@ descriptor at =
 unfoldable pub import_tables : ℕ → List ℕ
 import_tables at =
     descriptor at
-    ++ zeros 20
+    ++ zeros DESCRIPTOR_SIZE
     ++ addresses (names_at at) services
     ++ addresses (names_at at) services
     ++ flat_map hint_name services
-    ++ library
+    ++ LIBRARY.now
     ++ zeros 1
 
 -- ---- what is read of them
 
 -- each name with its slot, of which the first is there
-abbrev pub imported : ℕ → List Service → List Import
+abbrev pub imported : ℕ → List ImportedService → List Import
 imported slot [] = []
-imported slot (s ∷ ss) = record { name = name_of s; slot = slot } ∷ imported (slot + 8) ss
+imported slot (s ∷ ss) =
+    record { name = name_of s; slot = slot } ∷ imported (slot + LOOKUP_ENTRY_SIZE) ss

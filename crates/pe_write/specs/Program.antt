@@ -1,7 +1,10 @@
 -- The image of a program, as it is written: five sections, the imports of its host's services, and
 -- the table of its functions.
 use Rattle.std.specs.Prelude.{◌≡◌, ℕ, ◌+◌, ◌%◌, ◌^◌, ◌<◌, ◌≤◌, List, [], ◌∷◌, length}
-use Rattle.host_layout.specs.declared.range.TheConstants.{IMAGE_BASE}
+use Rattle.host_layout.specs.declared.range.TheConstants.{IMAGE_BASE, DATA_AT, PAGE}
+use Rattle.pe_image.specs.declared.layout.TheConstants.{IMAGE_SCN_MEM_EXECUTE, IMAGE_SCN_MEM_READ, IMAGE_SCN_MEM_WRITE}
+use Rattle.pe_write.specs.declared.header.TheConstants.{IMAGE_SCN_CNT_CODE, IMAGE_SCN_CNT_INITIALIZED_DATA, DATA_NAME, TEXT_NAME, RDATA_NAME, XDATA_NAME, PDATA_NAME}
+use Rattle.pe_write.specs.declared.import_tables.TheConstants.{DESCRIPTORS_SIZE, ADDRESSES_SIZE}
 use Rattle.pe_image.specs.declared.directory.DataDirectory.{DataDirectory}
 use Rattle.pe_write.specs.declared.sizes.Sizes.{Sizes}
 use Rattle.pe_image.specs.Image.{Section, Image}
@@ -21,11 +24,8 @@ pub record Program : Type 0 where
 
 -- ---- where its sections lie: each after the pages of the one before
 
-abbrev pub data_at : ℕ
-data_at = 0x1000
-
 abbrev pub text_at : Sizes → ℕ
-text_at s = data_at + pages s.data_size
+text_at s = DATA_AT + pages s.data_size
 
 abbrev pub rdata_at : Sizes → ℕ
 rdata_at s = text_at s + pages s.text_size
@@ -48,61 +48,56 @@ sizes_of p =
       pdata_size = length p.pdata;
     }
 
--- ---- its sections (PE format, "Section Flags")
+-- ---- its sections
 
--- `.data`: initialized data, read and written
+-- initialized data, read and written
+abbrev pub data_flags : ℕ
+data_flags = IMAGE_SCN_CNT_INITIALIZED_DATA + IMAGE_SCN_MEM_READ + IMAGE_SCN_MEM_WRITE
+
+-- code, read and executed
+abbrev pub text_flags : ℕ
+text_flags = IMAGE_SCN_CNT_CODE + IMAGE_SCN_MEM_EXECUTE + IMAGE_SCN_MEM_READ
+
+-- initialized data, read
+abbrev pub const_flags : ℕ
+const_flags = IMAGE_SCN_CNT_INITIALIZED_DATA + IMAGE_SCN_MEM_READ
+
 abbrev pub data_section : Program → SectionParts
 data_section p =
     record {
-      name = 46 ∷ 100 ∷ 97 ∷ 116 ∷ 97 ∷ 0 ∷ 0 ∷ 0 ∷ [];
-      flags = 0xC0000040;
+      name = DATA_NAME;
+      flags = data_flags;
       size = p.data_size;
       bytes = p.data_bytes;
     }
 
--- `.text`: code, read and executed
 abbrev pub text_section : Program → SectionParts
 text_section p =
     record {
-      name = 46 ∷ 116 ∷ 101 ∷ 120 ∷ 116 ∷ 0 ∷ 0 ∷ 0 ∷ [];
-      flags = 0x60000020;
+      name = TEXT_NAME;
+      flags = text_flags;
       size = length p.text;
       bytes = p.text;
     }
 
--- `.rdata`, `.xdata` and `.pdata`: initialized data, read
+abbrev pub const_section : List ℕ → ℕ → List ℕ → SectionParts
+const_section name size bytes =
+    record { name = name; flags = const_flags; size = size; bytes = bytes }
+
 abbrev pub rdata_section : Program → SectionParts
-rdata_section p =
-    record {
-      name = 46 ∷ 114 ∷ 100 ∷ 97 ∷ 116 ∷ 97 ∷ 0 ∷ 0 ∷ [];
-      flags = 0x40000040;
-      size = tables_size;
-      bytes = import_tables (rdata_at (sizes_of p));
-    }
+rdata_section p = const_section RDATA_NAME tables_size (import_tables (rdata_at (sizes_of p)))
 
 abbrev pub xdata_section : Program → SectionParts
-xdata_section p =
-    record {
-      name = 46 ∷ 120 ∷ 100 ∷ 97 ∷ 116 ∷ 97 ∷ 0 ∷ 0 ∷ [];
-      flags = 0x40000040;
-      size = length p.xdata;
-      bytes = p.xdata;
-    }
+xdata_section p = const_section XDATA_NAME (length p.xdata) p.xdata
 
 abbrev pub pdata_section : Program → SectionParts
-pdata_section p =
-    record {
-      name = 46 ∷ 112 ∷ 100 ∷ 97 ∷ 116 ∷ 97 ∷ 0 ∷ 0 ∷ [];
-      flags = 0x40000040;
-      size = length p.pdata;
-      bytes = p.pdata;
-    }
+pdata_section p = const_section PDATA_NAME (length p.pdata) p.pdata
 
 -- ---- its directories
 
 -- the descriptors
 abbrev pub import_directory : Program → DataDirectory
-import_directory p = record { rva = rdata_at (sizes_of p); size = 40 }
+import_directory p = record { rva = rdata_at (sizes_of p); size = DESCRIPTORS_SIZE }
 
 -- the function table
 abbrev pub exception_directory : Program → DataDirectory
@@ -110,7 +105,7 @@ exception_directory p = record { rva = pdata_at (sizes_of p); size = length p.pd
 
 -- the slots
 abbrev pub address_directory : Program → DataDirectory
-address_directory p = record { rva = slots_at (rdata_at (sizes_of p)); size = 48 }
+address_directory p = record { rva = slots_at (rdata_at (sizes_of p)); size = ADDRESSES_SIZE }
 
 -- ---- the image
 
@@ -126,38 +121,18 @@ parts_of p = record {
 }
 
 -- as it is read: `.data` with what fills up its raw data
+abbrev pub section_with : ℕ → ℕ → List ℕ → ℕ → Section
+section_with address size raw flags =
+    record { address = address; size = size; raw = raw; flags = flags }
+
 abbrev pub sections_of : Program → List Section
 sections_of p =
-    record {
-      address = data_at;
-      size = p.data_size;
-      raw = raw_data (data_section p);
-      flags = 0xC0000040;
-    }
-    ∷ record {
-      address = text_at (sizes_of p);
-      size = length p.text;
-      raw = p.text;
-      flags = 0x60000020;
-    }
-    ∷ record {
-      address = rdata_at (sizes_of p);
-      size = tables_size;
-      raw = import_tables (rdata_at (sizes_of p));
-      flags = 0x40000040;
-    }
-    ∷ record {
-      address = xdata_at (sizes_of p);
-      size = length p.xdata;
-      raw = p.xdata;
-      flags = 0x40000040;
-    }
-    ∷ record {
-      address = pdata_at (sizes_of p);
-      size = length p.pdata;
-      raw = p.pdata;
-      flags = 0x40000040;
-    }
+    section_with DATA_AT p.data_size (raw_data (data_section p)) data_flags
+    ∷ section_with (text_at (sizes_of p)) (length p.text) p.text text_flags
+    ∷ section_with (rdata_at (sizes_of p)) tables_size (import_tables (rdata_at (sizes_of p)))
+    const_flags
+    ∷ section_with (xdata_at (sizes_of p)) (length p.xdata) p.xdata const_flags
+    ∷ section_with (pdata_at (sizes_of p)) (length p.pdata) p.pdata const_flags
     ∷ []
 
 abbrev pub image_of : Program → Image
@@ -179,8 +154,8 @@ imports_of p = imported (slots_at (rdata_at (sizes_of p))) services
 -- `.data` takes whole pages, at least one, the program begins inside its code, and all addresses
 -- fit 32 bits
 pub record IsProgram (p : Program) : Type 0 where
-  pub whole : p.data_size % 4096 ≡ 0
-  pub some : 4096 ≤ p.data_size
+  pub whole : p.data_size % PAGE ≡ 0
+  pub some : PAGE ≤ p.data_size
   pub stored : length p.data_bytes ≤ p.data_size
   pub entry : p.entry < length p.text
   pub end : end_at (sizes_of p) < 2 ^ 32

@@ -1,10 +1,12 @@
 -- The one form in which an image is written, piece by piece.
 use Rattle.std.specs.Prelude.{◌≡◌, ℕ, ◌+◌, ◌-◌, ◌*◌, ◌/◌, ◌^◌, ◌<◌, ◌≤◌, bit_and, Bool, true, false, not, ◌==◌, List, [], ◌∷◌, ◌++◌, length, take, replicate, sum_by, filter, Ok}
 use Rattle.std.specs.List.{flat_map, AllByRecursion}
-use Rattle.host_layout.specs.declared.range.TheConstants.{IMAGE_BASE}
+use Rattle.host_layout.specs.declared.range.TheConstants.{IMAGE_BASE, PAGE}
 pub use Rattle.pe_image.specs.Numbers.{u16, u32, u64, zeros}
 use Rattle.byteorder.specs.Endian.{little_bytes}
 pub use Rattle.host_layout.specs.Ranges.{pages}
+use Rattle.pe_image.specs.declared.layout.TheConstants.{DIRECTORY_SIZE, DOS_HEADER_SIZE, IMAGE_DIRECTORY_ENTRY_EXCEPTION, IMAGE_DIRECTORY_ENTRY_IMPORT, IMAGE_DOS_SIGNATURE, IMAGE_FILE_MACHINE_AMD64, IMAGE_NT_OPTIONAL_HDR64_MAGIC, IMAGE_NT_SIGNATURE, IMAGE_NUMBEROF_DIRECTORY_ENTRIES, SECTION_HEADER_SIZE}
+use Rattle.pe_write.specs.declared.header.TheConstants.{DOS_FIELDS_SIZE, FILE_ALIGNMENT, IMAGE_DIRECTORY_ENTRY_IAT, IMAGE_FILE_EXECUTABLE_IMAGE, IMAGE_FILE_LARGE_ADDRESS_AWARE, IMAGE_FILE_RELOCS_STRIPPED, IMAGE_SCN_CNT_CODE, IMAGE_SUBSYSTEM_WINDOWS_CUI, MOST_SECTIONS, OPTIONAL_HEADER_SIZE, RELOCATION_FIELDS_SIZE, SECTION_TABLE_SIZE, SIZE_OF_HEADERS, STACK_FIELDS_SIZE, SYMBOL_FIELDS_SIZE, VERSION_FIELDS_SIZE}
 use Rattle.pe_image.specs.declared.directory.DataDirectory.{DataDirectory}
 use Rattle.pe_image.specs.Image.{Section, Image}
 use Rattle.pe_image.specs.Imports as importing
@@ -31,7 +33,7 @@ pub record ImageParts : Type 0 where
 
 -- n rounded up to whole blocks of a file
 abbrev pub blocks : ℕ → ℕ
-blocks n = (n + 511) / 512 * 512
+blocks n = (n + (FILE_ALIGNMENT - 1)) / FILE_ALIGNMENT * FILE_ALIGNMENT
 
 abbrev pub raw_size : SectionParts → ℕ
 raw_size s = blocks (length s.bytes)
@@ -51,12 +53,12 @@ placed address raw_at (s ∷ ss) =
 
 -- after the page of the headers and those of the sections
 abbrev pub end_of : List SectionParts → ℕ
-end_of ss = 0x1000 + sum_by (λ s. pages s.size) ss
+end_of ss = PAGE + sum_by (λ s. pages s.size) ss
 
--- ---- the sections of code (IMAGE_SCN_CNT_CODE), and the others
+-- ---- the sections of code, and the others
 
 abbrev pub is_code : SectionParts → Bool
-is_code s = not (bit_and s.flags 0x20 == 0)
+is_code s = not (bit_and s.flags IMAGE_SCN_CNT_CODE == 0)
 
 abbrev pub code_size : List SectionParts → ℕ
 code_size ss = sum_by raw_size (filter is_code ss)
@@ -77,55 +79,62 @@ code_base address (s ∷ ss) = number_if address (code_base (address + pages s.s
 
 unfoldable pub dos_header : List ℕ
 dos_header =
-    u16 0x5A4D  -- MZ
-    ++ zeros 58
-    ++ u32 0x40  -- e_lfanew
+    u16 IMAGE_DOS_SIGNATURE  -- e_magic
+    ++ zeros DOS_FIELDS_SIZE
+    ++ u32 DOS_HEADER_SIZE  -- e_lfanew
+
+abbrev pub characteristics : ℕ
+characteristics =
+    IMAGE_FILE_RELOCS_STRIPPED + IMAGE_FILE_EXECUTABLE_IMAGE + IMAGE_FILE_LARGE_ADDRESS_AWARE
 
 unfoldable pub file_header : ImageParts → List ℕ
 file_header image =
-    u32 0x4550  -- PE\0\0
-    ++ u16 0x8664  -- Machine
+    u32 IMAGE_NT_SIGNATURE
+    ++ u16 IMAGE_FILE_MACHINE_AMD64  -- Machine
     ++ u16 (length image.sections)  -- NumberOfSections
-    ++ zeros 12
-    ++ u16 240  -- SizeOfOptionalHeader
-    ++ u16 0x23  -- Characteristics: relocations stripped, executable, large addresses
+    ++ zeros SYMBOL_FIELDS_SIZE  -- TimeDateStamp, PointerToSymbolTable, NumberOfSymbols
+    ++ u16 OPTIONAL_HEADER_SIZE  -- SizeOfOptionalHeader
+    ++ u16 characteristics  -- Characteristics
 
 unfoldable pub standard_fields : ImageParts → List ℕ
 standard_fields image =
-    u16 0x20B  -- Magic
-    ++ u16 0
+    u16 IMAGE_NT_OPTIONAL_HDR64_MAGIC  -- Magic
+    ++ u16 0  -- MajorLinkerVersion, MinorLinkerVersion
     ++ u32 (code_size image.sections)  -- SizeOfCode
     ++ u32 (data_size image.sections)  -- SizeOfInitializedData
-    ++ u32 0
+    ++ u32 0  -- SizeOfUninitializedData
     ++ u32 image.entry  -- AddressOfEntryPoint
-    ++ u32 (code_base 0x1000 image.sections)  -- BaseOfCode
+    ++ u32 (code_base PAGE image.sections)  -- BaseOfCode
 
 unfoldable pub windows_fields : ImageParts → List ℕ
 windows_fields image =
-    u64 IMAGE_BASE
-    ++ u32 4096  -- SectionAlignment
-    ++ u32 512  -- FileAlignment
-    ++ zeros 16
+    u64 IMAGE_BASE  -- ImageBase
+    ++ u32 PAGE  -- SectionAlignment
+    ++ u32 FILE_ALIGNMENT  -- FileAlignment
+    ++ zeros VERSION_FIELDS_SIZE  -- MajorOperatingSystemVersion to Win32VersionValue
     ++ u32 (end_of image.sections)  -- SizeOfImage
-    ++ u32 1024  -- SizeOfHeaders
+    ++ u32 SIZE_OF_HEADERS  -- SizeOfHeaders
     ++ u32 0  -- CheckSum
-    ++ u16 3  -- Subsystem: console
-    ++ zeros 38
-    ++ u32 16  -- NumberOfRvaAndSizes
+    ++ u16 IMAGE_SUBSYSTEM_WINDOWS_CUI  -- Subsystem
+    ++ zeros STACK_FIELDS_SIZE  -- DllCharacteristics to LoaderFlags
+    ++ u32 IMAGE_NUMBEROF_DIRECTORY_ENTRIES  -- NumberOfRvaAndSizes
 
 unfoldable pub directory_entry : DataDirectory → List ℕ
 directory_entry d = u32 d.rva ++ u32 d.size
 
--- directories 1, 3 and 12 of 16
+abbrev pub empty_directories : ℕ → List ℕ
+empty_directories n = zeros (DIRECTORY_SIZE * n)
+
+-- each at its index
 unfoldable pub directories : ImageParts → List ℕ
 directories image =
-    zeros 8
+    empty_directories IMAGE_DIRECTORY_ENTRY_IMPORT
     ++ directory_entry image.imports
-    ++ zeros 8
+    ++ empty_directories (IMAGE_DIRECTORY_ENTRY_EXCEPTION - IMAGE_DIRECTORY_ENTRY_IMPORT - 1)
     ++ directory_entry image.exceptions
-    ++ zeros 64
+    ++ empty_directories (IMAGE_DIRECTORY_ENTRY_IAT - IMAGE_DIRECTORY_ENTRY_EXCEPTION - 1)
     ++ directory_entry image.import_addresses
-    ++ zeros 24
+    ++ empty_directories (IMAGE_NUMBEROF_DIRECTORY_ENTRIES - IMAGE_DIRECTORY_ENTRY_IAT - 1)
 
 unfoldable pub section_fields : PlacedSection → List ℕ
 section_fields s =
@@ -133,7 +142,7 @@ section_fields s =
     ++ u32 s.address  -- VirtualAddress
     ++ u32 (raw_size s.parts)  -- SizeOfRawData
     ++ u32 s.raw_at  -- PointerToRawData
-    ++ zeros 12
+    ++ zeros RELOCATION_FIELDS_SIZE  -- PointerToRelocations to NumberOfLinenumbers
     ++ u32 s.parts.flags  -- Characteristics
 
 abbrev pub section_header : PlacedSection → List ℕ
@@ -142,10 +151,11 @@ section_header s = s.parts.name ++ section_fields s
 abbrev pub section_table : List PlacedSection → List ℕ
 section_table ss = flat_map section_header ss
 
--- up to 1,024 bytes of headers
+-- up to the end of the headers
 abbrev pub table_of : ImageParts → List ℕ
 table_of image =
-    section_table (placed 0x1000 1024 image.sections) ++ zeros (696 - 40 * length image.sections)
+    section_table (placed PAGE SIZE_OF_HEADERS image.sections)
+    ++ zeros (SECTION_TABLE_SIZE - SECTION_HEADER_SIZE * length image.sections)
 
 unfoldable pub raw_data : SectionParts → List ℕ
 raw_data s = s.bytes ++ zeros (raw_size s - length s.bytes)
@@ -181,7 +191,7 @@ image_read image = record {
   base = IMAGE_BASE;
   entry = image.entry;
   size = end_of image.sections;
-  sections = sections_read (placed 0x1000 1024 image.sections);
+  sections = sections_read (placed PAGE SIZE_OF_HEADERS image.sections);
   imports = image.imports;
   exceptions = image.exceptions;
 }
@@ -200,7 +210,7 @@ IsDirectory d = (d.rva < 2 ^ 32) × (d.size < 2 ^ 32)
 pub record CanBeWritten (image : ImageParts) : Type 0 where
   pub entry : image.entry < 2 ^ 32
   pub sections : AllByRecursion IsSection image.sections
-  pub table : length image.sections ≤ 17
+  pub table : length image.sections ≤ MOST_SECTIONS
   pub end : end_of image.sections < 2 ^ 32
   pub imports : IsDirectory image.imports
   pub exceptions : IsDirectory image.exceptions

@@ -7,22 +7,29 @@ ghost use Rattle.pe_write.specs.Program as spec;
 ghost use Rattle.pe_image.specs.Reading.{IsImage};
 ghost use Rattle.pe_write.specs.Written.{written};
 
-use crate::import_tables::{TABLES_SIZE, import_tables};
+use crate::header::{
+    DATA_NAME, IMAGE_SCN_CNT_CODE, IMAGE_SCN_CNT_INITIALIZED_DATA, PDATA_NAME, RDATA_NAME,
+    TEXT_NAME, XDATA_NAME,
+};
+use crate::import_tables::{
+    ADDRESSES_SIZE, DESCRIPTORS_SIZE, SLOTS_AT, TABLES_SIZE, import_tables,
+};
 use crate::parts::ImageSection;
 use crate::sizes::Sizes;
 use crate::writing::{SectionedImage, write_sections};
 use pe_image::DataDirectory;
+use pe_image::layout::{IMAGE_SCN_MEM_EXECUTE, IMAGE_SCN_MEM_READ, IMAGE_SCN_MEM_WRITE};
 use std::alloc::{AllocError, Global};
 use std::marker::Model;
 
-/// IMAGE_SCN_CNT_INITIALIZED_DATA, read and written.
-const DATA_FLAGS: u32 = 0xC000_0040;
+/// Data, read and written.
+const DATA_FLAGS: u32 = IMAGE_SCN_CNT_INITIALIZED_DATA | IMAGE_SCN_MEM_READ | IMAGE_SCN_MEM_WRITE;
 
-/// IMAGE_SCN_CNT_CODE, read and executed.
-const TEXT_FLAGS: u32 = 0x6000_0020;
+/// Code, read and executed.
+const TEXT_FLAGS: u32 = IMAGE_SCN_CNT_CODE | IMAGE_SCN_MEM_EXECUTE | IMAGE_SCN_MEM_READ;
 
-/// IMAGE_SCN_CNT_INITIALIZED_DATA, read.
-const CONST_FLAGS: u32 = 0x4000_0040;
+/// Data, read.
+const CONST_FLAGS: u32 = IMAGE_SCN_CNT_INITIALIZED_DATA | IMAGE_SCN_MEM_READ;
 
 /// The image of a program for x64, at the base 0x140000000.
 #[derive(Drop)]
@@ -122,26 +129,11 @@ impl Image {
     {
         let sizes = self.sizes();
         let mut sections = Vec::new(alloc);
-        sections.push(ImageSection::new(
-            *b".data\0\0\0",
-            DATA_FLAGS,
-            sizes.data_size,
-            &self.data_bytes,
-        ))?;
-        sections.push(ImageSection::new(*b".text\0\0\0", TEXT_FLAGS, sizes.text_size, &self.text))?;
-        sections.push(ImageSection::new(*b".rdata\0\0", CONST_FLAGS, TABLES_SIZE, tables))?;
-        sections.push(ImageSection::new(
-            *b".xdata\0\0",
-            CONST_FLAGS,
-            sizes.xdata_size,
-            &self.xdata,
-        ))?;
-        sections.push(ImageSection::new(
-            *b".pdata\0\0",
-            CONST_FLAGS,
-            sizes.pdata_size,
-            &self.pdata,
-        ))?;
+        sections.push(ImageSection::new(DATA_NAME, DATA_FLAGS, sizes.data_size, &self.data_bytes))?;
+        sections.push(ImageSection::new(TEXT_NAME, TEXT_FLAGS, sizes.text_size, &self.text))?;
+        sections.push(ImageSection::new(RDATA_NAME, CONST_FLAGS, TABLES_SIZE, tables))?;
+        sections.push(ImageSection::new(XDATA_NAME, CONST_FLAGS, sizes.xdata_size, &self.xdata))?;
+        sections.push(ImageSection::new(PDATA_NAME, CONST_FLAGS, sizes.pdata_size, &self.pdata))?;
         Ok(sections)
     }
 
@@ -156,15 +148,15 @@ impl Image {
             sections,
             DataDirectory {
                 rva: rdata,
-                size: 40,
+                size: DESCRIPTORS_SIZE,
             },
             DataDirectory {
                 rva: sizes.pdata_at() as u32,
                 size: sizes.pdata_size,
             },
             DataDirectory {
-                rva: rdata + 88,
-                size: 48,
+                rva: rdata + SLOTS_AT,
+                size: ADDRESSES_SIZE,
             },
         )
     }

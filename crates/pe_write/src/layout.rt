@@ -4,7 +4,9 @@ ghost use Rattle.std.specs.Prelude.{◌≡◌, ◌^◌, ◌<◌, ◌++◌, OnOk}
 ghost use Rattle.std.specs.List.{AllByRecursion, flat_map};
 ghost use Rattle.pe_write.specs.Written as spec;
 
+use crate::header::SIZE_OF_HEADERS;
 use crate::parts::ImageSection;
+use host_layout::range::PAGE;
 use std::alloc::AllocError;
 
 /// Where an image ends, after the page of its headers and those of its sections.
@@ -12,7 +14,7 @@ pub fn end_of(sections: &[ImageSection<'_>]) -> u64
     requires { spec.end_of sections.now < 2 ^ 32 }
     ensures { result ≡ spec.end_of sections.now }
 {
-    0x1000 + sections.iter().map(|s| s.pages()).sum::<u64>()
+    PAGE + sections.iter().map(|s| s.pages()).sum::<u64>()
 }
 
 /// How many bytes of the file the sections of code take.
@@ -42,10 +44,10 @@ pub fn data_size(sections: &[ImageSection<'_>]) -> u64
 /// Where the first section of code begins, or 0 where there is none.
 pub fn code_base(sections: &[ImageSection<'_>]) -> u64
     requires { spec.end_of sections.now < 2 ^ 32 }
-    ensures value { result ≡ spec.code_base 0x1000 sections.now }
+    ensures value { result ≡ spec.code_base PAGE sections.now }
     ensures fits { result < 2 ^ 32 }
 {
-    let mut address = 0x1000;
+    let mut address = PAGE;
     for section in sections {
         if section.is_code() {
             return address;
@@ -60,10 +62,10 @@ pub fn put_headers(out: &mut Vec<u8>, sections: &[ImageSection<'_>]) -> Result<(
     requires whole { AllByRecursion spec.IsSection sections.now }
     requires end { spec.end_of sections.now < 2 ^ 32 }
     ensures { OnOk result (out.new.items ≡ out.old.items
-        ++ spec.section_table (spec.placed 0x1000 1024 sections.now)) }
+        ++ spec.section_table (spec.placed PAGE SIZE_OF_HEADERS sections.now)) }
 {
-    let mut address = 0x1000;
-    let mut raw_at = 1024;
+    let mut address = PAGE;
+    let mut raw_at = SIZE_OF_HEADERS;
     for section in sections {
         section.put_header(out, address as u32, raw_at as u32)?;
         address += section.pages();

@@ -2,22 +2,22 @@
 //!
 //! [`write`] gives the bytes of the [`Image`] of a program in one strict form, which is read again
 //! as the same image. It has five sections: `.data`, `.text`, `.rdata` with the tables by which it
-//! imports the services of its host ([`Service`]), `.xdata` and `.pdata`. [`Sizes`] says where
-//! they lie, relative to the image base, before their bytes are known.
+//! imports the services of its host, each at its slot ([`slot_of`]), `.xdata` and `.pdata`.
+//! [`Sizes`] says where they lie, relative to the image base, before their bytes are known.
 //!
 //! Proved: the bytes are those of `specs/Program.antt` and `specs/Written.antt`, and they are read
 //! again as the same image. Begin with `specs/Program.antt`.
 #![tactic(auto)]
 
+mod header;
 mod image;
 mod import_tables;
 mod layout;
 mod parts;
 mod put;
-mod service;
 mod sizes;
 mod writing;
 
 pub use image::{Image, write};
-pub use service::Service;
+pub use import_tables::slot_of;
 pub use sizes::Sizes;

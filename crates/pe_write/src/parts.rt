@@ -3,12 +3,11 @@
 ghost use Rattle.std.specs.Prelude.{◌≡◌, ◌^◌, ◌<◌, ◌++◌, OnOk};
 ghost use Rattle.pe_write.specs.Written as spec;
 
+use crate::header::{FILE_ALIGNMENT, IMAGE_SCN_CNT_CODE, RELOCATION_FIELDS_SIZE};
 use crate::put::{put_u32, put_zeros};
+use host_layout::range::pages;
 use std::alloc::AllocError;
 use std::marker::Model;
-
-/// IMAGE_SCN_CNT_CODE: the section contains code.
-const CNT_CODE: u32 = 0x20;
 
 /// A section of an image to be written.
 #[derive(Drop)]
@@ -50,22 +49,24 @@ impl<'a> ImageSection<'a> {
     pub fn pages(&self) -> u64
         ensures { result ≡ spec.pages self.now.size }
     {
-        (self.size as u64).div_ceil(4096) * 4096
+        pages(self.size as u64)
     }
 
     /// How many bytes of the file its raw data takes.
     pub fn raw_size(&self) -> u64
         ensures { result ≡ spec.raw_size self.now }
     {
-        (self.bytes.len() as u64).div_ceil(512) * 512
+        (self.bytes.len() as u64).div_ceil(FILE_ALIGNMENT) * FILE_ALIGNMENT
     }
 
+    /// Whether it has code.
     pub fn is_code(&self) -> bool
         ensures { result ≡ spec.is_code self.now }
     {
-        self.flags & CNT_CODE != 0
+        self.flags & IMAGE_SCN_CNT_CODE != 0
     }
 
+    /// Writes its header, where it lies at an address and its raw data at a place in the file.
     #[tactic(auto, unfolding(crate::specs::Written::section_fields), using(crate::proofs::Pieces::pieces))]
     pub fn put_header(&self, out: &mut Vec<u8>, address: u32, raw_at: u32) -> Result<(), AllocError>
         requires { spec.raw_size self.now < 2 ^ 32 }
@@ -77,10 +78,11 @@ impl<'a> ImageSection<'a> {
         put_u32(out, address)?;
         put_u32(out, self.raw_size() as u32)?;
         put_u32(out, raw_at)?;
-        put_zeros(out, 12)?;
+        put_zeros(out, RELOCATION_FIELDS_SIZE)?;
         put_u32(out, self.flags)
     }
 
+    /// Writes its raw data, up to a whole block.
     #[tactic(auto, unfolding(crate::specs::Written::raw_data), using(crate::proofs::Pieces::pieces))]
     pub fn put_raw_data(&self, out: &mut Vec<u8>) -> Result<(), AllocError>
         ensures { OnOk result (out.new.items ≡ out.old.items ++ spec.raw_data self.now) }

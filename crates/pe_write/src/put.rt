@@ -3,27 +3,25 @@
 ghost use Rattle.std.specs.Prelude.{◌≡◌, ◌++◌, OnOk};
 ghost use Rattle.pe_write.specs.Written as spec;
 
+use pe_image::fields::{u16_bytes, u32_bytes, u64_bytes};
 use std::alloc::AllocError;
 
-#[tactic(auto, unfolding(pe_image::specs::Numbers::u16))]
 pub fn put_u16(out: &mut Vec<u8>, value: u16) -> Result<(), AllocError>
     ensures { OnOk result (out.new.items ≡ out.old.items ++ spec.u16 value) }
 {
-    out.extend_from_slice(&value.to_le_bytes())
+    out.extend_from_slice(&u16_bytes(value))
 }
 
-#[tactic(auto, unfolding(pe_image::specs::Numbers::u32))]
 pub fn put_u32(out: &mut Vec<u8>, value: u32) -> Result<(), AllocError>
     ensures { OnOk result (out.new.items ≡ out.old.items ++ spec.u32 value) }
 {
-    out.extend_from_slice(&value.to_le_bytes())
+    out.extend_from_slice(&u32_bytes(value))
 }
 
-#[tactic(auto, unfolding(pe_image::specs::Numbers::u64))]
 pub fn put_u64(out: &mut Vec<u8>, value: u64) -> Result<(), AllocError>
     ensures { OnOk result (out.new.items ≡ out.old.items ++ spec.u64 value) }
 {
-    out.extend_from_slice(&value.to_le_bytes())
+    out.extend_from_slice(&u64_bytes(value))
 }
 
 #[tactic(auto, unfolding(pe_image::specs::Numbers::zeros))]

@@ -19,8 +19,8 @@ use Rattle.frame_rules.specs.States.{registers, return_address, IsEntry, InBody,
 use Rattle.frame_rules.proofs.Callers.{entries_are_found, leaves_are_found}
 use Rattle.host_model.specs.Machine.{functions_in}
 use Rattle.pe_write.specs.Program.{image_of}
-use Rattle.pe_write.specs.declared.service.Service.{Service}
-use Rattle.pe_write.specs.declared.service.Service.TheVariants.{RaiseException, CSpecificHandler, LocalUnwind, Protect, Put}
+use Rattle.host_layout.specs.declared.imported.ImportedService.{ImportedService}
+use Rattle.host_layout.specs.declared.imported.ImportedService.TheVariants.{RaiseException, CSpecificHandler, LocalUnwind, Protect, Put}
 use Rattle.linear_code.specs.Program.{LinearProgram}
 use Rattle.frame_layout.specs.declared.frame.Frame.{Frame}
 use Rattle.template_code.specs.Bytes.{thunk}
@@ -140,7 +140,7 @@ leaves_are_found' p index x e s fits regions at none h =
     let leads = fine.leads [] in
     unheld p fits regions e s (leaf p x) h.rva (omega arith) h.here (leaves_are_held_by_none p index x h.rva fits at none h.low h.high) (ap is_body leads.1) h.entry h.body
 
-thunk_ok : (p : LinearProgram) (service : Service) → is_body (following 0 0 [] (thunk_of p service) (Body [])) ≡ true
+thunk_ok : (p : LinearProgram) (service : ImportedService) → is_body (following 0 0 [] (thunk_of p service) (Body [])) ≡ true
 unfolding modrm
 thunk_ok p service = refl
 
@@ -148,7 +148,7 @@ probe_ok : is_body (following 0 0 [] probe (Body [])) ≡ true
 unfolding modrm
 probe_ok = refl
 
-thunk_low : (p : LinearProgram) (service : Service) → thunk_at (site_of p).text service + 6 ≤ first p.globals
+thunk_low : (p : LinearProgram) (service : ImportedService) → thunk_at (site_of p).text service + 6 ≤ first p.globals
 thunk_low p RaiseException = omega arith
 thunk_low p CSpecificHandler = omega arith
 thunk_low p LocalUnwind = omega arith

@@ -6,7 +6,7 @@ use Rattle.virtual_unwind.specs.Tail.{FetchedInstr}
 use Rattle.frame_rules.specs.Rules.{Function}
 use Rattle.frame_rules.specs.Plan.{Plan, spelled_by, prologue}
 use Rattle.frame_rules.specs.Bytes.{spell}
-use Rattle.pe_write.specs.declared.service.Service.{Service}
+use Rattle.host_layout.specs.declared.imported.ImportedService.{ImportedService}
 use Rattle.linear_code.specs.Program.{LinearProgram}
 use Rattle.frame_layout.specs.declared.frame.Frame.{Frame}
 use Rattle.frame_layout.specs.Layout.{plan_of}
@@ -45,7 +45,7 @@ abbrev pub leaf : LinearProgram → Placed → List FetchedInstr
 leaf p x = spelled_by spell (rest_of p x)
 
 -- the instruction of a service's thunk
-abbrev pub thunk_of : LinearProgram → Service → List FetchedInstr
+abbrev pub thunk_of : LinearProgram → ImportedService → List FetchedInstr
 thunk_of p s = spelled_by spell (service_thunk (site_of p).text (site_of p).rdata s ∷ [])
 
 -- the instructions of `__chkstk`

@@ -15,7 +15,7 @@ use Rattle.frame_rules.specs.Prologue.{items}
 use Rattle.frame_rules.specs.Rules.{IsRight, Stands, IsFound}
 use Rattle.frame_rules.specs.States.{registers, return_address, IsEntry, InBody, HasItems}
 use Rattle.linked_stack.specs.Stack.{StackFrame, FrameStands, LeafStands}
-use Rattle.pe_write.specs.declared.service.Service.{Service}
+use Rattle.host_layout.specs.declared.imported.ImportedService.{ImportedService}
 use Rattle.pe_write.specs.Program.{image_of}
 use Rattle.linear_code.specs.Program.{LinearProgram}
 use Rattle.frame_layout.specs.declared.frame.Frame.{Frame}
@@ -148,7 +148,7 @@ LeavesAreFound =
 -- the caller of a thunk is found
 abbrev pub ThunksAreFound : Type 0
 ThunksAreFound =
-    (p : LinearProgram) (service : Service) (e s : State) → FitsProgram p → HasRegions p
+    (p : LinearProgram) (service : ImportedService) (e s : State) → FitsProgram p → HasRegions p
     → IsIn e s (thunk_of p service) (thunk_at (site_of p).text service)
     (thunk_at (site_of p).text service + 6)
     → FindsCaller p e s

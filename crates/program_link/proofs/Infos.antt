@@ -10,7 +10,7 @@ use Rattle.eh_tables.specs.Written.{slot, is_small, is_short, allocation, header
 use Rattle.linear_code.specs.declared.program.Region.{Region}
 use Rattle.frame_layout.specs.declared.frame.Frame.{Frame}
 use Rattle.frame_layout.specs.Layout.{info_of, taking_size}
-use Rattle.pe_write.specs.declared.service.Service.TheVariants.{CSpecificHandler}
+use Rattle.host_layout.specs.declared.imported.ImportedService.TheVariants.{CSpecificHandler}
 use Rattle.program_link.specs.Routines.{RoutineView}
 use Rattle.program_link.specs.Text.{SiteView, routine_size, own_addresses, thunk_at}
 use Rattle.program_link.specs.Tables.{trailer, scope_record, scope_records, scope_table, info_if, info_bytes, info_room, infos_room, infos, range_of, ranges}

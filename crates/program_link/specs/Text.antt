@@ -7,8 +7,10 @@ use Rattle.linear_code.specs.declared.slot.Slot.TheVariants.{Local}
 use Rattle.frame_layout.specs.declared.frame.Frame.{Frame}
 use Rattle.frame_layout.specs.Layout.{plan_of}
 use Rattle.frame_rules.specs.Bytes.{prologue_code}
-use Rattle.pe_write.specs.declared.service.Service.{Service}
-use Rattle.pe_write.specs.declared.service.Service.TheVariants.{RaiseException, CSpecificHandler, LocalUnwind, Protect, Put}
+use Rattle.host_layout.specs.declared.imported.ImportedService.{ImportedService}
+use Rattle.host_layout.specs.declared.imported.ImportedService.TheVariants.{RaiseException, CSpecificHandler, LocalUnwind, Protect, Put}
+use Rattle.host_layout.specs.declared.imported.TheConstants.{IMPORTED_COUNT}
+use Rattle.host_layout.specs.Imported.{number_of}
 use Rattle.pe_write.specs.ImportTables.{slot_of}
 use Rattle.template_code.specs.declared.layout.Layout.{Layout}
 use Rattle.template_code.specs.Bytes.{sizes}
@@ -19,11 +21,13 @@ use Rattle.template_code.specs.Calls.{keep_register, parameters_code}
 use Rattle.template_code.specs.Bytes.{spelled, thunk}
 use Rattle.template_code.specs.Probing.{check_stack}
 use Rattle.template_code.specs.Template.{Links, body_size, code_from}
+use Rattle.x64_code.specs.declared.entry.TheConstants.{THUNK_SIZE}
 use Rattle.x64_code.specs.declared.links.Thunks.{Thunks}
 use Rattle.x64_code.specs.Rooms.{code_room}
 use Rattle.x64_code.specs.Bodies.{label_list}
 use Rattle.x64_code.specs.Entries.{keep_base}
 use Rattle.x64_code.specs.Linking.{Addresses, links_of}
+use Rattle.program_link.specs.declared.place.TheConstants.{FRONT_SIZE}
 use Rattle.program_link.specs.declared.routine.Entry.{Entry}
 use Rattle.program_link.specs.declared.routine.Entry.TheVariants as entries
 use Rattle.program_link.specs.Routines.{RoutineView}
@@ -71,15 +75,8 @@ bounds at (r ∷ rs) = at ∷ bounds (at + routine_size r) rs
 
 -- ---- thunks
 
-abbrev pub thunk_number : Service → ℕ
-thunk_number RaiseException = 0
-thunk_number CSpecificHandler = 1
-thunk_number LocalUnwind = 2
-thunk_number Protect = 3
-thunk_number Put = 4
-
-abbrev pub thunk_at : ℕ → Service → ℕ
-thunk_at text s = text + 6 * thunk_number s
+abbrev pub thunk_at : ℕ → ImportedService → ℕ
+thunk_at text s = text + THUNK_SIZE * number_of s
 
 abbrev pub thunks_at : ℕ → Thunks
 thunks_at text =
@@ -90,11 +87,12 @@ thunks_at text =
       local_unwind = thunk_at text LocalUnwind;
     }
 
-abbrev pub service_thunk : ℕ → ℕ → Service → Instr
-service_thunk text rdata s = thunk (distance (thunk_at text s + 6) (rdata + slot_of s))
+abbrev pub service_thunk : ℕ → ℕ → ImportedService → Instr
+service_thunk text rdata s =
+    thunk (distance (thunk_at text s + THUNK_SIZE) (rdata + slot_of s))
 
 abbrev pub check_stack_at : ℕ → ℕ
-check_stack_at text = text + 30
+check_stack_at text = text + THUNK_SIZE * IMPORTED_COUNT
 
 abbrev pub front_code : ℕ → ℕ → List Instr
 front_code text rdata =
@@ -106,7 +104,7 @@ front_code text rdata =
     ∷ check_stack
 
 abbrev pub first_routine_at : ℕ → ℕ
-first_routine_at text = text + 51
+first_routine_at text = text + FRONT_SIZE
 
 -- ---- the text
 

@@ -8,12 +8,14 @@ ghost use Rattle.program_link.specs.Text as spec;
 
 use crate::entry::put_entry;
 use crate::routine::Routine;
+use host_layout::imported::IMPORTED_COUNT;
 use std::alloc::{AllocError, Global};
 use x64_code::body::{Labels, labels_of};
 use x64_code::entry::{CHECK_STACK_SIZE, THUNK_SIZE};
 
-/// The bytes before the first routine: the thunks of five services, and `__chkstk`.
-pub const FRONT_SIZE: u32 = 5 * THUNK_SIZE + CHECK_STACK_SIZE;
+/// The bytes before the first routine: the thunks of the services that images import, and
+/// `__chkstk`.
+pub const FRONT_SIZE: u32 = THUNK_SIZE * IMPORTED_COUNT + CHECK_STACK_SIZE;
 
 /// How many bytes come before the body of a routine.
 fn entry_size(alloc: Global, routine: &Routine<'_>) -> Result<u32, AllocError>

@@ -34,10 +34,13 @@ pub enum Entry {
 /// A function, a filter or a `__finally` block, with the places of its slots.
 #[derive(Drop)]
 pub struct Routine<'a> {
+    /// How it is entered.
     pub entry: Entry,
-    /// A leaf function has none.
+    /// Its frame: a leaf function has none.
     pub frame: Option<Frame>,
+    /// The places of its slots.
     pub layout: Layout,
+    /// Its instructions.
     pub body: &'a IrBody,
 }
 

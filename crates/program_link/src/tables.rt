@@ -17,7 +17,7 @@ use eh_tables::{
 };
 use frame_layout::{Frame, unwind_of};
 use linear_code::program::{Region, RegionKind};
-use pe_write::Service;
+use host_layout::imported::ImportedService;
 use std::alloc::{AllocError, Global};
 use x64_code::body::Labels;
 
@@ -167,7 +167,7 @@ fn put_info(
         labels.now.starts.items labels.now.end routine.now frame.now) }
 {
     let regions = routine.regions();
-    let handler = thunk_at(site.text, Service::CSpecificHandler);
+    let handler = thunk_at(site.text, ImportedService::CSpecificHandler);
     write_unwind(&info_with(frame, trailer(regions, handler)), xdata)?;
     if regions.len() == 0 {
         return Ok(());
@@ -246,7 +246,9 @@ fn put_routine(
 /// The tables of a program: the unwind infos, and the function table as bytes.
 #[derive(Debug, Drop)]
 pub struct Tables {
+    /// The unwind infos, each with its scope table after it.
     pub xdata: Vec<u8>,
+    /// The function table.
     pub pdata: Vec<u8>,
 }
 

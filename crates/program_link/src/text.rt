@@ -12,7 +12,8 @@ ghost use Rattle.program_link.specs.Text as spec;
 use crate::entry::put_entry;
 use crate::place::{FRONT_SIZE, body_at, labels_at};
 use crate::routine::Routine;
-use pe_write::Service;
+use host_layout::imported::{IMPORTED_COUNT, ImportedService};
+use pe_write::slot_of;
 use std::alloc::{AllocError, Global};
 use std::marker::Model;
 use x64_code::body::put_body;
@@ -20,7 +21,7 @@ use x64_code::entry::{THUNK_SIZE, put_check_stack, put_thunk};
 use x64_code::links::{Links, Thunks};
 
 /// How far after the text's begin `__chkstk` is.
-const CHECK_STACK_OFFSET: u32 = 5 * THUNK_SIZE;
+const CHECK_STACK_OFFSET: u32 = THUNK_SIZE * IMPORTED_COUNT;
 
 /// What every routine of a program refers to.
 #[derive(Drop)]
@@ -48,27 +49,13 @@ impl<'a> Model for Site<'a> {
     } };
 }
 
-/// The number of a service's thunk.
-fn thunk_number(service: Service) -> u32
-    ensures value { result ≡ spec.thunk_number service }
-    ensures small { result < 5 }
-{
-    match service {
-        Service::RaiseException => 0,
-        Service::CSpecificHandler => 1,
-        Service::LocalUnwind => 2,
-        Service::Protect => 3,
-        Service::Put => 4,
-    }
-}
-
 /// The thunk of a service in a text that begins at `text`.
-pub fn thunk_at(text: u32, service: Service) -> u32
+pub fn thunk_at(text: u32, service: ImportedService) -> u32
     requires { text < 2 ^ 29 }
     ensures value { result ≡ spec.thunk_at text service }
     ensures near { result < 2 ^ 30 }
 {
-    text + THUNK_SIZE * thunk_number(service)
+    text + THUNK_SIZE * service.number()
 }
 
 fn thunks_at(text: u32) -> Thunks
@@ -76,10 +63,10 @@ fn thunks_at(text: u32) -> Thunks
     ensures { result ≡ spec.thunks_at text }
 {
     Thunks {
-        put: thunk_at(text, Service::Put),
-        protect: thunk_at(text, Service::Protect),
-        raise_exception: thunk_at(text, Service::RaiseException),
-        local_unwind: thunk_at(text, Service::LocalUnwind),
+        put: thunk_at(text, ImportedService::Put),
+        protect: thunk_at(text, ImportedService::Protect),
+        raise_exception: thunk_at(text, ImportedService::RaiseException),
+        local_unwind: thunk_at(text, ImportedService::LocalUnwind),
     }
 }
 
@@ -88,7 +75,7 @@ fn put_service(
     code: &mut Vec<u8>,
     text: u32,
     rdata: u32,
-    service: Service,
+    service: ImportedService,
 ) -> Result<(), AllocError>
     requires text { text < 2 ^ 29 }
     requires rdata { rdata < 2 ^ 29 + 2 ^ 28 + 2 ^ 27 }
@@ -96,7 +83,7 @@ fn put_service(
         (Appended code.old (spec.service_thunk text rdata service ∷ []) code.new) }
 {
     let at = u64::from(thunk_at(text, service));
-    put_thunk(code, at, u64::from(rdata + service.slot()))
+    put_thunk(code, at, u64::from(rdata + slot_of(service)))
 }
 
 /// Adds what comes before the routines: the thunks and `__chkstk`.
@@ -105,11 +92,11 @@ fn put_front(code: &mut Vec<u8>, text: u32, rdata: u32) -> Result<(), AllocError
     requires rdata { rdata < 2 ^ 29 + 2 ^ 28 + 2 ^ 27 }
     ensures { OnOk result (Appended code.old (spec.front_code text rdata) code.new) }
 {
-    put_service(code, text, rdata, Service::RaiseException)?;
-    put_service(code, text, rdata, Service::CSpecificHandler)?;
-    put_service(code, text, rdata, Service::LocalUnwind)?;
-    put_service(code, text, rdata, Service::Protect)?;
-    put_service(code, text, rdata, Service::Put)?;
+    put_service(code, text, rdata, ImportedService::RaiseException)?;
+    put_service(code, text, rdata, ImportedService::CSpecificHandler)?;
+    put_service(code, text, rdata, ImportedService::LocalUnwind)?;
+    put_service(code, text, rdata, ImportedService::Protect)?;
+    put_service(code, text, rdata, ImportedService::Put)?;
     put_check_stack(code)
 }
 

@@ -12,7 +12,7 @@ use Rattle.program_link.specs.Fits.{FitsProgram}
 use Rattle.program_link.specs.Routines.{RoutineView, functions_from, nothing, funclet_frame, funclet, routines}
 use Rattle.program_link.specs.Near.{IsFrameNear, IsRoutineNear}
 use Rattle.program_link.specs.Text.{SiteView, routine_size, bounds, thunk_at}
-use Rattle.pe_write.specs.declared.service.Service.TheVariants.{CSpecificHandler}
+use Rattle.host_layout.specs.declared.imported.ImportedService.TheVariants.{CSpecificHandler}
 use Rattle.eh_tables.specs.Written.{trailer_flags}
 use Rattle.program_link.specs.Tables.{has_except, has_finally, trailer}
 use Rattle.program_link.specs.Linked.{first}

@@ -11,7 +11,7 @@ use Rattle.pe_image.specs.Imports.{Import, imports_of}
 use Rattle.pe_image.specs.Bound.{bound_name}
 use Rattle.eh_tables.specs.Handler.{extended, slot_if, plain_slot, after_rex, has_rex, jump_slot, is_c_name, is_c_handler}
 use Rattle.pe_write.specs.ImportTables.{slots_at, services, name_of, imported}
-use Rattle.pe_write.specs.declared.service.Service.TheVariants.{CSpecificHandler}
+use Rattle.host_layout.specs.declared.imported.ImportedService.TheVariants.{CSpecificHandler}
 use Rattle.x64_encode.specs.Chosen.{chosen, modrm, little}
 use Rattle.template_code.specs.Bytes.{thunk}
 use Rattle.template_code.specs.Jumps.{distance}

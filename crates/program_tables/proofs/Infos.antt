@@ -16,7 +16,7 @@ use Rattle.linear_code.specs.declared.program.Region.{Region}
 use Rattle.frame_layout.specs.declared.frame.Frame.{Frame}
 use Rattle.frame_layout.specs.Layout.{info_of, taking_size}
 use Rattle.frame_layout.proofs.Sizes.{takes_four, takes_seven, takes_thirteen, can_be_written}
-use Rattle.pe_write.specs.declared.service.Service.TheVariants.{CSpecificHandler}
+use Rattle.host_layout.specs.declared.imported.ImportedService.TheVariants.{CSpecificHandler}
 use Rattle.program_link.specs.Routines.{RoutineView}
 use Rattle.program_link.specs.Text.{SiteView, routine_size, own_addresses, thunk_at}
 use Rattle.program_link.specs.Tables.{is_finally, has_except, has_finally, trailer, scope_records, scope_table, info_if, info_bytes}

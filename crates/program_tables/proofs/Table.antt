@@ -14,7 +14,7 @@ use Rattle.pe_image.specs.Answer.{◌>>=◌}
 use Rattle.eh_tables.specs.Written.{unwind_bytes, scope_bytes, table_bytes}
 use Rattle.eh_tables.proofs.TablesAgain.{reads_ranges}
 use Rattle.eh_tables.proofs.WholeAgain.{reads_table}
-use Rattle.pe_write.specs.declared.service.Service.TheVariants.{RaiseException, CSpecificHandler, LocalUnwind, Protect, Put}
+use Rattle.host_layout.specs.declared.imported.ImportedService.TheVariants.{RaiseException, CSpecificHandler, LocalUnwind, Protect, Put}
 use Rattle.pe_write.specs.Program as images
 use Rattle.pe_write.specs.Program.{Program, IsProgram, sizes_of, text_at, rdata_at, xdata_at, pdata_at, end_at}
 use Rattle.pe_write.proofs.Programs.{listed}

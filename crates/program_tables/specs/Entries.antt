@@ -4,7 +4,7 @@ use Rattle.eh_tables.specs.declared.scope.ScopeRecord.{ScopeRecord}
 use Rattle.eh_tables.specs.declared.unwind_info.UnwindInfo.{UnwindInfo}
 use Rattle.eh_tables.specs.ReadAgain.{info_written}
 use Rattle.eh_tables.specs.Tables.{Entry}
-use Rattle.pe_write.specs.declared.service.Service.TheVariants.{CSpecificHandler}
+use Rattle.host_layout.specs.declared.imported.ImportedService.TheVariants.{CSpecificHandler}
 use Rattle.linear_code.specs.declared.program.Region.{Region}
 use Rattle.linear_code.specs.Program.{LinearProgram}
 use Rattle.frame_layout.specs.declared.frame.Frame.{Frame}

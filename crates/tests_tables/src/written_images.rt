@@ -1,6 +1,7 @@
 use crate::rows::put_fields;
+use host_layout::imported::IMPORTED;
 use pe_image::ImageView;
-use pe_write::{Image, Service, Sizes, write};
+use pe_write::{Image, Sizes, slot_of, write};
 use std::test::Fail;
 
 /// All bytes that aren't 0 in the headers and `.data` of the image of [`writes_five_sections`].
@@ -149,16 +150,16 @@ fn lays_sections(rt: HostRuntime) -> Result<(), Fail> {
 
 #[test]
 fn names_services(rt: HostRuntime) -> Result<(), Fail> {
-    let services: [(Service, &[u8], u32); 5] = [
-        (Service::RaiseException, b"RaiseException", 88),
-        (Service::CSpecificHandler, b"__C_specific_handler", 96),
-        (Service::LocalUnwind, b"_local_unwind", 104),
-        (Service::Protect, b"protect", 112),
-        (Service::Put, b"put", 120),
+    let services: [(&[u8], u32); 5] = [
+        (b"RaiseException", 88),
+        (b"__C_specific_handler", 96),
+        (b"_local_unwind", 104),
+        (b"protect", 112),
+        (b"put", 120),
     ];
-    for (service, name, slot) in services {
+    for (service, (name, slot)) in IMPORTED.iter().zip(services) {
         assert_eq!(rt; service.name(), name);
-        assert_eq!(rt; service.slot(), slot);
+        assert_eq!(rt; slot_of(*service), slot);
     }
     Ok(())
 }
