@@ -3,7 +3,7 @@
 use crate::rows::{Reader, all_told};
 use c_lex::laws::laws;
 use c_lex::lexing::{LexErr, lex};
-use c_lex::token::{Kind, Token};
+use c_lex::token::Kind;
 use std::alloc::{AllocError, Global};
 use std::process::Abort;
 use std::test::Fail;
@@ -30,16 +30,12 @@ fn refusal_of(alloc: Global, refusal: LexErr) -> Result<String, AllocError> {
 /// What a text is that is one token.
 pub fn token_of(alloc: Global, text: &[u8]) -> Result<String, Fail> {
     let tokens = lex(alloc, text)?;
-    match tokens.as_slice() {
-        [
-            Token {
-                kind,
-                start: 0,
-                end,
-            },
-        ] if *end == text.len() as u64 => Ok(kind_of(alloc, *kind)?),
-        _ => Ok(String::from_str(alloc, "not one token")?),
+    if let [token] = tokens.as_slice() {
+        if token.start == 0 && token.end == text.len() as u64 {
+            return Ok(kind_of(alloc, token.kind)?);
+        }
     }
+    Ok(String::from_str(alloc, "not one token")?)
 }
 
 /// The tokens of a text, each with where it starts and ends; or its refusal.
