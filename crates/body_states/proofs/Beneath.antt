@@ -35,7 +35,7 @@ use Rattle.body_states.specs.Sites.{Sites}
 use Rattle.body_states.specs.Programs.{HasProgram}
 use Rattle.body_states.specs.Callers.{caller_above, HasCaller, FindsReturn}
 use Rattle.body_states.proofs.StackWalks.{callers, on_stack}
-use Rattle.body_states.proofs.Effects.{others_of, is_idle, idle_leaves, idle_goes_on, store_leaves}
+use Rattle.body_states.proofs.Effects.{others_of, is_idle, idle_leaves, idle_continues, store_leaves}
 use Rattle.body_states.proofs.QuietTurns.{program_kept}
 
 -- ---- the instruction at RIP is run
@@ -49,7 +49,7 @@ module _ (s u : State) (i : Instr) (more : List Instr) (enc : is_encodable i ≡
   read_here =
       let l = code.placed.low in
       let h = code.placed.high in
-      reads s i (chosen i) (spells i enc) (longest i) (bytes_split s.memory s.cpu.rip (chosen i) (spelled more) code.stands).0 (record { low = l; high = omega arith })
+      reads s i (chosen i) (spells i enc) (longest i) (bytes_split s.memory s.cpu.rip (chosen i) (spelled more) code.is_there).0 (record { low = l; high = omega arith })
 
   pub effect_here : is_trap i ≡ false → step s ≡ Ok u → effect (with_rip s (s.cpu.rip + size i)) i ≡ Ok u
   unfolding step size
@@ -68,7 +68,7 @@ module _ (s u : State) (i : Instr) (more : List Instr) (enc : is_encodable i ≡
       let h = code.placed.high in
       let next = s.cpu.rip + length (chosen i) in
       subst (λ a. HasCode u.memory a more) (sym at)
-      (record { stands = bytes_kept s.memory u.memory next (spelled more) st.fixed st.protection (bytes_split s.memory s.cpu.rip (chosen i) (spelled more) code.stands).1; placed = record { low = omega arith; high = omega arith } })
+      (record { is_there = bytes_kept s.memory u.memory next (spelled more) st.fixed st.protection (bytes_split s.memory s.cpu.rip (chosen i) (spelled more) code.is_there).1; placed = record { low = omega arith; high = omega arith } })
 
 -- ---- steps one after another
 
@@ -121,7 +121,7 @@ word_stays m m' at v lt same bytes e =
 -- ---- below a return address
 
 module _ (t : Functions) where
-  -- RSP and a routine's return address aren't above `top`; from there on the list stands for these nonvolatile registers, and no byte below `from` is owned by it
+  -- RSP and a routine's return address aren't above `top`; from there on the list is there for these nonvolatile registers, and no byte below `from` is owned by it
   pub record Beneath (s : State) (top from back : ℕ) (others : List ℕ) (is : List StackItem) : Type 0 where
     pub others_are : others_of s.cpu.registers ≡ others
     pub count : length s.cpu.registers ≡ 16
@@ -196,9 +196,9 @@ abbrev pub AllPlain : ℕ → ℕ → List Instr → Type 0
 AllPlain d e [] = Unit {0}
 AllPlain d e (i ∷ is) = IsPlain d e i × AllPlain d e is
 
-plain_goes_on : (d e : ℕ) (i : Instr) → (is_idle i ≡ true) ⊎ IsKept d e i → (is_trap i ≡ false) × (calls i ≡ false)
-plain_goes_on d e i (inl q) = idle_goes_on i q
-plain_goes_on d e i (inr k) = (ap is_trap k.is, ap calls k.is)
+plain_continues : (d e : ℕ) (i : Instr) → (is_idle i ≡ true) ⊎ IsKept d e i → (is_trap i ≡ false) × (calls i ≡ false)
+plain_continues d e i (inl q) = idle_continues i q
+plain_continues d e i (inr k) = (ap is_trap k.is, ap calls k.is)
 
 module _ (t : Functions) (fs : List Funclet) (program : LinearProgram) (p : Plan) (q : Sites) where
   module _ (top from back : ℕ) (others : List ℕ) (is : List StackItem) where
@@ -211,7 +211,7 @@ module _ (t : Functions) (fs : List Funclet) (program : LinearProgram) (p : Plan
     pub plain_step : (s u : State) (d e : ℕ) (i : Instr) (more : List Instr) → IsPlain d e i → HasCode s.memory s.cpu.rip (i ∷ more) → Steps s u → Beneath t s top from back others is → register s.cpu Rsp + d ≡ top → from ≡ top + e → Moved s u i
     plain_step s u d e i more plain code st b at up =
         let high = b.limit in
-        let go = (plain_goes_on d e i plain.1).0 in
+        let go = (plain_continues d e i plain.1).0 in
         let effect' = effect_here s u i more plain.0 code go st.steps in
         by plain.1 effect'
       where
@@ -263,7 +263,7 @@ module _ (t : Functions) (fs : List Funclet) (program : LinearProgram) (p : Plan
         let next : s.cpu.rip + (size i + 0) ≡ u.cpu.rip = omega (arith, first.rip) in
         let before = gives_above t s top from back others is d b (subst (λ a. FindsReturn t s.memory a d) z (finds [] (i ∷ code) refl s.memory has)) at in
         let after = gives_above t u top from back others is d first.beneath (subst (λ a. FindsReturn t u.memory a d) next (finds (i ∷ []) code refl u.memory has')) at' in
-        let quiet = ap is_call (read_here s u i code plain.0.0 code') ∙ (plain_goes_on d e i plain.0.1).1 in
+        let quiet = ap is_call (read_here s u i code plain.0.0 code') ∙ (plain_continues d e i plain.0.1).1 in
         let keep = straight t fs s u (callers_above t top back others is) st.steps quiet before after (let h : register u.cpu Rsp + 8 ≤ top + 8 = omega arith in h) in
         let finds' : Finds u.cpu.rip code d = λ done left parts m h.
         (let same : s.cpu.rip + (size i + sizes done) ≡ u.cpu.rip + sizes done = omega (arith, first.rip) in

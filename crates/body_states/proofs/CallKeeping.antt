@@ -24,7 +24,7 @@ use Rattle.x64_templates.specs.Runs.{Steps, HasCode}
 use Rattle.x64_templates.specs.Thunks.{HasThunk}
 use Rattle.x64_templates.proofs.PlacedCode.{thunk_encodable}
 use Rattle.x64_templates.proofs.Computes.{code_split}
-use Rattle.linked_stack.specs.Stack.{StackItem, Framed, Leaf, Stands, OwnedBy, context_after}
+use Rattle.linked_stack.specs.Stack.{StackItem, Framed, Leaf, ItemIsAt, OwnedBy, context_after}
 use Rattle.linked_stack.specs.WalkLaws.{context_below}
 use Rattle.linked_stack.specs.ImagePlan.{Plan}
 use Rattle.whole_runs.specs.Shadow.{is_call, KeepsShadow, AllKeep}
@@ -126,7 +126,7 @@ module _ (t : Functions) (fs : List Funclet) (program : LinearProgram) (p : Plan
 
     record Waits (limit : ℕ) : Type 0 where
       item : StackItem
-      stands : Stands t v.memory from_here item
+      is_there : ItemIsAt t v.memory from_here item
       same : context_after from_here item ≡ context_below back (top + 8) others
       owned : (a : ℕ) → OwnedBy from_here item a → limit ≤ a
 
@@ -146,7 +146,7 @@ module _ (t : Functions) (fs : List Funclet) (program : LinearProgram) (p : Plan
             let z : sp - 8 + 8 + frame + 8 ≡ top + 8 = omega arith in
             record {
               item = Framed (frame_with (p.entry name) frame f.offset back);
-              stands = f.stands;
+              is_there = f.is_there;
               same = ap (λ n. context_below back n others) z;
               owned = λ a o. (let l = o.low in omega arith);
             }
@@ -157,7 +157,7 @@ module _ (t : Functions) (fs : List Funclet) (program : LinearProgram) (p : Plan
             let y : sp - 8 + 8 + 8 ≡ top + 8 = omega arith in
             record {
               item = Leaf back;
-              stands = image.leaves v.memory name b there from_here back is e resumed (let n = eight in omega arith) (omega arith) (ap (word v.memory) z ∙ back_there);
+              is_there = image.leaves v.memory name b there from_here back is e resumed (let n = eight in omega arith) (omega arith) (ap (word v.memory) z ∙ back_there);
               same = ap (λ n. context_below back n others) y;
               owned = λ a o. (let l = o.low in omega arith);
             }
@@ -181,7 +181,7 @@ module _ (t : Functions) (fs : List Funclet) (program : LinearProgram) (p : Plan
         let i = waits limit most in
         let first_state : CalleeFrom limit v = record {
           item = i.item;
-          beneath_it = beneath_callee t fs top (top + 8) back others list u v st first.beneath (sp - 8) frame to sp_below up next there_is near after code_there i.item limit i.stands i.same i.owned (omega arith) most;
+          beneath_it = beneath_callee t fs top (top + 8) back others list u v st first.beneath (sp - 8) frame to sp_below up next there_is near after code_there i.item limit i.is_there i.same i.owned (omega arith) most;
           rip = is_called.rip;
           stack = is_called.stack;
           program_there = has_called;

@@ -16,14 +16,14 @@ use Rattle.template_code.specs.Bytes.{size}
 use Rattle.template_code.specs.Jumps.{IsNear, call, distance}
 use Rattle.template_code.proofs.Sizes.{call_size, arrives, short}
 use Rattle.x64_templates.specs.Runs.{Steps, HasCode}
-use Rattle.linked_stack.specs.Stack.{StackItem, Stands, IsStack, OwnedBy, Owned, context_after}
+use Rattle.linked_stack.specs.Stack.{StackItem, ItemIsAt, IsStack, OwnedBy, Owned, context_after}
 use Rattle.linked_stack.specs.WalkLaws.{context_below}
 use Rattle.linked_stack.specs.PlainWalks.{state}
 use Rattle.whole_runs.specs.Shadow.{is_call, caller_at, GivesCallers, WalkGives, KeepsShadow}
 use Rattle.whole_runs.proofs.Shadows.{past_frame, HeadAbove, straight, call_keeps, return_keeps}
 use Rattle.body_states.specs.Callers.{caller_above, HasCaller, FindsReturn}
 use Rattle.body_states.proofs.StackWalks.{callers, on_stack, stack_rises}
-use Rattle.body_states.proofs.Effects.{others_of, is_probing, probing_is_idle, idle_leaves, idle_goes_on, rax_stays, Sets, Calls, calls, Returns, returns, word_loads}
+use Rattle.body_states.proofs.Effects.{others_of, is_probing, probing_is_idle, idle_leaves, idle_continues, rax_stays, Sets, Calls, calls, Returns, returns, word_loads}
 use Rattle.body_states.proofs.Beneath.{read_here, effect_here, word_number, Beneath, beneath_stays, callers_above}
 
 module _ (t : Functions) (fs : List Funclet) where
@@ -144,9 +144,9 @@ module _ (t : Functions) (fs : List Funclet) where
             call_keeps t fs s u mine st.steps quiet (gives_here s d b before z) (subst (λ x. WalkGives t u (x ∷ mine)) same there)
 
         -- it runs below its own return address, where the caller is as an item of the list
-        pub beneath_callee : (i : StackItem) (limit : ℕ) → Stands t u.memory (context_below next (sp + 8) others) i → context_after (context_below next (sp + 8) others) i ≡ above → ((a : ℕ) → OwnedBy (context_below next (sp + 8) others) i a → limit ≤ a) → sp + 8 ≤ limit → limit ≤ top
+        pub beneath_callee : (i : StackItem) (limit : ℕ) → ItemIsAt t u.memory (context_below next (sp + 8) others) i → context_after (context_below next (sp + 8) others) i ≡ above → ((a : ℕ) → OwnedBy (context_below next (sp + 8) others) i a → limit ≤ a) → sp + 8 ≤ limit → limit ≤ top
             → Beneath t u sp limit next others (i ∷ is)
-        beneath_callee i limit stands same owned le most =
+        beneath_callee i limit is_there same owned le most =
             let c = called in
             let b' = beneath_called in
             let past = b.past in
@@ -155,7 +155,7 @@ module _ (t : Functions) (fs : List Funclet) where
               others_are = c.others ∙ b.others_are;
               count = c.count ∙ b.count;
               returns = c.pushed;
-              list = (stands, subst (λ x. IsStack t u.memory x is) (sym same) b'.list);
+              list = (is_there, subst (λ x. IsStack t u.memory x is) (sym same) b'.list);
               owned = λ a o. elim o [ inl w ↦ owned a w | inr w ↦ (let l = b.owned a (subst (λ x. Owned x is a) same w) in omega arith) ];
               past = le;
               high = omega arith;
@@ -194,7 +194,7 @@ module _ (t : Functions) (fs : List Funclet) where
       pub probes : (i : Instr) (more : List Instr) → is_probing i ≡ true → is_encodable i ≡ true → HasCode s.memory s.cpu.rip (i ∷ more) → FindsReturn t u.memory (s.cpu.rip + size i) 0 → Probed (s.cpu.rip + size i)
       probes i more probing enc code after =
           let idle = probing_is_idle i probing in
-          let go = idle_goes_on i idle in
+          let go = idle_continues i idle in
           let to = with_rip s (s.cpu.rip + size i) in
           let ef = effect_here s u i more enc code go.0 st.steps in
           let l = idle_leaves to u i idle ef in

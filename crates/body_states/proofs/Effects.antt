@@ -306,12 +306,12 @@ rax_stays s t (instrs.Arithmetic operations.Sub W64 (places.Register regs.R11) f
 rax_stays s t i q e = absurd cc
 
 -- none of these is a trap, or a call
-pub idle_goes_on : (i : Instr) → is_idle i ≡ true → (is_trap i ≡ false) × (is_a_call i ≡ false)
-idle_goes_on (instrs.Move w to from) q = (refl, refl)
-idle_goes_on (instrs.LoadAddress w to m) q = (refl, refl)
-idle_goes_on (instrs.Test w first second) q = (refl, refl)
-idle_goes_on (instrs.Arithmetic o w to from) q = (refl, refl)
-idle_goes_on i q = absurd cc
+pub idle_continues : (i : Instr) → is_idle i ≡ true → (is_trap i ≡ false) × (is_a_call i ≡ false)
+idle_continues (instrs.Move w to from) q = (refl, refl)
+idle_continues (instrs.LoadAddress w to m) q = (refl, refl)
+idle_continues (instrs.Test w first second) q = (refl, refl)
+idle_continues (instrs.Arithmetic o w to from) q = (refl, refl)
+idle_continues i q = absurd cc
 
 -- ---- a jump
 

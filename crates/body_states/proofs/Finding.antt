@@ -51,12 +51,12 @@ module _ (t : Functions) (fs : List Funclet) (program : LinearProgram) (p : Plan
         y = (p.layout name).frame
 
         here : IsResumed t fs program p q name b label c.rip
-        here = record { instruction = r.instruction; there = r.there; goes_on = r.goes_on; done = r.done; item = r.item; left = r.left; parts = r.parts; here = at ∙ r.here }
+        here = record { instruction = r.instruction; there = r.there; continues = r.continues; done = r.done; item = r.item; left = r.left; parts = r.parts; here = at ∙ r.here }
 
         by : (leaf : Bool) → p.leaf name ≡ leaf → HasCaller t m c (caller_above c (p.layout name).frame back)
         by false e =
             let f = image.frames m name b label c back is e has here nine room w in
-            record { frame = _; visits = frame_is_visited t m c 0 (frame_with (p.entry name) (p.layout name).frame f.offset back) f.stands; context = refl }
+            record { frame = _; visits = frame_is_visited t m c 0 (frame_with (p.entry name) (p.layout name).frame f.offset back) f.is_there; context = refl }
         by true e =
             let none = leaf_layout t fs program p q name b e (image.laid_out name b is) in
             let zero_frame = none.frame in
@@ -68,8 +68,8 @@ module _ (t : Functions) (fs : List Funclet) (program : LinearProgram) (p : Plan
 
     pub within_found : (label : ℕ) (i : Instruction) → slice_get b.code label ≡ Some i → (IsReturn i → ⊥) → (done left : List Instr) (item : Instr) → template (links_of p q name) (p.layout name) (p.address name label) i ≡ done ++ (item ∷ left)
         → FindsReturn t m (p.address name label + sizes done) (p.layout name).frame
-    within_found label i at goes_on done left item parts =
-        resumed_found label (p.address name label + sizes done) (record { instruction = i; there = at; goes_on = goes_on; done = done; item = item; left = left; parts = parts; here = refl })
+    within_found label i at continues done left item parts =
+        resumed_found label (p.address name label + sizes done) (record { instruction = i; there = at; continues = continues; done = done; item = item; left = left; parts = parts; here = refl })
 
     -- where an instruction begins
     pub label_found : (label : ℕ) (i : Instruction) → slice_get b.code label ≡ Some i → FindsReturn t m (p.address name label) (p.layout name).frame

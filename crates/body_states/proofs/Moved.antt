@@ -8,14 +8,14 @@ use Rattle.virtual_unwind.specs.CallerOf.{Functions}
 use Rattle.host_model.specs.declared.funclet.Funclet.{Funclet}
 use Rattle.linear_code.specs.Program.{LinearProgram}
 use Rattle.linear_machine.specs.Frames.{Frame, Item, Waits, Searches, Unwinds}
-use Rattle.linked_stack.specs.Stack.{StackFrame, StackItem, Framed, Leaf, Searching, Unwinding, FrameStands, LeafStands, IsStack, after_frame, after_leaf}
+use Rattle.linked_stack.specs.Stack.{StackFrame, StackItem, Framed, Leaf, Searching, Unwinding, FrameIsAt, LeafIsAt, IsStack, after_frame, after_leaf}
 use Rattle.linked_stack.specs.WalkLaws.{context_below}
 use Rattle.linked_stack.specs.ImagePlan.{Plan}
 use Rattle.linked_stack.specs.Linked.{Activation, activations_below, BodyWaits, Linked}
-use Rattle.linked_stack.specs.ListLaws.{Stands}
+use Rattle.linked_stack.specs.ListLaws.{IsLinkedStack}
 use Rattle.linked_stack.specs.Records.{On}
 
-frame_moved : (t : Functions) (m : Memory) (rip sp : ℕ) (os os' : List ℕ) (f : StackFrame) → length os' ≡ 8 → FrameStands t m (context_below rip sp os) f → FrameStands t m (context_below rip sp os') f
+frame_moved : (t : Functions) (m : Memory) (rip sp : ℕ) (os os' : List ℕ) (f : StackFrame) → length os' ≡ 8 → FrameIsAt t m (context_below rip sp os) f → FrameIsAt t m (context_below rip sp os') f
 frame_moved t m rip sp os os' f n s = record {
   live = s.live;
   not_filter = s.not_filter;
@@ -31,7 +31,7 @@ frame_moved t m rip sp os os' f n s = record {
   returns = s.returns;
 }
 
-leaf_moved : (t : Functions) (m : Memory) (rip sp : ℕ) (os os' : List ℕ) (back : ℕ) → length os' ≡ 8 → LeafStands t m (context_below rip sp os) back → LeafStands t m (context_below rip sp os') back
+leaf_moved : (t : Functions) (m : Memory) (rip sp : ℕ) (os os' : List ℕ) (back : ℕ) → length os' ≡ 8 → LeafIsAt t m (context_below rip sp os) back → LeafIsAt t m (context_below rip sp os') back
 leaf_moved t m rip sp os os' back n s = record { live = s.live; not_filter = s.not_filter; not_finally = s.not_finally; none = s.none; kept = omega (arith, n); room = s.room; returns = s.returns }
 
 pub head_apart : (xs : List ℕ) → length xs ≡ 9 → xs ≡ get_or xs 0 0 ∷ drop 1 xs
@@ -53,7 +53,7 @@ module _ (t : Functions) (fs : List Funclet) (program : LinearProgram) (p : Plan
   }
 
   pub moved : (m : Memory) (is : List StackItem) (items : List Item) (acts : List Activation) (rip sp : ℕ) (os os' : List ℕ) → length os' ≡ 8
-      → IsStack t m (context_below rip sp os) is → Linked t fs program p m (context_below rip sp os) is items acts → Stands t fs program p m (context_below rip sp os') is items acts
+      → IsStack t m (context_below rip sp os) is → Linked t fs program p m (context_below rip sp os) is items acts → IsLinkedStack t fs program p m (context_below rip sp os') is items acts
   moved m [] [] acts rip sp os os' n s l = record { stack = s; linked = l }
   moved m (Framed f ∷ is) (Waits b ∷ below) acts rip sp os os' n s l =
       let r = moved m is below (activations_below b.body acts) f.return_address (sp + f.size + 8) os os' n s.1 l.2 in
@@ -97,8 +97,8 @@ module _ (t : Functions) (fs : List Funclet) (program : LinearProgram) (p : Plan
       let e' : c' ≡ context_below c'.rip (rsp c') (drop 1 c'.kept) = ap (λ (ks : List ℕ). let x : Context = record { rip = c'.rip; kept = ks } in x) (head_apart c'.kept n') in
       let few : length (drop 1 c'.kept) ≡ 8 = rest_of c'.kept n' in
       let there : On t fs program p m (context_below c.rip (rsp c) (drop 1 c.kept)) is items acts = subst (λ (x : Context). On t fs program p m x is items acts) e on in
-      let r = moved m is items acts c.rip (rsp c) (drop 1 c.kept) (drop 1 c'.kept) few there.stands.stack there.stands.linked in
-      let here : On t fs program p m (context_below c.rip (rsp c) (drop 1 c'.kept)) is items acts = record { stands = r; data_alone = on.data_alone } in
+      let r = moved m is items acts c.rip (rsp c) (drop 1 c.kept) (drop 1 c'.kept) few there.is_there.stack there.is_there.linked in
+      let here : On t fs program p m (context_below c.rip (rsp c) (drop 1 c'.kept)) is items acts = record { is_there = r; data_alone = on.data_alone } in
       subst (λ (x : Context). On t fs program p m x is items acts) (sym e')
       (subst (λ a. On t fs program p m (context_below a (rsp c') (drop 1 c'.kept)) is items acts) (sym er)
       (subst (λ a. On t fs program p m (context_below c.rip a (drop 1 c'.kept)) is items acts) (sym es) here))

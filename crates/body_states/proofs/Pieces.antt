@@ -25,7 +25,7 @@ use Rattle.body_states.specs.Sites.{Sites, links_of}
 use Rattle.body_states.specs.Callers.{FindsReturn}
 use Rattle.body_states.specs.Programs.{HasProgram, IsProgramImage}
 use Rattle.body_states.proofs.Finding.{within_found, template_there}
-use Rattle.body_states.proofs.Flowing.{StandsBelow, from_state, flow_keeps}
+use Rattle.body_states.proofs.Flowing.{IsBelow, from_state, flow_keeps}
 
 module _ (t : Functions) (fs : List Funclet) (program : LinearProgram) (p : Plan) (q : Sites) (image : IsProgramImage t fs program p q) (name : BodyName) (b : LinearBody) (label : ℕ) (i : Instruction)
     (there : body_of program name ≡ Some b) (at : slice_get b.code label ≡ Some i) where
@@ -49,7 +49,7 @@ module _ (t : Functions) (fs : List Funclet) (program : LinearProgram) (p : Plan
     -- a run over the piece, with the frame as it was and what lies above it in both memories, and to where a walk finds the return address too
     pub piece_keeps : (u w : State) (kept : List ℕ) (back : ℕ) (cs : List Context) → IsFlow code → Reaches (length code) u w
         → u.cpu.rip ≡ p.address name label + sizes before → kept_of u.cpu.registers ≡ kept → kept_of w.cpu.registers ≡ kept → get_or kept 0 0 + (p.layout name).frame + 8 < 2 ^ 64
-        → StandsBelow t fs program p q u.memory kept (p.layout name).frame back cs → StandsBelow t fs program p q w.memory kept (p.layout name).frame back cs
+        → IsBelow t fs program p q u.memory kept (p.layout name).frame back cs → IsBelow t fs program p q w.memory kept (p.layout name).frame back cs
         → FindsReturn t w.memory w.cpu.rip (p.layout name).frame → AllKeep t fs (length code) u
     piece_keeps u w kept back cs flow r here same_begin same_end room begin end finds =
         let size = (p.layout name).frame in
@@ -58,8 +58,8 @@ module _ (t : Functions) (fs : List Funclet) (program : LinearProgram) (p : Plan
         let same : kept_of w.cpu.registers ≡ own = same_end ∙ back_to in
         let sp : register w.cpu Rsp ≡ register u.cpu Rsp = ap (λ (ks : List ℕ). get_or ks 0 0) same in
         let enough : register u.cpu Rsp + size + 8 < 2 ^ 64 = subst (λ (ks : List ℕ). get_or ks 0 0 + size + 8 < 2 ^ 64) back_to room in
-        let first = subst (λ (ks : List ℕ). StandsBelow t fs program p q u.memory ks size back cs) back_to begin in
-        let last = subst (λ (ks : List ℕ). StandsBelow t fs program p q w.memory ks size back cs) back_to end in
+        let first = subst (λ (ks : List ℕ). IsBelow t fs program p q u.memory ks size back cs) back_to begin in
+        let last = subst (λ (ks : List ℕ). IsBelow t fs program p q w.memory ks size back cs) back_to end in
         let gives = from_state t fs program p q w own size back cs finds same refl enough last in
         flow_keeps t fs program p q code u w size back cs enough (λ m done left item has split. piece_finds m u.cpu.rip done left item here has split) first last
         flow.spelling flow.flow flow.once (subst (λ a. HasCode u.memory a code) (sym here) (piece_there u.memory begin.program_there)) r gives (omega arith)

@@ -56,7 +56,7 @@ step_keeps : (s u : State) → Steps s u → KeepsCode s.memory u.memory
 step_keeps s u st = record { protection = st.protection; fixed = st.fixed }
 
 code_kept : (m m' : Memory) (at : ℕ) (code : List Instr) → KeepsCode m m' → HasCode m at code → HasCode m' at code
-code_kept m m' at code k h = record { stands = bytes_kept m m' at (spelled code) k.fixed k.protection h.stands; placed = h.placed }
+code_kept m m' at code k h = record { is_there = bytes_kept m m' at (spelled code) k.fixed k.protection h.is_there; placed = h.placed }
 
 thunk_kept : (m m' : Memory) (at service : ℕ) → KeepsCode m m' → HasThunk m at service → HasThunk m' at service
 thunk_kept m m' at service k h =
@@ -100,7 +100,7 @@ module _ (t : Functions) (fs : List Funclet) (program : LinearProgram) (p : Plan
   unfolding Rattle.template_code.specs.Bytes.size
   entered_by m at size j n small code e quiet =
       let i = instrs.Arithmetic operations.Sub W64 (places.Register Rsp) (operands.Immediate size) in
-      let parts = bytes_split m at (chosen i) [] code.stands in
+      let parts = bytes_split m at (chosen i) [] code.is_there in
       let l = code.placed.low in
       let h = code.placed.high in
       let s : State = record { cpu = record { registers = []; rip = at; flags = no_flags }; memory = m } in

@@ -23,7 +23,7 @@ use Rattle.linear_code.specs.declared.program.Region.{Region}
 use Rattle.linear_code.specs.Program.{LinearProgram, LinearBody, LinearFunclet}
 use Rattle.linear_machine.specs.Frames.{BodyName, FunctionBody, FuncletBody, Frame, Item, Waits, Searches, Unwinds, body_of, Configuration}
 use Rattle.linear_machine.specs.Regions.{holds, regions_of}
-use Rattle.linked_stack.specs.Stack.{StackFrame, StackItem, Framed, Leaf, FrameStands, after_frame, after_leaf}
+use Rattle.linked_stack.specs.Stack.{StackFrame, StackItem, Framed, Leaf, FrameIsAt, after_frame, after_leaf}
 use Rattle.linked_stack.specs.WalkLaws.{context_below}
 use Rattle.linked_stack.proofs.Visiting.{set_head}
 use Rattle.linked_stack.specs.ImagePlan.{Plan, InCode}
@@ -58,7 +58,7 @@ all_same label (r ∷ rs) = (refl, all_same label rs)
 abbrev pub again : Frame → ℕ → List ℕ → Option ℕ → Frame
 again b label ts landed = record b { next = label; temporaries = ts; landed = landed }
 
--- where some words stand, these do: the first of them, or none
+-- where some words are, these do: the first of them, or none
 abbrev pub IsFront : Memory → List ℕ → List ℕ → Type 0
 IsFront m vs ts = (at end : ℕ) → HoldsWords m at end vs → HoldsWords m at end ts
 
@@ -93,7 +93,7 @@ module _ (t : Functions) (fs : List Funclet) (program : LinearProgram) (p : Plan
       by_funclet (Some f) below h = absurd h
 
   module _ (image : IsProgramImage t fs program p q) where
-    pub frame_size : (m : Memory) (c : Context) (f : StackFrame) (name : BodyName) (b : LinearBody) → body_of program name ≡ Some b → p.leaf name ≡ false → f.entry ≡ p.entry name → FrameStands t m c f → f.size ≡ (p.layout name).frame
+    pub frame_size : (m : Memory) (c : Context) (f : StackFrame) (name : BodyName) (b : LinearBody) → body_of program name ≡ Some b → p.leaf name ≡ false → f.entry ≡ p.entry name → FrameIsAt t m c f → f.size ≡ (p.layout name).frame
     frame_size m c f name b there leaf entry s =
         let a = image.allocations name b there leaf in
         same_size f.offset a.offset f.size (p.layout name).frame (p.entry name).info.codes (ap (λ (e : Entry). e.info.codes) (sym entry) ∙ s.codes) a.codes
@@ -107,8 +107,8 @@ module _ (t : Functions) (fs : List Funclet) (program : LinearProgram) (p : Plan
         let m = u.memory in
         let name = b.body in
         let y = p.layout name in
-        let s = on.stands.stack in
-        let l = on.stands.linked in
+        let s = on.is_there.stack in
+        let l = on.is_there.linked in
         let w = l.0.waits in
         let b' = again b label ts landed in
         let size = frame_size m c f name w.code w.body l.0.framed l.0.entry s.0 in
@@ -138,7 +138,7 @@ module _ (t : Functions) (fs : List Funclet) (program : LinearProgram) (p : Plan
           returns = subst (λ x. word m (x + y.frame) ≡ Ok f.return_address) (sym sp) (subst (λ n. word m (rsp c + n) ≡ Ok f.return_address) size s.0.returns);
           is = is;
           below = λ others n. on_moved t fs program p m (after_frame c f) (context_below f.return_address (register u.cpu Rsp + y.frame + 8) others) is below (activations_below name acts) n1 (omega arith) refl up
-              (record { stands = record { stack = s.1; linked = l.2 }; data_alone = on.data_alone });
+              (record { is_there = record { stack = s.1; linked = l.2 }; data_alone = on.data_alone });
         }
 
     leaf_again : (u : State) (c : Context) (back : ℕ) (is : List StackItem) (b : Frame) (below : List Item) (acts : List Activation) (label : ℕ) (ts : List ℕ) (landed : Option ℕ) (source : Memory) (es : List Event)
@@ -148,8 +148,8 @@ module _ (t : Functions) (fs : List Funclet) (program : LinearProgram) (p : Plan
         let m = u.memory in
         let name = b.body in
         let y = p.layout name in
-        let s = on.stands.stack in
-        let l = on.stands.linked in
+        let s = on.is_there.stack in
+        let l = on.is_there.linked in
         let w = l.0.waits in
         let b' = again b label ts landed in
         let none = leaf_layout t fs program p q name w.code l.0.leaf (image.laid_out name w.code w.body) in
@@ -181,16 +181,16 @@ module _ (t : Functions) (fs : List Funclet) (program : LinearProgram) (p : Plan
           returns = subst (λ x. word m x ≡ Ok back) at s.0.returns;
           is = is;
           below = λ others n. on_moved t fs program p m (after_leaf c back) (context_below back (register u.cpu Rsp + y.frame + 8) others) is below (activations_below name acts) n1 (omega arith) refl up
-              (record { stands = record { stack = s.1; linked = l.2 }; data_alone = on.data_alone });
+              (record { is_there = record { stack = s.1; linked = l.2 }; data_alone = on.data_alone });
         }
 
-    -- whatever stands for it
+    -- whatever represents it
     pub waits_in_body : (u : State) (c : Context) (is : List StackItem) (b : Frame) (below : List Item) (acts : List Activation) (label : ℕ) (ts : List ℕ) (landed : Option ℕ) (source : Memory) (es : List Event)
         → On t fs program p u.memory c is (Waits b ∷ below) acts → register u.cpu Rsp ≡ rsp c → InCode p b.body label u.cpu.rip → u.cpu.rip < 2 ^ 64 → IsFront u.memory b.temporaries ts
         → InBody t fs program p q u (on_top (again b label ts landed) below source acts es)
     waits_in_body u c (Framed f ∷ is) b below acts label ts landed source es on sp inside small front = framed_again u c f is b below acts label ts landed source es on sp inside small front
     waits_in_body u c (Leaf back ∷ is) b below acts label ts landed source es on sp inside small front = leaf_again u c back is b below acts label ts landed source es on sp inside small front
-    waits_in_body u c is b below acts label ts landed source es on sp inside small front = absurd on.stands.linked
+    waits_in_body u c is b below acts label ts landed source es on sp inside small front = absurd on.is_there.linked
 
 -- no temporaries, or all of them
 words_end : (m : Memory) (at end : ℕ) (vs : List ℕ) → HoldsWords m at end vs → at ≤ end

@@ -23,7 +23,7 @@ on_stack t m c row (Leaf back ∷ is) s = past_frame t m (state c row) (caller_o
 on_stack t m c row (Searching r ∷ is) s = past_host t m (state c row) (state (context_of r.saved) 0) (callers (context_of r.saved) is) (search_is_passed t m c row r s.0) (on_stack t m (context_of r.saved) 0 is s.1)
 on_stack t m c row (Unwinding r ∷ is) s = past_host t m (state c row) (state r.walk r.row) (callers r.walk is) (unwinding_is_passed t m c row r s.0) (on_stack t m r.walk r.row is s.1)
 
--- each of them continues above the context where the list stands
+-- each of them continues above the context where the list is
 pub stack_rises : (t : Functions) (m : Memory) (c : Context) (is : List StackItem) → IsStack t m c is → HeadAbove (rsp c) (callers c is)
 stack_rises t m c [] s = tt
 stack_rises t m c (Framed f ∷ is) s = let up = set_head c.kept (rsp c + f.size + 8) (let k = s.0.kept in omega arith) in omega arith

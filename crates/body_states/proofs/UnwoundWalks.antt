@@ -20,7 +20,7 @@ use Rattle.whole_runs.proofs.Shadows.{unique, none_below, one_below}
 use Rattle.body_states.proofs.StackWalks.{callers, on_stack, stack_rises}
 
 module _ (t : Functions) (m : Memory) where
-  -- it comes to a context from which a list stands: the rest of the callers
+  -- it comes to a context from which a list is: the rest of the callers
   pub record ComesTo (low : ℕ) (cs : List Context) (to : Context) : Type 0 where
     pub above : low ≤ rsp to
     pub inner : List StackItem

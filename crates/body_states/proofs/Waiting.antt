@@ -9,7 +9,7 @@ use Rattle.host_model.specs.declared.funclet.Funclet.{Funclet}
 use Rattle.linear_code.specs.Program.{LinearProgram, LinearBody}
 use Rattle.linear_machine.specs.Frames.{BodyName, FunctionBody, FuncletBody, Waits, Configuration}
 use Rattle.linear_machine.specs.Regions.{regions_of}
-use Rattle.linked_stack.specs.Stack.{StackItem, Framed, Leaf, LeafStands}
+use Rattle.linked_stack.specs.Stack.{StackItem, Framed, Leaf, LeafIsAt}
 use Rattle.linked_stack.specs.WalkLaws.{context_below}
 use Rattle.linked_stack.specs.ImagePlan.{Plan, IsGiven}
 use Rattle.linked_stack.specs.Linked.{Activation, activations_below, BodyWaits}
@@ -48,8 +48,8 @@ module _ (t : Functions) (fs : List Funclet) (program : LinearProgram) (p : Plan
       record {
         is = Framed (frame_with (p.entry name) y.frame f.offset at.back) ∷ at.is;
         on = record {
-          stands = record {
-            stack = (f.stands, rest.stands.stack);
+          is_there = record {
+            stack = (f.is_there, rest.is_there.stack);
             linked = (
               record {
                 framed = e;
@@ -59,7 +59,7 @@ module _ (t : Functions) (fs : List Funclet) (program : LinearProgram) (p : Plan
                 returns = at.returns_to;
               },
               at.above,
-              rest.stands.linked,
+              rest.is_there.linked,
             );
           };
           data_alone = rest.data_alone;
@@ -68,7 +68,7 @@ module _ (t : Functions) (fs : List Funclet) (program : LinearProgram) (p : Plan
 
   module _ (image : IsProgramImage t fs program p q) where
     -- a leaf function whose return address is there
-    pub leaf_top : (u : State) (c : Configuration) (at : InBody t fs program p q u c) → p.leaf c.frame.body ≡ true → LeafStands t u.memory (context_of u.cpu) at.back → OnTop u c at.acts
+    pub leaf_top : (u : State) (c : Configuration) (at : InBody t fs program p q u c) → p.leaf c.frame.body ≡ true → LeafIsAt t u.memory (context_of u.cpu) at.back → OnTop u c at.acts
     leaf_top u c at e l =
         let name = c.frame.body in
         let y = p.layout name in
@@ -81,8 +81,8 @@ module _ (t : Functions) (fs : List Funclet) (program : LinearProgram) (p : Plan
         record {
           is = Leaf at.back ∷ at.is;
           on = record {
-            stands = record {
-              stack = (l, rest.stands.stack);
+            is_there = record {
+              stack = (l, rest.is_there.stack);
               linked = (
                 record {
                   leaf = e;
@@ -92,7 +92,7 @@ module _ (t : Functions) (fs : List Funclet) (program : LinearProgram) (p : Plan
                   returns = at.returns_to;
                 },
                 at.above,
-                rest.stands.linked,
+                rest.is_there.linked,
               );
             };
             data_alone = rest.data_alone;
@@ -105,7 +105,7 @@ module _ (t : Functions) (fs : List Funclet) (program : LinearProgram) (p : Plan
         let y = p.layout name in
         let sp = register u.cpu Rsp in
         let rest = at.below (others_of u) refl in
-        let top = in_stack t fs program p u.memory (context_below at.back (sp + y.frame + 8) (others_of u)) at.is c.below (activations_below name at.acts) rest.stands.stack rest.stands.linked in
+        let top = in_stack t fs program p u.memory (context_below at.back (sp + y.frame + 8) (others_of u)) at.is c.below (activations_below name at.acts) rest.is_there.stack rest.is_there.linked in
         framed_top u c at e (image.frames u.memory name at.slots.code label (context_of u.cpu) at.back at.slots.body e has resumed refl (omega arith) at.returns)
 
     leaf_on_top : (u : State) (c : Configuration) (label : ℕ) (at : InBody t fs program p q u c) → IsResumed t fs program p q c.frame.body at.slots.code label u.cpu.rip → p.leaf c.frame.body ≡ true → OnTop u c at.acts
@@ -117,7 +117,7 @@ module _ (t : Functions) (fs : List Funclet) (program : LinearProgram) (p : Plan
         let none = leaf_layout name b e (image.laid_out name b at.slots.body) in
         let here : sp + y.frame ≡ sp = let z = none.frame in omega arith in
         let rest = at.below (others_of u) refl in
-        let top = in_stack t fs program p u.memory (context_below at.back (sp + y.frame + 8) (others_of u)) at.is c.below (activations_below name at.acts) rest.stands.stack rest.stands.linked in
+        let top = in_stack t fs program p u.memory (context_below at.back (sp + y.frame + 8) (others_of u)) at.is c.below (activations_below name at.acts) rest.is_there.stack rest.is_there.linked in
         leaf_top u c at e (image.leaves u.memory name b label (context_of u.cpu) at.back at.slots.body e resumed refl (let z = none.frame in omega arith) (ap (word u.memory) (sym here) ∙ at.returns))
 
     -- where RIP is at a machine instruction of an instruction of its code

@@ -44,7 +44,7 @@ use Rattle.x64_templates.specs.Implements.{IsReady}
 use Rattle.x64_templates.specs.Runs.{HasCode}
 use Rattle.x64_templates.specs.Thunks.{HasThunk}
 use Rattle.x64_templates.specs.Quiet.{IsReturn}
-use Rattle.linked_stack.specs.Stack.{StackFrame, FrameStands, LeafStands}
+use Rattle.linked_stack.specs.Stack.{StackFrame, FrameIsAt, LeafIsAt}
 use Rattle.linked_stack.specs.ImagePlan.{Plan, Gives}
 use Rattle.linked_stack.specs.Records.{IsData}
 use Rattle.seh_walk.specs.Walk.{filter_return, finally_return}
@@ -130,7 +130,7 @@ module _ (t : Functions) (fs : List Funclet) (program : LinearProgram) (p : Plan
   pub record IsResumed (name : BodyName) (b : LinearBody) (label rip : ℕ) : Type 0 where
     pub instruction : Instruction
     pub there : slice_get b.code label ≡ Some instruction
-    pub goes_on : IsReturn instruction → ⊥
+    pub continues : IsReturn instruction → ⊥
     pub done : List Instr
     pub item : Instr
     pub left : List Instr
@@ -140,12 +140,12 @@ module _ (t : Functions) (fs : List Funclet) (program : LinearProgram) (p : Plan
 
   pub record IsFramed (m : Memory) (name : BodyName) (c : Context) (back : ℕ) : Type 0 where
     pub offset : ℕ
-    pub stands : FrameStands t m c (frame_with (p.entry name) (p.layout name).frame offset back)
+    pub is_there : FrameIsAt t m c (frame_with (p.entry name) (p.layout name).frame offset back)
 
   -- there its entry is found, RIP is past the prologue and in no epilogue: where its return address
-  -- is at the frame's end, its frame stands
-  abbrev pub FramesStand : Type 0
-  FramesStand =
+  -- is at the frame's end, its frame is there
+  abbrev pub FramesAreWaiting : Type 0
+  FramesAreWaiting =
       (m : Memory) (name : BodyName) (b : LinearBody) (label : ℕ) (c : Context) (back : ℕ)
       → body_of program name ≡ Some b → p.leaf name ≡ false → HasProgram m
       → IsResumed name b label c.rip
@@ -160,12 +160,12 @@ module _ (t : Functions) (fs : List Funclet) (program : LinearProgram) (p : Plan
         ≡ record { offset = offset; operation = Allocate (p.layout name).frame } ∷ []
 
   -- a leaf function has no entry
-  abbrev pub LeavesStand : Type 0
-  LeavesStand =
+  abbrev pub LeavesAreWaiting : Type 0
+  LeavesAreWaiting =
       (m : Memory) (name : BodyName) (b : LinearBody) (label : ℕ) (c : Context) (back : ℕ)
       → body_of program name ≡ Some b → p.leaf name ≡ true → IsResumed name b label c.rip
       → length c.kept ≡ 9 → rsp c + 8 < 2 ^ 64 → word m (rsp c) ≡ Ok back
-      → LeafStands t m c back
+      → LeafIsAt t m c back
 
   -- ---- where a body continues after an exception that is continued
 
@@ -267,8 +267,8 @@ module _ (t : Functions) (fs : List Funclet) (program : LinearProgram) (p : Plan
         → p.lands name label ≡ true → label < length b.code
     pub allocations : (name : BodyName) (b : LinearBody) → body_of program name ≡ Some b
         → p.leaf name ≡ false → HasAllocation name
-    pub frames : FramesStand
-    pub leaves : LeavesStand
+    pub frames : FramesAreWaiting
+    pub leaves : LeavesAreWaiting
     pub funclets : FuncletsBegin
     pub resumptions : (resumption : Resumption) (b : Frame) (saved : Cpu)
         → SaysResumptions resumption b saved

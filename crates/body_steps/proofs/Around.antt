@@ -183,4 +183,4 @@ module _ (t : Functions) (fs : List Funclet) (program : LinearProgram) (p : Plan
 
     -- what an instruction needs is there
     pub ready_here : (i : Instruction) → instruction_at program c ≡ Some i → IsReady program c i
-    ready_here i e = subst (IsReady program c) (some_is known.goes_on.instruction i (sym known.goes_on.at ∙ e)) known.goes_on.ready
+    ready_here i e = subst (IsReady program c) (some_is known.continues.instruction i (sym known.continues.at ∙ e)) known.continues.ready

@@ -12,7 +12,7 @@ use Rattle.linear_machine.specs.Frames.{Item, Waits, Searches, Unwinds}
 use Rattle.linked_stack.specs.Stack.{StackItem, Framed, Leaf, Searching, Unwinding}
 use Rattle.linked_stack.specs.ImagePlan.{Plan}
 use Rattle.linked_stack.specs.Linked.{Activation}
-use Rattle.linked_stack.specs.ListLaws.{Stands}
+use Rattle.linked_stack.specs.ListLaws.{IsLinkedStack}
 use Rattle.body_states.specs.Layouts.{AreLaidOut}
 use Rattle.body_steps.specs.Stores.{KeepsStackBut}
 use Rattle.body_steps.proofs.Outgoing.{outgoing_is_free}
@@ -25,7 +25,7 @@ CallerHasFrame p items = ⊥
 
 module _ (m m' : Memory) (t : Functions) (fs : List Funclet) (program : LinearProgram) (p : Plan) (laid : AreLaidOut program p) where
   module _ (c : Context) (keeps : KeepsStackBut m m' (rsp c) (rsp c) (rsp c + 32)) (start : STACK_START ≤ rsp c) where
-    pub home_is_free : (is : List StackItem) (items : List Item) (acts : List Activation) → CallerHasFrame p items → Stands t fs program p m c is items acts → Stands t fs program p m' c is items acts
+    pub home_is_free : (is : List StackItem) (items : List Item) (acts : List Activation) → CallerHasFrame p items → IsLinkedStack t fs program p m c is items acts → IsLinkedStack t fs program p m' c is items acts
     home_is_free [] [] acts o s = record { stack = s.stack; linked = s.linked }
     home_is_free (Framed f ∷ is) [] acts o s = absurd s.linked
     home_is_free (Leaf back ∷ is) [] acts o s = absurd s.linked

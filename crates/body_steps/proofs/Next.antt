@@ -23,7 +23,7 @@ use Rattle.linear_machine.specs.Regions.{holds, regions_of}
 use Rattle.linked_stack.specs.ImagePlan.{Plan, InCode}
 use Rattle.linked_stack.specs.WalkLaws.{context_below}
 use Rattle.linked_stack.specs.Linked.{Activation, locals_of, activations_below, HoldsWords, IsActivation, HasActivation, HasPointers, FuncletIsAbove, IsAbove, BodyWaits, HasSpace, below_end, home_end}
-use Rattle.linked_stack.specs.ListLaws.{Stands}
+use Rattle.linked_stack.specs.ListLaws.{IsLinkedStack}
 use Rattle.linked_stack.proofs.ListKeeping.{kept_by_other_memories}
 use Rattle.linked_stack.specs.Records.{IsData, On}
 use Rattle.linked_stack.specs.States.{IsSane}
@@ -275,11 +275,11 @@ module _ (t : Functions) (fs : List Funclet) (program : LinearProgram) (p : Plan
         abbrev above : Context
         above = context_below b.body.back (sp + y.frame + 8) others
 
-        abbrev old : Stands t fs program p s.memory above b.body.is c.below (activations_below c.frame.body b.body.acts)
-        old = (b.body.below others eight).stands
+        abbrev old : IsLinkedStack t fs program p s.memory above b.body.is c.below (activations_below c.frame.body b.body.acts)
+        old = (b.body.below others eight).is_there
 
         abbrev New : BodyName → Type 0
-        New name = Stands t fs program p u.memory above b.body.is c.below (activations_below name (with_values b.body.acts c.frame.activation values))
+        New name = IsLinkedStack t fs program p u.memory above b.body.is c.below (activations_below name (with_values b.body.acts c.frame.activation values))
 
         new_function : AsFunction t fs program p q image s c b counted → New c.frame.body
         new_function f =
@@ -288,11 +288,11 @@ module _ (t : Functions) (fs : List Funclet) (program : LinearProgram) (p : Plan
             let z = f.layout.locals in
             let base = function_base f.layout.none in
             subst New (sym f.name)
-            (subst (λ acts. Stands t fs program p u.memory above b.body.is c.below acts) (function_below f.number b.body.acts y.frame f.activation)
+            (subst (λ acts. IsLinkedStack t fs program p u.memory above b.body.is c.below acts) (function_below f.number b.body.acts y.frame f.activation)
             (kept_by_other_memories t fs program p s.memory u.memory above b.body.is c.below (activations_below (FunctionBody f.number) b.body.acts)
             (stack_kept program.globals s u y (counts_of code) sp c.frame.activation b.body.acts here cnt r.changed b.memory.data_alone b.memory.stack (sp + y.frame + 8) (omega arith) (omega arith) (omega arith))
             (omega arith)
-            (subst (λ n. Stands t fs program p s.memory above b.body.is c.below (activations_below n b.body.acts)) f.name old)))
+            (subst (λ n. IsLinkedStack t fs program p s.memory above b.body.is c.below (activations_below n b.body.acts)) f.name old)))
 
         new_leaf : (f : AsLeaf t fs program p q image s c b counted) → New c.frame.body
         new_leaf f =
@@ -305,11 +305,11 @@ module _ (t : Functions) (fs : List Funclet) (program : LinearProgram) (p : Plan
             let home = b.body.home f.leaf in
             let keep = stack_kept program.globals s u y (counts_of code) sp c.frame.activation b.body.acts here cnt r.changed b.memory.data_alone b.memory.stack (sp + 40) (omega arith) (omega arith) (omega arith) in
             subst New (sym f.name)
-            (subst (λ acts. Stands t fs program p u.memory above b.body.is c.below acts) (function_below f.number b.body.acts y.temporaries f.activation)
+            (subst (λ acts. IsLinkedStack t fs program p u.memory above b.body.is c.below acts) (function_below f.number b.body.acts y.temporaries f.activation)
             (home_is_free s.memory u.memory t fs program p image.laid_out above
             (record { bytes = λ a from to out. elim out [ inl o ↦ absurd (omega arith) | inr o ↦ keep.bytes a (omega arith) to ]; protection = keep.protection; code = keep.code; no_more_code = keep.no_more_code })
             (omega arith) b.body.is c.below (activations_below (FunctionBody f.number) b.body.acts) (caller f.leaf)
-            (subst (λ n. Stands t fs program p s.memory above b.body.is c.below (activations_below n b.body.acts)) f.name old)))
+            (subst (λ n. IsLinkedStack t fs program p s.memory above b.body.is c.below (activations_below n b.body.acts)) f.name old)))
 
         new_funclet : (f : AsFunclet t fs program p q image s c b counted) → New c.frame.body
         new_funclet f =
@@ -327,7 +327,7 @@ module _ (t : Functions) (fs : List Funclet) (program : LinearProgram) (p : Plan
             let m : code.locals ≡ length values = sym r.leaves.count in
             subst New (sym f.name)
             (activations_are_stored t fs program p s.memory u.memory above b.body.is c.below b.body.acts c.frame.activation here.base y.locals here.values values
-            (subst (λ n. Stands t fs program p s.memory above b.body.is c.below (activations_below n b.body.acts)) f.name old)
+            (subst (λ n. IsLinkedStack t fs program p s.memory above b.body.is c.below (activations_below n b.body.acts)) f.name old)
             (omega arith)
             (subst (λ x. IsActivation b.body.acts c.frame.activation x y.locals) base f.activation.activation)
             (omega arith) (owner f.number f.name) here.number n
@@ -338,7 +338,7 @@ module _ (t : Functions) (fs : List Funclet) (program : LinearProgram) (p : Plan
         new_list = elim (kind t fs program p q image s c b counted) [ inl f ↦ new_function f | inr (inl f) ↦ new_leaf f | inr (inr f) ↦ new_funclet f ]
 
         pub new_on : On t fs program p u.memory above b.body.is c.below (activations_below c.frame.body (with_values b.body.acts c.frame.activation values))
-        new_on = record { stands = new_list; data_alone = data_stays }
+        new_on = record { is_there = new_list; data_alone = data_stays }
 
       -- ---- the next instruction
 

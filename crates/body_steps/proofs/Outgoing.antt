@@ -14,7 +14,7 @@ use Rattle.linked_stack.specs.Stack.{StackFrame, StackItem, Framed, Leaf, Search
 use Rattle.linked_stack.proofs.Visiting.{set_head}
 use Rattle.linked_stack.specs.ImagePlan.{Plan}
 use Rattle.linked_stack.specs.Linked.{Activation, activations_below, temporaries_end, HasActivation, HasPointers, IsAbove, Linked}
-use Rattle.linked_stack.specs.ListLaws.{Stands}
+use Rattle.linked_stack.specs.ListLaws.{IsLinkedStack}
 use Rattle.linked_stack.proofs.Ends.{words_fit, end_within, in_stack}
 use Rattle.linked_stack.proofs.Kept.{ReadsSame, higher, frame_above, words_kept, list_kept}
 use Rattle.linked_stack.proofs.ListKeeping.{reads_other}
@@ -79,7 +79,7 @@ module _ (m m' : Memory) (t : Functions) (fs : List Funclet) (program : LinearPr
         let l = a.pointers k refl in
         record { room = h.room; kept = reads.words (rsp c + y.pointers) (rsp c + size + 88) (omega arith) (omega arith) h.kept }
 
-    pub framed_free : (f : StackFrame) (is : List StackItem) (b : Frame) (below : List Item) (acts : List Activation) → ((code : LinearBody) → body_of program b.body ≡ Some code → room ≤ 32 + 8 * code.passed) → p.leaf b.body ≡ false → IsStack t m c (Framed f ∷ is) → Linked t fs program p m c (Framed f ∷ is) (Waits b ∷ below) acts → Stands t fs program p m' c (Framed f ∷ is) (Waits b ∷ below) acts
+    pub framed_free : (f : StackFrame) (is : List StackItem) (b : Frame) (below : List Item) (acts : List Activation) → ((code : LinearBody) → body_of program b.body ≡ Some code → room ≤ 32 + 8 * code.passed) → p.leaf b.body ≡ false → IsStack t m c (Framed f ∷ is) → Linked t fs program p m c (Framed f ∷ is) (Waits b ∷ below) acts → IsLinkedStack t fs program p m' c (Framed f ∷ is) (Waits b ∷ below) acts
     framed_free f is b below acts few framed s h =
         let y = p.layout b.body in
         let nine = s.0.kept in
@@ -116,8 +116,8 @@ module _ (m m' : Memory) (t : Functions) (fs : List Funclet) (program : LinearPr
           );
         }
 
-    pub outgoing_is_free : (is : List StackItem) (b : Frame) (below : List Item) (acts : List Activation) → ((code : LinearBody) → body_of program b.body ≡ Some code → room ≤ 32 + 8 * code.passed) → p.leaf b.body ≡ false → Stands t fs program p m c is (Waits b ∷ below) acts
-        → Stands t fs program p m' c is (Waits b ∷ below) acts
+    pub outgoing_is_free : (is : List StackItem) (b : Frame) (below : List Item) (acts : List Activation) → ((code : LinearBody) → body_of program b.body ≡ Some code → room ≤ 32 + 8 * code.passed) → p.leaf b.body ≡ false → IsLinkedStack t fs program p m c is (Waits b ∷ below) acts
+        → IsLinkedStack t fs program p m' c is (Waits b ∷ below) acts
     outgoing_is_free (Framed f ∷ is) b below acts few o s = framed_free f is b below acts few o s.stack s.linked
     outgoing_is_free (Leaf back ∷ is) b below acts few o s = absurd (let e : true ≡ false = sym s.linked.0.leaf ∙ o in cc)
     outgoing_is_free [] b below acts few o s = absurd s.linked

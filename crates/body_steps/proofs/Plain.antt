@@ -100,7 +100,7 @@ module _ (t : Functions) (fs : List Funclet) (program : LinearProgram) (p : Plan
           comes = m.1;
           acts = acts;
           shown = sym (append-nil c.events);
-          stands = subst (λ (xs : List (List ℕ)). let o : Configuration = record {
+          is_there = subst (λ (xs : List (List ℕ)). let o : Configuration = record {
             frame = record c.frame { next = label; temporaries = ts; landed = landed };
             below = c.below;
             store = record { memory = d.memory; activations = xs };
@@ -227,9 +227,9 @@ module _ (t : Functions) (fs : List Funclet) (program : LinearProgram) (p : Plan
     unfolding pick
     jumps slot label value r e next = acts_tested slot label value true r e next ∙ ap next (tested_is slot label)
 
-    goes_on : (slot : Slot) (label value : ℕ) → read c slot ≡ Some value → nat_eq value 0 ≡ false → (next : Next) → act program (instructions.JumpIfZero slot label) next c ≡ next (tested_at slot (c.frame.next + 1))
+    continues : (slot : Slot) (label value : ℕ) → read c slot ≡ Some value → nat_eq value 0 ≡ false → (next : Next) → act program (instructions.JumpIfZero slot label) next c ≡ next (tested_at slot (c.frame.next + 1))
     unfolding pick
-    goes_on slot label value r e next = acts_tested slot label value false r e next ∙ ap next (forth_is slot)
+    continues slot label value r e next = acts_tested slot label value false r e next ∙ ap next (forth_is slot)
 
     -- a test takes fewer turns than it frees
     to_tested : (slot : Slot) (label n rip to : ℕ) → c.frame.landed ≡ None → rip ≡ p.address c.frame.body to → Reached n rip slots_now → length c.frame.temporaries ≤ body.temporaries → GoesInside (instructions.JumpIfZero slot label) → RunsKeep t fs program p q image s c b counted n s
@@ -258,4 +258,4 @@ module _ (t : Functions) (fs : List Funclet) (program : LinearProgram) (p : Plan
         by_value r true z d = to_tested slot label turns (p.address c.frame.body label) label free refl (from_here turns (p.address c.frame.body label) slots_now d.follows) held inside keep (jumps slot label r.value r.reads (ap (λ x. nat_eq x 0) (sym r.same) ∙ z)) d.least d.most
         by_value r false z d =
             to_tested slot label turns (s.cpu.rip + template_size (p.layout c.frame.body) (instructions.JumpIfZero slot label)) (c.frame.next + 1) free (sym (next_address t fs program p q image roomy s c b counted (instructions.JumpIfZero slot label) e))
-            (from_here turns (s.cpu.rip + template_size (p.layout c.frame.body) (instructions.JumpIfZero slot label)) slots_now d.follows) held inside keep (goes_on slot label r.value r.reads (ap (λ x. nat_eq x 0) (sym r.same) ∙ z)) d.least d.most
+            (from_here turns (s.cpu.rip + template_size (p.layout c.frame.body) (instructions.JumpIfZero slot label)) slots_now d.follows) held inside keep (continues slot label r.value r.reads (ap (λ x. nat_eq x 0) (sym r.same) ∙ z)) d.least d.most

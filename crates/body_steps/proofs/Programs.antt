@@ -43,7 +43,7 @@ code_there m m' at (b ∷ bytes) same h =
 
 pub has_code_there : (m m' : Memory) (at : ℕ) (code : List Instr) → SameThere m m' at (at + sizes code) → HasCode m at code → HasCode m' at code
 has_code_there m m' at code same h = record {
-  stands = code_there m m' at (spelled code) (let e = sizes_spelled code in record { byte = λ a l u. same.byte a l (omega arith); protection = λ a l u. same.protection a l (omega arith) }) h.stands;
+  is_there = code_there m m' at (spelled code) (let e = sizes_spelled code in record { byte = λ a l u. same.byte a l (omega arith); protection = λ a l u. same.protection a l (omega arith) }) h.is_there;
   placed = h.placed;
 }
 

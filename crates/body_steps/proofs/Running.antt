@@ -35,7 +35,7 @@ use Rattle.body_states.proofs.QuietTurns.{reaches_quietly}
 use Rattle.body_steps.specs.Views.{seen_by_templates, counts_of, frame_at, state_of}
 use Rattle.body_steps.specs.Stores.{OwnerHasFrame}
 use Rattle.body_steps.proofs.Homes.{CallerHasFrame}
-use Rattle.body_steps.proofs.Shadowed.{kept_by_rest, stands_after, ends_at, RunsKeep}
+use Rattle.body_steps.proofs.Shadowed.{kept_by_rest, is_after, ends_at, RunsKeep}
 use Rattle.body_steps.proofs.Viewed.{IsCounted, is_machine, room_here, holds_here, placed}
 use Rattle.body_steps.proofs.Reaching.{reaches_keeps, stays_sane}
 use Rattle.body_steps.proofs.Next.{Leaves, further, Ran, begins_next}
@@ -172,7 +172,7 @@ module _ (t : Functions) (fs : List Funclet) (program : LinearProgram) (p : Plan
           let sp : register u.cpu Rsp ≡ register s.cpu Rsp = ap (λ (xs : List ℕ). slice_index xs 1) r.rest ∙ dropped s.cpu.registers in
           let ran : Ran t fs program p q image s c b counted u d values ts = record { changed = record { changes = r.changes; keeps = keeps }; holds = r.holds; stack = sp; leaves = leaves } in
           let kept = kept_by_rest r.after.rest s.cpu.registers r.rest in
-          let ends = ends_at t fs program p q image s c b counted u label at lt kept (stands_after t fs program p q image s c b counted u d values ts ran around.caller around.owner) in (
+          let ends = ends_at t fs program p q image s c b counted u label at lt kept (is_after t fs program p q image s c b counted u d values ts ran around.caller around.owner) in (
             u,
             reaches_quietly t fs program p q image n s u r.comes (keep u r.comes ends) b.memory.code (quiet_at label rip at lt small u refl),
             begins_next t fs program p q image s c b counted u d values ts ran label landed events at lt (stays_sane s u keeps small b.sane) (λ value e. absurd (nothing landed value free e)) around.caller around.owner,

@@ -36,7 +36,7 @@ use Rattle.body_states.specs.Bodies.{Begins}
 use Rattle.body_states.proofs.StackWalks.{callers, on_stack, keep_then}
 use Rattle.body_states.proofs.QuietTurns.{program_kept}
 use Rattle.body_states.proofs.Found.{begin_finds}
-use Rattle.body_states.proofs.Flowing.{caller_by, StandsBelow, from_state}
+use Rattle.body_states.proofs.Flowing.{caller_by, IsBelow, from_state}
 use Rattle.body_states.proofs.Pieces.{piece_finds, piece_keeps}
 use Rattle.body_steps.specs.Views.{counts_of, state_of}
 use Rattle.body_steps.specs.Stores.{OwnerHasFrame}
@@ -77,21 +77,21 @@ module _ (t : Functions) (fs : List Funclet) (program : LinearProgram) (p : Plan
   beyond_here = callers caller_here b.body.is
 
   abbrev pub Below : Memory → Type 0
-  Below m = StandsBelow t fs program p q m kept_here layout_here.frame b.body.back beyond_here
+  Below m = IsBelow t fs program p q m kept_here layout_here.frame b.body.back beyond_here
 
   enough : get_or kept_here 0 0 + layout_here.frame + 8 < 2 ^ 64
   enough = let h = frame_top t fs program p q image s c b counted in omega arith
 
-  pub stands_here : Below s.memory
-  stands_here = record { program_there = b.memory.code; returns = b.body.returns; beyond = on_stack t s.memory caller_here 0 b.body.is (b.body.below (drop 1 kept_here) refl).stands.stack }
+  pub is_here : Below s.memory
+  is_here = record { program_there = b.memory.code; returns = b.body.returns; beyond = on_stack t s.memory caller_here 0 b.body.is (b.body.below (drop 1 kept_here) refl).is_there.stack }
 
   -- after a run of a template
-  pub stands_after : (u : State) (d : BodyState) (values ts : List ℕ) → Ran t fs program p q image s c b counted u d values ts
+  pub is_after : (u : State) (d : BodyState) (values ts : List ℕ) → Ran t fs program p q image s c b counted u d values ts
       → (p.leaf c.frame.body ≡ true → CallerHasFrame p c.below) → ((k : ℕ) → c.frame.body ≡ FuncletBody k → OwnerHasFrame t fs program p c.frame.activation c.below b.body.acts) → Below u.memory
-  stands_after u d values ts r caller owner = record {
+  is_after u d values ts r caller owner = record {
     program_there = program_kept t fs program p q s.memory u.memory (record { protection = r.changed.keeps.protection; fixed = r.changed.keeps.fixed }) b.memory.code;
     returns = returns t fs program p q image s c b counted u d values ts r;
-    beyond = on_stack t u.memory caller_here 0 b.body.is (new_on t fs program p q image s c b counted u d values ts r caller owner (drop 1 kept_here) refl).stands.stack;
+    beyond = on_stack t u.memory caller_here 0 b.body.is (new_on t fs program p q image s c b counted u d values ts r caller owner (drop 1 kept_here) refl).is_there.stack;
   }
 
   -- where no reserved byte has changed the slots are as they were
@@ -118,22 +118,22 @@ module _ (t : Functions) (fs : List Funclet) (program : LinearProgram) (p : Plan
   -- where the walk finds the return address, with the frame as it was
   pub record Ends (u : State) : Type 0 where
     pub registers : kept_of u.cpu.registers ≡ kept_here
-    pub stands : Below u.memory
+    pub is_there : Below u.memory
     pub finds : FindsReturn t u.memory u.cpu.rip layout_here.frame
 
   -- at an instruction of the body
   pub ends_at : (u : State) (label : ℕ) → u.cpu.rip ≡ p.address c.frame.body label → label < length code_here.code → kept_of u.cpu.registers ≡ kept_here → Below u.memory → Ends u
-  ends_at u label rip lt registers stands = record {
+  ends_at u label rip lt registers is_there = record {
     registers = registers;
-    stands = stands;
-    finds = subst (λ a. FindsReturn t u.memory a layout_here.frame) (sym rip) (begin_finds t fs program p q image u.memory c.frame.body code_here label b.body.slots.body stands.program_there lt);
+    is_there = is_there;
+    finds = subst (λ a. FindsReturn t u.memory a layout_here.frame) (sym rip) (begin_finds t fs program p q image u.memory c.frame.body code_here label b.body.slots.body is_there.program_there lt);
   }
 
   -- there the walk gives these callers
   pub ends_gives : (u : State) → Ends u → WalkGives t u (caller_here ∷ beyond_here)
   ends_gives u e =
       let nine : length kept_here ≡ 9 = refl in
-      from_state t fs program p q u kept_here layout_here.frame b.body.back beyond_here e.finds e.registers nine enough e.stands
+      from_state t fs program p q u kept_here layout_here.frame b.body.back beyond_here e.finds e.registers nine enough e.is_there
 
   -- each turn of a run that ends so keeps the shadow
   abbrev pub RunsKeep : ℕ → State → Type 0
@@ -147,16 +147,16 @@ module _ (t : Functions) (fs : List Funclet) (program : LinearProgram) (p : Plan
     pub record IsPast (before : List Instr) (x : State) : Type 0 where
       pub rip : x.cpu.rip ≡ p.address c.frame.body c.frame.next + sizes before
       pub registers : kept_of x.cpu.registers ≡ kept_here
-      pub stands : Below x.memory
+      pub is_there : Below x.memory
 
     pub past_none : IsPast [] s
-    past_none = let e = b.rip in record { rip = omega arith; registers = refl; stands = stands_here }
+    past_none = let e = b.rip in record { rip = omega arith; registers = refl; is_there = is_here }
 
     -- the rest of the template
     pub one_piece : (before code : List Instr) (x : State) → whole ≡ before ++ code → IsFlow code → IsPast before x → RunsKeep (length code) x
     one_piece before code x parts flow past u r ends =
         piece_keeps t fs program p q image c.frame.body code_here c.frame.next i b.body.slots.body at goes before code [] (parts ∙ ap (λ (xs : List Instr). before ++ xs) (sym (append-nil code)))
-        x u kept_here b.body.back beyond_here flow r past.rip past.registers ends.registers enough past.stands ends.stands ends.finds
+        x u kept_here b.body.back beyond_here flow r past.rip past.registers ends.registers enough past.is_there ends.is_there ends.finds
 
     -- where another instruction of the template is left, the walk finds the return address
     pub past_ends : (before left : List Instr) (x : State) → whole ≡ before ++ left → 1 ≤ length left → IsPast before x → Ends x
@@ -165,14 +165,14 @@ module _ (t : Functions) (fs : List Funclet) (program : LinearProgram) (p : Plan
         let begin = p.address c.frame.body c.frame.next + sizes before in
         let none : begin + sizes [] ≡ begin = omega arith in
         let parts_after : whole ≡ before ++ (left ++ []) = parts ∙ ap (λ (xs : List Instr). before ++ xs) (sym (append-nil left)) in
-        let finds = piece_finds t fs program p q image c.frame.body code_here c.frame.next i b.body.slots.body at goes before left [] parts_after x.memory begin [] z.1 z.0 refl past.stands.program_there z.2 in
-        record { registers = past.registers; stands = past.stands; finds = subst (λ a. FindsReturn t x.memory a layout_here.frame) (none ∙ sym past.rip) finds }
+        let finds = piece_finds t fs program p q image c.frame.body code_here c.frame.next i b.body.slots.body at goes before left [] parts_after x.memory begin [] z.1 z.0 refl past.is_there.program_there z.2 in
+        record { registers = past.registers; is_there = past.is_there; finds = subst (λ a. FindsReturn t x.memory a layout_here.frame) (none ∙ sym past.rip) finds }
 
     -- a piece before others, up to where they begin
     pub piece_to : (before first second : List Instr) (x mid : State) → whole ≡ before ++ (first ++ second) → IsFlow first → 1 ≤ length second → IsPast before x → Reaches (length first) x mid → IsPast (before ++ first) mid → AllKeep t fs (length first) x
     piece_to before first second x mid parts flow some past comes there =
         let ends = past_ends (before ++ first) second mid (parts ∙ sym (append_assoc before first second)) some there in
-        piece_keeps t fs program p q image c.frame.body code_here c.frame.next i b.body.slots.body at goes before first second parts x mid kept_here b.body.back beyond_here flow comes past.rip past.registers ends.registers enough past.stands ends.stands ends.finds
+        piece_keeps t fs program p q image c.frame.body code_here c.frame.next i b.body.slots.body at goes before first second parts x mid kept_here b.body.back beyond_here flow comes past.rip past.registers ends.registers enough past.is_there ends.is_there ends.finds
 
     -- and with them, where they do so too
     pub piece_then : (before first second : List Instr) (x mid : State) → whole ≡ before ++ (first ++ second) → IsFlow first → 1 ≤ length second → IsPast before x → Reaches (length first) x mid → IsPast (before ++ first) mid → AllKeep t fs (length second) mid → AllKeep t fs (length (first ++ second)) x

@@ -1,4 +1,4 @@
--- Other numbers in the locals of one activation leave the list as it stands.
+-- Other numbers in the locals of one activation leave the list as it is.
 use Rattle.std.proofs.Common.{◌≡◌, ℕ, suc, ◌+◌, ◌*◌, ◌<◌, ◌≤◌, Bool, true, false, Some, List, [], ◌∷◌, ◌++◌, length, refl, sym, ap, subst, ◌∙◌, arith, inl, inr}
 use Rattle.std.specs.Prelude.{◌==◌, slice_get}
 use Rattle.std.proofs.lemmas.Bool.{eq-eqb, ne_eqb}
@@ -13,17 +13,17 @@ use Rattle.template_code.specs.declared.layout.Layout.{Layout}
 use Rattle.linear_code.specs.Program.{LinearProgram}
 use Rattle.linear_machine.specs.Frames.{BodyName, FunctionBody, FuncletBody, Frame, Item, Waits, Searches, Unwinds}
 use Rattle.seh_walk.specs.Walk.{filter_return, finally_return}
-use Rattle.linked_stack.specs.Stack.{StackFrame, StackItem, Framed, Leaf, Searching, Unwinding, FrameStands, LeafStands, IsStack, after_frame, after_leaf}
+use Rattle.linked_stack.specs.Stack.{StackFrame, StackItem, Framed, Leaf, Searching, Unwinding, FrameIsAt, LeafIsAt, IsStack, after_frame, after_leaf}
 use Rattle.linked_stack.proofs.Visiting.{set_head}
 use Rattle.linked_stack.proofs.WalkKeeping.{rises}
 use Rattle.linked_stack.specs.ImagePlan.{Plan}
 use Rattle.linked_stack.specs.Linked.{Activation, locals_of, activations_below, HoldsWords, temporaries_end, HasActivation, HoldsLocals, IsActivation, HasBase, home_end, HasPointers, IsAbove, HasSpace, below_end, record_room, BodyWaits, FrameWaits, LeafWaits, Linked}
-use Rattle.linked_stack.specs.ListLaws.{Stands}
+use Rattle.linked_stack.specs.ListLaws.{IsLinkedStack}
 use Rattle.linked_stack.proofs.Ends.{words_fit, in_stack}
-use Rattle.linked_stack.proofs.Kept.{ReadsSame, higher, words_kept, frame_kept, leaf_kept, own_kept, frame_above, frame_stands, leaf_stands, record_stands, list_kept}
+use Rattle.linked_stack.proofs.Kept.{ReadsSame, higher, words_kept, frame_kept, leaf_kept, own_kept, frame_above, frame_is_at, leaf_is_at, record_is_at, list_kept}
 use Rattle.linked_stack.proofs.ListKeeping.{reads_other}
 use Rattle.body_steps.specs.Stores.{with_values_if, with_values, KeepsStackBut, OwnerHasFrame, ActivationsAreStored}
-use Rattle.body_steps.proofs.Activations.{stand, locals_count, got_before, got_last}
+use Rattle.body_steps.proofs.Activations.{are_there, locals_count, got_before, got_last}
 
 -- ---- activations
 
@@ -178,11 +178,11 @@ module _ (m m' : Memory) (t : Functions) (fs : List Funclet) (program : LinearPr
 
   module _ (start : STACK_START ≤ base) (far : 32 ≤ distance) (end : to ≤ STACK_END) (words : HoldsWords m' from to values) where
     abbrev Stored : Context → List StackItem → List Item → List Activation → Type 0
-    Stored c is items acts = Stands t fs program p m' c is items (with_values acts k values)
+    Stored c is items acts = IsLinkedStack t fs program p m' c is items (with_values acts k values)
 
     -- a function's frame whose activation it is
     own_function : (c : Context) (f : StackFrame) (is : List StackItem) (b : Frame) (below : List Item) (a : Activation) (outer : List Activation) (n : ℕ) → b.body ≡ FunctionBody n → HasBase k base distance a outer → Fits (a ∷ outer)
-        → KeepsStackBut m m' (rsp c) from to → STACK_START ≤ rsp c → FrameStands t m c f → IsStack t m (after_frame c f) is
+        → KeepsStackBut m m' (rsp c) from to → STACK_START ≤ rsp c → FrameIsAt t m c f → IsStack t m (after_frame c f) is
         → FrameWaits t fs program p m c f b below (a ∷ outer) → HasActivation m (p.layout b.body) (rsp c) f.size b.activation (a ∷ outer) (FunctionBody n) → IsAbove t fs program p b b.body below → Linked t fs program p m (after_frame c f) is below outer
         → Stored c (Framed f ∷ is) (Waits b ∷ below) (a ∷ outer)
     own_function c f is b below a outer n name own fits keeps low frame rest h locals above linked =
@@ -199,7 +199,7 @@ module _ (m m' : Memory) (t : Functions) (fs : List Funclet) (program : LinearPr
         let last : temporaries_end y b.body f.size ≡ y.locals = ap (λ x. temporaries_end y x f.size) name in
         let temps = words_kept m m' from (rsp c) (rsp c + y.temporaries) (rsp c + temporaries_end y b.body f.size) b.temporaries r (omega arith) (omega arith) h.waits.temporaries in
         let outermost = list_kept m m' t fs program p (after_frame c f) is below outer (higher m m' STACK_END to (rsp (after_frame c f)) (omega arith) r') rest linked in
-        subst (λ acts. Stands t fs program p m' c (Framed f ∷ is) (Waits b ∷ below) acts) (sym (first_changes a outer k values own.number))
+        subst (λ acts. IsLinkedStack t fs program p m' c (Framed f ∷ is) (Waits b ∷ below) acts) (sym (first_changes a outer k values own.number))
         (record {
           stack = (frame_above m m' STACK_END t fs program p to c f r' le (omega arith) frame, outermost.stack);
           linked = (
@@ -217,13 +217,13 @@ module _ (m m' : Memory) (t : Functions) (fs : List Funclet) (program : LinearPr
 
     -- an item that is passed, and the list above it
     passes_frame : (c : Context) (f : StackFrame) (is : List StackItem) (b : Frame) (below : List Item) (acts : List Activation) → passes acts b.body
-        → KeepsStackBut m m' (rsp c) from to → STACK_START ≤ rsp c → FrameStands t m c f → rsp c + f.size + 8 ≤ from
+        → KeepsStackBut m m' (rsp c) from to → STACK_START ≤ rsp c → FrameIsAt t m c f → rsp c + f.size + 8 ≤ from
         → FrameWaits t fs program p m c f b below acts → IsAbove t fs program p b b.body below → Stored (after_frame c f) is below (activations_below b.body acts)
         → Stored c (Framed f ∷ is) (Waits b ∷ below) acts
     passes_frame c f is b below acts i keeps low frame le h above rest =
         let r = below_them (rsp c) low end keeps in
         record {
-          stack = (frame_stands m m' from t fs program p c f r le frame, rest.stack);
+          stack = (frame_is_at m m' from t fs program p c f r le frame, rest.stack);
           linked = (
             frame_passed c f b below acts i (frame_kept m m' from t fs program p c f b below acts r (omega arith) h),
             above,
@@ -232,13 +232,13 @@ module _ (m m' : Memory) (t : Functions) (fs : List Funclet) (program : LinearPr
         }
 
     passes_leaf : (c : Context) (back : ℕ) (is : List StackItem) (b : Frame) (below : List Item) (acts : List Activation) → passes acts b.body
-        → KeepsStackBut m m' (rsp c) from to → STACK_START ≤ rsp c → LeafStands t m c back → rsp c + home_end ≤ from
+        → KeepsStackBut m m' (rsp c) from to → STACK_START ≤ rsp c → LeafIsAt t m c back → rsp c + home_end ≤ from
         → LeafWaits t fs program p m c back b below acts → IsAbove t fs program p b b.body below → Stored (after_leaf c back) is below (activations_below b.body acts)
         → Stored c (Leaf back ∷ is) (Waits b ∷ below) acts
     passes_leaf c back is b below acts i keeps low leaf le h above rest =
         let r = below_them (rsp c) low end keeps in
         record {
-          stack = (leaf_stands m m' from t fs program p c back r (omega arith) leaf, rest.stack);
+          stack = (leaf_is_at m m' from t fs program p c back r (omega arith) leaf, rest.stack);
           linked = (
             leaf_passed c back b below acts i (leaf_kept m m' from t fs program p c back b below acts r le h),
             above,
@@ -247,32 +247,32 @@ module _ (m m' : Memory) (t : Functions) (fs : List Funclet) (program : LinearPr
         }
 
     upper : (c : Context) (f : StackFrame) (is : List StackItem) (b : Frame) (below : List Item) (acts : List Activation) (name : BodyName) → b.body ≡ name → passes acts name
-        → KeepsStackBut m m' (rsp c) from to → STACK_START ≤ rsp c → FrameStands t m c f → IsStack t m (after_frame c f) is
+        → KeepsStackBut m m' (rsp c) from to → STACK_START ≤ rsp c → FrameIsAt t m c f → IsStack t m (after_frame c f) is
         → FrameWaits t fs program p m c f b below acts → IsAbove t fs program p b b.body below → Linked t fs program p m (after_frame c f) is below (activations_below name acts)
         → Stored (after_frame c f) is below (activations_below name acts)
         → Stored c (Framed f ∷ is) (Waits b ∷ below) acts
     upper c f is b below acts name same i keeps low frame stack h above linked rest =
         let nine = frame.kept in
         let e : rsp (after_frame c f) ≡ rsp c + f.size + 8 = set_head c.kept (rsp c + f.size + 8) (omega arith) in
-        let high = (stand t fs program p m (after_frame c f) is below (activations_below name acts) k base distance stack linked i).low_end in
+        let high = (are_there t fs program p m (after_frame c f) is below (activations_below name acts) k base distance stack linked i).low_end in
         passes_frame c f is b below acts (subst (λ x. passes acts x) (sym same) i) keeps low frame (omega arith) h above
         (subst (λ x. Stored (after_frame c f) is below (activations_below x acts)) (sym same) rest)
 
     leaf_upper : (c : Context) (back : ℕ) (is : List StackItem) (b : Frame) (below : List Item) (acts : List Activation) (name : BodyName) → b.body ≡ name → passes acts name
-        → KeepsStackBut m m' (rsp c) from to → STACK_START ≤ rsp c → LeafStands t m c back → IsStack t m (after_leaf c back) is
+        → KeepsStackBut m m' (rsp c) from to → STACK_START ≤ rsp c → LeafIsAt t m c back → IsStack t m (after_leaf c back) is
         → LeafWaits t fs program p m c back b below acts → IsAbove t fs program p b b.body below → Linked t fs program p m (after_leaf c back) is below (activations_below name acts)
         → Stored (after_leaf c back) is below (activations_below name acts)
         → Stored c (Leaf back ∷ is) (Waits b ∷ below) acts
     leaf_upper c back is b below acts name same i keeps low leaf stack h above linked rest =
         let nine = leaf.kept in
         let e : rsp (after_leaf c back) ≡ rsp c + 8 = set_head c.kept (rsp c + 8) (omega arith) in
-        let high = (stand t fs program p m (after_leaf c back) is below (activations_below name acts) k base distance stack linked i).low_end in
+        let high = (are_there t fs program p m (after_leaf c back) is below (activations_below name acts) k base distance stack linked i).low_end in
         passes_leaf c back is b below acts (subst (λ x. passes acts x) (sym same) i) keeps low leaf (omega arith) h above
         (subst (λ x. Stored (after_leaf c back) is below (activations_below x acts)) (sym same) rest)
 
     -- this frame's own, or that of one above
     by_frame : (c : Context) (f : StackFrame) (is : List StackItem) (b : Frame) (below : List Item) (acts : List Activation) (name : BodyName) → b.body ≡ name → IsActivation acts k base distance → Fits acts
-        → KeepsStackBut m m' (rsp c) from to → STACK_START ≤ rsp c → FrameStands t m c f → IsStack t m (after_frame c f) is
+        → KeepsStackBut m m' (rsp c) from to → STACK_START ≤ rsp c → FrameIsAt t m c f → IsStack t m (after_frame c f) is
         → FrameWaits t fs program p m c f b below acts → HasActivation m (p.layout b.body) (rsp c) f.size b.activation acts name → IsAbove t fs program p b b.body below → Linked t fs program p m (after_frame c f) is below (activations_below name acts)
         → (passes acts name → Stored (after_frame c f) is below (activations_below name acts))
         → Stored c (Framed f ∷ is) (Waits b ∷ below) acts
@@ -282,7 +282,7 @@ module _ (m m' : Memory) (t : Functions) (fs : List Funclet) (program : LinearPr
     by_frame c f is b below (a ∷ outer) (FuncletBody j) same i fits keeps low frame stack h locals above linked rest = upper c f is b below (a ∷ outer) (FuncletBody j) same i keeps low frame stack h above linked (rest i)
 
     by_leaf : (c : Context) (back : ℕ) (is : List StackItem) (b : Frame) (below : List Item) (acts : List Activation) (name : BodyName) → b.body ≡ name → IsActivation acts k base distance → (k ≡ length (activations_below name acts) → p.leaf b.body ≡ false)
-        → KeepsStackBut m m' (rsp c) from to → STACK_START ≤ rsp c → LeafStands t m c back → IsStack t m (after_leaf c back) is
+        → KeepsStackBut m m' (rsp c) from to → STACK_START ≤ rsp c → LeafIsAt t m c back → IsStack t m (after_leaf c back) is
         → LeafWaits t fs program p m c back b below acts → IsAbove t fs program p b b.body below → Linked t fs program p m (after_leaf c back) is below (activations_below name acts)
         → (passes acts name → Stored (after_leaf c back) is below (activations_below name acts))
         → Stored c (Leaf back ∷ is) (Waits b ∷ below) acts
@@ -305,11 +305,11 @@ module _ (m m' : Memory) (t : Functions) (fs : List Funclet) (program : LinearPr
     stored c (Searching d ∷ is) (Searches exception resumption asked rest ∷ below) acts s h i o fits keeps low =
         let e = rises t m c (Searching d) s.0 in
         let a = s.0.above in
-        let high = (stand t fs program p m (context_of d.saved) is below acts k base distance s.1 h.1 i).low_end in
+        let high = (are_there t fs program p m (context_of d.saved) is below acts k base distance s.1 h.1 i).low_end in
         let r = below_them (rsp c) low end keeps in
         let outer = stored (context_of d.saved) is below acts s.1 h.1 i o fits (kept_from (rsp c) (rsp (context_of d.saved)) (omega arith) keeps) (omega arith) in
         record {
-          stack = (record_stands m m' from t fs program p c d filter_return true (context_of d.saved) r (omega arith) s.0, outer.stack);
+          stack = (record_is_at m m' from t fs program p c d filter_return true (context_of d.saved) r (omega arith) s.0, outer.stack);
           linked = (
             record {
               own = own_kept m m' from t fs program p (rsp c) d r (omega arith) h.0.own;
@@ -327,11 +327,11 @@ module _ (m m' : Memory) (t : Functions) (fs : List Funclet) (program : LinearPr
     stored c (Unwinding d ∷ is) (Unwinds rest target ∷ below) acts s h i o fits keeps low =
         let e = rises t m c (Unwinding d) s.0 in
         let a = s.0.above in
-        let high = (stand t fs program p m d.walk is below acts k base distance s.1 h.1 i).low_end in
+        let high = (are_there t fs program p m d.walk is below acts k base distance s.1 h.1 i).low_end in
         let r = below_them (rsp c) low end keeps in
         let outer = stored d.walk is below acts s.1 h.1 i o fits (kept_from (rsp c) (rsp d.walk) (omega arith) keeps) (omega arith) in
         record {
-          stack = (record_stands m m' from t fs program p c d finally_return false d.walk r (omega arith) s.0, outer.stack);
+          stack = (record_is_at m m' from t fs program p c d finally_return false d.walk r (omega arith) s.0, outer.stack);
           linked = (
             record { own = own_kept m m' from t fs program p (rsp c) d r (omega arith) h.0.own; purpose = h.0.purpose; row = h.0.row; aimed = h.0.aimed; space = space_kept (rsp c) (below_end + record_room) target.held acts h.0.space },
             outer.linked,
@@ -353,7 +353,7 @@ module _ (m m' : Memory) (t : Functions) (fs : List Funclet) (program : LinearPr
 
 pub activations_are_stored : (t : Functions) (fs : List Funclet) (program : LinearProgram) (p : Plan) → ActivationsAreStored t fs program p
 activations_are_stored t fs program p m m' c is items acts k base distance old values s low i far owner number count keeps words =
-    let a = stand t fs program p m c is items acts k base distance s.stack s.linked i in
+    let a = are_there t fs program p m c is items acts k base distance s.stack s.linked i in
     let le = a.low_end in
     let top = a.high_end in
     let same : a.values ≡ old = the_same a.values old (sym a.number ∙ number) in

@@ -15,7 +15,7 @@ use Rattle.linked_stack.specs.ImagePlan.{Plan}
 use Rattle.linked_stack.specs.Linked.{locals_of, activations_below, temporaries_end, HasActivation}
 use Rattle.linked_stack.proofs.Ends.{in_stack}
 use Rattle.body_states.specs.Sites.{Sites}
-use Rattle.linked_stack.specs.ListLaws.{Stands}
+use Rattle.linked_stack.specs.ListLaws.{IsLinkedStack}
 use Rattle.body_states.specs.Layouts.{IsFunctionLayout, IsLeafLayout, IsFuncletLayout, IsLayoutIf, IsLaidOut, IsFuncletPlan}
 use Rattle.body_states.specs.Programs.{IsProgramImage}
 use Rattle.body_states.specs.Bodies.{slots_end, last_temporary, Begins}
@@ -51,7 +51,7 @@ module _ (t : Functions) (fs : List Funclet) (program : LinearProgram) (p : Plan
     pub frame_top : sp + (p.layout c.frame.body).frame + 8 ≤ STACK_END
     frame_top =
         let o = b.body.below (replicate 8 0) refl in
-        in_stack t fs program p s.memory (context_below b.body.back (sp + (p.layout c.frame.body).frame + 8) (replicate 8 0)) b.body.is c.below (activations_below c.frame.body b.body.acts) o.stands.stack o.stands.linked
+        in_stack t fs program p s.memory (context_below b.body.back (sp + (p.layout c.frame.body).frame + 8) (replicate 8 0)) b.body.is c.below (activations_below c.frame.body b.body.acts) o.is_there.stack o.is_there.linked
 
     values_count : (values : List ℕ) → slice_get (locals_of b.body.acts) c.frame.activation ≡ Some values → length values ≡ code.locals
     values_count values e =
@@ -85,7 +85,7 @@ module _ (t : Functions) (fs : List Funclet) (program : LinearProgram) (p : Plan
         funclet_placed t fs program p s.memory y (p.layout (FunctionBody plan.funclet.function)) code sp c.frame.activation k b.body.acts
         (context_below b.body.back (sp + y.frame + 8) (replicate 8 0)) b.body.is c.below
         (subst (λ n. IsFuncletLayout (p.layout n) (p.layout (FunctionBody plan.funclet.function)) code) (sym name) plan.layout) (omega arith) refl
-        (subst (λ n. Stands t fs program p s.memory (context_below b.body.back (sp + y.frame + 8) (replicate 8 0)) b.body.is c.below (activations_below n b.body.acts)) name o.stands) h
+        (subst (λ n. IsLinkedStack t fs program p s.memory (context_below b.body.back (sp + y.frame + 8) (replicate 8 0)) b.body.is c.below (activations_below n b.body.acts)) name o.is_there) h
         (λ values e. let n = values_count values e in omega arith) (omega arith)
 
     by_name : (name : BodyName) → c.frame.body ≡ name → HasActivation s.memory (p.layout c.frame.body) sp (slots_end (p.layout c.frame.body) (p.leaf c.frame.body)) c.frame.activation b.body.acts name

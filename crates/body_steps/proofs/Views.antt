@@ -20,12 +20,12 @@ use Rattle.x64_templates.proofs.Entries.{holds_body_in_memory}
 use Rattle.x64_machine.specs.declared.context.Context.{Context}
 use Rattle.linear_machine.specs.Frames.{Item}
 use Rattle.linked_stack.specs.Stack.{StackItem}
-use Rattle.linked_stack.specs.ListLaws.{Stands}
+use Rattle.linked_stack.specs.ListLaws.{IsLinkedStack}
 use Rattle.linked_stack.specs.ImagePlan.{Plan}
 use Rattle.linked_stack.specs.Linked.{Activation, locals_of, HoldsWords, HasActivation, home_end}
 use Rattle.linked_stack.proofs.Ends.{words_fit, in_stack}
 use Rattle.body_states.specs.Layouts.{IsFunctionLayout, IsLeafLayout, IsFuncletLayout}
-use Rattle.body_steps.proofs.Activations.{activations_stand, got_last, locals_count, words_shorter}
+use Rattle.body_steps.proofs.Activations.{activations_are_at, got_last, locals_count, words_shorter}
 use Rattle.body_steps.proofs.Words.{word_is, word_in}
 
 -- where the base is kept: a function's is RSP, a funclet keeps it below its temporaries
@@ -106,10 +106,10 @@ same_slot x y e = cc
 
 module _ (t : Functions) (fs : List Funclet) (program : LinearProgram) (p : Plan) where
   pub funclet_placed : (m : Memory) (y function : Layout) (b : LinearBody) (sp k j : ℕ) (acts : List Activation) (c : Context) (is : List StackItem) (items : List Item) → IsFuncletLayout y function b → STACK_START ≤ sp
-      → rsp c ≡ sp + y.frame + 8 → Stands t fs program p m c is items acts → HasActivation m y sp y.frame k acts (FuncletBody j) → ((values : List ℕ) → slice_get (locals_of acts) k ≡ Some values → 8 * length values < 2 ^ 30) → function.locals < 2 ^ 30
+      → rsp c ≡ sp + y.frame + 8 → IsLinkedStack t fs program p m c is items acts → HasActivation m y sp y.frame k acts (FuncletBody j) → ((values : List ℕ) → slice_get (locals_of acts) k ≡ Some values → 8 * length values < 2 ^ 30) → function.locals < 2 ^ 30
       → SlotsPlaced m y b.temporaries sp k acts
   funclet_placed m y function b sp k j acts c is items l low at list h few near =
-      let a = activations_stand t fs program p m c is items acts k h.base y.locals list h.activation in
+      let a = activations_are_at t fs program p m c is items acts k h.base y.locals list h.activation in
       let n = few a.values a.number in
       let up = a.low_end in
       let top = a.high_end in

@@ -42,7 +42,7 @@ use Rattle.body_states.proofs.Pieces.{piece_there}
 use Rattle.body_steps.specs.Views.{counts_of}
 use Rattle.body_steps.proofs.Viewed.{IsCounted, placed, room_here, holds_here}
 use Rattle.body_steps.proofs.Reaching.{Keeps, keeps_then, reaches_keeps}
-use Rattle.body_steps.proofs.Shadowed.{kept_by_rest, Below, stands_here, stands_after, ran_same, RunsKeep, whole, IsPast, past_none, one_piece, piece_to, piece_then, near_here}
+use Rattle.body_steps.proofs.Shadowed.{kept_by_rest, Below, is_here, is_after, ran_same, RunsKeep, whole, IsPast, past_none, one_piece, piece_to, piece_then, near_here}
 use Rattle.body_steps.proofs.Running.{code, frame, slots, v, same_state, template_here, sp_is, has_slots, dropped, Surroundings}
 
 jump_size : (y : Layout) (at label : ℕ) → at + template_size y (instructions.Jump label) ≡ at + 5
@@ -154,7 +154,7 @@ module _ (t : Functions) (fs : List Funclet) (program : LinearProgram) (p : Plan
           record {
             rip = omega (arith, sizes_append ops (work o));
             registers = kept_by_rest view.rest s.cpu.registers rest;
-            stands = stands_after t fs program p q image s c b counted mid _ _ [] ran around.caller around.owner;
+            is_there = is_after t fs program p q image s c b counted mid _ _ [] ran around.caller around.owner;
           }
 
       -- the rest of the template
@@ -187,7 +187,7 @@ module _ (t : Functions) (fs : List Funclet) (program : LinearProgram) (p : Plan
         record {
           rip = omega arith;
           registers = kept_by_rest begun.stopped.rest s.cpu.registers begun.rest;
-          stands = subst (Below t fs program p q image s c b counted) (sym begun.memory) (stands_here t fs program p q image s c b counted);
+          is_there = subst (Below t fs program p q image s c b counted) (sym begun.memory) (is_here t fs program p q image s c b counted);
         }
 
     -- up to where the operands wait

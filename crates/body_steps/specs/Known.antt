@@ -6,7 +6,7 @@ use Rattle.linear_machine.specs.Frames.{BodyName, body_of, Configuration, Next}
 use Rattle.linear_machine.specs.Instructions.{act}
 use Rattle.linear_machine.specs.Run.{instruction_at}
 use Rattle.linked_stack.specs.ImagePlan.{Plan}
-use Rattle.ir_typed.specs.Ready.{CanGoOn}
+use Rattle.ir_typed.specs.Ready.{CanContinue}
 use Rattle.ir_typed.specs.Bodies.{IsWhole}
 use Rattle.ir_typed.specs.Waiting.{IsStacked}
 use Rattle.ir_typed.specs.Activations.{HasActivations}
@@ -32,13 +32,13 @@ module _ (program : LinearProgram) where
 
   -- of a configuration, and of those after one turn
   pub record IsKnown (c : Configuration) : Type 0 where
-    pub goes_on : CanGoOn program c
+    pub continues : CanContinue program c
     pub stacked : IsStacked program c
     pub activations : HasActivations program c
     pub small : HasSmallNumbers c
     pub depths : HasDepths program c
     pub next : (i : Instruction) (d : Configuration) → instruction_at program c ≡ Some i
-        → ((next : Next) → act program i next c ≡ next d) → CanGoOn program d
+        → ((next : Next) → act program i next c ≡ next d) → CanContinue program d
 
 -- and of the configuration after a step
 abbrev pub KnownNext : LinearProgram → Configuration → Instruction → Type 0

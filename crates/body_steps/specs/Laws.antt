@@ -46,8 +46,8 @@ module _ (program : LinearProgram) where
   IsWithinBody c instructions.Separator = Unit {0}
   IsWithinBody c other = ⊥
 
--- where an instruction begins in a state that stands for a configuration, the machine makes its
--- step in one turn or more, shows nothing, and stands for the next configuration
+-- where an instruction begins in a state that represents a configuration, the machine makes its
+-- step in one turn or more, shows nothing, and represents the next configuration
 abbrev pub StepsWithinBodiesAreMatched : Type 0
 StepsWithinBodiesAreMatched =
     (t : Functions) (fs : List Funclet) (program : LinearProgram) (p : Plan) (q : Sites)

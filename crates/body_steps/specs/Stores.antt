@@ -11,7 +11,7 @@ use Rattle.linear_machine.specs.Frames.{Item, Waits, Searches, Unwinds}
 use Rattle.linked_stack.specs.Stack.{StackItem}
 use Rattle.linked_stack.specs.ImagePlan.{Plan}
 use Rattle.linked_stack.specs.Linked.{Activation, locals_of, activations_below, IsActivation, HoldsWords}
-use Rattle.linked_stack.specs.ListLaws.{Stands}
+use Rattle.linked_stack.specs.ListLaws.{IsLinkedStack}
 
 abbrev pub with_values_if : Bool → Activation → List Activation → List ℕ → List Activation
     → List Activation
@@ -34,8 +34,8 @@ pub record KeepsStackBut (m m' : Memory) (low from to : ℕ) : Type 0 where
   pub no_more_code : (x : ℕ) → (m.protection x).execute ≡ false → (m'.protection x).execute ≡ false
 
 module _ (t : Functions) (fs : List Funclet) (program : LinearProgram) (p : Plan) where
-  -- where the locals of an activation stand: above the stack pointer, and below the stack's end
-  pub record ActivationStands (m : Memory) (low k base distance : ℕ)
+  -- where the locals of an activation are: above the stack pointer, and below the stack's end
+  pub record ActivationIsAt (m : Memory) (low k base distance : ℕ)
       (acts : List Activation) : Type 0 where
     pub values : List ℕ
     pub number : slice_get (locals_of acts) k ≡ Some values
@@ -43,12 +43,12 @@ module _ (t : Functions) (fs : List Funclet) (program : LinearProgram) (p : Plan
     pub high_end : base + distance + 8 * length values ≤ STACK_END
     pub holds : HoldsWords m (base + distance) (base + distance + 8 * length values) values
 
-  abbrev pub ActivationsStand : Type 0
-  ActivationsStand =
+  abbrev pub ActivationsAreAt : Type 0
+  ActivationsAreAt =
       (m : Memory) (c : Context) (is : List StackItem) (items : List Item) (acts : List Activation)
       (k base distance : ℕ)
-      → Stands t fs program p m c is items acts → IsActivation acts k base distance
-      → ActivationStands m (rsp c) k base distance acts
+      → IsLinkedStack t fs program p m c is items acts → IsActivation acts k base distance
+      → ActivationIsAt m (rsp c) k base distance acts
 
   -- the function whose activation has this number has a frame, wherever it waits
   abbrev pub OwnerHasFrame : ℕ → List Item → List Activation → Type 0
@@ -60,14 +60,14 @@ module _ (t : Functions) (fs : List Funclet) (program : LinearProgram) (p : Plan
       OwnerHasFrame k below acts
   OwnerHasFrame k (Unwinds rest target ∷ below) acts = OwnerHasFrame k below acts
 
-  -- other numbers in the locals of one activation leave the list as it stands, with these numbers
+  -- other numbers in the locals of one activation leave the list as it is, with these numbers
   abbrev pub ActivationsAreStored : Type 0
   ActivationsAreStored =
       (m m' : Memory) (c : Context) (is : List StackItem) (items : List Item)
       (acts : List Activation) (k base distance : ℕ) (old values : List ℕ)
-      → Stands t fs program p m c is items acts → STACK_START ≤ rsp c
+      → IsLinkedStack t fs program p m c is items acts → STACK_START ≤ rsp c
       → IsActivation acts k base distance → 32 ≤ distance → OwnerHasFrame k items acts
       → slice_get (locals_of acts) k ≡ Some old → length values ≡ length old
       → KeepsStackBut m m' (rsp c) (base + distance) (base + distance + 8 * length values)
       → HoldsWords m' (base + distance) (base + distance + 8 * length values) values
-      → Stands t fs program p m' c is items (with_values acts k values)
+      → IsLinkedStack t fs program p m' c is items (with_values acts k values)

@@ -2,8 +2,8 @@
 
 ghost use Rattle.body_steps.specs.Laws.{StepsWithinBodiesAreMatched};
 
-/// Where the machine stands for a configuration of linear code, it makes each step within the body
-/// in at most sixteen turns, less those that a temporary takes more or fewer, and stands for the
+/// Where the machine represents a configuration of linear code, it makes each step within the body
+/// in at most sixteen turns, less those that a temporary takes more or fewer, and represents the
 /// next one.
 pub fn laws()
     ensures within { StepsWithinBodiesAreMatched }

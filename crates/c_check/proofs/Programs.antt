@@ -20,7 +20,7 @@ use Rattle.c_resolved.specs.Expressions.{FaultAt}
 use Rattle.c_resolved.specs.Program.{functions_of, file_of, empty_file, resolve}
 use Rattle.c_syntax.specs.Program.{ExternalDeclaration}
 
--- the faults of `main` are found after the file's, and stand before them
+-- the faults of `main` are found after the file's, and are before them
 all_kept : (a b c : Option FaultAt) (main file functions : List FaultAt) → a ≡ kept None file → b ≡ kept a main → c ≡ kept b functions → c ≡ kept None (main ++ file ++ functions)
 all_kept a b c main file functions p q r =
     r ∙ ap (λ k. kept k functions) (q ∙ ap (λ k. kept k main) p ∙ sym (kept_after_other None main file)) ∙ sym (kept_append None (main ++ file) functions)

@@ -1,5 +1,5 @@
 -- What holds of an accepted program beside its shape: numbers name what is there, each operand has
--- the size that its operator takes, jumps and the names of exceptions stand where they mean
+-- the size that its operator takes, jumps and the names of exceptions are where they mean
 -- something, filters and `__finally` blocks are numbered in their order.
 use Rattle.std.specs.Prelude.{◌≡◌, ℕ, ◌+◌, ◌^◌, Bool, true, false, ◌&&◌, ◌||◌, nat_lt, nat_le, nat_eq, if◌then◌else◌, List, [], ◌∷◌, ◌++◌, length, slice_get, Option, Some, None}
 use Rattle.seh_num.specs.declared.width.Width.{Width}
@@ -260,7 +260,7 @@ abbrev mutual
 
 -- ---- statements
 
--- where a statement stands, beside its scope: what its function returns; whether a loop, a `__try`
+-- where a statement is, beside its scope: what its function returns; whether a loop, a `__try`
 -- body and the function can be left from here
 pub record Inside : Type 0 where
   pub scope : Scope

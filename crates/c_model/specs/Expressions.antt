@@ -43,7 +43,7 @@ converted Kept v = v
 converted (Extend s from size) v = extended s from (width size) v
 converted (Scale s from by) v = low W64 (extended s from W64 v * by)
 
--- the width of the numbers that stand for values of a type of this width
+-- the width of the numbers that represent values of a type of this width
 abbrev pub promoted : Width → Width
 promoted W8 = W32
 promoted W16 = W32
@@ -113,7 +113,7 @@ load program does access a context st =
     with_value (operate program does (Load access.width) a 0 context st)
     (λ v st. Gives (Value (value_of access v)) st)
 
--- what stands at a place that was located
+-- what is at a place that was located
 abbrev pub read : Program → Does → Lvalue → ℕ → Context → State → Outcome
 read program does (Local x) a context st = Gives (Value (local_of st context.activation x)) st
 read program does (Global access _) a context st = load program does access a context st

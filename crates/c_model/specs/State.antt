@@ -68,22 +68,22 @@ let_go st = record st { held = st.held - 2 }
 abbrev pub depth : State → ℕ
 depth st = length st.frames + st.held
 
--- goes on in one of two ways
+-- continues in one of two ways
 unfoldable pub choose : Bool → (State → Outcome) → (State → Outcome) → State → Outcome
 choose true a b st = a st
 choose false a b st = b st
 
--- goes on unless the depth would rise above the greatest
+-- continues unless the depth would rise above the greatest
 unfoldable pub deeper : ℕ → State → (State → Outcome) → Outcome
 deeper n st go =
     choose (nat_lt DEEPEST (depth st + n)) (λ st. Gives (End (Some (Deep TOO_DEEP))) st) go st
 
--- goes on with a value; any other result stays
+-- continues with a value; any other result stays
 unfoldable pub with_value : Outcome → (ℕ → State → Outcome) → Outcome
 with_value (Gives (Value v) st) go = go v st
 with_value o go = o
 
--- goes on after a normal end; any other result stays
+-- continues after a normal end; any other result stays
 unfoldable pub and_then : Outcome → (State → Outcome) → Outcome
 and_then (Gives Normal st) go = go st
 and_then o go = o

@@ -8,7 +8,7 @@ use Rattle.c_model.specs.State.{Exception, State, Normal, Returned, Broke, Conti
 use Rattle.c_model.specs.Tasks.{Handler, Context, Eval, Run, ForIteration, DoIteration, TryBody, RunFinally, Does}
 use Rattle.c_model.specs.Expressions.{all}
 
--- goes on with the value of an expression, and with a default where there is none
+-- continues with the value of an expression, and with a default where there is none
 abbrev pub optional : Does → ℕ → Option Expression → Context → State → (ℕ → State → Outcome)
     → Outcome
 optional does default None context st go = go default st
@@ -42,7 +42,7 @@ landing level held (Gives (Target to exc) st) go =
 landing level held o go = o
 
 -- a `__try` with a `__finally`: the block runs for every result but an end, and then that result
--- goes on
+-- continues
 unfoldable pub finally_after : Outcome → (Bool → State → Outcome) → Outcome
 finally_after (Gives (End e) st) last = Gives (End e) st
 finally_after (Gives Normal st) last = last false st

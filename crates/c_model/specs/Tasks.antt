@@ -1,4 +1,4 @@
--- What counts a step, and where a part of a program stands.
+-- What counts a step, and where a part of a program is.
 use Rattle.std.specs.Prelude.{ℕ, zero, suc, Bool, List, Option, None}
 use Rattle.c_operations.specs.declared.operation.Operation.{Operation}
 use Rattle.c_checked.specs.Expression.{Expression, Lvalue}

@@ -23,7 +23,7 @@ use Rattle.c_syntax.proofs.Files.{literal_class, constant_once, constants, other
 use Rattle.c_parse_stmt.specs.Parts.{NoPunctuator, APunctuator}
 use Rattle.c_parse.specs.Parts.{NoConstant, HasConstant, NoConstants, HasConstants, IsGiven, NoneGiven, HasGiven, NoInitialiser, HasInitialiser}
 use Rattle.c_parse.proofs.Lists.{Begun, Back, continues}
-use Rattle.c_parse.proofs.Refusing.{missing, punctuator, digit, has_it, following, Lacks, LacksAt, NoLiteral, continues as refusing_goes_on}
+use Rattle.c_parse.proofs.Refusing.{missing, punctuator, digit, has_it, following, Lacks, LacksAt, NoLiteral, continues as refusing_continues}
 
 -- ---- one constant
 
@@ -287,7 +287,7 @@ goes_further text i ts a rest o g n =
     let t = token (kinds.Punctuator punctuators.Assign) o.0 o.1.0 in
     let m = given_moves text i a rest g in
     missing NoInitialiser HasInitialiser text ts (t ∷ m.front) rest (o.1.1 ∙ ap (λ (z : List Token). t ∷ z) m.split)
-    (λ text' other s. further i (t ∷ (m.front ++ other)) (m.front ++ other) other (o.0, (o.1.0, refl)) (m.again other) (refusing_goes_on assignment rest other s n))
+    (λ text' other s. further i (t ∷ (m.front ++ other)) (m.front ++ other) other (o.0, (o.1.0, refl)) (m.again other) (refusing_continues assignment rest other s n))
     (λ text'. record { more = []; has = record { tree = Some i; is = λ other. following (λ z. IsInitialiser (Some i) z other) (t ∷ m.front) [] other (assigned i (t ∷ (m.front ++ other)) (m.front ++ other) other (o.0, (o.1.0, refl)) (m.again other)) } })
 
 unassigned : (ts : List Token) → Lacks punctuators.Assign ts → (Stops assignment ts → ⊥) → NoInitialiser 0 [] ts
@@ -297,5 +297,5 @@ unassigned ts l n (Some i) end h z = let b = after_assign i ts end h in l b.0 b.
 pub not_assigned : (text : List ℕ) (ts : List Token) → Lacks punctuators.Assign ts → (Stops assignment ts → ⊥) → Failed 0 (place text ts) NoInitialiser HasInitialiser text ts
 not_assigned text ts l n =
     missing NoInitialiser HasInitialiser text ts [] ts refl
-    (λ text' other s. unassigned other (firsts.no_punctuator punctuators.Assign ts other s l) (refusing_goes_on assignment ts other s n))
+    (λ text' other s. unassigned other (firsts.no_punctuator punctuators.Assign ts other s l) (refusing_continues assignment ts other s n))
     (λ text'. record { more = []; has = record { tree = None; is = λ other. refl } })

@@ -32,7 +32,7 @@ use Rattle.c_parse_expr.specs.declared.refusal.ParseErr.TheVariants.{Unexpected,
 use Rattle.c_parse_expr.specs.Refusals.{Placed}
 use Rattle.c_parse_stmt.specs.Parts.{NoPunctuator, APunctuator}
 use Rattle.c_parse.specs.Parts.{NoInitialiser, HasInitialiser, end_of, IsBracketed, NoneBracketed, HasBracketed, IsAfterName, NoLength, HasLength, EndsScalar, NoGlobal, HasGlobals}
-use Rattle.c_parse.proofs.Refusing.{missing, punctuator, named, name, digit, has_it, following, Lacks, NoInteger, NoIdentifier, continues as refusing_goes_on}
+use Rattle.c_parse.proofs.Refusing.{missing, punctuator, named, name, digit, has_it, following, Lacks, NoInteger, NoIdentifier, continues as refusing_continues}
 use Rattle.c_parse.proofs.Placing.{no_elements}
 
 -- ---- lengths in brackets
@@ -101,7 +101,7 @@ goes_further text base pointers at value p ts b rest is c w z =
     missing (NoneBracketed base pointers at) (HasBracketed base pointers at) text ts (t ∷ u ∷ []) rest (is.1.1 ∙ ap (λ (x : List Token). t ∷ x) c.1.1)
     (λ text' other s l end h st low.
     let q = integer_same value l.value p l.at (t ∷ u ∷ other) (t ∷ u ∷ other) (u ∷ other) h.0 refl (is.0, (is.1.0, refl)) h.1 in
-    refusing_goes_on postfix rest other s z (subst (λ (x : List Token). Stops postfix x) (sym (has_same punctuators.CloseBracket (u ∷ other) h.0 other end q.2 (c.0, (c.1.0, refl)) h.2)) st))
+    refusing_continues postfix rest other s z (subst (λ (x : List Token). Stops postfix x) (sym (has_same punctuators.CloseBracket (u ∷ other) h.0 other end q.2 (c.0, (c.1.0, refl)) h.2)) st))
     (λ text'. record { more = []; has = record { tree = length_of p value; is = λ other. (u ∷ other, (is.0, (is.1.0, refl)), (c.0, (c.1.0, refl))); low = λ five. w } })
 
 -- ---- lengths
@@ -204,7 +204,7 @@ no_scalar base pointers at n text ts l z (Some m) i gs end h low =
 pub not_scalar : (text : List ℕ) (base : Base) (pointers at : ℕ) (ts : List Token) → at ≤ 1048576 → Lacks punctuators.OpenBracket ts → (Stops postfix ts → ⊥) → Failed 0 (place text ts) (NoLength base pointers at) (HasLength base pointers at) text ts
 not_scalar text base pointers at ts w l z =
     missing (NoLength base pointers at) (HasLength base pointers at) text ts [] ts refl
-    (λ text' other s. no_scalar base pointers at 0 text' other (firsts.no_punctuator punctuators.OpenBracket ts other s l) (refusing_goes_on postfix ts other s z))
+    (λ text' other s. no_scalar base pointers at 0 text' other (firsts.no_punctuator punctuators.OpenBracket ts other s l) (refusing_continues postfix ts other s z))
     (λ text'. record { more = array; has = array_has base pointers at 6 text' w })
 
 scalar_far : (base : Base) (pointers at n : ℕ) (text : List ℕ) (ts : List Token) → 5 ≤ n → Lacks punctuators.OpenBracket ts → 1048576 < end_of base pointers None at → NoLength base pointers at n text ts
@@ -212,8 +212,8 @@ scalar_far base pointers at n text ts five l f None i gs end h low = let a = low
 scalar_far base pointers at n text ts five l f (Some m) i gs end h low =
     l h.length.after_opening h.length.opening
 
-punctuator_goes_on : (base : Base) (pointers at k : ℕ) (text : List ℕ) (ts : List Token) → 5 ≡ suc k → EndsScalar ts → Onward (HasLength base pointers at) k text [] ts
-punctuator_goes_on base pointers at k text ts e (rest, inl h) =
+punctuator_continues : (base : Base) (pointers at k : ℕ) (text : List ℕ) (ts : List Token) → 5 ≡ suc k → EndsScalar ts → Onward (HasLength base pointers at) k text [] ts
+punctuator_continues base pointers at k text ts e (rest, inl h) =
     let t = token (kinds.Punctuator punctuators.Semicolon) h.0 h.1.0 in record {
       token = t;
       rest = rest;
@@ -233,7 +233,7 @@ punctuator_goes_on base pointers at k text ts e (rest, inl h) =
         low = λ five. absurd (omega arith);
       };
     }
-punctuator_goes_on base pointers at k text ts e (rest, inr (inl h)) =
+punctuator_continues base pointers at k text ts e (rest, inr (inl h)) =
     let t = token (kinds.Punctuator punctuators.Comma) h.0 h.1.0 in record {
       token = t;
       rest = rest;
@@ -270,7 +270,7 @@ punctuator_goes_on base pointers at k text ts e (rest, inr (inl h)) =
         low = λ five. absurd (omega arith);
       };
     }
-punctuator_goes_on base pointers at k text ts e (rest, inr (inr h)) =
+punctuator_continues base pointers at k text ts e (rest, inr (inr h)) =
     let t = token (kinds.Punctuator punctuators.Assign) h.0 h.1.0 in record {
       token = t;
       rest = rest;
@@ -301,7 +301,7 @@ scalar_too_far text base pointers at ts w l f g = record {
   located = refl;
   against = λ text' other a s. scalar_far base pointers at 5 text' other (omega arith) (firsts.no_punctuator punctuators.OpenBracket ts other s l) f;
   able = λ text' a k. record { more = array; has = array_has base pointers at 6 text' w };
-  further = λ text' k a s e. punctuator_goes_on base pointers at k text' ts e g;
+  further = λ text' k a s e. punctuator_continues base pointers at k text' ts e g;
 }
 
 pub no_ends : (ts : List Token) → Lacks punctuators.Semicolon ts → Lacks punctuators.Comma ts → Lacks punctuators.Assign ts → EndsScalar ts → ⊥

@@ -186,7 +186,7 @@ in_head text counts ts w = record {
 abbrev typed : Base → ℕ → CType
 typed b n = record { base = b; pointers = n }
 
--- no globals stand where a parenthesis is after the head
+-- no globals are where a parenthesis is after the head
 not_globals : (text : List ℕ) (b base : Base) (n : ℕ) (called : Identifier) (gs : List Global) (ts d rest inner end : List Token) → IsHead base n called ts d rest → HasPunctuator punctuators.OpenParenthesis rest inner → IsExternalDeclaration text (Globals b gs) ts end → ⊥
 not_globals text b base n called gs ts d rest inner end h o g =
     apart b gs (typed base n) called ts ts h.after_stars rest inner end refl g

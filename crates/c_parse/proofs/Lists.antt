@@ -4,7 +4,7 @@ use Rattle.c_lex.specs.declared.token.Token.{Token}
 use Rattle.c_syntax.specs.Faults.{SameFirst}
 use Rattle.c_syntax.proofs.Failing.{append_append, first_after}
 
--- what may stand after elements of a list, and whole lists
+-- what may be after elements of a list, and whole lists
 abbrev pub Listed : Type 0 → Type 1
 Listed A = List A → List Token → List Token → Type 0
 

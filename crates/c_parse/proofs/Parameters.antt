@@ -252,7 +252,7 @@ in_end text left ts rest found d e low k = record {
 widen : (n : ℕ) (text : List ℕ) (ts : List Token) → HasListed n text ts → HasParameters n text ts
 widen n text ts h = record { trees = h.first ∷ h.others; are = h.are; few = h.few }
 
--- A list doesn't fail where `void` could stand before the parenthesis.
+-- A list doesn't fail where `void` could be before the parenthesis.
 no_void : (n : ℕ) (text : List ℕ) (ts front fault other end : List Token) → ts ≡ front ++ fault → ((rest : List Token) → IsVoid ts rest → ⊥) → SameFirst fault other → ((o : List Token) → SameFirst fault o → NoListed n text (front ++ o)) → IsVoid (front ++ other) end → ⊥
 no_void n text ts [] [] other end p v s f h = let e : [] ≡ token (kinds.Keyword keywords.Void) h.1.0 h.1.1.0 ∷ h.0 = sym s ∙ h.1.1.1 in cc
 no_void n text ts [] (t ∷ us) other end p v s f h =

@@ -14,11 +14,11 @@ nothing_within text = record { each = tt; functions = λ four. omega arith; byte
 
 module _ (text : List ℕ) (ts : List Token) (faultless : HasNoFault text ts) where
   -- tokens before a place continue there within the first n limits: if they didn't, then they wouldn't within fewer, and there would be a fault
-  goes_on : (front fault : List Token) → ts ≡ front ++ fault → Viable every_limit text front → (n : ℕ) → (Continues n text front fault → ⊥) → ⊥
-  goes_on front fault split viable zero stops =
+  continues : (front fault : List Token) → ts ≡ front ++ fault → Viable every_limit text front → (n : ℕ) → (Continues n text front fault → ⊥) → ⊥
+  continues front fault split viable zero stops =
       faultless 0 (place text fault) (record { front = front; fault = fault; split = split; located = refl; viable = viable; stops = stops; fewer = λ k e. absurd (omega arith) })
-  goes_on front fault split viable (suc n) stops =
-      goes_on front fault split viable n (λ before. faultless (suc n) (place text fault) (record {
+  continues front fault split viable (suc n) stops =
+      continues front fault split viable n (λ before. faultless (suc n) (place text fault) (record {
         front = front;
         fault = fault;
         split = split;
@@ -31,9 +31,9 @@ module _ (text : List ℕ) (ts : List Token) (faultless : HasNoFault text ts) wh
   -- token by token, up to the end
   whole : (front fault : List Token) → ts ≡ front ++ fault → Viable every_limit text front → IsNoProgram text ts → ⊥
   whole front [] split viable none =
-      goes_on front [] split viable every_limit (λ here. none here.0 (subst (λ (z : List Token). IsProgram text here.0 z) (sym (split ∙ append-nil front)) here.1) here.2)
+      continues front [] split viable every_limit (λ here. none here.0 (subst (λ (z : List Token). IsProgram text here.0 z) (sym (split ∙ append-nil front)) here.1) here.2)
   whole front (t ∷ rest) split viable none =
-      goes_on front (t ∷ rest) split viable every_limit (λ here. whole (front ++ t ∷ []) rest (split ∙ sym (append_append front (t ∷ []) rest)) here none)
+      continues front (t ∷ rest) split viable every_limit (λ here. whole (front ++ t ∷ []) rest (split ∙ sym (append_append front (t ∷ []) rest)) here none)
 
 pub program_or_fault : ProgramOrFault
 program_or_fault text ts none faultless = whole text ts faultless [] ts refl (record { beyond = []; more = []; program = []; derives = refl; within = nothing_within (text ++ []) }) none

@@ -77,7 +77,7 @@ listed_spelled text (e ∷ es) ts rest end h c = record {
   others = more_spelled text es h.after_first rest end h.others c;
 }
 
--- ---- what can stand after what was read
+-- ---- what can be after what was read
 
 comma_stops : (ts rest : List Token) → HasPunctuator punctuators.Comma ts rest → Stops assignment ts
 comma_stops ts rest h = has_stops punctuators.Comma ts rest assignment h (omega arith)

@@ -294,23 +294,23 @@ after_punctuator_wraps room e punctuator' o at text ts rest h p fits low = recor
   has = λ n text' inner a k b. able_now (HasStep room e (follows ts)) n text' (token (kinds.Punctuator punctuator') at h.0 ∷ inner) (a_step room e o punctuator' at h.0 (follows ts) n text' inner (sym (ap follows h.1)) p fits (λ q. low) b);
 }
 
-stands_alone : (room : ℕ) (e : Expression) (l : ℕ) (text : List ℕ) (ts : List Token) → ((other : List Token) → SameFirst ts other → (text' : List ℕ) → NoStep room e 0 text' other) → Failed 0 (place text ts) (NoStep room e) (HasStep room e l) text ts
-stands_alone room e l text ts n =
+is_alone : (room : ℕ) (e : Expression) (l : ℕ) (text : List ℕ) (ts : List Token) → ((other : List Token) → SameFirst ts other → (text' : List ℕ) → NoStep room e 0 text' other) → Failed 0 (place text ts) (NoStep room e) (HasStep room e l) text ts
+is_alone room e l text ts n =
     unexpected_at (NoStep room e) (HasStep room e l) text ts [] ts refl (λ text' other a s. n other s text') (λ text' a k. able_now (HasStep room e l) 6 text' [] (inl refl))
 
 pub signless : (room : ℕ) (e : Expression) (l : ℕ) (text : List ℕ) (ts : List Token) → ((s : Punctuator) (at : ℕ) (rest : List Token) → IsPunctuator s at ts rest → ⊥) → Failed 0 (place text ts) (NoStep room e) (HasStep room e l) text ts
-signless room e l text ts n = stands_alone room e l text ts (λ other f text'. no_punctuator text' 0 room e other (λ s. firsts.no_kind (kinds.Punctuator s) ts other f (n s)))
+signless room e l text ts n = is_alone room e l text ts (λ other f text'. no_punctuator text' 0 room e other (λ s. firsts.no_kind (kinds.Punctuator s) ts other f (n s)))
 
 -- the same punctuator is at the front of tokens that begin alike
 same_punctuator : (s : Punctuator) (at : ℕ) (ts rest other : List Token) → IsPunctuator s at ts rest → SameFirst ts other → (more : List Token) × IsPunctuator s at other more
 same_punctuator s at ts rest other h f = let g : SameFirst (token (kinds.Punctuator s) at h.0 ∷ rest) other = subst (λ (z : List Token). SameFirst z other) h.1 f in (g.0, (h.0, g.1))
 
 pub no_operator_there : (room : ℕ) (e : Expression) (l : ℕ) (punctuator' : Punctuator) (at : ℕ) (text : List ℕ) (ts rest : List Token) → IsPunctuator punctuator' at ts rest → operation_of punctuator' ≡ None → Failed 0 (place text ts) (NoStep room e) (HasStep room e l) text ts
-no_operator_there room e l punctuator' at text ts rest h p = stands_alone room e l text ts (λ other f text'. let g = same_punctuator punctuator' at ts rest other h f in no_operation text' 0 room e punctuator' at other g.0 g.1 p)
+no_operator_there room e l punctuator' at text ts rest h p = is_alone room e l text ts (λ other f text'. let g = same_punctuator punctuator' at ts rest other h f in no_operation text' 0 room e punctuator' at other g.0 g.1 p)
 
 pub loose_there : (room : ℕ) (e : Expression) (l : ℕ) (punctuator' : Punctuator) (o : Operation) (at : ℕ) (text : List ℕ) (ts rest : List Token) → IsPunctuator punctuator' at ts rest → operation_of punctuator' ≡ Some o → bound o < rank e
     → Failed 0 (place text ts) (NoStep room e) (HasStep room e l) text ts
-loose_there room e l punctuator' o at text ts rest h p b = stands_alone room e l text ts (λ other f text'. let g = same_punctuator punctuator' at ts rest other h f in too_loose text' 0 room e punctuator' o at other g.0 g.1 p b)
+loose_there room e l punctuator' o at text ts rest h p b = is_alone room e l text ts (λ other f text'. let g = same_punctuator punctuator' at ts rest other h f in too_loose text' 0 room e punctuator' o at other g.0 g.1 p b)
 
 pub high_there : (room : ℕ) (e : Expression) (punctuator' : Punctuator) (o : Operation) (at : ℕ) (text : List ℕ) (ts rest : List Token) → IsPunctuator punctuator' at ts rest → operation_of punctuator' ≡ Some o → rank e ≤ bound o → room ≤ height e
     → Failed 1 (place text ts) (NoStep room e) (HasStep room e (follows ts)) text ts

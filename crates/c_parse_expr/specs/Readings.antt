@@ -112,7 +112,7 @@ pub record AStep (room : ℕ) (operand : Expression) (l n : ℕ) (text : List �
   pub tail : (other : List Token) → Tail text step (ts ++ other) other
   pub low : IsInForce Nesting n → height (apply operand step) ≤ room
 
--- of a level or a tighter one; the operand may stand alone
+-- of a level or a tighter one; the operand may be alone
 abbrev pub HasStep : ℕ → Expression → ℕ → ℕ → List ℕ → List Token → Type 0
 HasStep room operand l n text ts = (ts ≡ []) ⊎ AStep room operand l n text ts
 

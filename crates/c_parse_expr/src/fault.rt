@@ -69,7 +69,7 @@ fn field_departure<'a>(text: &[u8], tokens: &'a [Token]) -> &'a [Token]
 }
 
 /// The tokens from the first with which `GetExceptionInformation()->ExceptionRecord->field` doesn't
-/// go on; none such is at the front.
+/// continue; none such is at the front.
 pub fn departure<'a>(text: &[u8], tokens: &'a [Token]) -> &'a [Token]
     requires { NoInformation 0 text.now tokens.now }
     ensures { Failed 0 (place text.now result.now) NoInformation HasInformation text.now

@@ -155,8 +155,8 @@ none_accepts n text ts rest k h lacks no_one f end c low count =
     (atom_lacks text x.atom x.mid x.following x.yes x.is) lacks (omega arith) k in
     no_one x.atom x.following (sym q.1 ∙ x.is) x.yes
 
-pub goes_on_inside : (n : ℕ) (text : List ℕ) (ts rest : List Token) → 1 ≤ n → n ≤ 65 → AreOpening n ts rest → (n < 65 → Lacks punctuators.OpenParenthesis rest) → Refuses text rest → ContinuesInside n rest → Failed 6 (place text rest) (NoFilter 0) (HasFilter 0) text ts
-goes_on_inside n text ts rest l k h lacks no_one g =
+pub continues_inside : (n : ℕ) (text : List ℕ) (ts rest : List Token) → 1 ≤ n → n ≤ 65 → AreOpening n ts rest → (n < 65 → Lacks punctuators.OpenParenthesis rest) → Refuses text rest → ContinuesInside n rest → Failed 6 (place text rest) (NoFilter 0) (HasFilter 0) text ts
+continues_inside n text ts rest l k h lacks no_one g =
     let m = opening_moves n text ts rest h in
     let o = opening_alone n text ts rest h in
     record {

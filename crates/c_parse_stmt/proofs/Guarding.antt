@@ -28,7 +28,7 @@ use Rattle.c_parse_stmt.proofs.Tails.{IsBraced}
 use Rattle.c_parse_stmt.proofs.Tries.{NoneBraced, number_length, no_braced, no_try_body, no_except_room, no_filter, no_handler, except_found, unguarded, no_finally_left, no_last, finally_found}
 use Rattle.c_parse_stmt.proofs.Clauses.{Tries, Items, Guard, Except, Finally, excepted, finished, try_moves, Braces, is_braces, unit_braces, except, is_except, is_finally, brace, is_brace}
 
--- ---- where no statement may stand there is no number
+-- ---- where no statement may be there is no number
 
 bare_item : (text : List ℕ) (s : Statement) → statements_over_all (Then s Empty) ≤ 0 → length (numbered text s) ≡ 0
 bare_item text (Declare b ls) h = refl
@@ -41,7 +41,7 @@ bare text (Then s ss) h =
     let b = bare text ss (omega arith) in
     omega (arith, length-append {A = ℕ})
 
--- after the block of a `__try` that can continue, a statement may stand or a number is left
+-- after the block of a `__try` that can continue, a statement may be or a number is left
 pub still : (text : List ℕ) (room : ℕ) (left after : Left) (body : Statements) → 1 ≤ room + left.funclets → AllTaken text room left after body → 1 ≤ room + after.funclets
 still text zero left after body h t = let b = bare text body t.statements in let f = t.funclets in omega arith
 still text (suc room) left after body h t = omega arith

@@ -180,7 +180,7 @@ for_item text at f c n s ts a b d g i rest k o h u v z t = record {
   body = record { no_declaration = z; item = t };
 }
 
--- what may stand after `for`, the shortest
+-- what may be after `for`, the shortest
 abbrev pub For3 : List ℕ → List Token → List Token → Type 0
 For3 = Both (UpTo punctuators.CloseParenthesis None) Empties
 

@@ -187,7 +187,7 @@ Inner h s = Both (Headed h) (Item s)
 inner_moves : (h : Head) (s : Statement) (text : List ℕ) (ts mid rest : List Token) → IsHead text h ts mid → IsBlockItem text s mid rest → Moves (Inner h s) text ts rest
 inner_moves h s text ts mid rest i j = both_moves (Headed h) (Item s) text ts mid rest (head_moves h text ts mid i) (item s text mid rest j)
 
--- the statement after the head, wherever both stand, before what begins alike
+-- the statement after the head, wherever both are, before what begins alike
 inner_reads : (room : ℕ) (whole left : Left) (h : Head) (s : Statement) (text text' : List ℕ) (ts rest all mid other : List Token) (g : Holds text room whole left h s ts rest) → Alike text text' ts → IsBlockItem text' s mid other → Closed s other → Reads text' g.less g.between left s mid other
 inner_reads room whole left h s text text' ts rest all mid other g k i c =
     let m = head_moves h text ts g.mid g.head.is in

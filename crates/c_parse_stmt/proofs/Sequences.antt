@@ -125,7 +125,7 @@ failed R kind No Has text ts rest m f g o = record {
   further = λ text' k h s e. o text' k m.front h (λ other. m.again text' other h) e;
 }
 
--- ---- closing tokens, wherever they stand
+-- ---- closing tokens, wherever they are
 
 abbrev pub punctuator : Punctuator → Token
 punctuator s = token (kinds.Punctuator s) 0 0

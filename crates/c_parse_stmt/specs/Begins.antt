@@ -10,7 +10,7 @@ use Rattle.c_syntax.specs.Operators.{comma}
 use Rattle.c_syntax.specs.Statement.{Statement}
 use Rattle.c_syntax.specs.Statements.{is_declaration, IsBlockItem}
 
--- how many expressions at least stand around a part of one that begins with a token of this kind
+-- how many expressions at least are around a part of one that begins with a token of this kind
 abbrev pub over_first : Kind → ℕ
 over_first kinds.Identifier = 0
 over_first (kinds.Keyword k) = 0

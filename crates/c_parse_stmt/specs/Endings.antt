@@ -46,7 +46,7 @@ IsClause text (clauses.Except at f) = IsExceptClause at (IsCondition text (expre
 IsClause text (clauses.Finally at) =
     InTurn (IsKeyword keywords.Finally at) (HasPunctuator punctuators.OpenBrace)
 
--- how many statements stand around its filter
+-- how many statements are around its filter
 abbrev pub statements_over : Clause → ℕ
 statements_over (clauses.Except at f) = 1
 statements_over (clauses.Finally at) = 0

@@ -131,7 +131,7 @@ fn accepting<'a>(text: &[u8], tokens: &'a [Token]) -> Option<(Token, &'a [Token]
     }
 }
 
-/// How many expressions at least stand around a part of one that begins with the first token: a
+/// How many expressions at least are around a part of one that begins with the first token: a
 /// punctuator there is an operator's or a parenthesis.
 fn first_over(tokens: &[Token]) -> u64
     ensures { result ≡ first_over tokens.now }

@@ -37,7 +37,7 @@ fn too_many_locals(text: &[u8], tokens: &[Token]) -> ParseErr
 }
 
 /// The initialiser of a local, if there is one, and what follows it: nothing else continues after a
-/// local's name but `,` and `;`. At most `room` statements stand around it.
+/// local's name but `,` and `;`. At most `room` statements are around it.
 fn initialiser<'a>(
     alloc: Global,
     text: &[u8],
@@ -132,7 +132,7 @@ fn locals<'a>(
 }
 
 /// The declaration of locals at the front (C11, 6.7), how many the function may still declare, and
-/// what follows it. At most `room` statements stand around an initialiser.
+/// what follows it. At most `room` statements are around an initialiser.
 pub fn declaration<'a>(
     alloc: Global,
     text: &[u8],

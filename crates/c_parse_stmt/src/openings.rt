@@ -231,7 +231,7 @@ fn for_head<'a>(
 }
 
 /// What follows `__try`: the brace of its block (Microsoft C reference, "try-except statement" and
-/// "try-finally statement"). Where no statement may stand inside and no block may have a number,
+/// "try-finally statement"). Where no statement may be inside and no block may have a number,
 /// neither continues.
 fn try_head<'a>(
     text: &[u8],
@@ -282,7 +282,7 @@ fn by_keyword<'a>(
 }
 
 /// How the statement at the front begins, what is left of the counts after that, and what follows
-/// it. At most `room` statements stand around each of the statement's parts.
+/// it. At most `room` statements are around each of the statement's parts.
 pub fn read_opening<'a>(
     alloc: Global,
     text: &[u8],

@@ -1,4 +1,4 @@
-//! Parts of statements: keywords and punctuators that have to stand, expressions and what ends
+//! Parts of statements: keywords and punctuators that have to be there, expressions and what ends
 //! them.
 
 ghost use Rattle.std.specs.Prelude.{◌≤◌, ◌<◌, List, IsTrue, IsFalse, IfOk, IfErr, IfSome, IfNone, option_map};
@@ -173,7 +173,7 @@ pub fn condition<'a>(
 }
 
 /// The expression, or nothing, up to a punctuator that ends it, and what follows the punctuator. At
-/// most `room` statements stand around the expression.
+/// most `room` statements are around the expression.
 pub fn optional<'a>(
     alloc: Global,
     text: &[u8],

@@ -112,7 +112,7 @@ fn guarded<'a>(
 }
 
 /// The statement at the front as far as it goes (C11, 6.8), what is left of the counts after it,
-/// and what follows it. At most `room` statements stand around each of its parts.
+/// and what follows it. At most `room` statements are around each of its parts.
 #[cycle(nested)]
 fn statement<'a>(
     alloc: Global,
@@ -139,7 +139,7 @@ fn statement<'a>(
 }
 
 /// The statement or declaration of a block at the front, what is left of the counts after it, and
-/// what follows it. At most `room` statements stand around it and each expression in it.
+/// what follows it. At most `room` statements are around it and each expression in it.
 #[cycle(nested)]
 fn item<'a>(
     alloc: Global,
@@ -160,7 +160,7 @@ fn item<'a>(
 }
 
 /// The statements and declarations of a block up to its brace, what is left of the counts after
-/// them, and what follows the brace. At most `room` statements stand around each statement and each
+/// them, and what follows the brace. At most `room` statements are around each statement and each
 /// expression in the block, and at most `MOST_EXPRESSIONS` expressions around each expression.
 #[cycle(nested)]
 pub fn items<'a>(

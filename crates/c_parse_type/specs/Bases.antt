@@ -67,7 +67,7 @@ NoBase ts = (b : Base) (rest : List Token) → IsBase b ts rest → ⊥
 abbrev pub NoStar : List Token → Type 0
 NoStar ts = (rest : List Token) → HasPunctuator punctuators.Star ts rest → ⊥
 
--- Specifiers go no further: with the next token, whatever follows it, no others stand there that
+-- Specifiers end here: with the next token, whatever follows it, no others are there that
 -- nothing of a base follows.
 pub record EndsBase (b : Base) (ts rest : List Token) : Type 0 where
   pub front : List Token

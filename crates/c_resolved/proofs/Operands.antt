@@ -16,7 +16,7 @@ use Rattle.c_resolved.specs.Program.{result_size}
 use Rattle.c_resolved.proofs.Conversions.{conversion_makes, scaled_makes}
 use Rattle.c_resolved.proofs.TypeFacts.{scalar_size, pointer_size, pointer_scalar}
 
--- an operand that stands for a number of its type, or for none if its type has no values
+-- an operand that represents a number of its type, or for none if its type has no values
 pub record IsGood (S : Scope) (a : TypedNode) : Type 0 where
   pub sound : node_sound S a.node ≡ true
   pub sized : node_size S a.node ≡ result_size a.type

@@ -59,7 +59,7 @@ meaning_fits fs zs (x ∷ rest) h name = if_both (MeaningFits fs zs) (same_bytes
 pub with_name_fits : (fs : List Function) (zs : List Size) (block : Scope) (name : List ℕ) (e : Entity) → ScopeFits fs zs block → EntityFits fs zs e → ScopeFits fs zs (with_name block name e)
 with_name_fits fs zs block name e h k = if_both (ScopeFits fs zs) (is_taken block name) block ((name, e) ∷ block) (λ t. h) (λ t. (k, h))
 
--- ---- where a statement stands
+-- ---- where a statement is
 
 abbrev pub is_near : Reach → Bool
 is_near Nowhere = false

@@ -48,7 +48,7 @@ pub data Entity : Type 0 where
   -- as a number of 32 bits
   BuiltInConstant : ℕ → Entity
 
--- what the names mean where an expression stands, and whether it stands where an exception's code
+-- what the names mean where an expression is, and whether it is where an exception's code
 -- and fields, and AbnormalTermination, mean something
 pub record Names : Type 0 where
   pub entity : Identifier → Option Entity
@@ -95,7 +95,7 @@ abbrev pub rule_3 : ℕ → (TypedNode → TypedNode → TypedNode → Option Ty
 rule_3 at rule fs None b c = bad fs
 rule_3 at rule fs (Some a) b c = rule_2 at (rule a) fs b c
 
--- a rule that stands before the rules on types
+-- a rule that is before the rules on types
 abbrev pub given_that : Bool → ℕ → Fault → List FaultAt → ResolvedExpression → ResolvedExpression
 given_that true at f fs j = j
 given_that false at f fs j = bad (fs ++ fault_at at f)

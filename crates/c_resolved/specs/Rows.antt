@@ -1,4 +1,4 @@
--- Worked expressions: what they are resolved to, and where their faults stand.
+-- Worked expressions: what they are resolved to, and where their faults are.
 use Rattle.std.specs.Prelude.{◌≡◌, ℕ, false, List, [], ◌∷◌, Some, None}
 use Rattle.seh_num.specs.declared.width.Width.TheVariants.{W8, W32}
 use Rattle.c_lex.specs.declared.token.IntegerType.TheVariants as integers
@@ -27,7 +27,7 @@ use Rattle.c_resolved.specs.Types.{plain, pointer_to}
 use Rattle.c_resolved.specs.Expressions.{Names, LocalVariable, GlobalVariable, UserFunction, ResolvedExpression, resolve_expression}
 use Rattle.c_resolved.specs.Scopes.{Scope, names_in}
 
--- the text `c p i f q`, in which the names stand: a char, an int *, a char, a function int f(char
+-- the text `c p i f q`, in which the names are: a char, an int *, a char, a function int f(char
 -- *), and nothing
 abbrev pub text : List ℕ
 text = 99 ∷ 32 ∷ 112 ∷ 32 ∷ 105 ∷ 32 ∷ 102 ∷ 32 ∷ 113 ∷ []
@@ -107,7 +107,7 @@ PointerAndZero =
     × (resolve_expression names (is_equal p (number 1))
     ≡ record { found = None; faults = record { at = 20; fault = TypeClash } ∷ [] })
 
--- `i += 300` works on ints and is cut to a char; `p++` goes on by 4 bytes
+-- `i += 300` works on ints and is cut to a char; `p++` moves on by 4 bytes
 abbrev pub Changes : Type 0
 Changes =
     (resolve_expression names (trees.Assign i 20 (Some arithmetic.Add) (number 300))

@@ -1,4 +1,4 @@
--- Names by their bytes, and what they mean where an expression stands.
+-- Names by their bytes, and what they mean where an expression is.
 use Rattle.std.specs.Prelude.{ℕ, ◌-◌, Bool, true, false, ◌&&◌, nat_eq, if◌then◌else◌, List, [], ◌∷◌, take, drop, Option, Some, None}
 use Rattle.c_syntax.specs.declared.expression.Identifier.{Identifier}
 use Rattle.c_operations.specs.declared.built_in.BuiltIn.TheVariants.{Put, Protect, RaiseException}

@@ -24,7 +24,7 @@ use Rattle.c_resolved.specs.Operators.{int, as_is, as_type, can_become}
 use Rattle.c_resolved.specs.Expressions.{Entity, LocalVariable, BuiltInConstant, Names, FaultAt, fault_at, ResolvedExpression, resolve_expression}
 use Rattle.c_resolved.specs.Scopes.{Scope, spelled, meaning_in, built_ins}
 
--- ---- where a statement stands
+-- ---- where a statement is
 
 -- what a jump finds: nothing, something beyond a `__finally` block around it, or something that it
 -- can reach
@@ -38,7 +38,7 @@ past_finally Near = Beyond
 past_finally r = r
 
 -- the text; the names of the blocks around this one and of the file; the function's result; loops
--- and `__try` bodies around; whether a `return`, GetExceptionCode and AbnormalTermination may stand
+-- and `__try` bodies around; whether a `return`, GetExceptionCode and AbnormalTermination may be
 -- here
 pub record Environment : Type 0 where
   pub text : List ℕ

@@ -63,7 +63,7 @@ same_base a b = false
 abbrev pub same_type : CType → CType → Bool
 same_type a b = nat_eq a.pointers b.pointers && same_base a.base b.base
 
--- ---- how values stand in memory and in the machine
+-- ---- how values are kept in memory and in the machine
 
 abbrev pub base_width : Base → Width
 base_width Void = W8
@@ -103,7 +103,7 @@ size_of_width W16 = sizes.Int
 size_of_width W32 = sizes.Int
 size_of_width W64 = sizes.Long
 
--- the size of the numbers that stand for values of a type
+-- the size of the numbers that represent values of a type
 abbrev pub size_of : CType → Size
 size_of t = size_of_width (width_of t)
 

@@ -38,9 +38,9 @@ fewer n m text xs f h = record {
   numbered = λ k. h.numbered (f 6 (omega arith) k);
 }
 
-goes_on_fewer : (n m : ℕ) (text : List ℕ) (front fault : List Token) → AreAmong m n → Continues n text front fault → Continues m text front fault
-goes_on_fewer n m text front [] f h = (h.0, h.1, fewer n m text h.0 f h.2)
-goes_on_fewer n m text front (t ∷ fault) f h = record {
+continues_fewer : (n m : ℕ) (text : List ℕ) (front fault : List Token) → AreAmong m n → Continues n text front fault → Continues m text front fault
+continues_fewer n m text front [] f h = (h.0, h.1, fewer n m text h.0 f h.2)
+continues_fewer n m text front (t ∷ fault) f h = record {
   beyond = h.beyond;
   more = h.more;
   program = h.program;
@@ -93,7 +93,7 @@ goes_to n text front fault front' l v =
 -- the limits before one are fewer
 order : (n m : ℕ) (text : List ℕ) (front fault : List Token) → n < m → (Continues n text front fault → ⊥) → ((k : ℕ) → m ≡ suc k → Continues k text front fault) → ⊥
 order n zero text front fault l s f = absurd (omega arith)
-order n (suc m) text front fault l s f = s (goes_on_fewer m n text front fault (λ k a b. omega arith) (f m refl))
+order n (suc m) text front fault l s f = s (continues_fewer m n text front fault (λ k a b. omega arith) (f m refl))
 
 neither : (n m : ℕ) → (n < m → ⊥) → (m < n → ⊥) → n ≡ m
 neither zero zero g h = refl

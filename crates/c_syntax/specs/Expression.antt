@@ -60,7 +60,7 @@ expression = fold-Expr Expression node
 
 -- ---- measures
 
--- how many expressions at most stand around one of the parts; parentheses count, and a call is one
+-- how many expressions at most are around one of the parts; parentheses count, and a call is one
 -- with its name
 abbrev mutual
   pub height : Expression → ℕ

@@ -25,7 +25,7 @@ abbrev pub place : List ℕ → List Token → ℕ
 place text [] = length text
 place text (t ∷ ts) = t.start
 
--- Somewhere in the text stand the words with which the reading of an exception's record can always
+-- Somewhere in the text are the words with which the reading of an exception's record can always
 -- end.
 pub record Speaks (text : List ℕ) : Type 0 where
   pub of_record : Identifier

@@ -67,7 +67,7 @@ abbrev pub one_over_for_initialiser : ForInitialiser → ℕ
 one_over_for_initialiser (Declaring base ls) = one_over_locals ls
 one_over_for_initialiser (Evaluating e) = one_over e
 
--- How many statements at most stand around a part, and around what is in a block. A declaration is
+-- How many statements at most are around a part, and around what is in a block. A declaration is
 -- no statement, nor are the blocks of a `__try` statement.
 abbrev mutual
   pub statements_over : Statement → ℕ

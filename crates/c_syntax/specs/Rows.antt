@@ -1,5 +1,5 @@
 -- Short programs' parts with their trees, by the rules of C (C11, 6.5 and 6.8.4.1). Each is one
--- letter a name, and its tokens stand one byte apart.
+-- letter a name, and its tokens are one byte apart.
 use Rattle.std.specs.Prelude.{ℕ, ◌+◌, List, [], ◌∷◌, None}
 use Rattle.c_lex.specs.declared.keyword.Keyword.{Keyword}
 use Rattle.c_lex.specs.declared.keyword.Keyword.TheVariants as keywords

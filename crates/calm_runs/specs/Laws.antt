@@ -29,7 +29,7 @@ PlainBefore =
 
 -- ---- the run of which Plain speaks is the program's
 
--- wherever it stands, it comes to what the program comes to
+-- wherever it is, it comes to what the program comes to
 abbrev pub OneRun : Type 0
 OneRun =
     (program : Program) (arg : ℤ) (n k : ℕ)

@@ -28,10 +28,10 @@ pub chain_stops : (n : ℕ) (image : Image) (index : ℕ) (xs : List Info) (r : 
 chain_stops zero image index xs r e lt is = absurd (omega arith)
 chain_stops (suc n) image index xs r e lt is = ap (λ (t : Table Info). onto xs (t >>= λ i. prepend i (parents n image index i.parent))) is
 
-pub chain_goes_on : (n m : ℕ) (image : Image) (index : ℕ) (xs : List Info) (r : RuntimeFunction) (i : Info) → n ≡ m + 1 → info image index r.unwind_info ≡ Ok i
+pub chain_continues : (n m : ℕ) (image : Image) (index : ℕ) (xs : List Info) (r : RuntimeFunction) (i : Info) → n ≡ m + 1 → info image index r.unwind_info ≡ Ok i
     → onto (xs ++ (i ∷ [])) (parents m image index i.parent) ≡ onto xs (parents n image index (Some r))
-chain_goes_on zero m image index xs r i e is = absurd (omega arith)
-chain_goes_on (suc n) m image index xs r i e is =
+chain_continues zero m image index xs r i e is = absurd (omega arith)
+chain_continues (suc n) m image index xs r i e is =
     let h : n ≡ m = omega arith in
     ap (λ k. onto (xs ++ (i ∷ [])) (parents k image index i.parent)) (sym h)
     ∙ sym (onto_more xs i (parents n image index i.parent))

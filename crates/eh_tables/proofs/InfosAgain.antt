@@ -26,7 +26,7 @@ use Rattle.pe_image.specs.Numbers.{u32}
 use Rattle.eh_tables.specs.Written.{codes_bytes, bit, trailer_flags, trailer_bytes, range_bytes, padded, header, unwind_bytes, is_framed, IsTrailer, CanBeWritten, scope_record_bytes, scope_bytes}
 use Rattle.eh_tables.specs.ReadAgain.{IsStoredAt, HasTrailer, IsUnwindInfo, handler_of, parent_of, is_c, has_c_handler, info_written, InfoIsReadAgain, ScopeRecordsAreReadAgain}
 use Rattle.eh_tables.proofs.CodesAgain.{codes_again, order_again, whole_slots}
-use Rattle.eh_tables.proofs.TablesAgain.{front_stands, four_is, range_again, range_length, rows_again, rows_length}
+use Rattle.eh_tables.proofs.TablesAgain.{front_is_at, four_is, range_again, range_length, rows_again, rows_length}
 
 -- ---- the first byte: version and flags
 
@@ -147,12 +147,12 @@ module _ (i : UnwindInfo) (is : IsUnwindInfo i) (can : CanBeWritten i) where
 
   stored_again : (image : Image) (index rva : ℕ) (rest : List ℕ) → rva % 4 ≡ 0 → IsStoredAt image rva (all ++ rest) → stored_info image index rva ≡ Ok all
   unfolding stored_info
-  stored_again image index rva rest aligned stands =
+  stored_again image index rva rest aligned is_there =
       let total = all ++ rest in
       let long = length-append all rest in
-      let first : stored image.sections rva UNWIND_CODES ≡ Some (header i (length sl)) = front_stands image.sections rva (length total) UNWIND_CODES total (omega (arith, long, length-append front tail, end_is)) stands in
+      let first : stored image.sections rva UNWIND_CODES ≡ Some (header i (length sl)) = front_is_at image.sections rva (length total) UNWIND_CODES total (omega (arith, long, length-append front tail, end_is)) is_there in
       let second : stored image.sections rva (length all) ≡ Some all =
-      front_stands image.sections rva (length total) (length all) total (omega (arith, long)) stands ∙ ap (λ (l : List ℕ). Some l) (take_at all rest (length all) refl) in
+      front_is_at image.sections rva (length total) (length all) total (omega (arith, long)) is_there ∙ ap (λ (l : List ℕ). Some l) (take_at all rest (length all) refl) in
       let head = header i (length sl) in
       opened (rva % 4 == 0) (stored image.sections rva UNWIND_CODES) head (refusals.Misaligned rva) (refusals.Truncated rva)
       (λ h. unless (infos.version h == UNWIND_VERSION) (refusals.Version index (infos.version h)) >>= λ _. unless (infos.are_flags (infos.flags h)) (refusals.Flags index) >>= λ _. or_refused (stored image.sections rva (infos.slots_end h + infos.trailer_size h)) (refusals.Truncated rva))
@@ -248,12 +248,12 @@ module _ (i : UnwindInfo) (is : IsUnwindInfo i) (can : CanBeWritten i) where
       → stored_scope_records image rva all ≡ Ok bytes → scopes.scope_records_in bytes ≡ rows
       → info image index rva ≡ (scopes.checked index image.size 0 rows >>= λ _. Ok (info_written i b rows))
   unfolding info
-  whole_info image index rva rest bytes b rows aligned c stands after are =
+  whole_info image index rva rest bytes b rows aligned c is_there after are =
       all_read (stored_info image index rva) all bytes (stored_scope_records image rva)
       (λ x. slots.checked index (infos.is_framed x) 0 255 0 (infos.slots_of x))
       (λ r. scopes.checked index image.size 0 (scopes.scope_records_in r))
       (λ x r. info_of x (infos.is_c image x) r)
-      (stored_again image index rva rest aligned stands) after (order_read index)
+      (stored_again image index rva rest aligned is_there) after (order_read index)
       ∙ ap (λ (r : List ScopeRecord). scopes.checked index image.size 0 r >>= λ _. Ok (info_of all (infos.is_c image all) bytes)) are
       ∙ ap (λ (x : Info). scopes.checked index image.size 0 rows >>= λ _. Ok x) (said_again (infos.is_c image all) b bytes rows (c_again image ∙ c) are)
 
@@ -271,7 +271,7 @@ module _ (i : UnwindInfo) (is : IsUnwindInfo i) (can : CanBeWritten i) where
   count_again n lt = four_is n lt
 
   rows_after : (image : Image) (rva : ℕ) (rs : List ScopeRecord) → length rs < 2 ^ 32 → IsStoredAt image rva (all ++ scope_bytes rs) → scope_records_at image rva (length all) ≡ Ok (flat_map scope_record_bytes rs)
-  rows_after image rva rs few stands =
+  rows_after image rva rs few is_there =
       let count = u32 (length rs) in
       let body = flat_map scope_record_bytes rs in
       let total = all ++ (count ++ body) in
@@ -279,7 +279,7 @@ module _ (i : UnwindInfo) (is : IsUnwindInfo i) (can : CanBeWritten i) where
       let long : length total ≡ length all + 4 + 16 * length rs = omega (arith, length-append all (count ++ body), length-append count body, handler_size (length rs), rows_length rs) in
       let parted : total ≡ all ++ count ++ body = sym (append_assoc all count body) in
       let first : stored image.sections rva (length all + 4) ≡ Some (all ++ count) =
-      front_stands image.sections rva (length total) (length all + 4) total (omega (arith, long)) stands
+      front_is_at image.sections rva (length total) (length all + 4) total (omega (arith, long)) is_there
       ∙ ap (λ (l : List ℕ). Some (take (length all + 4) l)) parted
       ∙ ap (λ (l : List ℕ). Some l) (take_at (all ++ count) body (length all + 4) four_more) in
       let count_is : field 4 (all ++ count) (length all) ≡ length rs =
@@ -287,7 +287,7 @@ module _ (i : UnwindInfo) (is : IsUnwindInfo i) (can : CanBeWritten i) where
       let second : stored image.sections rva (length all + 4 + 16 * field 4 (all ++ count) (length all)) ≡ Some total =
       ap (λ n. stored image.sections rva (length all + 4 + 16 * n)) count_is
       ∙ ap (stored image.sections rva) (sym long)
-      ∙ stands in
+      ∙ is_there in
       counted (stored image.sections rva (length all + 4)) (all ++ count) total
       (λ c. stored image.sections rva (length all + 4 + 16 * field 4 c (length all))) (drop (length all + 4)) (refusals.Truncated rva) first second
       ∙ ap (λ (l : List ℕ). Ok (drop (length all + 4) l)) parted
@@ -295,20 +295,20 @@ module _ (i : UnwindInfo) (is : IsUnwindInfo i) (can : CanBeWritten i) where
 
   c_rows : (image : Image) (rva : ℕ) (rs : List ScopeRecord) → length rs < 2 ^ 32 → has_c_handler image i ≡ true → IsStoredAt image rva (all ++ scope_bytes rs) → stored_scope_records image rva all ≡ Ok (flat_map scope_record_bytes rs)
   unfolding stored_scope_records
-  c_rows image rva rs few some stands =
+  c_rows image rva rs few some is_there =
       let after : infos.slots_end all + HANDLER_SIZE ≡ length all = omega (arith, end_is, handler_length image i.trailer some, length-append front tail) in
       ap (scope_records_if (scope_records_at image rva (infos.slots_end all + HANDLER_SIZE))) (c_again image ∙ some)
       ∙ ap (scope_records_at image rva) after
-      ∙ rows_after image rva rs few stands
+      ∙ rows_after image rva rs few is_there
 
 pub reads_info : InfoIsReadAgain
 unfolding unwind_bytes
-reads_info image index rva i is can aligned none stands =
+reads_info image index rva i is can aligned none is_there =
     let bytes = all i is can in
-    let there : IsStoredAt image rva (bytes ++ []) = subst (IsStoredAt image rva) (sym (append-nil bytes)) stands in
+    let there : IsStoredAt image rva (bytes ++ []) = subst (IsStoredAt image rva) (sym (append-nil bytes)) is_there in
     whole_info i is can image index rva [] [] false [] aligned none there (no_rows i is can image rva none) refl
 
 pub reads_scopes : ScopeRecordsAreReadAgain
 unfolding unwind_bytes
-reads_scopes image index rva i rows is can are few aligned some stands =
-    whole_info i is can image index rva (scope_bytes rows) (flat_map scope_record_bytes rows) true rows aligned some stands (c_rows i is can image rva rows few some stands) (rows_again rows are)
+reads_scopes image index rva i rows is can are few aligned some is_there =
+    whole_info i is can image index rva (scope_bytes rows) (flat_map scope_record_bytes rows) true rows aligned some is_there (c_rows i is can image rva rows few some is_there) (rows_again rows are)

@@ -60,9 +60,9 @@ module _ (image : Image) (index : ℕ) (rs : List RuntimeFunction) where
   end_next zero e = absurd (omega arith)
   end_next (suc k) e = let h : k ≡ index = omega arith in ap (λ n. (get_or rs n no_range).end) h
 
-  pub goes_on : (x : Entry) → index < length rs → entry image index (end_before rs index) (get_or rs index no_range) ≡ Ok x
+  pub continues : (x : Entry) → index < length rs → entry image index (end_before rs index) (get_or rs index no_range) ≡ Ok x
       → passed (entries image (index + 1) (end_before rs (index + 1)) (drop (index + 1) rs)) ≡ passed (entries image index (end_before rs index) (drop index rs))
-  goes_on x lt is =
+  continues x lt is =
       ap (λ n. passed (entries image (index + 1) n (drop (index + 1) rs))) (end_next (index + 1) (omega arith))
       ∙ sym (passed_more x (entries image (index + 1) (get_or rs index no_range).end (drop (index + 1) rs)))
       ∙ sym (ap (λ (t : Table Entry). passed (t >>= λ y. prepend y (entries image (index + 1) (get_or rs index no_range).end (drop (index + 1) rs)))) is)

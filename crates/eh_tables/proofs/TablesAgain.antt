@@ -31,8 +31,8 @@ whole_front m n ys xs le h =
     let front : take n ys ≡ take n xs = sym (take-take n m ys le) ∙ ap (take n) parts.0 in
     ap (whole n) front ∙ ap (only_if (take n xs)) (eq-eqb (length (take n xs)) n (length-take-le n xs (omega (arith, long))))
 
-pub front_stands : (ss : List Section) (rva m n : ℕ) (xs : List ℕ) → n ≤ m → stored ss rva m ≡ Some xs → stored ss rva n ≡ Some (take n xs)
-front_stands ss rva m n xs le h = whole_front m n (stored_in rva (section_at rva ss)) xs le h
+pub front_is_at : (ss : List Section) (rva m n : ℕ) (xs : List ℕ) → n ≤ m → stored ss rva m ≡ Some xs → stored ss rva n ≡ Some (take n xs)
+front_is_at ss rva m n xs le h = whole_front m n (stored_in rva (section_at rva ss)) xs le h
 
 -- ---- a number of four bytes
 
@@ -90,9 +90,9 @@ three t1 t3 o bytes e1 e2 e3 h1 h2 h3 = rw (h1, h2, h3) refl
 
 pub reads_ranges : RangesAreReadAgain
 unfolding directory
-reads_ranges image rs are aligned size stands =
+reads_ranges image rs are aligned size is_there =
     let d = image.exceptions in
-    let there : stored image.sections d.rva d.size ≡ Some (table_bytes rs) = ap (stored image.sections d.rva) size ∙ stands in
+    let there : stored image.sections d.rva d.size ≡ Some (table_bytes rs) = ap (stored image.sections d.rva) size ∙ is_there in
     let multiple : d.size % 12 ≡ 0 = omega (arith, size, table_length rs) in
     none_or rs (stored_ranges image d) (d.size == 0)
     (λ h. let e = eqb-true d.size 0 h in none rs (omega (arith, e, size, table_length rs)))

@@ -38,7 +38,7 @@ pub const UNW_FLAG_EHANDLER: u8 = 1;
 /// There is a handler to be asked while unwinding.
 pub const UNW_FLAG_UHANDLER: u8 = 2;
 
-/// The entry that this info is chained to follows the codes. No other flag stands with it.
+/// The entry that this info is chained to follows the codes. No other flag is set with it.
 pub const UNW_FLAG_CHAININFO: u8 = 4;
 
 /// The numbers of the operations of unwind codes ("Unwind operation code").

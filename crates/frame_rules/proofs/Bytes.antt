@@ -1,4 +1,4 @@
--- Instructions that stand in memory by their bytes.
+-- Instructions that are in memory by their bytes.
 use Rattle.std.proofs.Common.{◌≡◌, ℕ, zero, suc, ◌+◌, ◌-◌, ◌*◌, ◌%◌, ◌^◌, ◌<◌, ◌≤◌, Bool, true, false, cond, ◌&&◌, eqb, leb, ltb, List, [], ◌∷◌, ◌++◌, length, Option, Some, None, refl, sym, ap, subst, ◌∙◌, arith, inl, inr, length-append}
 use Rattle.std.specs.List.{flat_map}
 use Rattle.std.proofs.lemmas.Bool.{cases_lt, and_parts, and_from, or_right, lt-ltb, le-leb}
@@ -26,7 +26,7 @@ use Rattle.frame_rules.specs.Prologue.{bytes, items}
 use Rattle.frame_rules.specs.Plan.{Saved, Plan, IsPlan, saves_then, spelled_by, all_encodable, operations_of, instructions_of, turned, steps_of, prologue, loads_then, opening_then, opening_by, pops_then, epilogue, with_epilogues, frame_size}
 use Rattle.frame_rules.specs.States.{IsEntry, HasItems}
 use Rattle.frame_rules.specs.Rules.{ops}
-use Rattle.frame_rules.specs.Bytes.{spell, Stands, code, SpellsAll, ItemsStand, prologue_code, rest_code, all_code, spelled_parts, planned, all_parts, PlansAreEncodable, PlannedFramesAreRight}
+use Rattle.frame_rules.specs.Bytes.{spell, IsExecutableAt, code, SpellsAll, CodeHasItems, prologue_code, rest_code, all_code, spelled_parts, planned, all_parts, PlansAreEncodable, PlannedFramesAreRight}
 use Rattle.frame_rules.proofs.Planning.{AllEmitted, all_turned, emitted_plan, step_encodable, small_signed, codes_plan}
 use Rattle.frame_rules.proofs.Sizes.{frame_has_its_size}
 use Rattle.frame_rules.proofs.Emitting.{plans_are_right}
@@ -86,7 +86,7 @@ plain_again i more n = refl
 
 -- ---- one instruction
 
-fetches : (m : Memory) (bytes : List ℕ) (n at : ℕ) → length bytes ≤ n → Stands m at bytes → at + length bytes < 2 ^ 64 → (more : List ℕ) × (executable m n at ≡ bytes ++ more)
+fetches : (m : Memory) (bytes : List ℕ) (n at : ℕ) → length bytes ≤ n → IsExecutableAt m at bytes → at + length bytes < 2 ^ 64 → (more : List ℕ) × (executable m n at ≡ bytes ++ more)
 unfolding executable
 fetches m [] n at le h lt = (executable m n at, refl)
 fetches m (b ∷ bytes) zero at le h lt = absurd (omega arith)
@@ -100,9 +100,9 @@ leading-again i more h =
     let n : length (chosen i ++ more) - length more ≡ length (chosen i) = omega (arith, length-append (chosen i) more) in
     rw (again i more h, n) refl
 
-item_stands : (m : Memory) (at : ℕ) (i : Instr) → is_encodable i ≡ true → at + length (chosen i) < 2 ^ 64 → Stands m at (chosen i) → fetched_at m at ≡ Some (spell i)
+item_is_at : (m : Memory) (at : ℕ) (i : Instr) → is_encodable i ≡ true → at + length (chosen i) < 2 ^ 64 → IsExecutableAt m at (chosen i) → fetched_at m at ≡ Some (spell i)
 unfolding fetched_at
-item_stands m at i h lt s =
+item_is_at m at i h lt s =
     let f = fetches m (chosen i) 15 at (longest i) s lt in
     ap (λ (bytes : List ℕ). item_of bytes (leading bytes)) f.1
     ∙ ap (item_of (chosen i ++ f.0)) (leading-again i f.0 h)
@@ -110,21 +110,21 @@ item_stands m at i h lt s =
 
 -- ---- several
 
-stands_split : (m : Memory) (at : ℕ) (a b : List ℕ) → Stands m at (a ++ b) → Stands m at a × Stands m (at + length a) b
-stands_split m at [] b h = (tt, let e : at ≡ at + 0 = omega arith in subst (λ x. Stands m x b) e h)
-stands_split m at (x ∷ a) b h =
-    let r = stands_split m (at + 1) a b h.2 in
+executable_split : (m : Memory) (at : ℕ) (a b : List ℕ) → IsExecutableAt m at (a ++ b) → IsExecutableAt m at a × IsExecutableAt m (at + length a) b
+executable_split m at [] b h = (tt, let e : at ≡ at + 0 = omega arith in subst (λ x. IsExecutableAt m x b) e h)
+executable_split m at (x ∷ a) b h =
+    let r = executable_split m (at + 1) a b h.2 in
     let e : at + 1 + length a ≡ at + length (x ∷ a) = omega arith in
-    ((h.0, h.1, r.0), subst (λ y. Stands m y b) e r.1)
+    ((h.0, h.1, r.0), subst (λ y. IsExecutableAt m y b) e r.1)
 
-pub items_stand : ItemsStand
-items_stand m at [] h lt s = let z : at ≡ at + 0 = omega arith in z
-items_stand m at (i ∷ is) h lt s =
+pub items_are_at : CodeHasItems
+items_are_at m at [] h lt s = let z : at ≡ at + 0 = omega arith in z
+items_are_at m at (i ∷ is) h lt s =
     let p = and_parts (is_encodable i) (all_encodable is) h in
-    let r = stands_split m at (chosen i) (code is) s in
+    let r = executable_split m at (chosen i) (code is) s in
     let n = length-append (chosen i) (code is) in
     let z : at + length (chosen i) + length (code is) ≡ at + length (code (i ∷ is)) = omega arith in
-    (item_stands m at i p.0 (omega arith) r.0, never_empty i p.0, subst (HasItems m (at + length (chosen i)) (spelled_by spell is)) z (items_stand m (at + length (chosen i)) is p.1 (omega arith) r.1))
+    (item_is_at m at i p.0 (omega arith) r.0, never_empty i p.0, subst (HasItems m (at + length (chosen i)) (spelled_by spell is)) z (items_are_at m (at + length (chosen i)) is p.1 (omega arith) r.1))
 
 -- ---- plans
 
@@ -209,11 +209,11 @@ less_room m n e le h = let low = h.low in record {
 }
 
 pub planned_frames : PlannedFramesAreRight
-planned_frames p parts last e s begin d plan ok ok' inner inner' entry stands lt rip st =
+planned_frames p parts last e s begin d plan ok ok' inner inner' entry is_there lt rip st =
     let f = planned p parts last in
     let right = plans_are_right spell p (spelled_parts parts) (spelled_by spell last) spells_all plan inner inner' in
     let enc = encodable-append (prologue_code p) (rest_code p parts last) (plans_are_encodable p plan).0 (rest_encodable p plan parts last ok ok') in
-    let has = items_stand s.memory begin (all_code p parts last) enc lt stands in
+    let has = items_are_at s.memory begin (all_code p parts last) enc lt is_there in
     let same = spelled-append (prologue_code p) (rest_code p parts last)
     ∙ ap (λ (xs : List FetchedInstr). xs ++ spelled_by spell (rest_code p parts last)) (spelled_steps p 0 (turned [] (operations_of p)))
     ∙ ap (λ (xs : List FetchedInstr). items (prologue spell p) ++ xs) (spelled_rest p parts last) in

@@ -35,9 +35,9 @@ unfolding caller_of caller_in
 looked_up t s o to e h = subst (λ (x : Option Entry). IsFound (of_entry s.memory (context_of s.cpu) (distance t.image.base s.cpu.rip) x >>= rising (context_of s.cpu)) to) (sym e) h
 
 pub entries_are_found : EntriesAreFound
-entries_are_found t entry f e s begin d to held info parents at right first stands lt rip st =
+entries_are_found t entry f e s begin d to held info parents at right first is_there lt rip st =
     let away : distance t.image.base s.cpu.rip - entry.range.begin ≡ d = omega arith in
-    let h = frames_are_right f e s begin d to right first stands lt rip st in
+    let h = frames_are_right f e s begin d to right first is_there lt rip st in
     let h1 = subst (λ (i : Info). Finds (in_entry s.memory i [] (context_of s.cpu) d) (left_to (registers e) (return_address e)) (registers s 4)) (sym info) h in
     let h2 = subst (λ (is : List Info). Finds (in_entry s.memory entry.info is (context_of s.cpu) d) (left_to (registers e) (return_address e)) (registers s 4)) (sym parents) h1 in
     let h3 = subst (λ k. Finds (in_entry s.memory entry.info entry.parents (context_of s.cpu) k) (left_to (registers e) (return_address e)) (registers s 4)) (sym away) h2 in

@@ -103,9 +103,9 @@ module _ (f : Function) (e : State) (right : IsRight f) (entry : IsEntry (depth 
   no_tail_at s to x xs h other = no_tail 0xFFFF_FFFF_FFFF_FFFF fr s.memory s.cpu.rip x (omega arith) h.0 other
 
   in_body : (s : State) (begin d to : ℕ) → HasItems s.memory begin (items f.steps ++ f.rest) to → s.cpu.rip ≡ begin + d → IsBody f e s d → Finds (in_entry s.memory f.info [] (context_of s.cpu) d) (left_to old back) (registers s 4)
-  in_body s begin d to stands rip h =
+  in_body s begin d to is_there rip h =
       let here = h.here in
-      let r = rest_from s begin to h.done (h.item ∷ h.left) stands h.parts in
+      let r = rest_from s begin to h.done (h.item ∷ h.left) is_there h.parts in
       let at : begin + (f.info.prologue_size + bytes h.done) ≡ s.cpu.rip = omega arith in
       let r' = subst (λ a. HasItems s.memory a (h.item ∷ h.left) to) at r in
       past s d None (omega arith) (no_tail_at s to h.item h.left r' h.other) (whole s (body_holds fr off back e h.following s (ops f) f.rest right.allowed right.frame right.body (following_running h.following h.runs) h.in_body))
@@ -126,18 +126,18 @@ module _ (f : Function) (e : State) (right : IsRight f) (entry : IsEntry (depth 
 
   by_mode : (s : State) (d to : ℕ) (m : Mode) (ys : List FetchedInstr) → ys ≢ [] → f.info.prologue_size ≤ d → to < 2 ^ 63 → HasItems s.memory s.cpu.rip ys to → is_body (following fr off (ops f) ys m) ≡ true → Has fr off old back (ops f) s m → Finds (in_entry s.memory f.info [] (context_of s.cpu) d) (left_to old back) (registers s 4)
   unfolding tail_at
-  by_mode s d to m [] ne le lt stands b h = absurd (ne refl)
-  by_mode s d to (Leaving rs) (y ∷ ys) ne le lt stands b h =
-      let t = trails fr off (ops f) s.memory rs 0xFFFF_FFFF_FFFF_FFFF s.cpu.rip to true (y ∷ ys) lt (omega arith) stands b in
+  by_mode s d to m [] ne le lt is_there b h = absurd (ne refl)
+  by_mode s d to (Leaving rs) (y ∷ ys) ne le lt is_there b h =
+      let t = trails fr off (ops f) s.memory rs 0xFFFF_FFFF_FFFF_FFFF s.cpu.rip to true (y ∷ ys) lt (omega arith) is_there b in
       past s d (Some t.instrs) le t.is (popping s t.instrs rs h t.pops)
-  by_mode s d to (Body rs) (y ∷ ys) ne le lt stands b h = elim (other_or_not (role_of fr y.plain y.instr)) [
-    | inl other ↦ past s d None le (no_tail_at s to y ys stands other) (whole s h.holds)
+  by_mode s d to (Body rs) (y ∷ ys) ne le lt is_there b h = elim (other_or_not (role_of fr y.plain y.instr)) [
+    | inl other ↦ past s d None le (no_tail_at s to y ys is_there other) (whole s h.holds)
     | inr other ↦
-        let o = opens_here fr off (ops f) s.memory 0xFFFF_FFFF_FFFF_FFFF s.cpu.rip to y ys rs lt (omega arith) stands b other in
-        past s d (Some o.stands.instrs) le o.stands.is (opening s o.stands.instrs rs h (λ q nv four z. elim (pushed_or_loaded q rs (ops f) o.restored z) [
+        let o = opens_here fr off (ops f) s.memory 0xFFFF_FFFF_FFFF_FFFF s.cpu.rip to y ys rs lt (omega arith) is_there b other in
+        past s d (Some o.is_there.instrs) le o.is_there.is (opening s o.is_there.instrs rs h (λ q nv four z. elim (pushed_or_loaded q rs (ops f) o.restored z) [
           | inl x ↦ h.holds.others q nv four x
           | inr x ↦ h.restored q x
-        ]) o.stands.epilogue)
+        ]) o.is_there.epilogue)
   ]
 
   -- the frame on the way through an epilogue
@@ -154,13 +154,13 @@ module _ (f : Function) (e : State) (right : IsRight f) (entry : IsEntry (depth 
       ap is_body (sym modes) ∙ right.body
 
   is_leaving : (s : State) (begin d to : ℕ) → HasItems s.memory begin (items f.steps ++ f.rest) to → to < 2 ^ 63 → s.cpu.rip ≡ begin + d → IsLeaving f e s d → Finds (in_entry s.memory f.info [] (context_of s.cpu) d) (left_to old back) (registers s 4)
-  is_leaving s begin d to stands lt rip h =
+  is_leaving s begin d to is_there lt rip h =
       let here = h.here in
-      let r = items_split s.memory (begin + (f.info.prologue_size + bytes h.done)) h.run h.left to (rest_from s begin to h.done (h.run ++ h.left) stands h.parts) in
+      let r = items_split s.memory (begin + (f.info.prologue_size + bytes h.done)) h.run h.left to (rest_from s begin to h.done (h.run ++ h.left) is_there h.parts) in
       let at : begin + (f.info.prologue_size + bytes h.done) + bytes h.run ≡ s.cpu.rip = omega arith in
-      by_mode s d to h.to h.left h.goes_on (omega arith) lt (subst (λ a. HasItems s.memory a h.left to) at r) (leaving_modes s d h) (leaving_has s d h)
+      by_mode s d to h.to h.left h.continues (omega arith) lt (subst (λ a. HasItems s.memory a h.left to) at r) (leaving_modes s d h) (leaving_has s d h)
 
 pub frames_are_right : FramesAreRight
-frames_are_right f e s begin d to right entry stands lt rip (inl h) = in_prologue f e right entry s d h
-frames_are_right f e s begin d to right entry stands lt rip (inr (inl h)) = in_body f e right entry s begin d to stands rip h
-frames_are_right f e s begin d to right entry stands lt rip (inr (inr h)) = is_leaving f e right entry s begin d to stands lt rip h
+frames_are_right f e s begin d to right entry is_there lt rip (inl h) = in_prologue f e right entry s d h
+frames_are_right f e s begin d to right entry is_there lt rip (inr (inl h)) = in_body f e right entry s begin d to is_there rip h
+frames_are_right f e s begin d to right entry is_there lt rip (inr (inr h)) = is_leaving f e right entry s begin d to is_there lt rip h

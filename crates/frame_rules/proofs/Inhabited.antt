@@ -22,7 +22,7 @@ use Rattle.frame_rules.specs.Prologue.{bytes, does, is_stack, sets_size, is_call
 use Rattle.frame_rules.specs.Body.{written, is_a_call, has, may_write, may_write_all}
 use Rattle.frame_rules.specs.States.{registers, Runs, KeepsWord, KeepsWords, is_other, writes, is_written}
 use Rattle.frame_rules.specs.Rules.{ops}
-use Rattle.frame_rules.specs.Laws.{BodyBegins, BodyGoesOn}
+use Rattle.frame_rules.specs.Laws.{BodyBegins, BodyContinues}
 use Rattle.frame_rules.proofs.Prologues.{turn_plain, turn_call, size_plain, subtracts_plain, does_plain}
 use Rattle.frame_rules.proofs.Writing.{writes_no_other}
 use Rattle.frame_rules.proofs.Every_frame.{following_running}
@@ -159,8 +159,8 @@ written_here : (f r : ℕ) (done : List FetchedInstr) (x : FetchedInstr) (left :
 written_here f r [] x left h = (or_parts (writes f r x) (is_written f r left) h).0
 written_here f r (y ∷ done) x left h = written_here f r done x left (or_parts (writes f r y) (is_written f r (done ++ (x ∷ left))) h).1
 
-pub body_goes_on : BodyGoesOn
-body_goes_on f e p s t a x done left parts role may call ef long words b =
+pub body_continues : BodyContinues
+body_continues f e p s t a x done left parts role may call ef long words b =
     let fr = f.info.frame_register in
     let keeps : (r : ℕ) → has r (written x.instr) ≡ false → registers t r ≡ registers s r = λ r h. writes_no_other (with_rip s a) t x.instr r call ef h in
     record {

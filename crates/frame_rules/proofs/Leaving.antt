@@ -29,7 +29,7 @@ use Rattle.frame_rules.proofs.Undoing.{stack_depth, saved_register, framed_saved
 use Rattle.frame_rules.proofs.Order.{Ordered, push, allocate, frame, save, framed_above}
 use Rattle.frame_rules.proofs.Steps.{became, set_same, set_other, number_small, stack_address, allocation_depth}
 
--- ---- where saved registers stand
+-- ---- where saved registers are
 
 pushes_unsaved : (r : ℕ) (xs : List UnwindOperation) → are_pushes xs ≡ true → saved_at r xs ≡ None
 pushes_unsaved r [] h = refl

@@ -144,7 +144,7 @@ pub positive : (f offset : ℕ) (op : UnwindOperation) (xs : List FetchedInstr) 
 positive f offset op [] s e = absurd (false≢true s)
 positive f offset op (x ∷ xs) s e = let h = first_positive x xs e in omega arith
 
--- ---- lists of codes that go on
+-- ---- lists of codes that continue
 
 pub record Good (f n : ℕ) (ops : List UnwindOperation) : Type 0 where
   pub ordered : Ordered ops

@@ -1,4 +1,4 @@
--- Where an epilogue stands, its trailing part is what the unwinding finds.
+-- Where an epilogue is, its trailing part is what the unwinding finds.
 use Rattle.std.proofs.Common.{◌≡◌, ◌≢◌, ℕ, zero, suc, ◌+◌, ◌-◌, ◌%◌, ◌^◌, ◌<◌, ◌≤◌, Bool, true, false, ◌&&◌, eqb, List, [], ◌∷◌, Option, Some, None, refl, sym, ap, subst, ◌∙◌, arith}
 use Rattle.std.proofs.lemmas.Bool.{false≢true, and_parts, or_left, or_right, and_from, eq-eqb, eqb-true}
 use Rattle.flat_memory.specs.Memory.{Memory}
@@ -89,7 +89,7 @@ trails f offset ops m (r ∷ rs) n at to first (x ∷ ys) lt fuel h b =
 
 -- ---- a whole epilogue
 
-pub record Stands (f offset : ℕ) (ops : List UnwindOperation) (m : Memory) (n at : ℕ) : Type 0 where
+pub record IsTail (f offset : ℕ) (ops : List UnwindOperation) (m : Memory) (n at : ℕ) : Type 0 where
   pub instrs : List Instr
   pub is : tail n true f m at ≡ Some instrs
   pub epilogue : is_epilogue f offset ops instrs ≡ true
@@ -105,7 +105,7 @@ from_pops f offset ops (x ∷ is) z p = or_right (gives_back f offset (allocatio
 -- where the body ends in an epilogue
 pub record Opened (f offset : ℕ) (ops : List UnwindOperation) (m : Memory) (n at : ℕ) (rs : List ℕ) : Type 0 where
   pub restored : are_restored rs ops ≡ true
-  pub stands : Stands f offset ops m n at
+  pub is_there : IsTail f offset ops m n at
 
 pub opens_here : (f offset : ℕ) (ops : List UnwindOperation) (m : Memory) (n at to : ℕ) (x : FetchedInstr) (ys : List FetchedInstr) (rs : List ℕ) → to < 2 ^ 63 → to < at + n → HasItems m at (x ∷ ys) to → is_body (following f offset ops (x ∷ ys) (Body rs)) ≡ true → role_of f x.plain x.instr ≢ Other → Opened f offset ops m n at rs
 opens_here f offset ops m n at to x ys rs lt fuel h b other = go (role_of f x.plain x.instr) refl
@@ -124,7 +124,7 @@ opens_here f offset ops m n at to x ys rs lt fuel h b other = go (role_of f x.pl
         let o = only (leaving f (pushes ops) x) (are_restored rs ops && eqb (allocation ops) 0) k.to e in
         let p = and_parts (are_restored rs ops) (eqb (allocation ops) 0) o.0 in
         let t = trails f offset ops m (pushes ops) n at to true (x ∷ ys) lt fuel h (ap (λ (a : Option Mode). is_body (and_then (following f offset ops ys) a)) o.1 ∙ k.rest) in
-        record { restored = p.0; stands = record { instrs = t.instrs; is = t.is; epilogue = from_pops f offset ops t.instrs (eqb-true (allocation ops) 0 p.1) t.pops } }
+        record { restored = p.0; is_there = record { instrs = t.instrs; is = t.is; epilogue = from_pops f offset ops t.instrs (eqb-true (allocation ops) 0 p.1) t.pops } }
 
     go : (r : Role) → role_of f x.plain x.instr ≡ r → Opened f offset ops m n at rs
     go Opens e =
@@ -133,7 +133,7 @@ opens_here f offset ops m n at to x ys rs lt fuel h b other = go (role_of f x.pl
         let t = trails f offset ops m (pushes ops) (n - 1) (at + x.size) to false ys lt (let q = h.1 in omega arith) h.2 (subst (λ (md : Mode). is_body (following f offset ops ys md) ≡ true) (sym (some_same o.1)) k.rest) in
         record {
           restored = p.0;
-          stands = record {
+          is_there = record {
             instrs = x.instr ∷ t.instrs;
             is = tail-more n (n - 1) true f m at x (let q = h.1 in let r = rise in omega arith) h.0 ∙ ap (by_role (λ j. tail (n - 1) false f m ((at + j) % 2 ^ 64)) true x) e ∙ ap (λ a. prepend_instr x.instr (tail (n - 1) false f m a)) wraps ∙ ap (prepend_instr x.instr) t.is;
             epilogue = or_left (gives_back f offset (allocation ops) x.instr && pops (pushes ops) t.instrs) (eqb (allocation ops) 0 && pops (pushes ops) (x.instr ∷ t.instrs)) (and_from (gives_back f offset (allocation ops) x.instr) (pops (pushes ops) t.instrs) p.1 t.pops);
@@ -143,6 +143,6 @@ opens_here f offset ops m n at to x ys rs lt fuel h b other = go (role_of f x.pl
     go Ends e = popping (sym (ap (from_body f offset ops rs x) e) ∙ k.is)
     go Other e = absurd (other e)
 
--- elsewhere none stands
+-- elsewhere none is
 pub no_tail : (n f : ℕ) (m : Memory) (at : ℕ) (x : FetchedInstr) → 0 < n → fetched_at m at ≡ Some x → role_of f x.plain x.instr ≡ Other → tail n true f m at ≡ None
 no_tail n f m at x lt here e = tail-more n (n - 1) true f m at x (omega arith) here ∙ ap (by_role (λ k. tail (n - 1) false f m ((at + k) % 2 ^ 64)) true x) e

@@ -1,4 +1,4 @@
--- Instructions by their chosen spellings, and bytes of code that stand in memory.
+-- Instructions by their chosen spellings, and bytes of code that are in memory.
 use Rattle.std.specs.Prelude.{◌≡◌, ℕ, ◌+◌, ◌^◌, ◌<◌, Bool, true, ◌&&◌, List, [], ◌∷◌, ◌++◌, length}
 use Rattle.std.specs.List.{flat_map}
 use Rattle.flat_memory.specs.Memory.{Memory}
@@ -22,11 +22,11 @@ spell i =
       plain = is_plain (chosen i) (length (chosen i)) i;
     }
 
--- the bytes stand at this address, to be executed
-abbrev pub Stands : Memory → ℕ → List ℕ → Type 0
-Stands m at [] = Unit {0}
-Stands m at (b ∷ bytes) =
-    (m.byte at ≡ b) × ((m.protection at).execute ≡ true) × Stands m (at + 1) bytes
+-- the bytes are at this address, to be executed
+abbrev pub IsExecutableAt : Memory → ℕ → List ℕ → Type 0
+IsExecutableAt m at [] = Unit {0}
+IsExecutableAt m at (b ∷ bytes) =
+    (m.byte at ≡ b) × ((m.protection at).execute ≡ true) × IsExecutableAt m (at + 1) bytes
 
 abbrev pub code : List Instr → List ℕ
 code is = flat_map chosen is
@@ -34,11 +34,11 @@ code is = flat_map chosen is
 abbrev pub SpellsAll : Type 0
 SpellsAll = IsSpelling spell
 
--- where the bytes of instructions stand, the instructions stand
-abbrev pub ItemsStand : Type 0
-ItemsStand =
+-- where the bytes of instructions are, the instructions are
+abbrev pub CodeHasItems : Type 0
+CodeHasItems =
     (m : Memory) (at : ℕ) (is : List Instr) → all_encodable is ≡ true
-    → at + length (code is) < 2 ^ 63 → Stands m at (code is)
+    → at + length (code is) < 2 ^ 63 → IsExecutableAt m at (code is)
     → HasItems m at (spelled_by spell is) (at + length (code is))
 
 -- ---- the code of a planned function
@@ -70,14 +70,14 @@ PlansAreEncodable =
     (p : Plan) → IsPlan p → (all_encodable (prologue_code p) ≡ true)
     × (all_encodable (epilogue p) ≡ true)
 
--- where the bytes of a planned function stand, its caller is found in each of its states
+-- where the bytes of a planned function are, its caller is found in each of its states
 abbrev pub PlannedFramesAreRight : Type 0
 PlannedFramesAreRight =
     (p : Plan) (parts : List (List Instr)) (last : List Instr) (e s : State) (begin distance : ℕ)
     → IsPlan p → all_parts parts ≡ true → all_encodable last ≡ true
     → all_inner p (spelled_parts parts) ≡ true → are_inner p (spelled_by spell last) ≡ true
-    → IsEntry (frame_size p) e → Stands s.memory begin (code (all_code p parts last))
+    → IsEntry (frame_size p) e → IsExecutableAt s.memory begin (code (all_code p parts last))
     → begin + length (code (all_code p parts last)) < 2 ^ 63 → s.cpu.rip ≡ begin + distance
-    → states.Stands (planned p parts last) e s distance
+    → states.IsInFunction (planned p parts last) e s distance
     → Finds (in_entry s.memory (unwind_of spell p) [] (context_of s.cpu) distance)
     (left_to (registers e) (return_address e)) (registers s 4)

@@ -18,7 +18,7 @@ use Rattle.frame_rules.specs.Codes.{depth, pushes, pushed, are_allowed, is_order
 use Rattle.frame_rules.specs.Epilogue.{pops, is_epilogue}
 use Rattle.frame_rules.specs.Prologue.{bytes, items, are_single}
 use Rattle.frame_rules.specs.States.{registers, Runs, KeepsWords, InBody, IsEntry, return_address, HasItems}
-use Rattle.frame_rules.specs.Rules.{Function, ops, IsRight, IsLeaving, Stands, Finds, IsFound, HasForm}
+use Rattle.frame_rules.specs.Rules.{Function, ops, IsRight, IsLeaving, IsInFunction, Finds, IsFound, HasForm}
 use Rattle.frame_rules.specs.Plan.{Plan, IsPlan, IsSpelling, operations_of, frame_size, are_inner, all_inner, function_of}
 use Rattle.frame_rules.specs.Validated.{keeps_rules}
 use Rattle.frame_rules.specs.Body.{written, is_a_call, has, may_write_all, Body, following, is_body}
@@ -58,14 +58,14 @@ EpilogueRestores =
     → is_epilogue i.frame_register i.frame_offset ops is ≡ true
     → left m is c ≡ Ok (left_to old back)
 
--- a function that is right, and stands from an address on: in each of its states the caller is
--- found, as it was at its first byte
+-- a function that is right, and is in memory from an address on: in each of its states the caller
+-- is found, as it was at its first byte
 abbrev pub FramesAreRight : Type 0
 FramesAreRight =
     (f : Function) (e s : State) (begin distance to : ℕ)
     → IsRight f → IsEntry (depth (ops f)) e → HasItems s.memory begin (items f.steps ++ f.rest) to
     → to < 2 ^ 63 → s.cpu.rip ≡ begin + distance
-    → Stands f e s distance
+    → IsInFunction f e s distance
     → Finds (in_entry s.memory f.info [] (context_of s.cpu) distance)
     (left_to (registers e) (return_address e)) (registers s 4)
 
@@ -78,7 +78,7 @@ EntriesAreFound =
     → holding (distance t.image.base s.cpu.rip) (entries_of t) ≡ Some entry → entry.info ≡ f.info
     → entry.parents ≡ [] → distance t.image.base s.cpu.rip ≡ entry.range.begin + d
     → IsRight f → IsEntry (depth (ops f)) e → HasItems s.memory begin (items f.steps ++ f.rest) to
-    → to < 2 ^ 63 → s.cpu.rip ≡ begin + d → Stands f e s d
+    → to < 2 ^ 63 → s.cpu.rip ≡ begin + d → IsInFunction f e s d
     → IsFound (caller_of t s.memory (context_of s.cpu)) (left_to (registers e) (return_address e))
 
 -- where none does: a leaf or a thunk, which changes neither RSP nor a nonvolatile register
@@ -116,7 +116,7 @@ WritesNoOther =
 
 -- ---- a function returns
 
--- RIP is the return address, RSP stands above it, and the other nonvolatile registers and the
+-- RIP is the return address, RSP is above it, and the other nonvolatile registers and the
 -- memory are as they were
 pub record Returned (e s t : State) : Type 0 where
   pub rip : t.cpu.rip ≡ return_address e
@@ -171,8 +171,8 @@ BodyBegins =
 
 -- an instruction of the body other than a call, which leaves the frame's words, leads from one to
 -- another
-abbrev pub BodyGoesOn : Type 0
-BodyGoesOn =
+abbrev pub BodyContinues : Type 0
+BodyContinues =
     (f : Function) (e p s t : State) (a : ℕ) (x : FetchedInstr) (done left : List FetchedInstr)
     → f.rest ≡ done ++ (x ∷ left) → role_of f.info.frame_register x.plain x.instr ≡ Other
     → may_write_all f.info.frame_register (ops f) (written x.instr) ≡ true

@@ -84,10 +84,10 @@ pub record IsLeaving (f : Function) (e s : State) (distance : ℕ) : Type 0 wher
   pub here : distance ≡ f.info.prologue_size + (bytes done + bytes run)
   pub in_body : InBody f.info.frame_register (ops f) f.rest e following from
   pub runs_on : Runs from run s
-  pub goes_on : left ≢ []
+  pub continues : left ≢ []
 
-abbrev pub Stands : Function → State → State → ℕ → Type 0
-Stands f e s distance =
+abbrev pub IsInFunction : Function → State → State → ℕ → Type 0
+IsInFunction f e s distance =
     InPrologue f e s distance ⊎ (IsBody f e s distance ⊎ IsLeaving f e s distance)
 
 -- ---- what is promised

@@ -218,4 +218,4 @@ module _ (t : Functions) (fs : List Funclet) (program : LinearProgram) (p : Plan
       0 refl (subst (λ x. word after.memory (x + layout.frame) ≡ Ok 0) (sym stack) returns)
       (subst (λ x. HoldsWords after.memory (x + layout.locals) (x + slots_end layout (p.leaf (FunctionBody f))) (arguments ++ others)) (sym stack) numbers)
       [] (λ more n. subst (λ x. On t fs program p after.memory (context_below 0 x more) [] [] []) (sym up)
-      (record { stands = record { stack = refl; linked = (refl, (let z = h.high in omega arith)) }; data_alone = memory.data_alone }))
+      (record { is_there = record { stack = refl; linked = (refl, (let z = h.high in omega arith)) }; data_alone = memory.data_alone }))

@@ -108,7 +108,7 @@ module _ (t : Functions) (fs : List Funclet) (program : LinearProgram) (p : Plan
           comes = v.comes;
           acts = g.goes;
           shown = sym g.twins.alike.events ∙ twins.alike.events ∙ sym (append-nil c.events);
-          stands = record { twin = on; twins = g.twins; stands = inl v.begins };
+          is_there = record { twin = on; twins = g.twins; is_there = inl v.begins };
         }
 
     begins : IsMatched t fs program pace turns_left (ShowsTwin t fs program p q) s c i

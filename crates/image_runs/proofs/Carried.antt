@@ -18,7 +18,7 @@ use Rattle.unset_locals.specs.Twins.{AreTwins, GoAsTwins}
 use Rattle.body_states.specs.Sites.{Sites}
 use Rattle.body_states.specs.Bodies.{held_below, turns_left}
 use Rattle.body_steps.specs.Laws.{pace}
-use Rattle.turn_steps.specs.Outcomes.{Stands}
+use Rattle.turn_steps.specs.Outcomes.{Represents}
 use Rattle.image_runs.specs.Shown.{ShowsTwin}
 
 -- as many temporaries are held
@@ -39,7 +39,7 @@ module _ (t : Functions) (fs : List Funclet) (program : LinearProgram) (X Y : St
     comes = v.comes;
     acts = v.acts;
     shown = v.shown;
-    stands = then v.state v.configuration v.stands;
+    is_there = then v.state v.configuration v.is_there;
   }
 
   pub matched_as : (s : State) (c : Configuration) (i : Instruction) → IsMatched t fs program pace turns_left X s c i → IsMatched t fs program pace turns_left Y s c i
@@ -55,7 +55,7 @@ module _ (t : Functions) (fs : List Funclet) (program : LinearProgram) (p : Plan
   ended : (end : Ended) (es : List Event) → ((next : Next) → act program i next d ≡ Finished end (d.events ++ es)) → (next : Next) → act program i next c ≡ Finished end (c.events ++ es)
   ended end es acts next = go.end (Finished end (d.events ++ es)) acts next ∙ ap (λ (xs : List Event). Finished end (xs ++ es)) twins.alike.events
 
-  moves : Moves t fs program pace turns_left (Stands t fs program p q) s d i → Moves t fs program pace turns_left (ShowsTwin t fs program p q) s c i
+  moves : Moves t fs program pace turns_left (Represents t fs program p q) s d i → Moves t fs program pace turns_left (ShowsTwin t fs program p q) s c i
   moves v =
       let g = go.back v.configuration v.acts in
       let few = v.few in
@@ -71,7 +71,7 @@ module _ (t : Functions) (fs : List Funclet) (program : LinearProgram) (p : Plan
         comes = v.comes;
         acts = g.goes;
         shown = sym g.twins.alike.events ∙ v.shown ∙ ap (λ (xs : List Event). xs ++ v.events) twins.alike.events;
-        stands = record { twin = v.configuration; twins = g.twins; stands = v.stands };
+        is_there = record { twin = v.configuration; twins = g.twins; is_there = v.is_there };
       }
 
   exits : Exits t fs program pace turns_left s d i → Exits t fs program pace turns_left s c i
@@ -124,7 +124,7 @@ module _ (t : Functions) (fs : List Funclet) (program : LinearProgram) (p : Plan
         acts = ended v.end v.events v.acts;
       }
 
-  pub carried : IsMatched t fs program pace turns_left (Stands t fs program p q) s d i → IsMatched t fs program pace turns_left (ShowsTwin t fs program p q) s c i
+  pub carried : IsMatched t fs program pace turns_left (Represents t fs program p q) s d i → IsMatched t fs program pace turns_left (ShowsTwin t fs program p q) s c i
   carried (inl v) = inl (moves v)
   carried (inr (inl v)) = inr (inl (exits v))
   carried (inr (inr (inl v))) = inr (inr (inl (dies v)))

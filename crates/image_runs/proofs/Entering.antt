@@ -143,7 +143,7 @@ module _ (t : Functions) (fs : List Funclet) (program : LinearProgram) (p : Plan
     run =
         parameters_run (own_frame program.globals y o sp) count arguments made.after to made.flags (body_in_memory y sp sp made.after.memory source) (roomy_own program.globals y o sp own) whole h.fits made.stack
         (fresh_holds (own_frame program.globals y o sp) made.after.memory source (fresh_own program.globals y o sp made.after.memory source own made_bytes made_may made_agrees)) made.registers stack_arguments
-        (record { stands = bytes_kept s.memory made.after.memory to (spelled (parameters_code y 0 count)) made_keeps.fixed made_keeps.protection code.stands; placed = code.placed })
+        (record { is_there = bytes_kept s.memory made.after.memory to (spelled (parameters_code y 0 count)) made_keeps.fixed made_keeps.protection code.is_there; placed = code.placed })
 
     pub entered : InFunction
     entered =

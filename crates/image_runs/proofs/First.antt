@@ -43,7 +43,7 @@ module _ (t : Functions) (fs : List Funclet) (program : LinearProgram) (p : Plan
       record {
         code = b.body.slots.code;
         body = b.body.slots.body;
-        resumed = record { instruction = i; there = there; goes_on = goes; done = []; item = x.item; left = x.left; parts = x.parts; here = omega arith };
+        resumed = record { instruction = i; there = there; continues = goes; done = []; item = x.item; left = x.left; parts = x.parts; here = omega arith };
         inside = subst (InCode p c.frame.body c.frame.next) (sym b.rip) first;
         small = b.body.slots.small;
         kept = refl;

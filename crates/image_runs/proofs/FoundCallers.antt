@@ -10,10 +10,10 @@ lowered_finds_callers program fits =
     let p = lowered program in
     let regions = lowered_has_regions program in
     record {
-      functions = λ index x f e s distance there framed entry text here stands.
+      functions = λ index x f e s distance there framed entry text here is_there.
           let is_framed : IsFramed p index x f =
           record { fits = fits; there = there; framed = framed } in
-          frames_are_found p index x f e s distance is_framed regions entry text here stands;
+          frames_are_found p index x f e s distance is_framed regions entry text here is_there;
       leaves = λ index x e s there frameless inside.
           leaves_are_found' p index x e s fits regions there frameless inside;
       thunks = λ service e s inside. thunks_are_found p service e s fits regions inside;

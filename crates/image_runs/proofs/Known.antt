@@ -9,10 +9,10 @@ use Rattle.linear_machine.specs.Frames.{Configuration}
 use Rattle.linear_machine.specs.Run.{instruction_at}
 use Rattle.seh_ir.specs.Lowered.{lowered}
 use Rattle.ir_typed.specs.Turns.{IsReached}
-use Rattle.ir_typed.specs.Ready.{IsReady, CanGoOn}
+use Rattle.ir_typed.specs.Ready.{IsReady, CanContinue}
 use Rattle.ir_typed.specs.Waiting.{IsStacked}
 use Rattle.ir_typed.specs.Depths.{HasDepths}
-use Rattle.ir_typed.proofs.Ready.{goes_on}
+use Rattle.ir_typed.proofs.Ready.{continues}
 use Rattle.ir_typed.proofs.Reached.{is_stacked, has_depths}
 use Rattle.ir_typed.proofs.Reached as reached
 use Rattle.unset_locals.specs.Marks.{Marks}
@@ -22,7 +22,7 @@ use Rattle.unset_locals.specs.Twins.{AreTwins}
 use Rattle.unset_locals.proofs.Alike.{is_over, marked_is_reached}
 use Rattle.unset_locals.proofs.Both.{over}
 use Rattle.unset_locals.proofs.Facts.{has_activations}
-use Rattle.unset_locals.proofs.Together.{twins_are_small, twins_go_on}
+use Rattle.unset_locals.proofs.Together.{twins_are_small, twins_continue}
 use Rattle.body_steps.specs.Known.{IsKnown, KnownNext}
 use Rattle.image_runs.specs.RunLaws.{TwinsAreKnown}
 
@@ -41,8 +41,8 @@ module _ (program : LinearProgram) where
   ready_alike c ys instructions.Separator h = h
   ready_alike c ys (instructions.Return from) h = h
 
-  goes_on_alike : (marks : Marks) (c d : Configuration) → AreAlike marks c d → CanGoOn program c → CanGoOn program d
-  goes_on_alike marks c d a h = subst (CanGoOn program) (is_over marks c d a) (record { instruction = h.instruction; at = h.at; ready = ready_alike c d.store.activations h.instruction h.ready })
+  continues_alike : (marks : Marks) (c d : Configuration) → AreAlike marks c d → CanContinue program c → CanContinue program d
+  continues_alike marks c d a h = subst (CanContinue program) (is_over marks c d a) (record { instruction = h.instruction; at = h.at; ready = ready_alike c d.store.activations h.instruction h.ready })
 
   stacked_alike : (marks : Marks) (c d : Configuration) → AreAlike marks c d → IsStacked program c → IsStacked program d
   stacked_alike marks c d a h = subst (IsStacked program) (is_over marks c d a) (record { above = h.above; below = h.below; landed = h.landed })
@@ -54,21 +54,21 @@ module _ (program : Program) (sound : IsSound program) (reads : ReadsNoUnset (lo
   is_reached : (c d : Configuration) → AreTwins (lowered program) c d → IsReached (lowered program) c
   is_reached c d t = marked_is_reached (lowered program) c t.marks t.marked
 
-  can_go_on : (c d : Configuration) → AreTwins (lowered program) c d → CanGoOn (lowered program) d
-  can_go_on c d t = goes_on_alike (lowered program) t.marks c d t.alike (goes_on program sound c (is_reached c d t))
+  can_continue : (c d : Configuration) → AreTwins (lowered program) c d → CanContinue (lowered program) d
+  can_continue c d t = continues_alike (lowered program) t.marks c d t.alike (continues program sound c (is_reached c d t))
 
   pub known : (c d : Configuration) → AreTwins (lowered program) c d → IsKnown (lowered program) d
   known c d t = record {
-    goes_on = can_go_on c d t;
+    continues = can_continue c d t;
     stacked = stacked_alike (lowered program) t.marks c d t.alike (is_stacked program sound c (is_reached c d t));
     activations = has_activations (lowered program) t.marks c d t.alike (reached.has_activations program sound c (is_reached c d t));
     small = twins_are_small (lowered program) c d t;
     depths = depths_alike (lowered program) t.marks c d t.alike (has_depths program sound c (is_reached c d t));
-    next = λ i e at acts. (let g = (twins_go_on (lowered program) reads c d t i at).back e acts in can_go_on g.on e g.twins);
+    next = λ i e at acts. (let g = (twins_continue (lowered program) reads c d t i at).back e acts in can_continue g.on e g.twins);
   }
 
   pub known_next : (c d : Configuration) → AreTwins (lowered program) c d → (i : Instruction) → instruction_at (lowered program) d ≡ Some i → KnownNext (lowered program) d i
-  known_next c d t i at = λ e acts. (let g = (twins_go_on (lowered program) reads c d t i at).back e acts in known g.on e g.twins)
+  known_next c d t i at = λ e acts. (let g = (twins_continue (lowered program) reads c d t i at).back e acts in known g.on e g.twins)
 
 pub twins_are_known : TwinsAreKnown
 twins_are_known program sound reads c d t = record { known = known program sound reads c d t; next = known_next program sound reads c d t }

@@ -18,7 +18,7 @@ pub mod Realised
 pub mod Accepted
 pub mod Walked
 pub mod WalkLive
-pub mod Standing
+pub mod WalksRight
 pub mod Within
 pub mod First
 pub mod Quiet

@@ -34,7 +34,7 @@ use Rattle.body_states.specs.Sites.{Sites, links_of}
 use Rattle.body_states.specs.Programs.{HasProgram, IsResumed, IsProgramImage}
 use Rattle.body_states.proofs.Inside.{address_next}
 use Rattle.body_steps.proofs.Running.{get_or_is}
-use Rattle.turn_steps.proofs.Places.{template_stands}
+use Rattle.turn_steps.proofs.Places.{template_is_at}
 use Rattle.image_runs.specs.Quiet.{is_free, is_free_place, is_quiet}
 use Rattle.image_runs.specs.Within.{IsWithin, IsQuietHere}
 use Rattle.image_runs.specs.WalkLaws.{QuietStepsStayWithin}
@@ -96,13 +96,13 @@ kept_same s t i q e =
 outside_page : (a : ℕ) → 0x100000000 ≤ a → in_host_page a ≡ false
 outside_page a h = rw (le-leb 0x7FF00000 a (omega arith), le-ltb a 0x7FF01000 (omega arith)) refl
 
--- what a step does where an instruction stands
+-- what a step does where an instruction is
 stepped : (u : State) (i : Instr) (rest : List Instr) → is_quiet i ≡ true → HasCode u.memory u.cpu.rip (i ∷ rest) → is_encodable i ≡ true → step u ≡ effect (with_rip u (u.cpu.rip + size i)) i
 unfolding step size
 stepped u i rest q h spelling =
     let low = h.placed.low in
     let high = h.placed.high in
-    let parts = bytes_split u.memory u.cpu.rip (chosen i) (spelled rest) h.stands in
+    let parts = bytes_split u.memory u.cpu.rip (chosen i) (spelled rest) h.is_there in
     let read = reads u i (chosen i) (spells i spelling) (longest i) parts.0 (record { low = low; high = omega arith }) in
     let rip : (u.cpu.rip + length (chosen i)) % 2 ^ 64 ≡ u.cpu.rip + length (chosen i) = omega arith in
     rw (outside_page u.cpu.rip low, read, no_trap i q, rip) refl
@@ -117,8 +117,8 @@ module _ (t : Functions) (fs : List Funclet) (program : LinearProgram) (p : Plan
 
   code_here : HasCode u.memory u.cpu.rip (r.item ∷ r.left)
   code_here =
-      let stands = template_stands t fs program p q image u.memory c.frame.body w.code c.frame.next r.instruction w.program_there w.body r.there in
-      let split = subst (HasCode u.memory (p.address c.frame.body c.frame.next)) r.parts stands in
+      let is_there = template_is_at t fs program p q image u.memory c.frame.body w.code c.frame.next r.instruction w.program_there w.body r.there in
+      let split = subst (HasCode u.memory (p.address c.frame.body c.frame.next)) r.parts is_there in
       subst (λ a. HasCode u.memory a (r.item ∷ r.left)) (sym r.here) (code_split u.memory (p.address c.frame.body c.frame.next) r.done (r.item ∷ r.left) split).1
 
   does : effect (with_rip u (u.cpu.rip + size r.item)) r.item ≡ Ok v
@@ -154,7 +154,7 @@ module _ (t : Functions) (fs : List Funclet) (program : LinearProgram) (p : Plan
         resumed = record {
           instruction = r.instruction;
           there = r.there;
-          goes_on = r.goes_on;
+          continues = r.continues;
           done = r.done ++ (r.item ∷ []);
           item = quiet.next;
           left = quiet.rest;

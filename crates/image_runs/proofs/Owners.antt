@@ -13,7 +13,7 @@ use Rattle.ir_expressions.specs.Scope.{except_names, filter_names, finally_names
 use Rattle.seh_ir.specs.Regions.{except_kind, region, statement_regions, statements_regions}
 use Rattle.seh_ir.specs.Funclets.{filter_funclets, in_funclet, statement_funclets, statements_funclets}
 use Rattle.seh_ir.specs.Lowered.{all_locals, scope_of, lowered_function, lowered_funclets, all_funclets, lowered}
-use Rattle.ir_linked.proofs.Segments.{StandsAt, stands_itself}
+use Rattle.ir_linked.proofs.Segments.{IsSegmentAt, whole_is_at}
 use Rattle.ir_bounds.proofs.PlainExpressions.{all_append}
 use Rattle.ir_typed.proofs.Stacked.{all_at}
 
@@ -128,10 +128,10 @@ module _ (all : List LinearFunction) where
           each_owned number (lowered_function fn) there (omega arith) (lowered_funclets number fn)
           (of_statements number (all_locals fn) fn.body (record { function = number; locals = all_locals fn; parent = None }) (scope_of fn).names (record { function = refl; locals = refl }))
 
-  owned : (fs : List Function) (number : ℕ) → StandsAt all number (map lowered_function fs) → AllByRecursion (IsOwned all) (all_funclets number fs)
+  owned : (fs : List Function) (number : ℕ) → IsSegmentAt all number (map lowered_function fs) → AllByRecursion (IsOwned all) (all_funclets number fs)
   owned [] number h = tt
   owned (f ∷ fs) number h = all_append (IsOwned all) (lowered_funclets number f) (all_funclets (number + 1) fs) (own f number h.0) (owned fs (number + 1) h.1)
 
 pub is_owned : (program : Program) (k : ℕ) (f : LinearFunclet) → slice_get (lowered program).funclets k ≡ Some f → IsOwned (lowered program).functions f
 is_owned program k f e =
-    all_at (IsOwned (lowered program).functions) (lowered program).funclets k f (owned (lowered program).functions program.functions 0 (stands_itself (lowered program).functions)) e
+    all_at (IsOwned (lowered program).functions) (lowered program).funclets k f (owned (lowered program).functions program.functions 0 (whole_is_at (lowered program).functions)) e

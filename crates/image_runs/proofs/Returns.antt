@@ -9,8 +9,8 @@ use Rattle.x64_encode.specs.Chosen.{chosen}
 use Rattle.x64_machine.specs.declared.context.Context.{Context}
 use Rattle.virtual_unwind.specs.Contexts.{rsp}
 use Rattle.virtual_unwind.specs.Undone.{word}
-use Rattle.linked_stack.specs.Stack.{FrameStands, LeafStands}
-use Rattle.frame_rules.specs.Bytes.{Stands}
+use Rattle.linked_stack.specs.Stack.{FrameIsAt, LeafIsAt}
+use Rattle.frame_rules.specs.Bytes.{IsExecutableAt}
 use Rattle.linear_code.specs.declared.slot.Slot.{Slot}
 use Rattle.linear_code.specs.declared.slot.Slot.TheVariants.{Local, Temporary}
 use Rattle.linear_code.specs.declared.instruction.Instruction.TheVariants as instructions
@@ -29,9 +29,9 @@ use Rattle.program_link.specs.Linked.{text_begin, linked}
 use Rattle.program_link.proofs.Entries.{entry_sizes}
 use Rattle.program_tables.specs.Placed.{Placed, end_of, site_of}
 use Rattle.program_tables.specs.Entries as tables
-use Rattle.program_frames.specs.Standing.{image_base, template_at, links}
+use Rattle.program_frames.specs.InMemory.{image_base, template_at, links}
 use Rattle.program_frames.specs.Laws.{stack_frame}
-use Rattle.program_frames.proofs.CodeStands.{stands_split, code_split, IsThere, template_there}
+use Rattle.program_frames.proofs.CodeInMemory.{executable_split, code_split, IsThere, template_there}
 use Rattle.program_frames.proofs.Inner.{AllInner, inner_at, fetch_inner}
 use Rattle.program_frames.proofs.Layouts.{size_of, sized}
 use Rattle.program_frames.proofs.Waiting.{near_at, HasItem, frame_at, leaf_at}
@@ -43,9 +43,9 @@ use Rattle.image_states.specs.Plans.{functions_of, funclets_of, is_leaf, or_none
 use Rattle.image_states.specs.Compiled.{IsCompiled}
 use Rattle.image_states.proofs.Addresses.{place, here}
 use Rattle.image_states.proofs.Entering.{code_same}
-use Rattle.image_states.proofs.Framed.{stands_of, leaf_of}
+use Rattle.image_states.proofs.Framed.{executable_of, leaf_of}
 use Rattle.image_runs.specs.Returns.{IsReturning}
-use Rattle.image_runs.specs.WalkLaws.{LinkedStandStill}
+use Rattle.image_runs.specs.WalkLaws.{LinkedReturnsWait}
 
 -- ---- the first machine instruction of a return fetches the result
 
@@ -58,7 +58,7 @@ fetch_some y (Temporary i) = record { item = _; left = []; parts = refl }
 fetch_some y (Local i) = local_some y.base (local_at y i)
 
 module _ (p : LinearProgram) (m : Memory) (x : Placed) (number : ℕ) (from : Slot)
-    (code : Stands m (image_base + x.begin) (spelled (routine_code (site_of p) x.begin x.routine))) (h : IsThere (site_of p) (linked p).text (text_begin p.globals) x)
+    (code : IsExecutableAt m (image_base + x.begin) (spelled (routine_code (site_of p) x.begin x.routine))) (h : IsThere (site_of p) (linked p).text (text_begin p.globals) x)
     (at : slice_get x.routine.body.code number ≡ Some (instructions.Return from)) where
   returning : HasItem m x (template_at x number)
   returning =
@@ -78,16 +78,16 @@ module _ (p : LinearProgram) (m : Memory) (x : Placed) (number : ℕ) (from : Sl
       let size = entry_sizes x.begin (check_stack_at s.text) r h.near in
       let base = image_base + x.begin in
       let body = (code_split m base entry (code_from k y begin r.body.code) code).1 in
-      let rest = (code_split m (base + sizes entry) t.before ((fetch y Rax from ++ epilogue y.frame) ++ t.after) (subst (λ (q : List Instr). Stands m (base + sizes entry) (spelled q)) t.parts body)).1 in
+      let rest = (code_split m (base + sizes entry) t.before ((fetch y Rax from ++ epilogue y.frame) ++ t.after) (subst (λ (q : List Instr). IsExecutableAt m (base + sizes entry) (spelled q)) t.parts body)).1 in
       let split : (fetch y Rax from ++ epilogue y.frame) ++ t.after ≡ f.item ∷ ((f.left ++ epilogue y.frame) ++ t.after) = ap (λ (q : List Instr). (q ++ epilogue y.frame) ++ t.after) f.parts in
-      let last = subst (λ (q : List Instr). Stands m (base + sizes entry + sizes t.before) (spelled q)) split rest in
+      let last = subst (λ (q : List Instr). IsExecutableAt m (base + sizes entry + sizes t.before) (spelled q)) split rest in
       let here' : base + sizes entry + sizes t.before ≡ image_base + template_at x number = omega arith in
       record {
         item = f.item;
         inner = inner_at [] f.left f.item (subst AllInner f.parts (fetch_inner y from near.0));
         past = omega arith;
         inside = omega arith;
-        stands = subst (λ (n : ℕ). Stands m n (chosen f.item)) here' (stands_split m (base + sizes entry + sizes t.before) (chosen f.item) (spelled ((f.left ++ epilogue y.frame) ++ t.after)) last).0;
+        is_there = subst (λ (n : ℕ). IsExecutableAt m n (chosen f.item)) here' (executable_split m (base + sizes entry + sizes t.before) (chosen f.item) (spelled ((f.left ++ epilogue y.frame) ++ t.after)) last).0;
       }
 
 -- ---- frames
@@ -104,19 +104,19 @@ module _ (p : LinearProgram) (c : IsCompiled p) (m : Memory) (name : BodyName) (
   abbrev rva : ℕ
   rva = template_at x label
 
-  code_there : HasProgram (functions_of p) (funclets_of p) p (plan_of p) (sites_of p) m → Stands m (image_base + x.begin) (spelled (routine_code (site_of p) x.begin x.routine))
+  code_there : HasProgram (functions_of p) (funclets_of p) p (plan_of p) (sites_of p) m → IsExecutableAt m (image_base + x.begin) (spelled (routine_code (site_of p) x.begin x.routine))
   code_there has =
       let begin = begin_of (plan_of p) (sites_of p) name in
-      let code = stands_of m begin (spelled (code_of p (plan_of p) (sites_of p) name b)) (has.code name b is).stands in
-      subst (λ (n : ℕ). Stands m n (spelled (routine_code (site_of p) x.begin x.routine))) (place p c name b is).begin (subst (λ (q : List Instr). Stands m begin (spelled q)) (code_same p c name b is) code)
+      let code = executable_of m begin (spelled (code_of p (plan_of p) (sites_of p) name b)) (has.code name b is).is_there in
+      subst (λ (n : ℕ). IsExecutableAt m n (spelled (routine_code (site_of p) x.begin x.routine))) (place p c name b is).begin (subst (λ (q : List Instr). IsExecutableAt m begin (spelled q)) (code_same p c name b is) code)
 
   at_return : (from : Slot) → slice_get b.code label ≡ Some (instructions.Return from) → slice_get x.routine.body.code label ≡ Some (instructions.Return from)
   at_return from there = ap (λ (d : LinearBody). slice_get d.code label) (place p c name b is).body ∙ there
 
-  frame_there : (f : Frame) → x.routine.frame ≡ Some f → (first : HasItem m x rva) → k.rip ≡ image_base + rva → rsp k + f.size + 8 < 2 ^ 64 → word m (rsp k + f.size) ≡ Ok back → FrameStands (functions_of p) m k (stack_frame p x f back)
+  frame_there : (f : Frame) → x.routine.frame ≡ Some f → (first : HasItem m x rva) → k.rip ≡ image_base + rva → rsp k + f.size + 8 < 2 ^ 64 → word m (rsp k + f.size) ≡ Ok back → FrameIsAt (functions_of p) m k (stack_frame p x f back)
   frame_there f framed first at room' returns = frame_at p m (place p c name b is).index x f k rva back c.fits c.ranges (place p c name b is).at framed first at kept room' returns
 
-  leaf_there : x.routine.frame ≡ None → k.rip ≡ image_base + rva → rsp k + 8 < 2 ^ 64 → word m (rsp k) ≡ Ok back → rva < end_of x → LeafStands (functions_of p) m k back
+  leaf_there : x.routine.frame ≡ None → k.rip ≡ image_base + rva → rsp k + 8 < 2 ^ 64 → word m (rsp k) ≡ Ok back → rva < end_of x → LeafIsAt (functions_of p) m k back
   leaf_there none at room' returns inside = leaf_at p m (place p c name b is).index x k rva back c.fits c.ranges (place p c name b is).at none (omega arith) inside at kept room' returns
 
   framed_still : (plan_of p).leaf name ≡ false → HasProgram (functions_of p) (funclets_of p) p (plan_of p) (sites_of p) m → IsReturning (functions_of p) (funclets_of p) p (plan_of p) (sites_of p) b name label k.rip
@@ -129,10 +129,10 @@ module _ (p : LinearProgram) (c : IsCompiled p) (m : Memory) (name : BodyName) (
       let s = frame_there f.0 f.1 first r.here (subst (λ (n : ℕ). rsp k + n + 8 < 2 ^ 64) size room) (subst (λ (n : ℕ). word m (rsp k + n) ≡ Ok back) size returns) in
       let same : stack_frame p x f.0 back ≡ frame_with (tables.entry_of (site_of p) x (or_none x.routine.frame)) x.routine.layout.frame (taking_size f.0.size) back =
       λ i. frame_with (tables.entry_of (site_of p) x (or_none (sym f.1 i))) (sym size i) (taking_size f.0.size) back in
-      record { offset = taking_size f.0.size; stands = subst (FrameStands (functions_of p) m k) same s }
+      record { offset = taking_size f.0.size; is_there = subst (FrameIsAt (functions_of p) m k) same s }
 
-pub linked_stand_still : LinkedStandStill
-linked_stand_still p c = record {
+pub linked_returns_wait : LinkedReturnsWait
+linked_returns_wait p c = record {
   frames = λ m name b label k back is framed has r kept room returns. framed_still p c m name b is k label back kept framed has r room returns;
   leaves = λ m name b label k back is leaf r kept room returns.
       leaf_there p c m name b is k label back kept (leaf_of (routine_of p name).routine.frame leaf) r.here room returns (within p c name b is label r.from r.there);

@@ -14,7 +14,7 @@ use Rattle.c_checked.specs.Program.{Program}
 use Rattle.c_model.specs.Meaning.{meaning}
 use Rattle.linear_code.specs.Program.{LinearFunction, LinearProgram}
 use Rattle.linear_machine.specs.Run as code
-use Rattle.ir_typed.proofs.Ready.{goes_on}
+use Rattle.ir_typed.proofs.Ready.{continues}
 use Rattle.program_link.specs.Routines.{nothing}
 use Rattle.image_states.specs.StartLaws.{HasBytes}
 use Rattle.image_runs.specs.Starts.{MainBegins}
@@ -57,7 +57,7 @@ module _ (program : Program) (l : IsLinkable program) (octets : HasBytes (lowere
   main_begins =
       let first = code.start (lowered program) arg main_of in
       mains_begin (lowered program) (lowered_is_compiled program l) octets (lowered_has_image program l).made arg main_of main_is
-      (goes_on program l.sound first (record { argument = arg; main = main_of; is_main = main_is; turns = zero; comes = refl }))
+      (continues program l.sound first (record { argument = arg; main = main_of; is_main = main_is; turns = zero; comes = refl }))
 
 pub linked_images_show_all : LinkedImagesShowAll
 linked_images_show_all program l reads bytes read octets arg n =

@@ -1,4 +1,4 @@
--- A state that stands for a configuration hasn't ended.
+-- A state that represents a configuration hasn't ended.
 use Rattle.std.proofs.Common.{◌≡◌, ◌<◌, inl, inr, arith}
 use Rattle.std.proofs.lemmas.Bool.{ne_eqb}
 use Rattle.std.specs.Prelude.{List}
@@ -12,7 +12,7 @@ use Rattle.whole_runs.specs.Comes.{IsLive}
 use Rattle.body_states.specs.Sites.{Sites}
 use Rattle.body_states.specs.Programs.{IsProgramImage}
 use Rattle.body_states.specs.Bodies.{InBody}
-use Rattle.turn_steps.specs.Outcomes.{Stands}
+use Rattle.turn_steps.specs.Outcomes.{Represents}
 
 module _ (t : Functions) (fs : List Funclet) (program : LinearProgram) (p : Plan) (q : Sites) (image : IsProgramImage t fs program p q) where
   -- a body's code is in the image, above 0
@@ -25,6 +25,6 @@ module _ (t : Functions) (fs : List Funclet) (program : LinearProgram) (p : Plan
   is_live : (s : State) → 0 < s.cpu.rip → IsLive s
   is_live s h = ne_eqb s.cpu.rip 0 (λ e. (let z : s.cpu.rip ≡ 0 = e in omega arith))
 
-  pub live : (s : State) (c : Configuration) → Stands t fs program p q s c → IsLive s
+  pub live : (s : State) (c : Configuration) → Represents t fs program p q s c → IsLive s
   live s c (inl b) = let z = above s c b.body in let e = b.rip in is_live s (omega arith)
   live s c (inr w) = let z = above s c w.body in let e = w.again.here in is_live s (omega arith)

@@ -39,7 +39,7 @@ module _ (t : Functions) (fs : List Funclet) (program : Program) (p : Plan) (q :
         (record {
           twin = started_with (lowered program) arg main b.values;
           twins = twins_start (lowered program) arg main b.values is_main b.as_many b.small;
-          stands = inl b.begins;
+          is_there = inl b.begins;
         });
   }
 

@@ -27,8 +27,8 @@ use Rattle.linear_machine.specs.Frames.{BodyName, FunctionBody, body_of, functio
 use Rattle.linear_machine.specs.Run as code
 use Rattle.seh_ir.specs.Lowered.{lowered}
 use Rattle.ir_linked.specs.Pace.{pace_of}
-use Rattle.ir_typed.specs.Ready.{CanGoOn}
-use Rattle.ir_typed.proofs.Ready.{goes_on}
+use Rattle.ir_typed.specs.Ready.{CanContinue}
+use Rattle.ir_typed.proofs.Ready.{continues}
 use Rattle.unset_locals.specs.Reads.{ReadsNoUnset}
 use Rattle.linked_stack.specs.WalkLaws.{context_below}
 use Rattle.linked_stack.specs.PlainWalks.{state}
@@ -67,7 +67,7 @@ images_walk_the_shadow t fs program p q sound reads image arg main s is_main b w
 -- ---- at the first byte of `main`
 
 module _ (t : Functions) (fs : List Funclet) (program : LinearProgram) (p : Plan) (q : Sites) (image : IsProgramImage t fs program p q) (arg : ℤ) (main : LinearFunction) (s : State) (is_main : slice_get program.functions program.main ≡ Some main)
-    (goes : CanGoOn program (code.start program arg main)) (h : IsFirst t fs program p q arg s) where
+    (goes : CanContinue program (code.start program arg main)) (h : IsFirst t fs program p q arg s) where
   there : body_of program (FunctionBody program.main) ≡ Some main.body
   there = ap function_body is_main
 
@@ -104,7 +104,7 @@ module _ (program : Program) (l : IsLinkable program) (reads : ReadsNoUnset (low
   begins_first =
       let main = main_of program l (octets program bytes w) arg in
       let is_main = main_is program l (octets program bytes w) arg in
-      let goes = goes_on program l.sound (code.start linear arg main) (record { argument = arg; main = main; is_main = is_main; turns = zero; comes = refl }) in
+      let goes = continues program l.sound (code.start linear arg main) (record { argument = arg; main = main; is_main = is_main; turns = zero; comes = refl }) in
       first_gives (functions_of linear) (funclets_of linear) linear (plan_of linear) (sites_of linear) (lowered_has_image program l).image arg main first is_main goes
       (first_states_start linear (lowered_is_compiled program l) (octets program bytes w) arg)
 

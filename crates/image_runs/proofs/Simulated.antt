@@ -17,24 +17,24 @@ use Rattle.linked_stack.specs.ImagePlan.{Plan}
 use Rattle.seh_ir.specs.Lowered.{lowered}
 use Rattle.whole_runs.specs.Ends.{HasRule}
 use Rattle.whole_runs.specs.Matched.{Moves, IsMatched, StepIsMatched}
-use Rattle.ir_typed.specs.Ready.{IsReady, CanGoOn}
+use Rattle.ir_typed.specs.Ready.{IsReady, CanContinue}
 use Rattle.unset_locals.specs.Reads.{ReadsNoUnset}
 use Rattle.unset_locals.specs.Twins.{AreTwins, GoAsTwins}
-use Rattle.unset_locals.proofs.Together.{twins_go_on}
+use Rattle.unset_locals.proofs.Together.{twins_continue}
 use Rattle.body_states.specs.Sites.{Sites}
 use Rattle.body_states.specs.Bodies.{turns_left, Begins}
 use Rattle.body_steps.specs.Known.{IsKnown, KnownNext}
 use Rattle.body_steps.specs.Laws.{pace, IsWithinBody}
 use Rattle.body_steps.proofs.Steps.{within_body}
 use Rattle.turn_steps.proofs.CallSteps.{returns_are_matched, calls_begin}
-use Rattle.turn_steps.specs.Outcomes.{Stands}
+use Rattle.turn_steps.specs.Outcomes.{Represents}
 use Rattle.turn_steps.proofs.EndSteps.{funclet_returns_are_matched}
 use Rattle.turn_steps.proofs.BlockSteps.{block_calls_are_matched}
 use Rattle.turn_steps.proofs.FaultSteps.{operations, retries}
 use Rattle.turn_steps.proofs.ServiceSteps.{information_is_matched, puts_are_matched, protects_are_matched}
 use Rattle.turn_steps.proofs.RaiseRaising.{raises_are_matched}
 use Rattle.turn_steps.proofs.RaiseUnwinding.{local_unwinds_are_matched}
-use Rattle.turn_steps.proofs.Joining.{bodies_go_on}
+use Rattle.turn_steps.proofs.Joining.{bodies_continue}
 use Rattle.c_operations.specs.declared.field.Field.{Field}
 use Rattle.c_operations.specs.declared.built_in.BuiltIn.{BuiltIn}
 use Rattle.c_operations.specs.declared.built_in.BuiltIn.TheVariants.{Put, Protect, RaiseException}
@@ -55,13 +55,13 @@ plainly : (t : Functions) (fs : List Funclet) (program : LinearProgram) (p : Pla
     → (s : State) (d : Configuration) (i : Instruction) → Begins t fs program p q s d → IsKnown program d → instruction_at program d ≡ Some i
     → HasRule (act program i (exec program zero) d) → IsWithinBody program d i → StepMatches t fs program p q s d i
 plainly t fs program p q image s d i b known at rule is_plain =
-    inl (moves_as t fs program (Begins t fs program p q) (Stands t fs program p q) (λ u e h. inl h) s d i
+    inl (moves_as t fs program (Begins t fs program p q) (Represents t fs program p q) (λ u e h. inl h) s d i
     (within_body t fs program p q image.image image.made s d i b known at is_plain rule))
 
 -- from the beginning of an instruction to that of the next one
 moved : (t : Functions) (fs : List Funclet) (program : LinearProgram) (p : Plan) (q : Sites) (s : State) (d : Configuration) (i : Instruction)
     → Moves t fs program pace turns_left (Begins t fs program p q) s d i → StepMatches t fs program p q s d i
-moved t fs program p q s d i v = inl (moves_as t fs program (Begins t fs program p q) (Stands t fs program p q) (λ u x h. inl h) s d i v)
+moved t fs program p q s d i v = inl (moves_as t fs program (Begins t fs program p q) (Represents t fs program p q) (λ u x h. inl h) s d i v)
 
 -- a filter reads a field of its exception
 informed : (t : Functions) (fs : List Funclet) (program : LinearProgram) (p : Plan) (q : Sites) → IsSoundImage t fs program p q
@@ -88,16 +88,16 @@ returned t fs program p q image s d from b known at rule next = by d.frame.body 
   where
     by : (name : BodyName) → d.frame.body ≡ name → StepMatches t fs program p q s d (instructions.Return from)
     by (FunctionBody f) e =
-        matched_as t fs program (Begins t fs program p q) (Stands t fs program p q) (λ u x h. inl h) s d (instructions.Return from)
+        matched_as t fs program (Begins t fs program p q) (Represents t fs program p q) (λ u x h. inl h) s d (instructions.Return from)
         (returns_are_matched t fs program p q image.image image.made s d f from b known e at next)
-    by (FuncletBody k) e = funclet_returns_are_matched t fs program p q image.image image.made image.flags (bodies_go_on t fs program p q image.image image.made) s d k from b known e at rule next
+    by (FuncletBody k) e = funclet_returns_are_matched t fs program p q image.image image.made image.flags (bodies_continue t fs program p q image.image image.made) s d k from b known e at rule next
 
 -- a body calls its `__finally` block
 called_block : (t : Functions) (fs : List Funclet) (program : LinearProgram) (p : Plan) (q : Sites) → IsSoundImage t fs program p q
     → (s : State) (d : Configuration) (k : ℕ) → Begins t fs program p q s d → IsKnown program d → instruction_at program d ≡ Some (instructions.CallFinally k)
     → KnownNext program d (instructions.CallFinally k) → StepMatches t fs program p q s d (instructions.CallFinally k)
 called_block t fs program p q image s d k b known at next =
-    matched_as t fs program (Begins t fs program p q) (Stands t fs program p q) (λ u x h. inl h) s d (instructions.CallFinally k)
+    matched_as t fs program (Begins t fs program p q) (Represents t fs program p q) (λ u x h. inl h) s d (instructions.CallFinally k)
     (block_calls_are_matched t fs program p q image.image image.made image.flags image.separators s d k b known at next)
 
 module _ (program : Program) (sound : IsSound program) (reads : ReadsNoUnset (lowered program)) (t : Functions) (fs : List Funclet) (p : Plan) (q : Sites)
@@ -114,7 +114,7 @@ module _ (program : Program) (sound : IsSound program) (reads : ReadsNoUnset (lo
     at_twin i at = ap (λ (f : Frame). instruction_in (body_of linear f.body) f.next) twins.alike.frame ∙ at
 
     on_twin : (i : Instruction) → instruction_at linear c ≡ Some i → GoAsTwins linear i c d
-    on_twin i at = twins_go_on linear reads c d twins i (at_twin i at)
+    on_twin i at = twins_continue linear reads c d twins i (at_twin i at)
 
     rule_twin : (i : Instruction) → (at : instruction_at linear c ≡ Some i) → HasRule (act linear i (exec linear zero) c) → HasRule (act linear i (exec linear zero) d)
     rule_twin i at rule = subst HasRule (sym (on_twin i at).seen) rule
@@ -130,12 +130,12 @@ module _ (program : Program) (sound : IsSound program) (reads : ReadsNoUnset (lo
     begun b (instructions.JumpIfZero slot label) at go rule next =
         carried t fs linear p q c d twins s (instructions.JumpIfZero slot label) go (plainly t fs linear p q image s d (instructions.JumpIfZero slot label) b (known program sound reads c d twins) at rule tt)
     begun b (instructions.Call f first count) at go rule next =
-        called t fs linear p q c d twins s f first count at (held (known program sound reads c d twins).goes_on f first count at) go (calls_begin t fs linear p q image.image image.made image.apart s d f first count b (known program sound reads c d twins) at)
+        called t fs linear p q c d twins s f first count at (held (known program sound reads c d twins).continues f first count at) go (calls_begin t fs linear p q image.image image.made image.apart s d f first count b (known program sound reads c d twins) at)
       where
         ready : (i j : Instruction) → IsReady linear d i → i ≡ j → IsReady linear d j
         ready i j h e = subst (IsReady linear d) e h
 
-        held : CanGoOn linear d → (f first count : ℕ) → instruction_at linear d ≡ Some (instructions.Call f first count) → length d.frame.temporaries ≡ first + count
+        held : CanContinue linear d → (f first count : ℕ) → instruction_at linear d ≡ Some (instructions.Call f first count) → length d.frame.temporaries ≡ first + count
         held k f first count at = (ready k.instruction (instructions.Call f first count) k.ready (same_instruction k.instruction (instructions.Call f first count) (sym k.at ∙ at))).0
     begun b (instructions.CallBuiltIn f first) at go rule next =
         carried t fs linear p q c d twins s (instructions.CallBuiltIn f first) go (called_built_in t fs linear p q image s d f first b (known program sound reads c d twins) at rule next)
@@ -150,7 +150,7 @@ module _ (program : Program) (sound : IsSound program) (reads : ReadsNoUnset (lo
     begun b (instructions.Return from) at go rule next =
         carried t fs linear p q c d twins s (instructions.Return from) go (returned t fs linear p q image s d from b (known program sound reads c d twins) at rule next)
 
-    step : Stands t fs linear p q s d → StepIsMatched t fs linear pace turns_left (ShowsTwin t fs linear p q) s c
+    step : Represents t fs linear p q s d → StepIsMatched t fs linear pace turns_left (ShowsTwin t fs linear p q) s c
     step (inl b) i at rule = begun b i (at_twin i at) (on_twin i at) (rule_twin i at rule) (known_next program sound reads c d twins i (at_twin i at))
     step (inr w) i at rule =
         carried t fs linear p q c d twins s i (on_twin i at)
@@ -158,6 +158,6 @@ module _ (program : Program) (sound : IsSound program) (reads : ReadsNoUnset (lo
 
 pub twins_simulate : TwinsSimulate
 twins_simulate t fs program p q sound reads image = record {
-  live = λ s c r. live t fs (lowered program) p q image.image s r.twin r.stands;
-  steps = λ n s c r. step program sound reads t fs p q image s c r.twin r.twins r.stands;
+  live = λ s c r. live t fs (lowered program) p q image.image s r.twin r.is_there;
+  steps = λ n s c r. step program sound reads t fs p q image s c r.twin r.twins r.is_there;
 }

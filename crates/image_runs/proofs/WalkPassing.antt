@@ -12,7 +12,7 @@ use Rattle.linear_machine.specs.Run.{instruction_at, exec}
 use Rattle.whole_runs.specs.Ends.{HasRule}
 use Rattle.whole_runs.specs.Matched.{IsMatched, Simulates}
 use Rattle.whole_runs.proofs.Steps.{at_instruction, at_none, first_has_rule}
-use Rattle.image_runs.specs.Passing.{IsRunning, GoesOn, Passes}
+use Rattle.image_runs.specs.Passing.{IsRunning, HasNextStep, Passes}
 
 running_has_rule : (x : Seen) → IsRunning x → HasRule x
 running_has_rule (Running es) h = tt
@@ -23,7 +23,7 @@ module _ (t : Functions) (fs : List Funclet) (program : LinearProgram) (pace : �
     (simulates : Simulates t fs program pace credit R) (holds : (n : ℕ) (s : State) (c : Configuration) → R n s c → Holds s c) where
   step : (n : ℕ) (s : State) (c : Configuration) (i : Instruction) → instruction_at program c ≡ Some i
       → ((u : State) (d : Configuration) → R n u d → IsRunning (exec program n d) → Passes t fs program pace credit Holds n u d)
-      → IsRunning (act program i (exec program n) c) → IsMatched t fs program pace credit (R n) s c i → GoesOn t fs program pace credit (Passes t fs program pace credit Holds n) s c
+      → IsRunning (act program i (exec program n) c) → IsMatched t fs program pace credit (R n) s c i → HasNextStep t fs program pace credit (Passes t fs program pace credit Holds n) s c
   step n s c i at rest running (inl v) = record {
     turns = v.turns;
     some = v.some;
@@ -33,8 +33,8 @@ module _ (t : Functions) (fs : List Funclet) (program : LinearProgram) (pace : �
     events = v.events;
     comes = v.comes;
     shown = v.shown;
-    goes_on = λ k. at_instruction program k c i at ∙ v.acts (exec program k);
-    rest = rest v.state v.configuration v.stands (subst IsRunning (v.acts (exec program n)) running);
+    continues = λ k. at_instruction program k c i at ∙ v.acts (exec program k);
+    rest = rest v.state v.configuration v.is_there (subst IsRunning (v.acts (exec program n)) running);
   }
   step n s c i at rest running (inr (inl v)) = absurd (subst IsRunning (v.acts (exec program n)) running)
   step n s c i at rest running (inr (inr (inl v))) = absurd (subst IsRunning (v.acts (exec program n)) running)
@@ -47,7 +47,7 @@ module _ (t : Functions) (fs : List Funclet) (program : LinearProgram) (pace : �
     where
       by : (o : Option Instruction) → instruction_at program c ≡ o
           → ((u : State) (d : Configuration) → R n u d → IsRunning (exec program n d) → Passes t fs program pace credit Holds n u d)
-          → GoesOn t fs program pace credit (Passes t fs program pace credit Holds n) s c
+          → HasNextStep t fs program pace credit (Passes t fs program pace credit Holds n) s c
       by None at rest = absurd (subst IsRunning (at_none program n c at) running)
       by (Some i) at rest =
           step n s c i at rest (subst IsRunning (at_instruction program n c i at) running)

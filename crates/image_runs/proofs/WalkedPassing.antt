@@ -1,4 +1,4 @@
--- The run of a compiled image passes the states that stand for linear code's configurations.
+-- The run of a compiled image passes the states that represent linear code's configurations.
 use Rattle.std.proofs.Common.{◌≡◌, inl, zero, refl, subst, ap, []}
 use Rattle.std.specs.Prelude.{ℕ, ℤ, slice_get, get_or, Option, Some}
 use Rattle.std.proofs.lemmas.Option.{slice_get-get_or}
@@ -9,7 +9,7 @@ use Rattle.c_checked.specs.Program.{Program}
 use Rattle.linear_code.specs.Program.{LinearFunction, LinearProgram}
 use Rattle.linear_machine.specs.Frames.{Configuration, with_some}
 use Rattle.linear_machine.specs.Run.{start, seen, exec}
-use Rattle.ir_typed.proofs.Ready.{goes_on}
+use Rattle.ir_typed.proofs.Ready.{continues}
 use Rattle.seh_ir.specs.Lowered.{lowered}
 use Rattle.unset_locals.specs.Reads.{ReadsNoUnset}
 use Rattle.unset_locals.specs.Laws.{started_with}
@@ -30,8 +30,8 @@ use Rattle.image_runs.proofs.Known.{known}
 use Rattle.image_runs.proofs.Simulated.{twins_simulate}
 use Rattle.image_runs.specs.Passing.{IsRunning}
 use Rattle.image_runs.proofs.WalkPassing.{passes}
-use Rattle.image_runs.proofs.Returns.{linked_stand_still}
-use Rattle.image_runs.proofs.Standing.{walks_give_the_frames}
+use Rattle.image_runs.proofs.Returns.{linked_returns_wait}
+use Rattle.image_runs.proofs.WalksRight.{walks_give_the_frames}
 use Rattle.image_runs.specs.Walks.{ShowsFramesOf, PassesTheFrames}
 use Rattle.image_runs.specs.WalkedLaws.{RunsPassTheFrames}
 
@@ -42,13 +42,13 @@ module _ (program : Program) (l : IsLinkable program) (reads : ReadsNoUnset (low
   image : IsSoundImage (functions_of linear) (funclets_of linear) linear (plan_of linear) (sites_of linear)
   image = lowered_has_image program l
 
-  -- where the machine stands for a twin
+  -- where the machine represents a twin
   shows : (s : State) (c : Configuration) → ShowsTwin (functions_of linear) (funclets_of linear) linear (plan_of linear) (sites_of linear) s c → ShowsFramesOf program s c
   shows s c r = record {
     twin = r.twin;
     twins = r.twins;
     walk = walks_give_the_frames (functions_of linear) (funclets_of linear) linear (plan_of linear) (sites_of linear) image.image
-        (linked_stand_still linear (lowered_is_compiled program l)) s r.twin r.stands (known program l.sound reads c r.twin r.twins);
+        (linked_returns_wait linear (lowered_is_compiled program l)) s r.twin r.is_there (known program l.sound reads c r.twin r.twins);
   }
 
   module _ (octets : HasBytes linear) (arg : ℤ) (n : ℕ) (running : IsRunning (seen linear arg n)) where
@@ -64,7 +64,7 @@ module _ (program : Program) (l : IsLinkable program) (reads : ReadsNoUnset (low
     begins : MainBegins (functions_of linear) (funclets_of linear) linear (plan_of linear) (sites_of linear) arg main (images.start (image_of (linked linear)) arg)
     begins =
         mains_begin linear (lowered_is_compiled program l) octets image.made arg main is_main
-        (goes_on program l.sound (start linear arg main) (record { argument = arg; main = main; is_main = is_main; turns = zero; comes = refl }))
+        (continues program l.sound (start linear arg main) (record { argument = arg; main = main; is_main = is_main; turns = zero; comes = refl }))
 
     goes : IsRunning (exec linear n (start linear arg main))
     unfolding with_some
@@ -87,7 +87,7 @@ module _ (program : Program) (l : IsLinkable program) (reads : ReadsNoUnset (low
               (record {
                 twin = started_with linear arg main b.values;
                 twins = twins_start linear arg main b.values is_main b.as_many b.small;
-                stands = inl b.begins;
+                is_there = inl b.begins;
               })
               goes;
         }

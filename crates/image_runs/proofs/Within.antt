@@ -18,7 +18,7 @@ use Rattle.linear_code.specs.declared.program.Region.{Region}
 use Rattle.linear_code.specs.Program.{LinearProgram, LinearBody}
 use Rattle.linear_machine.specs.Frames.{Frame, body_of, Item, Waits, Configuration}
 use Rattle.linear_machine.specs.Regions.{holds, regions_of}
-use Rattle.linked_stack.specs.Stack.{StackFrame, StackItem, Framed, Leaf, FrameStands, IsStack}
+use Rattle.linked_stack.specs.Stack.{StackFrame, StackItem, Framed, Leaf, FrameIsAt, IsStack}
 use Rattle.linked_stack.specs.ImagePlan.{Plan, InCode}
 use Rattle.linked_stack.specs.Linked.{Activation, HasSpace, below_end, BodyWaits, Linked}
 use Rattle.linked_stack.specs.ListLaws as linked
@@ -31,7 +31,7 @@ use Rattle.image_runs.specs.Live.{WalkGives}
 use Rattle.image_runs.specs.WalkLaws.{WalksGiveTheFramesWithin}
 use Rattle.image_runs.proofs.WalkLive.{as_many, are_frames}
 use Rattle.image_runs.proofs.Walked.{frames, gives}
-use Rattle.image_runs.proofs.Standing.{IsTop, tops}
+use Rattle.image_runs.proofs.WalksRight.{IsTop, tops}
 
 same_regions : (rs : List Region) (label : ℕ) → AllByRecursion (λ (r : Region). holds label r ≡ holds label r) rs
 same_regions [] label = tt
@@ -65,12 +65,12 @@ module _ (t : Functions) (fs : List Funclet) (program : LinearProgram) (p : Plan
       space = w.space;
     }
 
-    frame_there : (f : StackFrame) → p.leaf b.body ≡ false → f.entry ≡ p.entry b.body → FrameStands t m c f → FrameStands t m to f
+    frame_there : (f : StackFrame) → p.leaf b.body ≡ false → f.entry ≡ p.entry b.body → FrameIsAt t m c f → FrameIsAt t m to f
     frame_there f framed entry s =
         let y = p.layout b.body in
         let size = frame_size t fs program p q image m c f b.body code there framed entry s in
         let room = s.room in
-        let x = (image.frames m b.body code b.next to f.return_address there framed has resumed s.kept (subst (λ n. rsp c + n + 8 < 2 ^ 64) size room) (subst (λ n. word m (rsp c + n) ≡ Ok f.return_address) size s.returns)).stands in
+        let x = (image.frames m b.body code b.next to f.return_address there framed has resumed s.kept (subst (λ n. rsp c + n + 8 < 2 ^ 64) size room) (subst (λ n. word m (rsp c + n) ≡ Ok f.return_address) size s.returns)).is_there in
         record {
           live = x.live;
           not_filter = x.not_filter;
@@ -87,7 +87,7 @@ module _ (t : Functions) (fs : List Funclet) (program : LinearProgram) (p : Plan
         }
 
     -- the same list from another address of the instruction
-    there_too : (is : List StackItem) → IsStack t m c is → Linked t fs program p m c is (Waits b ∷ below) acts → linked.Stands t fs program p m to is (Waits b ∷ below) acts
+    there_too : (is : List StackItem) → IsStack t m c is → Linked t fs program p m c is (Waits b ∷ below) acts → linked.IsLinkedStack t fs program p m to is (Waits b ∷ below) acts
     there_too (Framed f ∷ is) s l = record {
       stack = (frame_there f l.0.framed l.0.entry s.0, s.1);
       linked = (record { framed = l.0.framed; entry = l.0.entry; waits = waits_there f.size _ l.0.waits; pointers = l.0.pointers; returns = l.0.returns }, l.1, l.2);
@@ -103,12 +103,12 @@ module _ (t : Functions) (fs : List Funclet) (program : LinearProgram) (p : Plan
       let from = context_of s.cpu in
       let items = Waits c.frame ∷ c.below in
       let top = h.top in
-      let was = top.on.stands in
+      let was = top.on.is_there in
       let low = from_start s.memory from top.is c.frame c.below h.acts was.linked in
       let now = kept_by_other_memories t fs program p s.memory u.memory from top.is items h.acts w.stack low was in
       let moved = there_too u.memory from u.cpu.rip c.frame c.below h.acts w.code w.body w.resumed w.inside w.small w.program_there top.is now.stack now.linked in
       let same : context_of u.cpu ≡ record { rip = u.cpu.rip; kept = from.kept } = ap (λ (ks : List ℕ). let x : Context = record { rip = u.cpu.rip; kept = ks } in x) w.kept in
-      let here : linked.Stands t fs program p u.memory (context_of u.cpu) top.is items h.acts = subst (λ (x : Context). linked.Stands t fs program p u.memory x top.is items h.acts) (sym same) moved in
+      let here : linked.IsLinkedStack t fs program p u.memory (context_of u.cpu) top.is items h.acts = subst (λ (x : Context). linked.IsLinkedStack t fs program p u.memory x top.is items h.acts) (sym same) moved in
       let n = as_many t fs program p u.memory (context_of u.cpu) top.is items h.acts here.linked in
       record {
         acts = h.acts;
@@ -119,4 +119,4 @@ module _ (t : Functions) (fs : List Funclet) (program : LinearProgram) (p : Plan
       }
 
 pub walks_give_the_frames_within : WalksGiveTheFramesWithin
-walks_give_the_frames_within t fs program p q image still s u c stands known w = within t fs program p q image s u c (tops t fs program p q image still s c stands known) w
+walks_give_the_frames_within t fs program p q image still s u c is_there known w = within t fs program p q image s u c (tops t fs program p q image still s c is_there known) w

@@ -5,7 +5,7 @@ use Rattle.pe_write.specs.Program.{image_of}
 use Rattle.linear_code.specs.Program.{LinearProgram, LinearFunction}
 use Rattle.linear_machine.specs.Run as linear
 use Rattle.program_link.specs.Linked.{linked}
-use Rattle.ir_typed.specs.Ready.{CanGoOn}
+use Rattle.ir_typed.specs.Ready.{CanContinue}
 use Rattle.body_steps.specs.Known.{IsWellMade}
 use Rattle.image_states.specs.Plans.{functions_of, funclets_of, plan_of, sites_of}
 use Rattle.image_states.specs.Compiled.{IsCompiled}
@@ -25,6 +25,6 @@ MainsBegin =
     (program : LinearProgram) → IsCompiled program → HasBytes program
     → IsWellMade program (plan_of program)
     → (arg : ℤ) (main : LinearFunction) → slice_get program.functions program.main ≡ Some main
-    → CanGoOn program (linear.start program arg main)
+    → CanContinue program (linear.start program arg main)
     → MainBegins (functions_of program) (funclets_of program) program (plan_of program)
     (sites_of program) arg main (start (image_of (linked program)) arg)

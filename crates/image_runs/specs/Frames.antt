@@ -1,7 +1,7 @@
 -- The frames of a checked program's image, at every instruction of its code.
 use Rattle.std.specs.Prelude.{◌≡◌, ℕ, ◌+◌, slice_get, Some, None}
 use Rattle.x64_machine.specs.Effect.{State}
-use Rattle.frame_rules.specs.Rules.{Stands}
+use Rattle.frame_rules.specs.Rules.{IsInFunction}
 use Rattle.frame_rules.specs.States.{IsEntry}
 use Rattle.host_layout.specs.declared.imported.ImportedService.{ImportedService}
 use Rattle.c_checked.specs.Program.{Program}
@@ -11,7 +11,7 @@ use Rattle.frame_layout.specs.declared.frame.Frame.{Frame}
 use Rattle.program_link.specs.Fits.{FitsProgram}
 use Rattle.program_link.specs.Text.{thunk_at, check_stack_at}
 use Rattle.program_tables.specs.Placed.{Placed, end_of, site_of, placed}
-use Rattle.program_frames.specs.Standing.{image_base, HasText}
+use Rattle.program_frames.specs.InMemory.{image_base, HasText}
 use Rattle.program_frames.specs.Functions.{function_of, leaf, thunk_of, probe}
 use Rattle.program_frames.specs.Laws.{FindsCaller, IsIn}
 
@@ -23,7 +23,7 @@ pub record FindsCallers (p : LinearProgram) : Type 0 where
       (index : ℕ) (x : Placed) (f : Frame) (e s : State) (distance : ℕ)
       → slice_get (placed p) index ≡ Some x → x.routine.frame ≡ Some f
       → IsEntry f.size e → HasText s.memory p
-      → s.cpu.rip ≡ image_base + x.begin + distance → Stands (function_of p x f) e s distance
+      → s.cpu.rip ≡ image_base + x.begin + distance → IsInFunction (function_of p x f) e s distance
       → FindsCaller p e s
   pub leaves :
       (index : ℕ) (x : Placed) (e s : State)

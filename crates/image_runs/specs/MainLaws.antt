@@ -6,7 +6,7 @@ use Rattle.host_model.specs.declared.funclet.Funclet.{Funclet}
 use Rattle.linear_code.specs.Program.{LinearProgram, LinearFunction}
 use Rattle.linear_machine.specs.Run.{start}
 use Rattle.linked_stack.specs.ImagePlan.{Plan}
-use Rattle.ir_typed.specs.Ready.{CanGoOn}
+use Rattle.ir_typed.specs.Ready.{CanContinue}
 use Rattle.body_states.specs.Sites.{Sites}
 use Rattle.body_states.specs.Programs.{IsProgramImage}
 use Rattle.body_steps.specs.Known.{IsWellMade}
@@ -19,5 +19,5 @@ MainIsBegun =
     → IsProgramImage t fs program p q → IsWellMade program p
     → (arg : ℤ) (main : LinearFunction) (s : State)
     → slice_get program.functions program.main ≡ Some main
-    → CanGoOn program (start program arg main)
+    → CanContinue program (start program arg main)
     → IsFirst t fs program p q arg s → MainBegins t fs program p q arg main s

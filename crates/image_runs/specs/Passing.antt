@@ -18,7 +18,7 @@ IsRunning (Stuck es) = ⊥
 module _ (t : Functions) (fs : List Funclet) (program : LinearProgram) (pace : ℕ)
     (credit : Configuration → ℕ) where
   -- linear code continues by a step, and the machine by some turns, which show the same events
-  pub record GoesOn (Rest : State → Configuration → Type 0) (s : State)
+  pub record HasNextStep (Rest : State → Configuration → Type 0) (s : State)
       (c : Configuration) : Type 0 where
     pub turns : ℕ
     pub some : 1 ≤ turns
@@ -28,10 +28,10 @@ module _ (t : Functions) (fs : List Funclet) (program : LinearProgram) (pace : �
     pub events : List Event
     pub comes : Comes t fs turns s events state
     pub shown : configuration.events ≡ c.events ++ events
-    pub goes_on : (n : ℕ) → exec program (suc n) c ≡ exec program n configuration
+    pub continues : (n : ℕ) → exec program (suc n) c ≡ exec program n configuration
     pub rest : Rest state configuration
 
   -- in this state, and after each of so many steps
   abbrev pub Passes : (State → Configuration → Type 0) → ℕ → State → Configuration → Type 0
   Passes Holds zero s c = Holds s c
-  Passes Holds (suc n) s c = Holds s c × GoesOn (Passes Holds n) s c
+  Passes Holds (suc n) s c = Holds s c × HasNextStep (Passes Holds n) s c

@@ -10,7 +10,7 @@ use Rattle.linear_code.specs.declared.slot.Slot.{Slot}
 use Rattle.linear_code.specs.declared.instruction.Instruction.TheVariants as instructions
 use Rattle.linear_code.specs.Program.{LinearProgram, LinearBody}
 use Rattle.linear_machine.specs.Frames.{BodyName, body_of}
-use Rattle.linked_stack.specs.Stack.{LeafStands}
+use Rattle.linked_stack.specs.Stack.{LeafIsAt}
 use Rattle.linked_stack.specs.ImagePlan.{Plan}
 use Rattle.body_states.specs.Sites.{Sites}
 use Rattle.body_states.specs.Programs.{HasProgram, IsFramed}
@@ -22,8 +22,8 @@ module _ (t : Functions) (fs : List Funclet) (program : LinearProgram) (p : Plan
     pub there : slice_get b.code label ≡ Some (instructions.Return from)
     pub here : rip ≡ p.address name label
 
-  abbrev pub FramesStandStill : Type 0
-  FramesStandStill =
+  abbrev pub ReturningFramesWait : Type 0
+  ReturningFramesWait =
       (m : Memory) (name : BodyName) (b : LinearBody) (label : ℕ) (c : Context) (back : ℕ)
       → body_of program name ≡ Some b → p.leaf name ≡ false → HasProgram t fs program p q m
       → IsReturning b name label c.rip
@@ -31,14 +31,14 @@ module _ (t : Functions) (fs : List Funclet) (program : LinearProgram) (p : Plan
       → word m (rsp c + (p.layout name).frame) ≡ Ok back
       → IsFramed t fs program p q m name c back
 
-  abbrev pub LeavesStandStill : Type 0
-  LeavesStandStill =
+  abbrev pub ReturningLeavesWait : Type 0
+  ReturningLeavesWait =
       (m : Memory) (name : BodyName) (b : LinearBody) (label : ℕ) (c : Context) (back : ℕ)
       → body_of program name ≡ Some b → p.leaf name ≡ true → IsReturning b name label c.rip
       → length c.kept ≡ 9 → rsp c + 8 < 2 ^ 64 → word m (rsp c) ≡ Ok back
-      → LeafStands t m c back
+      → LeafIsAt t m c back
 
   -- as at any other instruction, the body's frame is there
-  pub record StandStill : Type 0 where
-    pub frames : FramesStandStill
-    pub leaves : LeavesStandStill
+  pub record ReturnsWait : Type 0 where
+    pub frames : ReturningFramesWait
+    pub leaves : ReturningLeavesWait

@@ -8,11 +8,11 @@ use Rattle.linear_machine.specs.Frames.{Configuration}
 use Rattle.linked_stack.specs.ImagePlan.{Plan}
 use Rattle.unset_locals.specs.Twins.{AreTwins}
 use Rattle.body_states.specs.Sites.{Sites}
-use Rattle.turn_steps.specs.Outcomes.{Stands}
+use Rattle.turn_steps.specs.Outcomes.{Represents}
 
 module _ (t : Functions) (fs : List Funclet) (program : LinearProgram) (p : Plan) (q : Sites) where
-  -- the machine stands for a twin of the configuration that linear code is in
+  -- the machine represents a twin of the configuration that linear code is in
   pub record ShowsTwin (s : State) (c : Configuration) : Type 0 where
     pub twin : Configuration
     pub twins : AreTwins program c twin
-    pub stands : Stands t fs program p q s twin
+    pub is_there : Represents t fs program p q s twin

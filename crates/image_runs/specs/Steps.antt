@@ -11,9 +11,9 @@ use Rattle.whole_runs.specs.Matched.{IsMatched}
 use Rattle.body_states.specs.Sites.{Sites}
 use Rattle.body_states.specs.Bodies.{turns_left}
 use Rattle.body_steps.specs.Laws.{pace}
-use Rattle.turn_steps.specs.Outcomes.{Stands}
+use Rattle.turn_steps.specs.Outcomes.{Represents}
 
 abbrev pub StepMatches : Functions → List Funclet → LinearProgram → Plan → Sites → State
     → Configuration → Instruction → Type 0
 StepMatches t fs program p q s c i =
-    IsMatched t fs program pace turns_left (Stands t fs program p q) s c i
+    IsMatched t fs program pace turns_left (Represents t fs program p q) s c i

@@ -13,27 +13,27 @@ use Rattle.body_states.specs.Sites.{Sites}
 use Rattle.body_states.specs.Programs.{IsProgramImage}
 use Rattle.body_states.specs.Bodies.{Begins}
 use Rattle.body_steps.specs.Known.{IsKnown}
-use Rattle.turn_steps.specs.Outcomes.{Stands}
+use Rattle.turn_steps.specs.Outcomes.{Represents}
 use Rattle.image_states.specs.Plans.{functions_of, funclets_of, plan_of, sites_of}
 use Rattle.image_states.specs.Compiled.{IsCompiled}
-use Rattle.image_runs.specs.Returns.{StandStill}
+use Rattle.image_runs.specs.Returns.{ReturnsWait}
 use Rattle.image_runs.specs.Live.{WalkGives}
 use Rattle.image_runs.specs.Within.{IsWithin, IsQuietHere}
 
--- in every state that stands for a configuration the walk gives the frames that are live there
+-- in every state that represents a configuration the walk gives the frames that are live there
 abbrev pub WalksGiveTheFrames : Type 0
 WalksGiveTheFrames =
     (t : Functions) (fs : List Funclet) (program : LinearProgram) (p : Plan) (q : Sites)
-    → IsProgramImage t fs program p q → StandStill t fs program p q
-    → (s : State) (c : Configuration) → Stands t fs program p q s c → IsKnown program c
+    → IsProgramImage t fs program p q → ReturnsWait t fs program p q
+    → (s : State) (c : Configuration) → Represents t fs program p q s c → IsKnown program c
     → WalkGives t fs program p s c
 
 -- and in the midst of its instruction, as long as the stack from RSP up is as it was
 abbrev pub WalksGiveTheFramesWithin : Type 0
 WalksGiveTheFramesWithin =
     (t : Functions) (fs : List Funclet) (program : LinearProgram) (p : Plan) (q : Sites)
-    → IsProgramImage t fs program p q → StandStill t fs program p q
-    → (s u : State) (c : Configuration) → Stands t fs program p q s c → IsKnown program c
+    → IsProgramImage t fs program p q → ReturnsWait t fs program p q
+    → (s u : State) (c : Configuration) → Represents t fs program p q s c → IsKnown program c
     → IsWithin t fs program p q s u c
     → WalkGives t fs program p u c
 
@@ -57,8 +57,8 @@ QuietStepsStayWithin =
     → IsWithin t fs program p q s v c
 
 -- of an image that is linked, a body that is about to return is as at any other instruction
-abbrev pub LinkedStandStill : Type 0
-LinkedStandStill =
+abbrev pub LinkedReturnsWait : Type 0
+LinkedReturnsWait =
     (program : LinearProgram) → IsCompiled program
-    → StandStill (functions_of program) (funclets_of program) program (plan_of program)
+    → ReturnsWait (functions_of program) (funclets_of program) program (plan_of program)
     (sites_of program)

@@ -28,8 +28,8 @@ use Rattle.program_tables.proofs.Labels.{template_some}
 use Rattle.program_tables.proofs.Infos.{taking_few}
 use Rattle.program_tables.proofs.Prologues.{entry_least}
 use Rattle.program_tables.proofs.Table.{text_is, end_inside}
-use Rattle.program_frames.specs.Standing.{image_base, template_at}
-use Rattle.program_frames.proofs.CodeStands.{IsThere, there, routine_length}
+use Rattle.program_frames.specs.InMemory.{image_base, template_at}
+use Rattle.program_frames.proofs.CodeInMemory.{IsThere, there, routine_length}
 use Rattle.program_shape.specs.Rows.{funclet_begin}
 use Rattle.program_shape.proofs.Placing.{bounds_rise}
 use Rattle.program_shape.proofs.Shape.{no_funclet, as_long, begin_is, funclet_is, funclet_size}

@@ -15,7 +15,7 @@ use Rattle.virtual_unwind.specs.CallerOf.{Functions, distance, entry_of, of_entr
 use Rattle.virtual_unwind.specs.Tail.{tail_at, left}
 use Rattle.virtual_unwind.specs.Undone.{operations}
 use Rattle.seh_walk.specs.Walk.{framed, filter_return, finally_return}
-use Rattle.frame_rules.specs.Bytes.{Stands}
+use Rattle.frame_rules.specs.Bytes.{IsExecutableAt}
 use Rattle.frame_rules.proofs.Bytes.{never_empty}
 use Rattle.linear_code.specs.declared.slot.Slot.{Slot}
 use Rattle.linear_code.specs.declared.instruction.Instruction.{Instruction}
@@ -39,9 +39,9 @@ use Rattle.program_tables.specs.Placed.{Placed, body_begin, end_of, site_of, pla
 use Rattle.program_tables.specs.Entries as tables
 use Rattle.program_tables.proofs.Lookups.{some_same, none_some}
 use Rattle.program_tables.proofs.Prologues.{prologue_sizes, entry_least}
-use Rattle.program_frames.specs.Standing.{image_base, template_at, links}
+use Rattle.program_frames.specs.InMemory.{image_base, template_at, links}
 use Rattle.program_frames.proofs.Arguments.{arguments_inner}
-use Rattle.program_frames.proofs.CodeStands.{stands_split, code_split, IsTemplate, template_there}
+use Rattle.program_frames.proofs.CodeInMemory.{executable_split, code_split, IsTemplate, template_there}
 use Rattle.program_frames.proofs.Inner.{Inner, AllInner, inner_at, fetch_inner}
 use Rattle.program_frames.proofs.Layouts.{size_of, sized}
 use Rattle.program_frames.proofs.Waiting.{no_epilogue, away, found_in, none_in}
@@ -52,7 +52,7 @@ use Rattle.image_states.specs.Plans.{functions_of, funclets_of, routine_of, plan
 use Rattle.image_states.specs.Compiled.{IsCompiled}
 use Rattle.image_states.proofs.Addresses.{place, here}
 use Rattle.image_states.proofs.Entering.{frame_same, code_same}
-use Rattle.image_states.proofs.Framed.{stands_of}
+use Rattle.image_states.proofs.Framed.{executable_of}
 use Rattle.image_states.proofs.Popping.{by_popping, by_return, by_epilogue, by_frame, at_return, at_epilogue}
 
 -- ---- sizes
@@ -149,8 +149,8 @@ module _ (program : LinearProgram) (c : IsCompiled program) (name : BodyName) (b
         ∙ ap (past_prologue m e.info [] k) (ap (tail_at 0 m) at ∙ is')
 
     -- an instruction of the body
-    inner_at' : (rva : ℕ) (i : Instr) → x.begin + taking_size f.size ≤ rva → rva < end_of x → Inner i → Stands m (image_base + rva) (chosen i) → FindsReturn t m (image_base + rva) f.size
-    inner_at' rva i low high inner stands =
+    inner_at' : (rva : ℕ) (i : Instr) → x.begin + taking_size f.size ≤ rva → rva < end_of x → Inner i → IsExecutableAt m (image_base + rva) (chosen i) → FindsReturn t m (image_base + rva) f.size
+    inner_at' rva i low high inner is_there =
         let s = small rva high in
         by_frame t m (image_base + rva) f.size
         (λ k back at nine room w.
@@ -164,7 +164,7 @@ module _ (program : LinearProgram) (c : IsCompiled program) (name : BodyName) (b
             not_finally = ne_eqb k.rip finally_return (λ z. (let q : k.rip ≡ finally_return = z in absurd (omega arith)));
             found = h.0;
             past_prologue = le-ltb (distance image_base k.rip - x.begin) (taking_size f.size) (omega arith);
-            not_epilogue = ap (tail_at 0 m) at ∙ no_epilogue (image_base + rva) m i inner stands (omega arith);
+            not_epilogue = ap (tail_at 0 m) at ∙ no_epilogue (image_base + rva) m i inner is_there (omega arith);
             codes = refl;
             no_register = refl;
             no_parents = refl;
@@ -175,26 +175,26 @@ module _ (program : LinearProgram) (c : IsCompiled program) (name : BodyName) (b
         )))
 
     -- the epilogue, and its return
-    epilogue_at : (rva : ℕ) → x.begin + taking_size f.size ≤ rva → rva < end_of x → Stands m (image_base + rva) (chosen (give_back f.size)) → Stands m (image_base + rva + length (chosen (give_back f.size))) (chosen instrs.Return) → FindsReturn t m (image_base + rva) f.size
-    epilogue_at rva low high stands more =
+    epilogue_at : (rva : ℕ) → x.begin + taking_size f.size ≤ rva → rva < end_of x → IsExecutableAt m (image_base + rva) (chosen (give_back f.size)) → IsExecutableAt m (image_base + rva + length (chosen (give_back f.size))) (chosen instrs.Return) → FindsReturn t m (image_base + rva) f.size
+    epilogue_at rva low high is_there more =
         let s = small rva high in
         let most = near.1 in
         by_epilogue t m (image_base + rva) (omega arith) (λ z. absurd (omega arith)) (λ z. absurd (omega arith)) f.size
-        (λ k at. past_at rva low high k at (Some (give_back f.size ∷ instrs.Return ∷ [])) (at_epilogue m (image_base + rva) f.size (omega arith) stands more (omega arith)))
+        (λ k at. past_at rva low high k at (Some (give_back f.size ∷ instrs.Return ∷ [])) (at_epilogue m (image_base + rva) f.size (omega arith) is_there more (omega arith)))
 
-    return_at' : (rva : ℕ) → x.begin + taking_size f.size ≤ rva → rva < end_of x → Stands m (image_base + rva) (chosen instrs.Return) → FindsReturn t m (image_base + rva) 0
-    return_at' rva low high stands =
+    return_at' : (rva : ℕ) → x.begin + taking_size f.size ≤ rva → rva < end_of x → IsExecutableAt m (image_base + rva) (chosen instrs.Return) → FindsReturn t m (image_base + rva) 0
+    return_at' rva low high is_there =
         let s = small rva high in
         by_return t m (image_base + rva) (omega arith) (λ z. absurd (omega arith)) (λ z. absurd (omega arith))
-        (λ k at. past_at rva low high k at (Some (instrs.Return ∷ [])) (at_return m (image_base + rva) stands (omega arith)))
+        (λ k at. past_at rva low high k at (Some (instrs.Return ∷ [])) (at_return m (image_base + rva) is_there (omega arith)))
 
   -- ---- its code
 
-  code_there : HasProgram t (funclets_of program) program (plan_of program) (sites_of program) m → Stands m (image_base + x.begin) (spelled (routine_code (site_of program) x.begin x.routine))
+  code_there : HasProgram t (funclets_of program) program (plan_of program) (sites_of program) m → IsExecutableAt m (image_base + x.begin) (spelled (routine_code (site_of program) x.begin x.routine))
   code_there has =
       let begin = begin_of (plan_of program) (sites_of program) name in
-      let code = stands_of m begin (spelled (code_of program (plan_of program) (sites_of program) name b)) (has.code name b is).stands in
-      subst (λ (n : ℕ). Stands m n (spelled (routine_code (site_of program) x.begin x.routine))) (place program c name b is).begin (subst (λ (q : List Instr). Stands m begin (spelled q)) (code_same program c name b is) code)
+      let code = executable_of m begin (spelled (code_of program (plan_of program) (sites_of program) name b)) (has.code name b is).is_there in
+      subst (λ (n : ℕ). IsExecutableAt m n (spelled (routine_code (site_of program) x.begin x.routine))) (place program c name b is).begin (subst (λ (q : List Instr). IsExecutableAt m begin (spelled q)) (code_same program c name b is) code)
 
   abbrev check : ℕ
   check = check_stack_at (site_of program).text
@@ -217,17 +217,17 @@ module _ (program : LinearProgram) (c : IsCompiled program) (name : BodyName) (b
   entry_is : sizes making + sizes arguments ≡ entry_size x.routine
   entry_is = omega (arith, sizes_append making arguments, entry_sizes x.begin check x.routine (here program c name b is).near)
 
-  arguments_there : HasProgram t (funclets_of program) program (plan_of program) (sites_of program) m → Stands m (image_base + x.begin + sizes making) (spelled arguments)
+  arguments_there : HasProgram t (funclets_of program) program (plan_of program) (sites_of program) m → IsExecutableAt m (image_base + x.begin + sizes making) (spelled arguments)
   arguments_there has =
       let base = image_base + x.begin in
       (code_split m base making arguments (code_split m base (making ++ arguments) body (code_there has)).0).1
 
-  body_there : HasProgram t (funclets_of program) program (plan_of program) (sites_of program) m → Stands m (image_base + body_begin x) (spelled body)
+  body_there : HasProgram t (funclets_of program) program (plan_of program) (sites_of program) m → IsExecutableAt m (image_base + body_begin x) (spelled body)
   body_there has =
       let base = image_base + x.begin in
       let e = entry_is in
       let at : base + sizes (making ++ arguments) ≡ image_base + body_begin x = omega (arith, sizes_append making arguments) in
-      subst (λ n. Stands m n (spelled body)) at (code_split m base (making ++ arguments) body (code_there has)).1
+      subst (λ n. IsExecutableAt m n (spelled body)) at (code_split m base (making ++ arguments) body (code_there has)).1
 
   -- ---- arguments
 
@@ -241,18 +241,18 @@ module _ (program : LinearProgram) (c : IsCompiled program) (name : BodyName) (b
     argument_high : argument_at < end_of x
     argument_high = let e = entry_is in let some = item_some item item_inner in omega (arith, ap sizes parts, sizes_append done (item ∷ left))
 
-    argument_stands : HasProgram t (funclets_of program) program (plan_of program) (sites_of program) m → Stands m (image_base + argument_at) (chosen item)
-    argument_stands has =
+    argument_is_at : HasProgram t (funclets_of program) program (plan_of program) (sites_of program) m → IsExecutableAt m (image_base + argument_at) (chosen item)
+    argument_is_at has =
         let at = image_base + x.begin + sizes making in
-        let rest = (code_split m at done (item ∷ left) (subst (λ (q : List Instr). Stands m at (spelled q)) parts (arguments_there has))).1 in
+        let rest = (code_split m at done (item ∷ left) (subst (λ (q : List Instr). IsExecutableAt m at (spelled q)) parts (arguments_there has))).1 in
         let e : at + sizes done ≡ image_base + (x.begin + sizes making + sizes done) = omega arith in
-        subst (λ n. Stands m n (chosen item)) e (stands_split m (at + sizes done) (chosen item) (spelled left) rest).0
+        subst (λ n. IsExecutableAt m n (chosen item)) e (executable_split m (at + sizes done) (chosen item) (spelled left) rest).0
 
     pub argument_found : HasProgram t (funclets_of program) program (plan_of program) (sites_of program) m → (o : Option Frame) → x.routine.frame ≡ o → FindsReturn t m (image_base + argument_at) (size_of o)
     argument_found has None none = leaf_at none argument_at (omega arith) argument_high
     argument_found has (Some f) framed =
         let size = ap (λ o. sizes (texts.frame_code x.begin check o)) framed ∙ prologue_sizes f _ (near f framed).0 in
-        inner_at' f framed argument_at item (omega arith) argument_high item_inner (argument_stands has)
+        inner_at' f framed argument_at item (omega arith) argument_high item_inner (argument_is_at has)
 
   -- ---- returns
 
@@ -272,29 +272,29 @@ module _ (program : LinearProgram) (c : IsCompiled program) (name : BodyName) (b
     fits : sizes fetching + sizes (epilogue y.frame) + template_at x label ≤ end_of x
     fits = let h = th.inside in let s = template_sizes (links program x) y (template_at x label) i in omega (arith, sizes_append fetching (epilogue y.frame))
 
-    return_there : HasProgram t (funclets_of program) program (plan_of program) (sites_of program) m → Stands m (image_base + template_at x label) (spelled (fetching ++ (epilogue y.frame ++ th.after)))
+    return_there : HasProgram t (funclets_of program) program (plan_of program) (sites_of program) m → IsExecutableAt m (image_base + template_at x label) (spelled (fetching ++ (epilogue y.frame ++ th.after)))
     return_there has =
         let begin = image_base + body_begin x in
-        let rest = (code_split m begin th.before (return_code y from ++ th.after) (subst (λ (q : List Instr). Stands m begin (spelled q)) th.parts (body_there has))).1 in
+        let rest = (code_split m begin th.before (return_code y from ++ th.after) (subst (λ (q : List Instr). IsExecutableAt m begin (spelled q)) th.parts (body_there has))).1 in
         let h = th.here in
         let e : begin + sizes th.before ≡ image_base + template_at x label = omega arith in
-        subst (λ (q : List Instr). Stands m (image_base + template_at x label) (spelled q)) (append_assoc fetching (epilogue y.frame) th.after) (subst (λ n. Stands m n (spelled (return_code y from ++ th.after))) e rest)
+        subst (λ (q : List Instr). IsExecutableAt m (image_base + template_at x label) (spelled q)) (append_assoc fetching (epilogue y.frame) th.after) (subst (λ n. IsExecutableAt m n (spelled (return_code y from ++ th.after))) e rest)
 
     -- where the epilogue begins
-    epilogue_there : HasProgram t (funclets_of program) program (plan_of program) (sites_of program) m → Stands m (image_base + (template_at x label + sizes fetching)) (spelled (epilogue y.frame ++ th.after))
+    epilogue_there : HasProgram t (funclets_of program) program (plan_of program) (sites_of program) m → IsExecutableAt m (image_base + (template_at x label + sizes fetching)) (spelled (epilogue y.frame ++ th.after))
     epilogue_there has =
         let e : image_base + template_at x label + sizes fetching ≡ image_base + (template_at x label + sizes fetching) = omega arith in
-        subst (λ n. Stands m n (spelled (epilogue y.frame ++ th.after))) e (code_split m (image_base + template_at x label) fetching (epilogue y.frame ++ th.after) (return_there has)).1
+        subst (λ n. IsExecutableAt m n (spelled (epilogue y.frame ++ th.after))) e (code_split m (image_base + template_at x label) fetching (epilogue y.frame ++ th.after) (return_there has)).1
 
     module _ (has : HasProgram t (funclets_of program) program (plan_of program) (sites_of program) m) where
       low_here : (rva : ℕ) → template_at x label ≤ rva → x.begin ≤ rva
       low_here rva le = omega arith
 
-      ends_stand : (n k rva : ℕ) → n ≡ suc k → rva ≡ template_at x label + sizes fetching → Stands m (image_base + rva) (spelled (epilogue n ++ th.after)) → Stands m (image_base + rva) (chosen (give_back n)) × Stands m (image_base + rva + length (chosen (give_back n))) (chosen instrs.Return)
-      ends_stand zero k rva e r stands = absurd (omega arith)
-      ends_stand (suc n) k rva e r stands =
-          let first = stands_split m (image_base + rva) (chosen (give_back (suc n))) (spelled (instrs.Return ∷ th.after)) stands in
-          let second = stands_split m (image_base + rva + length (chosen (give_back (suc n)))) (chosen instrs.Return) (spelled th.after) first.1 in
+      ends_are_at : (n k rva : ℕ) → n ≡ suc k → rva ≡ template_at x label + sizes fetching → IsExecutableAt m (image_base + rva) (spelled (epilogue n ++ th.after)) → IsExecutableAt m (image_base + rva) (chosen (give_back n)) × IsExecutableAt m (image_base + rva + length (chosen (give_back n))) (chosen instrs.Return)
+      ends_are_at zero k rva e r is_there = absurd (omega arith)
+      ends_are_at (suc n) k rva e r is_there =
+          let first = executable_split m (image_base + rva) (chosen (give_back (suc n))) (spelled (instrs.Return ∷ th.after)) is_there in
+          let second = executable_split m (image_base + rva + length (chosen (give_back (suc n)))) (chosen instrs.Return) (spelled th.after) first.1 in
           (first.0, second.0)
 
       ends_size : (n k : ℕ) → n ≡ suc k → sizes (epilogue n) ≡ length (chosen (give_back n)) + 1
@@ -310,7 +310,7 @@ module _ (program : LinearProgram) (c : IsCompiled program) (name : BodyName) (b
           let whole : done ≡ fetching = sym (append-nil done) ∙ sym parts in
           let k : f.size ≡ suc (f.size - 1) = omega arith in
           let rva = template_at x label + sizes fetching in
-          let z = ends_stand f.size (f.size - 1) rva k refl (subst (λ n. Stands m (image_base + rva) (spelled (epilogue n ++ th.after))) same (epilogue_there has)) in
+          let z = ends_are_at f.size (f.size - 1) rva k refl (subst (λ n. IsExecutableAt m (image_base + rva) (spelled (epilogue n ++ th.after))) same (epilogue_there has)) in
           let size = ends_size f.size (f.size - 1) k in
           let fit = subst (λ n. sizes fetching + sizes (epilogue n) + template_at x label ≤ end_of x) same fits in
           subst (λ (q : List Instr). FindsReturn t m (image_base + (template_at x label + sizes q)) f.size) (sym whole)
@@ -321,11 +321,11 @@ module _ (program : LinearProgram) (c : IsCompiled program) (name : BodyName) (b
           let some = item_some item inner in
           let rva = template_at x label + sizes done in
           let split : fetching ++ (epilogue y.frame ++ th.after) ≡ done ++ ((item ∷ left) ++ (epilogue y.frame ++ th.after)) = ap (λ (q : List Instr). q ++ (epilogue y.frame ++ th.after)) parts ∙ append_assoc done (item ∷ left) (epilogue y.frame ++ th.after) in
-          let rest = (code_split m (image_base + template_at x label) done ((item ∷ left) ++ (epilogue y.frame ++ th.after)) (subst (λ (q : List Instr). Stands m (image_base + template_at x label) (spelled q)) split (return_there has))).1 in
+          let rest = (code_split m (image_base + template_at x label) done ((item ∷ left) ++ (epilogue y.frame ++ th.after)) (subst (λ (q : List Instr). IsExecutableAt m (image_base + template_at x label) (spelled q)) split (return_there has))).1 in
           let e : image_base + template_at x label + sizes done ≡ image_base + rva = omega arith in
           let f' = fits in
           inner_at' f framed rva item (omega arith) (omega (arith, ap sizes parts, sizes_append done (item ∷ left))) inner
-          (subst (λ n. Stands m n (chosen item)) e (stands_split m (image_base + template_at x label + sizes done) (chosen item) (spelled (left ++ (epilogue y.frame ++ th.after))) rest).0)
+          (subst (λ n. IsExecutableAt m n (chosen item)) e (executable_split m (image_base + template_at x label + sizes done) (chosen item) (spelled (left ++ (epilogue y.frame ++ th.after))) rest).0)
 
       leaf_return : x.routine.frame ≡ None → (done left : List Instr) → fetching ≡ done ++ left → FindsReturn t m (image_base + (template_at x label + sizes done)) 0
       leaf_return none done left parts =
@@ -343,8 +343,8 @@ module _ (program : LinearProgram) (c : IsCompiled program) (name : BodyName) (b
       end_found (Some f) framed k e =
           let l = least f framed in
           let rva = template_at x label + sizes fetching in
-          let z = ends_stand y.frame k rva e refl (epilogue_there has) in
+          let z = ends_are_at y.frame k rva e refl (epilogue_there has) in
           let size' = ends_size y.frame k e in
           let fit = fits in
           let same : image_base + rva + length (chosen (give_back y.frame)) ≡ image_base + (rva + length (chosen (give_back y.frame))) = omega arith in
-          return_at' f framed (rva + length (chosen (give_back y.frame))) (omega arith) (omega arith) (subst (λ n. Stands m n (chosen instrs.Return)) same z.1)
+          return_at' f framed (rva + length (chosen (give_back y.frame))) (omega arith) (omega arith) (subst (λ n. IsExecutableAt m n (chosen instrs.Return)) same z.1)

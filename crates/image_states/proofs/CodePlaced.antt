@@ -21,7 +21,7 @@ use Rattle.pe_write.proofs.Programs.{listed}
 use Rattle.host_model.specs.Loading.{section_of, mode_in, stored_byte, with_slots, mapped}
 use Rattle.host_model.specs.Slots.{AreApart}
 use Rattle.host_model.proofs.Slots.{slots_read}
-use Rattle.frame_rules.specs.Bytes.{Stands}
+use Rattle.frame_rules.specs.Bytes.{IsExecutableAt}
 use Rattle.c_operations.specs.declared.built_in.BuiltIn.{BuiltIn}
 use Rattle.c_operations.specs.declared.built_in.BuiltIn.TheVariants.{Put, Protect, RaiseException}
 use Rattle.linear_code.specs.Program.{LinearBody, LinearProgram}
@@ -40,8 +40,8 @@ use Rattle.program_link.proofs.Entries.{routine_small}
 use Rattle.program_tables.specs.Placed.{Placed, site_of}
 use Rattle.program_tables.proofs.Handlers.{thunk_bytes}
 use Rattle.program_tables.proofs.Table.{is, text_is, rdata_is, end_inside}
-use Rattle.program_frames.specs.Standing.{image_base}
-use Rattle.program_frames.proofs.CodeStands.{IsThere, code_length}
+use Rattle.program_frames.specs.InMemory.{image_base}
+use Rattle.program_frames.proofs.CodeInMemory.{IsThere, code_length}
 use Rattle.program_frames.proofs.Loaded.{images_have_text, texts_are_fixed}
 use Rattle.body_states.specs.Sites.{begin_of, code_of}
 use Rattle.body_states.specs.Programs.{service_of, HasService, HasProgram}
@@ -53,7 +53,7 @@ use Rattle.image_states.proofs.Data.{tables_there}
 
 -- ---- code that may not be written
 
-code_at : (m : Memory) (at : ℕ) (bytes : List ℕ) → Stands m at bytes → ((k : ℕ) → k < length bytes → may_write m (at + k) ≡ false) → IsCodeAt m at bytes
+code_at : (m : Memory) (at : ℕ) (bytes : List ℕ) → IsExecutableAt m at bytes → ((k : ℕ) → k < length bytes → may_write m (at + k) ≡ false) → IsCodeAt m at bytes
 code_at m at [] s fixed = tt
 code_at m at (b ∷ bytes) s fixed =
     let z : at ≡ at + 0 = omega arith in (
@@ -113,7 +113,7 @@ module _ (program : LinearProgram) (c : IsCompiled program) where
       let own = (code_split m (image_base + x.begin) (spelled code) h.after (subst (λ (n : ℕ). IsCodeAt m n (spelled code ++ h.after)) at all)).0 in
       let long = code_length s x.begin x.routine h.near in
       let wide : sizes code ≡ routine_size x.routine = sym (sizes_spelled code) ∙ long in
-      let placed : HasCode m (image_base + x.begin) code = record { stands = own; placed = record { low = omega arith; high = omega arith } } in
+      let placed : HasCode m (image_base + x.begin) code = record { is_there = own; placed = record { low = omega arith; high = omega arith } } in
       subst (λ (n : ℕ). HasCode m n (code_of program (plan_of program) (sites_of program) name b)) (sym q.begin) (subst (HasCode m (image_base + x.begin)) (sym (code_same program c name b is')) placed)
 
   -- ---- the front
@@ -163,7 +163,7 @@ module _ (program : LinearProgram) (c : IsCompiled program) where
       let end = end_inside program c.fits in
       let l = low in
       let at : T + 30 ≡ (sites_of program).check_stack = omega arith in
-      record { stands = subst (λ (n : ℕ). IsCodeAt m n (spelled check_stack)) at front.check; placed = record { low = omega arith; high = omega arith } }
+      record { is_there = subst (λ (n : ℕ). IsCodeAt m n (spelled check_stack)) at front.check; placed = record { low = omega arith; high = omega arith } }
 
   -- ---- slots
 
@@ -243,12 +243,12 @@ module _ (program : LinearProgram) (c : IsCompiled program) where
       let spells : t v ≡ spelled (thunk away ∷ []) = ap (λ (k : ℕ). chosen (thunk k)) d ∙ sym (append-nil (chosen (thunk away))) in
       let long : length (t v) ≡ 6 = six v in
       let wide : sizes (thunk away ∷ []) ≡ 6 = sym (sizes_spelled (thunk away ∷ [])) ∙ sym (ap length spells) ∙ long in
-      let stands = subst (λ (k : ℕ). IsCodeAt m k (spelled (thunk away ∷ []))) own (subst (IsCodeAt m (T + n)) spells code) in
+      let is_there = subst (λ (k : ℕ). IsCodeAt m k (spelled (thunk away ∷ []))) own (subst (IsCodeAt m (T + n)) spells code) in
       record {
         thunk = record {
           away = away;
           near = omega arith;
-          code = record { stands = stands; placed = record { low = omega arith; high = omega arith } };
+          code = record { is_there = is_there; placed = record { low = omega arith; high = omega arith } };
           readable = λ a le lt. readable a (omega arith) (omega arith);
           fixed = λ a le lt. fixed a (omega arith) (omega arith);
           bound = ap (number_at m.byte 8) (sym far) ∙ bound;

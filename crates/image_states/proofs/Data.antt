@@ -27,7 +27,7 @@ use Rattle.linked_stack.specs.Records.{IsData}
 use Rattle.x64_templates.specs.Frames.{Agrees}
 use Rattle.program_link.specs.Linked.{text_begin, data_size, linked}
 use Rattle.program_tables.proofs.Table.{is, text_is, image_small}
-use Rattle.program_frames.specs.Standing.{image_base}
+use Rattle.program_frames.specs.InMemory.{image_base}
 use Rattle.image_states.specs.Compiled.{IsCompiled}
 use Rattle.image_states.specs.StartLaws.{HasBytes}
 use Rattle.image_states.proofs.Sections.{covered, below, above, here, past, of_section, AllBytes, bytes_front, bytes_back, stored_small, slots_small, slots_past, get_zeros, IsApart}

@@ -36,8 +36,8 @@ use Rattle.program_link.specs.Linked.{text_begin, linked}
 use Rattle.program_link.proofs.Entries.{entry_small, routine_small}
 use Rattle.program_tables.specs.Placed.{Placed, body_begin, end_of, site_of, placed}
 use Rattle.program_tables.proofs.Lookups.{some_same, none_some}
-use Rattle.program_frames.specs.Standing.{image_base, template_at, links}
-use Rattle.program_frames.proofs.CodeStands.{IsThere}
+use Rattle.program_frames.specs.InMemory.{image_base, template_at, links}
+use Rattle.program_frames.proofs.CodeInMemory.{IsThere}
 use Rattle.program_frames.proofs.Layouts.{size_of, IsSized, sized}
 use Rattle.body_states.specs.Sites.{links_of, begin_of, making, frame_code, base_in, parent_base, keep_base, keep_argument, function_arguments, funclet_arguments, arguments_code, entry_code, code_of}
 use Rattle.image_states.specs.Plans.{is_leaf, routine_of, address_of, plan_of, sites_of}

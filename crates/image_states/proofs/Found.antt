@@ -32,7 +32,7 @@ use Rattle.program_tables.specs.Entries as tables
 use Rattle.program_tables.proofs.Lookups.{thunks_are_held_by_none}
 use Rattle.program_tables.proofs.Infos.{taking_few}
 use Rattle.program_tables.proofs.Table.{tables_are_read, end_inside}
-use Rattle.program_frames.specs.Standing.{image_base, template_at}
+use Rattle.program_frames.specs.InMemory.{image_base, template_at}
 use Rattle.program_frames.proofs.Layouts.{size_of, sized}
 use Rattle.program_frames.proofs.Waiting.{away}
 use Rattle.body_states.specs.Sites.{begin_of, making_size, give_back}

@@ -11,8 +11,8 @@ use Rattle.eh_tables.specs.declared.code.UnwindOperation.TheVariants.{Allocate}
 use Rattle.eh_tables.specs.declared.code.UnwindCode.{UnwindCode}
 use Rattle.virtual_unwind.specs.Contexts.{rsp}
 use Rattle.virtual_unwind.specs.Undone.{word}
-use Rattle.linked_stack.specs.Stack.{StackFrame, FrameStands, LeafStands}
-use Rattle.frame_rules.specs.Bytes.{Stands}
+use Rattle.linked_stack.specs.Stack.{StackFrame, FrameIsAt, LeafIsAt}
+use Rattle.frame_rules.specs.Bytes.{IsExecutableAt}
 use Rattle.linear_code.specs.declared.instruction.Instruction.{Instruction}
 use Rattle.linear_code.specs.declared.instruction.Instruction.TheVariants as instructions
 use Rattle.linear_code.specs.Program.{LinearBody, LinearProgram}
@@ -27,11 +27,11 @@ use Rattle.program_link.proofs.Entries.{routine_small}
 use Rattle.x64_code.specs.Near.{IsInstructionNear}
 use Rattle.program_tables.specs.Placed.{Placed, site_of, placed}
 use Rattle.program_tables.specs.Entries as tables
-use Rattle.program_frames.specs.Standing.{image_base, template_at, links, IsReturn, IsInBody}
+use Rattle.program_frames.specs.InMemory.{image_base, template_at, links, IsReturn, IsInBody}
 use Rattle.program_frames.specs.Laws.{stack_frame}
 use Rattle.program_frames.proofs.Layouts.{size_of, sized}
-use Rattle.program_frames.proofs.Waiting.{frame_stands, leaves_stand}
-use Rattle.body_states.specs.Programs.{frame_with, HasProgram, IsResumed, IsFramed, FramesStand, HasAllocation, LeavesStand}
+use Rattle.program_frames.proofs.Waiting.{frame_is_at, leaves_are_at}
+use Rattle.body_states.specs.Programs.{frame_with, HasProgram, IsResumed, IsFramed, FramesAreWaiting, HasAllocation, LeavesAreWaiting}
 use Rattle.body_states.specs.Sites.{links_of, begin_of, code_of}
 use Rattle.image_states.specs.Plans.{functions_of, funclets_of, is_leaf, or_none, routine_of, address_of, plan_of, sites_of}
 use Rattle.image_states.specs.Compiled.{IsCompiled}
@@ -40,11 +40,11 @@ use Rattle.image_states.proofs.Addresses.{place, here, label_inside}
 use Rattle.image_states.proofs.Entering.{moved, code_same}
 use Rattle.image_states.proofs.Shifts.{template_moved}
 
--- ---- code that may not be written stands
+-- ---- code that may not be written is
 
-pub stands_of : (m : Memory) (at : ℕ) (bytes : List ℕ) → IsCodeAt m at bytes → Stands m at bytes
-stands_of m at [] h = tt
-stands_of m at (b ∷ bytes) h = (h.0, h.1, stands_of m (at + 1) bytes h.3)
+pub executable_of : (m : Memory) (at : ℕ) (bytes : List ℕ) → IsCodeAt m at bytes → IsExecutableAt m at bytes
+executable_of m at [] h = tt
+executable_of m at (b ∷ bytes) h = (h.0, h.1, executable_of m (at + 1) bytes h.3)
 
 returns : (i : Instruction) → IsReturn i → quiet.IsReturn i
 returns (instructions.Return from) h = tt
@@ -86,7 +86,7 @@ module _ (program : LinearProgram) (c : IsCompiled program) where
         number = label;
         instruction = r.instruction;
         there = at;
-        goes_on = λ z. r.goes_on (returns r.instruction z);
+        continues = λ z. r.continues (returns r.instruction z);
         done = r.done;
         item = r.item;
         left = r.left;
@@ -95,34 +95,34 @@ module _ (program : LinearProgram) (c : IsCompiled program) where
       }
 
   code_there : (name : BodyName) (b : LinearBody) (is : body_of program name ≡ Some b) (m : Memory) → HasProgram (functions_of program) (funclets_of program) program (plan_of program) (sites_of program) m
-      → Stands m (image_base + (routine_of program name).begin) (spelled (routine_code (site_of program) (routine_of program name).begin (routine_of program name).routine))
+      → IsExecutableAt m (image_base + (routine_of program name).begin) (spelled (routine_code (site_of program) (routine_of program name).begin (routine_of program name).routine))
   code_there name b is m has =
       let p = place program c name b is in
       let x = routine_of program name in
       let begin = begin_of (plan_of program) (sites_of program) name in
-      let code = stands_of m begin (spelled (code_of program (plan_of program) (sites_of program) name b)) (has.code name b is).stands in
-      subst (λ (n : ℕ). Stands m n (spelled (routine_code (site_of program) x.begin x.routine))) p.begin (subst (λ (q : List Instr). Stands m begin (spelled q)) (code_same program c name b is) code)
+      let code = executable_of m begin (spelled (code_of program (plan_of program) (sites_of program) name b)) (has.code name b is).is_there in
+      subst (λ (n : ℕ). IsExecutableAt m n (spelled (routine_code (site_of program) x.begin x.routine))) p.begin (subst (λ (q : List Instr). IsExecutableAt m begin (spelled q)) (code_same program c name b is) code)
 
-  pub frames_stand : FramesStand (functions_of program) (funclets_of program) program (plan_of program) (sites_of program)
-  frames_stand m name b label k back is framed has r kept room returns =
+  pub frames_are_at : FramesAreWaiting (functions_of program) (funclets_of program) program (plan_of program) (sites_of program)
+  frames_are_at m name b label k back is framed has r kept room returns =
       let p = place program c name b is in
       let x = routine_of program name in
       let f = framed_of x.routine.frame framed in
       let size : x.routine.layout.frame ≡ f.0.size = sized program p.index x p.at ∙ ap size_of f.1 in
       let rva = template_at x label + sizes r.done in
       let here' : k.rip ≡ image_base + rva = r.here ∙ (let q : image_base + template_at x label + sizes r.done ≡ image_base + rva = omega arith in q) in
-      let s = frame_stands program m p.index x f.0 k rva back c.fits c.ranges p.at f.1 (code_there name b is m has) (in_body name b is label k.rip r) here' kept (subst (λ (n : ℕ). rsp k + n + 8 < 2 ^ 64) size room) (subst (λ (n : ℕ). word m (rsp k + n) ≡ Ok back) size returns) in
+      let s = frame_is_at program m p.index x f.0 k rva back c.fits c.ranges p.at f.1 (code_there name b is m has) (in_body name b is label k.rip r) here' kept (subst (λ (n : ℕ). rsp k + n + 8 < 2 ^ 64) size room) (subst (λ (n : ℕ). word m (rsp k + n) ≡ Ok back) size returns) in
       let same : stack_frame program x f.0 back ≡ frame_with (tables.entry_of (site_of program) x (or_none x.routine.frame)) x.routine.layout.frame (taking_size f.0.size) back =
       λ i. frame_with (tables.entry_of (site_of program) x (or_none (sym f.1 i))) (sym size i) (taking_size f.0.size) back in
-      record { offset = taking_size f.0.size; stands = subst (FrameStands (functions_of program) m k) same s }
+      record { offset = taking_size f.0.size; is_there = subst (FrameIsAt (functions_of program) m k) same s }
 
-  pub leaves_stand' : LeavesStand (functions_of program) (funclets_of program) program (plan_of program) (sites_of program)
-  leaves_stand' m name b label k back is leaf r kept room returns =
+  pub leaves_are_at' : LeavesAreWaiting (functions_of program) (funclets_of program) program (plan_of program) (sites_of program)
+  leaves_are_at' m name b label k back is leaf r kept room returns =
       let p = place program c name b is in
       let x = routine_of program name in
       let rva = template_at x label + sizes r.done in
       let here' : k.rip ≡ image_base + rva = r.here ∙ (let q : image_base + template_at x label + sizes r.done ≡ image_base + rva = omega arith in q) in
-      leaves_stand program m p.index x k rva back c.fits c.ranges p.at (leaf_of x.routine.frame leaf) (record { body = in_body name b is label k.rip r; here = here'; kept = kept; room = room; returns = returns })
+      leaves_are_at program m p.index x k rva back c.fits c.ranges p.at (leaf_of x.routine.frame leaf) (record { body = in_body name b is label k.rip r; here = here'; kept = kept; room = room; returns = returns })
 
   pub allocation : (name : BodyName) (b : LinearBody) → body_of program name ≡ Some b → HasAllocation (functions_of program) (funclets_of program) program (plan_of program) (sites_of program) name
   allocation name b is =

@@ -23,7 +23,7 @@ use Rattle.program_link.specs.Linked.{first, total}
 use Rattle.program_tables.specs.Entries.{entries}
 use Rattle.program_tables.proofs.Lookups.{some_same, none_some}
 use Rattle.program_tables.proofs.Table.{end_inside, image_small}
-use Rattle.program_frames.specs.Standing.{image_base}
+use Rattle.program_frames.specs.InMemory.{image_base}
 use Rattle.program_frames.proofs.Waiting.{away}
 use Rattle.program_shape.specs.Rows.{rows_of, regions_in, regions, funclet_in, named, funclet_begin, IsRow, AreRows}
 use Rattle.program_shape.proofs.Shape.{rises, tables_have_shape, begin_is, as_long, funclet_size}

@@ -39,8 +39,8 @@ use Rattle.program_tables.specs.Ranges.{IsRange, HasRanges}
 use Rattle.program_tables.specs.Entries.{scopes_of}
 use Rattle.program_tables.proofs.Lookups.{placed_has, some_same, none_some}
 use Rattle.program_tables.proofs.Table.{end_inside, image_small}
-use Rattle.program_frames.specs.Standing.{image_base, template_at}
-use Rattle.program_frames.proofs.CodeStands.{IsThere}
+use Rattle.program_frames.specs.InMemory.{image_base, template_at}
+use Rattle.program_frames.proofs.CodeInMemory.{IsThere}
 use Rattle.program_frames.proofs.Waiting.{away}
 use Rattle.program_shape.specs.Rows.{funclet_begin}
 use Rattle.program_shape.specs.Laws as shape

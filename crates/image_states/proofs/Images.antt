@@ -10,7 +10,7 @@ use Rattle.program_link.specs.Text.{entry_size, check_stack_at}
 use Rattle.program_link.specs.Text as texts
 use Rattle.program_link.proofs.Entries.{entry_sizes}
 use Rattle.program_tables.specs.Placed.{Placed, body_begin, end_of, site_of}
-use Rattle.program_frames.specs.Standing.{image_base}
+use Rattle.program_frames.specs.InMemory.{image_base}
 use Rattle.body_states.specs.Sites.{begin_of, entry_code}
 use Rattle.body_states.specs.Programs.{HasAddresses}
 use Rattle.image_states.specs.Plans.{functions_of, funclets_of, routine_of, address_of, plan_of, sites_of}
@@ -19,7 +19,7 @@ use Rattle.image_states.specs.StateLaws.{ImagesArePrograms}
 use Rattle.image_states.proofs.Addresses.{InImage, check_stack_inside, place, here, label_rises, body_inside, not_first}
 use Rattle.image_states.proofs.Slots.{laid_out}
 use Rattle.image_states.proofs.Entering.{entry_same}
-use Rattle.image_states.proofs.Framed.{frames_stand, leaves_stand', allocation}
+use Rattle.image_states.proofs.Framed.{frames_are_at, leaves_are_at', allocation}
 use Rattle.image_states.proofs.Funclets.{funclets_begin}
 use Rattle.image_states.proofs.Giving.{gives}
 use Rattle.image_states.proofs.Resuming.{resumptions}
@@ -65,8 +65,8 @@ images_are_programs program c = record {
   lands = λ name b label is lt. lt-ltb label (length (routine_of program name).routine.body.code) (let e = same_length program c name b is in omega arith);
   landings = λ name b label is l. (let lt = ltb-true label (length (routine_of program name).routine.body.code) l in let e = same_length program c name b is in omega arith);
   allocations = λ name b is leaf. allocation program c name b is;
-  frames = frames_stand program c;
-  leaves = leaves_stand' program c;
+  frames = frames_are_at program c;
+  leaves = leaves_are_at' program c;
   funclets = funclets_begin program c;
   resumptions = λ resumption b saved. resumptions program b saved resumption;
   callers = λ name b is. callers program c name b is;

@@ -15,7 +15,7 @@ use Rattle.program_link.specs.Linked.{first}
 use Rattle.program_link.proofs.Images.{no_routine}
 use Rattle.program_tables.specs.Placed.{site_of, end_of}
 use Rattle.program_tables.proofs.Lookups.{some_same, none_some}
-use Rattle.program_frames.specs.Standing.{image_base, template_at}
+use Rattle.program_frames.specs.InMemory.{image_base, template_at}
 use Rattle.x64_code.specs.Linking.{address_or}
 use Rattle.program_shape.specs.Rows.{funclet_begin}
 use Rattle.program_shape.proofs.Placing.{bounds_rise}

@@ -15,11 +15,11 @@ use Rattle.virtual_unwind.specs.CallerOf.{Functions, CallerFrame, distance, entr
 use Rattle.virtual_unwind.specs.Tail.{tail, tail_at, prepend_instr, left}
 use Rattle.virtual_unwind.specs.Undone.{Answer, word, popped}
 use Rattle.seh_walk.specs.Walk.{visited, if_over, if_filter, if_finally, framed, filter_return, finally_return}
-use Rattle.linked_stack.specs.Stack.{FrameStands}
+use Rattle.linked_stack.specs.Stack.{FrameIsAt}
 use Rattle.linked_stack.specs.PlainWalks.{state}
 use Rattle.linked_stack.proofs.Visiting.{set_head, frame_is_visited}
-use Rattle.frame_rules.specs.Bytes.{spell, Stands}
-use Rattle.frame_rules.proofs.Bytes.{items_stand}
+use Rattle.frame_rules.specs.Bytes.{spell, IsExecutableAt}
+use Rattle.frame_rules.proofs.Bytes.{items_are_at}
 use Rattle.frame_rules.proofs.Tails.{tail-more}
 use Rattle.template_code.specs.Bytes.{size}
 use Rattle.program_link.specs.Linked.{first}
@@ -86,9 +86,9 @@ module _ (t : Functions) (m : Memory) (rip : ℕ) (live : 0 < rip) (not_filter :
   by_epilogue n e c back at nine room w =
       visits c (caller_above c n back) (left m (give_back n ∷ instrs.Return ∷ []) c) at (e c at) (ap (λ (a : Answer Context). a >>= left m []) (popped_above m c.rip c.kept n back (omega arith) room w)) (risen_by c n back nine)
 
--- where a frame stands
+-- where a frame is
 pub by_frame : (t : Functions) (m : Memory) (rip size : ℕ)
-    → ((c : Context) (back : ℕ) → c.rip ≡ rip → length c.kept ≡ 9 → rsp c + size + 8 < 2 ^ 64 → word m (rsp c + size) ≡ Ok back → (entry : Entry) × (offset : ℕ) × FrameStands t m c (record { entry = entry; size = size; offset = offset; return_address = back }))
+    → ((c : Context) (back : ℕ) → c.rip ≡ rip → length c.kept ≡ 9 → rsp c + size + 8 < 2 ^ 64 → word m (rsp c + size) ≡ Ok back → (entry : Entry) × (offset : ℕ) × FrameIsAt t m c (record { entry = entry; size = size; offset = offset; return_address = back }))
     → FindsReturn t m rip size
 by_frame t m rip size h c back at nine room w =
     let s = h c back at nine room w in
@@ -96,22 +96,22 @@ by_frame t m rip size h c back at nine room w =
 
 -- ---- what is left of an epilogue
 
-return_tail : (m : Memory) (at j : ℕ) (first : Bool) → Stands m at (chosen instrs.Return) → at + 15 < 2 ^ 63 → tail (suc j) first 0 m at ≡ Some (instrs.Return ∷ [])
-return_tail m at j first stands lt = tail-more (suc j) j first 0 m at (spell instrs.Return) (omega arith) (items_stand m at (instrs.Return ∷ []) refl (omega arith) stands).0
+return_tail : (m : Memory) (at j : ℕ) (first : Bool) → IsExecutableAt m at (chosen instrs.Return) → at + 15 < 2 ^ 63 → tail (suc j) first 0 m at ≡ Some (instrs.Return ∷ [])
+return_tail m at j first is_there lt = tail-more (suc j) j first 0 m at (spell instrs.Return) (omega arith) (items_are_at m at (instrs.Return ∷ []) refl (omega arith) is_there).0
 
-pub at_return : (m : Memory) (at : ℕ) → Stands m at (chosen instrs.Return) → at + 15 < 2 ^ 63 → tail_at 0 m at ≡ Some (instrs.Return ∷ [])
+pub at_return : (m : Memory) (at : ℕ) → IsExecutableAt m at (chosen instrs.Return) → at + 15 < 2 ^ 63 → tail_at 0 m at ≡ Some (instrs.Return ∷ [])
 unfolding tail_at
-at_return m at stands lt = return_tail m at 0xFFFF_FFFF_FFFF_FFFE true stands lt
+at_return m at is_there lt = return_tail m at 0xFFFF_FFFF_FFFF_FFFE true is_there lt
 
-pub at_epilogue : (m : Memory) (at n : ℕ) → n < 2 ^ 30 → Stands m at (chosen (give_back n)) → Stands m (at + length (chosen (give_back n))) (chosen instrs.Return) → at + 30 < 2 ^ 63 → tail_at 0 m at ≡ Some (give_back n ∷ instrs.Return ∷ [])
+pub at_epilogue : (m : Memory) (at n : ℕ) → n < 2 ^ 30 → IsExecutableAt m at (chosen (give_back n)) → IsExecutableAt m (at + length (chosen (give_back n))) (chosen instrs.Return) → at + 30 < 2 ^ 63 → tail_at 0 m at ≡ Some (give_back n ∷ instrs.Return ∷ [])
 unfolding tail_at
-at_epilogue m at n small stands more lt =
+at_epilogue m at n small is_there more lt =
     let i = give_back n in
     let few = longest i in
     let one = append-nil (chosen i) in
     let l = ap length one in
     let enc = and_from (is_encodable i) true (signed n small) refl in
     let wraps : (at + length (chosen i)) % 2 ^ 64 ≡ at + length (chosen i) = omega arith in
-    tail-more 0xFFFF_FFFF_FFFF_FFFF 0xFFFF_FFFF_FFFF_FFFE true 0 m at (spell i) (omega arith) (items_stand m at (i ∷ []) enc (omega arith) (subst (Stands m at) (sym one) stands)).0
+    tail-more 0xFFFF_FFFF_FFFF_FFFF 0xFFFF_FFFF_FFFF_FFFE true 0 m at (spell i) (omega arith) (items_are_at m at (i ∷ []) enc (omega arith) (subst (IsExecutableAt m at) (sym one) is_there)).0
     ∙ ap (λ a. prepend_instr i (tail 0xFFFF_FFFF_FFFF_FFFE false 0 m a)) wraps
     ∙ ap (prepend_instr i) (return_tail m (at + length (chosen i)) 0xFFFF_FFFF_FFFF_FFFD false more (omega arith))

@@ -35,7 +35,7 @@ use Rattle.program_link.specs.Text.{thunks_at, check_stack_at}
 use Rattle.program_link.specs.Linked.{linked}
 use Rattle.program_tables.specs.Placed.{Placed, site_of, placed}
 use Rattle.program_tables.specs.Entries as tables
-use Rattle.program_frames.specs.Standing.{image_base, template_at}
+use Rattle.program_frames.specs.InMemory.{image_base, template_at}
 use Rattle.program_shape.specs.Rows.{funclet_begin}
 use Rattle.linked_stack.specs.ImagePlan.{Plan}
 use Rattle.body_states.specs.Sites.{Sites}

@@ -1,4 +1,4 @@
-//! The image of a compiled program as the steps of linear code need it: where its code stands, what
+//! The image of a compiled program as the steps of linear code need it: where its code is, what
 //! its function table gives, and the memory that a run of it starts with. Begin reading with
 //! `specs/Plans`.
 #![tactic(auto)]

@@ -27,7 +27,7 @@ use Rattle.ir_expressions.specs.Expressions.{copy, expression_code}
 use Rattle.seh_ir.specs.Statements.{jump_code, return_code, leave_code, discarded_code, returned_code, condition_code, initialiser_code, declared_code, all_declared_code, landed, repeated, statement_code, statements_code}
 use Rattle.seh_ir.specs.Funclets.{filter_funclets, finally_funclet, in_funclet, statement_funclets, statements_funclets}
 use Rattle.ir_linked.proofs.Numbers.{count_front, count_back, counted, filter_count, statement_count, statements_count}
-use Rattle.ir_linked.proofs.Segments.{StandsAt, front, back}
+use Rattle.ir_linked.proofs.Segments.{IsSegmentAt, front, back}
 use Rattle.ir_linked.proofs.SoundExpressions.{both_left, both_right, Knows, expression_fits}
 use Rattle.ir_bounds.specs.Nesting.{expression_nesting, expression_reads, most_of_optional, most_of_declared, most_of_filter, most_of_statement, most_of}
 use Rattle.ir_bounds.specs.Slots.{IsPlain, HasParent, IsSmallBody, IsSmallFunclet}
@@ -219,7 +219,7 @@ module _ (program : Program) (linear : LinearProgram) (most n own : ℕ) (wide :
     mutual
       pub funclets_small : (s : Statement) (i : Inside) (k : Knows program own false i.scope) (owner : Owner) (fitting : Fitting owner) (names : Names) (a : NamesAmong n names) (j : ℕ) → statement_sound i s ≡ true
           → names.free + statement_notes s ≤ n → 7 * most_of_statement expression_nesting s + 8 ≤ most → most_of_statement expression_reads s ≤ 15
-          → StandsAt linear.funclets j (statement_funclets owner names s) → count_up (j + 1) (funclets_in s) ≡ true → AllSmall (statement_funclets owner names s)
+          → IsSegmentAt linear.funclets j (statement_funclets owner names s) → count_up (j + 1) (funclets_in s) ≡ true → AllSmall (statement_funclets owner names s)
       funclets_small (Declare d) i k owner fitting names a j ok room le r f c = tt
       funclets_small (Block ss) i k owner fitting names a j ok room le r f c = all_funclets_small ss i k owner fitting names a j ok room le r f c
       funclets_small (Evaluate e) i k owner fitting names a j ok room le r f c = tt
@@ -281,7 +281,7 @@ module _ (program : Program) (linear : LinearProgram) (most n own : ℕ) (wide :
 
       pub all_funclets_small : (ss : Statements) (i : Inside) (k : Knows program own false i.scope) (owner : Owner) (fitting : Fitting owner) (names : Names) (a : NamesAmong n names) (j : ℕ) → statements_sound i ss ≡ true
           → names.free + statements_notes ss ≤ n → 7 * most_of expression_nesting ss + 8 ≤ most → most_of expression_reads ss ≤ 15
-          → StandsAt linear.funclets j (statements_funclets owner names ss) → count_up (j + 1) (funclets ss) ≡ true → AllSmall (statements_funclets owner names ss)
+          → IsSegmentAt linear.funclets j (statements_funclets owner names ss) → count_up (j + 1) (funclets ss) ≡ true → AllSmall (statements_funclets owner names ss)
       all_funclets_small Empty i k owner fitting names a j ok room le r f c = tt
       all_funclets_small (Then s ss) i k owner fitting names a j ok room le r f c =
           let fs = statement_funclets owner names s in

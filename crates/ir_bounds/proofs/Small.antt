@@ -16,7 +16,7 @@ use Rattle.seh_ir.specs.Statements.{statements_code}
 use Rattle.seh_ir.specs.Regions.{statements_regions}
 use Rattle.seh_ir.specs.Lowered.{own_locals, all_locals, scope_of, lowered_function, lowered_funclets, all_funclets, lowered}
 use Rattle.ir_linked.proofs.Numbers.{count_front, count_back, statements_count}
-use Rattle.ir_linked.proofs.Segments.{StandsAt, front, back, stands_itself}
+use Rattle.ir_linked.proofs.Segments.{IsSegmentAt, front, back, whole_is_at}
 use Rattle.ir_linked.proofs.SoundExpressions.{both_left, both_right, Knows}
 use Rattle.ir_bounds.specs.Nesting.{IsShallow, AreShallow}
 use Rattle.ir_bounds.specs.Slots.{IsSmallFunction, IsSmallFunclet}
@@ -70,7 +70,7 @@ module _ (program : Program) (h : functions_sound program.functions program.func
   functions_small (f ∷ fs) ok shallow = (function_small f (both_left _ _ ok) shallow.0, functions_small fs (both_right _ _ ok) shallow.1)
 
   own_small : (fn : Function) (number j : ℕ) → number < length program.functions → function_sound program.functions fn ≡ true → IsShallow fn
-      → StandsAt (lowered program).funclets j (lowered_funclets number fn) → count_up (j + 1) (funclets fn.body) ≡ true → AllByRecursion (IsSmallFunclet (lowered program)) (lowered_funclets number fn)
+      → IsSegmentAt (lowered program).funclets j (lowered_funclets number fn) → count_up (j + 1) (funclets fn.body) ≡ true → AllByRecursion (IsSmallFunclet (lowered program)) (lowered_funclets number fn)
   own_small fn number j lt ok shallow f c =
       let n = all_locals fn in
       let nested = shallow.expressions in
@@ -85,7 +85,7 @@ module _ (program : Program) (h : functions_sound program.functions program.func
       all_funclets_small program (lowered program) 456 n (own_locals fn) wide (omega arith) few most room fn.body (inside fn) (knows fn) owner (record { function = omega arith; locals = refl; parent = tt }) (scope_of fn).names (among fn) j (both_left _ _ (both_left _ _ ok)) (omega arith) (omega arith) shallow.parameters f c
 
   funclets_small : (fs : List Function) (number j : ℕ) → number + length fs ≤ length program.functions → functions_sound program.functions fs ≡ true → AreShallow fs
-      → StandsAt (lowered program).funclets j (all_funclets number fs) → count_up (j + 1) (sound.all_funclets fs) ≡ true → AllByRecursion (IsSmallFunclet (lowered program)) (all_funclets number fs)
+      → IsSegmentAt (lowered program).funclets j (all_funclets number fs) → count_up (j + 1) (sound.all_funclets fs) ≡ true → AllByRecursion (IsSmallFunclet (lowered program)) (all_funclets number fs)
   funclets_small [] number j le ok shallow f c = tt
   funclets_small (fn ∷ fs) number j le ok shallow f c =
       let own = lowered_funclets number fn in
@@ -108,5 +108,5 @@ lowered_is_small program h shallow =
       globals = leb-true (length program.globals) 1048576 (both_right _ _ h);
       main = omega arith;
       functions = functions_small program fine program.functions fine shallow;
-      funclets = funclets_small program fine program.functions 0 0 (omega arith) fine shallow (stands_itself (lowered program).funclets) (both_right _ _ counts);
+      funclets = funclets_small program fine program.functions 0 0 (omega arith) fine shallow (whole_is_at (lowered program).funclets) (both_right _ _ counts);
     }

@@ -10,7 +10,7 @@ use Rattle.c_checked.specs.Program.{Function}
 use Rattle.c_checked.specs.Statement.{Declared, Filter, Always, Funclet, Statement, Declare, Block, Evaluate, If, IfElse, For, DoWhile, Return, Break, Continue, Leave, TryExcept, TryFinally, Statements, Empty, Then}
 use Rattle.ir_sizes.specs.Sizes.{statements_notes}
 
--- ---- how many expressions stand around one of the parts
+-- ---- how many expressions are around one of the parts
 
 abbrev mutual
   pub expression_nesting : Expression → ℕ

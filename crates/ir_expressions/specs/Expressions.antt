@@ -51,7 +51,7 @@ conversion_code (conversions.Scale s from by) d =
     change d (Pure (Extend s from Long)) ∷ constant (d + 1) by ∷ combine d (Pure (Multiply Long))
     ∷ []
 
--- the size of the numbers that stand for values of a type of this width
+-- the size of the numbers that represent values of a type of this width
 abbrev pub size_of : Width → Size
 size_of W8 = Int
 size_of W16 = Int

@@ -136,38 +136,38 @@ module _ (program : Program) (linear : LinearProgram) (pace body : ℕ) where
   Stays names shapes context base = KeptFrom program linear pace body (below_slot context.activation names.free) shapes base
 
   -- what is around statements, with room for so many codes and flags
-  pub record Standing (names : Names) (z : Shape) (shapes : List Shape) (context : Context) (site : Site) (base : Store) (notes : ℕ) : Type 0 where
+  pub record Surroundings (names : Names) (z : Shape) (shapes : List Shape) (context : Context) (site : Site) (base : Store) (notes : ℕ) : Type 0 where
     pub env : Env program linear pace body (below_slot context.activation names.free) names false z shapes context site base
     pub past : z.own ≤ names.free
     pub room : names.free + notes ≤ z.all
     pub plain : names.exception ≡ OfFilter → ⊥
 
-  pub standing_less : (names : Names) (z : Shape) (shapes : List Shape) (context : Context) (site : Site) (base : Store) (notes notes' : ℕ) → notes' ≤ notes → Standing names z shapes context site base notes → Standing names z shapes context site base notes'
-  standing_less names z shapes context site base notes notes' le s = let r = s.room in record { env = s.env; past = s.past; room = omega arith; plain = s.plain }
+  pub surroundings_less : (names : Names) (z : Shape) (shapes : List Shape) (context : Context) (site : Site) (base : Store) (notes notes' : ℕ) → notes' ≤ notes → Surroundings names z shapes context site base notes → Surroundings names z shapes context site base notes'
+  surroundings_less names z shapes context site base notes notes' le s = let r = s.room in record { env = s.env; past = s.past; room = omega arith; plain = s.plain }
 
   -- what is claimed of each kind of task of statements, inside at most n others
   pub record BodyRuns (n : ℕ) : Type 0 where
     pub run : (s : Statement) (scope : Scope) (z : Shape) (shapes : List Shape) (context : Context) (site : Site) (base : Store) (pc : ℕ) (st : State) (store : Store)
         → st.steps_left ≤ n → statement_weight s + body + 4 ≤ pace → Placed program linear pace body z.own site.body scope s site.regions pc → Inner linear site.body scope site.regions pc (pc + statement_size s)
-        → Standing scope.names z shapes context site base (statement_notes s) → Stays scope.names shapes context base st store → st.held ≡ site.held
+        → Surroundings scope.names z shapes context site base (statement_notes s) → Stays scope.names shapes context base st store → st.held ≡ site.held
         → Claim linear pace (at (conf context site pc [] st store)) st (price 0 0 (statement_weight s) (statement_weight s)) (statement_ways scope context site (Stays scope.names shapes context base) (pc + statement_size s)) (within program n (Run s) context st)
     pub for_run : (c next : Option Expression) (s : Statement) (scope : Scope) (z : Shape) (shapes : List Shape) (context : Context) (site : Site) (base : Store) (pc : ℕ) (st : State) (store : Store)
         → st.steps_left ≤ n → 1 + optional_weight c + statement_weight s + optional_weight next + body + 4 ≤ pace → ForPlaced program linear pace body z.own site.body scope c next s site.regions pc → Inner linear site.body scope site.regions pc (for_end c next s pc)
-        → Standing scope.names z shapes context site base (statement_notes s) → Stays scope.names shapes context base st store → st.held ≡ site.held
+        → Surroundings scope.names z shapes context site base (statement_notes s) → Stays scope.names shapes context base st store → st.held ≡ site.held
         → Claim linear pace (at (conf context site pc [] st store)) st (price 0 0 (1 + optional_weight c + statement_weight s + optional_weight next) (1 + optional_weight c + statement_weight s + optional_weight next))
         (statement_ways scope context site (Stays scope.names shapes context base) (for_end c next s pc)) (within program n (ForIteration c next s) context st)
     pub do_run : (s : Statement) (c : Expression) (scope : Scope) (z : Shape) (shapes : List Shape) (context : Context) (site : Site) (base : Store) (pc : ℕ) (st : State) (store : Store)
         → st.steps_left ≤ n → 1 + statement_weight s + expression_weight c + body + 4 ≤ pace → DoPlaced program linear pace body z.own site.body scope s c site.regions pc → Inner linear site.body scope site.regions pc (do_end s c pc)
-        → Standing scope.names z shapes context site base (statement_notes s) → Stays scope.names shapes context base st store → st.held ≡ site.held
+        → Surroundings scope.names z shapes context site base (statement_notes s) → Stays scope.names shapes context base st store → st.held ≡ site.held
         → Claim linear pace (at (conf context site pc [] st store)) st (price 0 0 (1 + statement_weight s + expression_weight c) (1 + statement_weight s + expression_weight c))
         (statement_ways scope context site (Stays scope.names shapes context base) (do_end s c pc)) (within program n (DoIteration s c) context st)
     pub try_run : (ss : Statements) (scope : Scope) (z : Shape) (shapes : List Shape) (context : Context) (site : Site) (base : Store) (pc : ℕ) (st : State) (store : Store)
         → st.steps_left ≤ n → 1 + statements_weight ss + body + 4 ≤ pace → AllPlaced program linear pace body z.own site.body scope ss site.regions pc → Inner linear site.body scope site.regions pc (pc + statements_size ss)
-        → Standing scope.names z shapes context site base (statements_notes ss) → Stays scope.names shapes context base st store → st.held ≡ site.held
+        → Surroundings scope.names z shapes context site base (statements_notes ss) → Stays scope.names shapes context base st store → st.held ≡ site.held
         → Claim linear pace (at (conf context site pc [] st store)) st (price 0 0 (1 + statements_weight ss) (1 + statements_weight ss)) (statement_ways scope context site (Stays scope.names shapes context base) (pc + statements_size ss)) (within program n (TryBody ss) context st)
     pub finally_run : (k : ℕ) (last : Statements) (flag : Bool) (held : ℕ) (below : List Item) (names : Names) (z : Shape) (shapes : List Shape) (context : Context) (site : Site) (base : Store) (pc : ℕ) (temps : List ℕ) (st : State) (store : Store)
         → st.steps_left ≤ n → 1 + statements_weight last + body + 4 ≤ pace → FinallyPlaced program linear pace body z.own names k last → IsFunclet program linear pace body (k - 1) (finally_site (k - 1) below held) context site pc temps
-        → Standing names z shapes context site base (1 + statements_notes last) → Stays names shapes context base st store → st.held ≡ held
+        → Surroundings names z shapes context site base (1 + statements_notes last) → Stays names shapes context base st store → st.held ≡ held
         → Claim linear pace (λ next. deeper 2 held store st.events (next (begin_finally (k - 1) names.free flag held below (conf context site pc temps st store)))) st (price 0 0 (1 + statements_weight last) (1 + statements_weight last))
         (record (normal_ways (λ st store next. end_finally linear next below st.events store) (Stays names shapes context base) context site) { held = held }) (within program n (RunFinally k last flag) context st)
 
@@ -188,7 +188,7 @@ module _ (program : Program) (linear : LinearProgram) (pace body : ℕ) where
   -- an expression's value, and what a statement does with it
   pub statement_eval : (n : ℕ) (ih : Runs program linear pace body n) (e : Expression) (names : Names) (z : Shape) (shapes : List Shape) (context : Context) (site : Site) (base : Store) (notes pc : ℕ) (st : State) (store : Store) (q r : Price) (w : Ways) (f : ℕ → State → Outcome)
       → st.steps_left ≤ n → expression_weight e + body + 4 ≤ pace → Join (price 0 0 (expression_weight e) (expression_weight e)) q r → ExpressionFits program z.own false e → HasAt linear site.body site.regions pc (expression_code names e 0 pc)
-      → Standing names z shapes context site base notes → Stays names shapes context base st store → st.held ≡ site.held
+      → Surroundings names z shapes context site base notes → Stays names shapes context base st store → st.held ≡ site.held
       → ((v : ℕ) (mid : State) (after : Store) → mid.steps_left ≤ n → Stays names shapes context base mid after → mid.held ≡ site.held
       → Claim linear pace (at (conf context site (pc + expression_size e) (v ∷ []) mid after)) mid q (record w { context = context; site = site; held = site.held; kept = Stays names shapes context base }) (f v mid))
       → Claim linear pace (at (conf context site pc [] st store)) st r (record w { context = context; site = site; held = site.held; kept = Stays names shapes context base }) (with_value (within program n (Eval e) context st) f)

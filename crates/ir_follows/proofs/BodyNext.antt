@@ -29,11 +29,11 @@ use Rattle.ir_follows.proofs.Places.{has_at}
 use Rattle.ir_follows.proofs.Claims.{Runs, shown_more, shown_none}
 use Rattle.ir_follows.proofs.Raises.{targets_out, IsFunclet}
 use Rattle.ir_follows.specs.Placed.{HasFunclet, FinallyPlaced, for_end, do_end}
-use Rattle.ir_follows.proofs.Bodies.{finally_site, statement_ways, Stays, Standing, BodyRuns}
+use Rattle.ir_follows.proofs.Bodies.{finally_site, statement_ways, Stays, Surroundings, BodyRuns}
 use Rattle.ir_follows.proofs.BodySequences.{all_runs}
 use Rattle.ir_follows.proofs.BodySteps.{for_runs, do_runs}
 use Rattle.ir_follows.proofs.BodyStatements.{statement_runs}
-use Rattle.ir_follows.proofs.Tries.{standing_finally, noted_kept, noted_stays, stays_out}
+use Rattle.ir_follows.proofs.Tries.{surroundings_finally, noted_kept, noted_stays, stays_out}
 
 module _ (program : Program) (linear : LinearProgram) (pace body : ℕ) where
   -- ---- the end of a `__finally` block
@@ -77,7 +77,7 @@ module _ (program : Program) (linear : LinearProgram) (pace body : ℕ) where
   module _ (roomy : 4 ≤ pace) (n : ℕ) (ih : Runs program linear pace body n) (bih : BodyRuns program linear pace body n) where
     finally_next : (k : ℕ) (last : Statements) (flag : Bool) (held : ℕ) (below : List Item) (names : Names) (z : Shape) (shapes : List Shape) (context : Context) (site : Site) (base : Store) (pc : ℕ) (temps : List ℕ) (st : State) (store : Store)
         → st.steps_left ≤ suc n → 1 + statements_weight last + body + 4 ≤ pace → FinallyPlaced program linear pace body z.own names k last → IsFunclet program linear pace body (k - 1) (finally_site (k - 1) below held) context site pc temps
-        → Standing program linear pace body names z shapes context site base (1 + statements_notes last) → Stays program linear pace body names shapes context base st store → st.held ≡ held
+        → Surroundings program linear pace body names z shapes context site base (1 + statements_notes last) → Stays program linear pace body names shapes context base st store → st.held ≡ held
         → Claim linear pace (λ next. deeper 2 held store st.events (next (begin_finally (k - 1) names.free flag held below (conf context site pc temps st store)))) st (price 0 0 (1 + statements_weight last) (1 + statements_weight last))
         (record (normal_ways (λ st store next. end_finally linear next below st.events store) (Stays program linear pace body names shapes context base) context site) { held = held }) (within program (suc n) (RunFinally k last flag) context st)
     finally_next k last flag held below names z shapes context site base pc temps st store steps light placed isf standing kept same_held =
@@ -112,7 +112,7 @@ module _ (program : Program) (linear : LinearProgram) (pace body : ℕ) where
         (more linear pace (at (place k)) asked (price 1 0 x x) (price 16 1 y y) w o (omega arith, omega arith, omega arith)
         (final_end j names below held flag context site pc temps (Stays program linear pace body names' shapes inner base') (Stays program linear pace body names shapes context base) (0 + statements_size last) out (λ st store p. out st store p) placed.funclet (has_at linear (FuncletBody j) [] (statements_size last) (0 + statements_size last) (instructions.Return (Local names.free) ∷ []) (omega arith) placed.returns) isf (at (place k)) asked x (all (within program n) last inner asked)
         (all_runs program linear pace body n bih (finally_scope names) z shapes inner fsite base' last 0 asked base' (omega arith) (omega arith) placed.code (record { around = tt; exit = tt; loop_end = tt; loop_next = tt })
-        (standing_finally program linear pace body names z shapes context site fsite base (statements_notes last) flag st store standing kept isf.same_found)
+        (surroundings_finally program linear pace body names z shapes context site fsite base (statements_notes last) flag st store standing kept isf.same_found)
         (noted_kept program linear pace body names names' z shapes context base (of_test flag) st store refl standing.env.shape standing.past kept) (ap (λ h. h + 2) same_held)))))))
 
     pub body_next : BodyRuns program linear pace body (suc n)

@@ -36,7 +36,7 @@ use Rattle.ir_follows.proofs.Claims.{Runs}
 use Rattle.ir_follows.proofs.Turns.{put_local_turn, jump_turn}
 use Rattle.ir_follows.proofs.Raises.{unwound_is}
 use Rattle.ir_follows.specs.Placed.{IsWay, IsPlace, OptionalFits, DeclaredPlaced}
-use Rattle.ir_follows.proofs.Bodies.{own_target, exit_way, jump_way, leave_way, statement_ways, Stays, Standing, BodyRuns, statement_eval}
+use Rattle.ir_follows.proofs.Bodies.{own_target, exit_way, jump_way, leave_way, statement_ways, Stays, Surroundings, BodyRuns, statement_eval}
 
 set_again : (xs : List ℕ) (x v : ℕ) → set (set xs x v) x v ≡ set xs x v
 set_again [] x v = refl
@@ -49,7 +49,7 @@ frames_again (f ∷ xs) zero x v = ap (λ g. g ∷ xs) (set_again f x v)
 frames_again (f ∷ xs) (suc k) x v = ap (λ zs. f ∷ zs) (frames_again xs k x v)
 
 module _ (program : Program) (linear : LinearProgram) (pace body : ℕ) where
-  -- a normal end goes on elsewhere
+  -- a normal end continues elsewhere
   pub normal_then : (s : Part) (t : State → Store → Part) (w : Ways) (st : State) (p q r : Price) (o : Outcome) → Join p q r → Passes linear pace p r → Claim linear pace s st p (first_ways t w) o
       → ((mid : State) (store : Store) → mid.steps_left ≤ st.steps_left → w.kept mid store → mid.held ≡ w.held → Claim linear pace (t mid store) mid q w (Gives Normal mid)) → Claim linear pace s st r w o
   normal_then s t w st p q r (Gives (Value x) mid) j l a b = absurd a
@@ -80,9 +80,9 @@ module _ (program : Program) (linear : LinearProgram) (pace body : ℕ) where
       starts_at pc pc' temps st store p done out e g = subst (λ d. G d temps st store p done out) e g
 
       -- one turn
-      pub go_on : (pc pc' : ℕ) (temps temps' : List ℕ) (st : State) (store store' : Store) (q r : Price) (done : ℕ) (out : Outcome) → Joined linear pace 1 pace 0 q r
+      pub continue_from : (pc pc' : ℕ) (temps temps' : List ℕ) (st : State) (store store' : Store) (q r : Price) (done : ℕ) (out : Outcome) → Joined linear pace 1 pace 0 q r
           → ((k : ℕ) → exec linear (suc k) (conf context site pc temps st store) ≡ exec linear k (conf context site pc' temps' st store')) → G pc' temps' st store' q done out → G pc temps st store r done out
-      go_on pc pc' temps temps' st store store' q r done out j h g =
+      continue_from pc pc' temps temps' st store store' q r done out j h g =
           first linear pace (conf context site pc temps st store) (at (conf context site pc' temps' st store')) st st q r (S done) out j refl refl (prefix_self linear pace st.events) h g
 
       pub separator_turn : (pc : ℕ) (temps : List ℕ) (st : State) (store : Store) (k : ℕ) → HasAt linear site.body site.regions pc (Separator ∷ []) → exec linear (suc k) (conf context site pc temps st store) ≡ exec linear k (conf context site (pc + 1) [] st store)
@@ -96,7 +96,7 @@ module _ (program : Program) (linear : LinearProgram) (pace body : ℕ) where
 
       -- an expression whose value isn't used, if there is one
       pub discard_then : (e : Option Expression) (v : ℕ) (notes pc : ℕ) (st : State) (store : Store) (q r : Price) (done : ℕ) (f : ℕ → State → Outcome) → st.steps_left ≤ n → optional_weight e + body + 4 ≤ pace → Join (price 1 0 (optional_weight e) (optional_weight e)) q r
-          → OptionalFits program linear pace body z.own e → HasAt linear site.body site.regions pc (discarded_code scope.names e pc) → Standing program linear pace body scope.names z shapes context site base notes → Ks st store → st.held ≡ site.held
+          → OptionalFits program linear pace body z.own e → HasAt linear site.body site.regions pc (discarded_code scope.names e pc) → Surroundings program linear pace body scope.names z shapes context site base notes → Ks st store → st.held ≡ site.held
           → ((v : ℕ) (mid : State) (after : Store) → mid.steps_left ≤ n → Ks mid after → mid.held ≡ site.held → G (pc + discarded_size e) [] mid after q done (f v mid)) → G pc [] st store r done (optional (within program n) v e context st f)
       discard_then None v notes pc st store q r done f steps light j fits has standing kept held go =
           let a = j.0 in let b = j.1 in let c = j.3 in
@@ -108,7 +108,7 @@ module _ (program : Program) (linear : LinearProgram) (pace body : ℕ) where
           statement_eval program linear pace body n ih e scope.names z shapes context site base notes pc st store (price (1 + q.turns) q.extra q.slack q.out) r (S done) f steps light
           (omega arith, omega arith, omega arith, omega arith) fits (has_front linear site.body site.regions pc code (Separator ∷ []) has) standing kept held
           (λ v mid after steps kept held.
-          go_on (pc + expression_size e) (pc + expression_size e + 1) (v ∷ []) [] mid after after q (price (1 + q.turns) q.extra q.slack q.out) done (f v mid) (omega arith, omega arith, omega arith)
+          continue_from (pc + expression_size e) (pc + expression_size e + 1) (v ∷ []) [] mid after after q (price (1 + q.turns) q.extra q.slack q.out) done (f v mid) (omega arith, omega arith, omega arith)
           (λ k. separator_turn (pc + expression_size e) (v ∷ []) mid after k (has_after linear site.body site.regions pc (expression_size e) code (Separator ∷ []) (expression_length scope.names e 0 pc) has))
           (starts_at (pc + (expression_size e + 1)) (pc + expression_size e + 1) [] mid after q done (f v mid) (sym end) (go v mid after steps kept held)))
 
@@ -190,7 +190,7 @@ module _ (program : Program) (linear : LinearProgram) (pace body : ℕ) where
       -- ---- declarations
 
       -- a local of the source is written
-      stays_set : (x v : ℕ) (notes : ℕ) (st : State) (store : Store) → x < z.own → Standing program linear pace body scope.names z shapes context site base notes → Ks st store → Ks (model.set_local st context.activation x v) (set_local store context.activation x v)
+      stays_set : (x v : ℕ) (notes : ℕ) (st : State) (store : Store) → x < z.own → Surroundings program linear pace body scope.names z shapes context site base notes → Ks st store → Ks (model.set_local st context.activation x v) (set_local store context.activation x v)
       stays_set x v notes st store l standing kept =
           let ok = below_slot context.activation scope.names.free in (
             local_set_alike shapes st store context.activation x v z standing.env.shape l kept.0,
@@ -204,7 +204,7 @@ module _ (program : Program) (linear : LinearProgram) (pace body : ℕ) where
       clear_turn x pc temps st store k has = fetch linear pace (conf context site pc temps st store) (Compute (Local x) (operations.Pure (pures.Constant 0)) (Local x) (Local x)) k has.0
 
       pub declared_runs : (x : ℕ) (value : Option Expression) (notes pc : ℕ) (st : State) (store : Store) → st.steps_left ≤ n → 1 + optional_weight value + body + 4 ≤ pace
-          → DeclaredPlaced program linear pace body z.own site.body scope.names (record { local = x; value = value }) site.regions pc → Standing program linear pace body scope.names z shapes context site base notes → Ks st store → st.held ≡ site.held
+          → DeclaredPlaced program linear pace body z.own site.body scope.names (record { local = x; value = value }) site.regions pc → Surroundings program linear pace body scope.names z shapes context site base notes → Ks st store → st.held ≡ site.held
           → G pc [] st store (price 16 1 (1 + optional_weight value) (1 + optional_weight value)) (pc + declared_size (record { local = x; value = value })) (declare (within program n) (record { local = x; value = value }) context st)
       declared_runs x None notes pc st store steps light has standing kept held =
           let cleared : State = model.set_local st context.activation x 0 in
@@ -240,6 +240,6 @@ module _ (program : Program) (linear : LinearProgram) (pace body : ℕ) where
           let after' = set_local after a x v in
           first linear pace (conf context site pc2 (v ∷ []) mid after) (at (conf context site (pc2 + 1) (v ∷ []) put after')) mid put (price 1 0 0 0) (price 2 0 0 0) (S done) (Gives Normal put) (omega arith, omega arith, omega arith) refl refl (prefix_self linear pace mid.events)
           (λ k. put_local_turn linear pace context site x 0 v pc2 (v ∷ []) mid after k (last.0, last.1, tt) refl)
-          (go_on (pc2 + 1) (pc2 + 1 + 1) (v ∷ []) [] put after' after' (price 0 0 0 0) (price 1 0 0 0) done (Gives Normal put) (omega arith, omega arith, omega arith)
+          (continue_from (pc2 + 1) (pc2 + 1 + 1) (v ∷ []) [] put after' after' (price 0 0 0 0) (price 1 0 0 0) done (Gives Normal put) (omega arith, omega arith, omega arith)
           (λ k. separator_turn (pc2 + 1) (v ∷ []) put after' k (last.2.0, last.2.1, tt))
           (here (pc2 + 1 + 1) done put after' (price 0 0 0 0) end (omega arith) (stays_set x v notes mid after has.0 standing kept) held))))

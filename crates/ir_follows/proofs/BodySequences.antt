@@ -17,7 +17,7 @@ use Rattle.ir_sizes.specs.Sizes.{statement_size, statements_size, statements_not
 use Rattle.ir_follows.specs.Weights.{statement_weight, statements_weight}
 use Rattle.ir_follows.proofs.Stores.{Shape}
 use Rattle.ir_follows.specs.Placed.{AllPlaced}
-use Rattle.ir_follows.proofs.Bodies.{Inner, inner_part, statement_ways, Stays, Standing, standing_less, BodyRuns}
+use Rattle.ir_follows.proofs.Bodies.{Inner, inner_part, statement_ways, Stays, Surroundings, surroundings_less, BodyRuns}
 
 pub max_left : (a b : ℕ) → a ≤ max a b
 max_left a b = omega arith
@@ -38,7 +38,7 @@ module _ (program : Program) (linear : LinearProgram) (pace body : ℕ) (n : ℕ
 
     -- statements in order
     pub all_runs : (ss : Statements) (pc : ℕ) (st : State) (store : Store) → st.steps_left ≤ n → statements_weight ss + body + 4 ≤ pace → AllPlaced program linear pace body z.own site.body scope ss site.regions pc
-        → Inner linear site.body scope site.regions pc (pc + statements_size ss) → Standing program linear pace body scope.names z shapes context site base (statements_notes ss) → Ks st store → st.held ≡ site.held
+        → Inner linear site.body scope site.regions pc (pc + statements_size ss) → Surroundings program linear pace body scope.names z shapes context site base (statements_notes ss) → Ks st store → st.held ≡ site.held
         → G pc [] st store (price 0 0 (statements_weight ss) (statements_weight ss)) (pc + statements_size ss) (all (within program n) ss context st)
     all_runs Empty pc st store steps light has inner standing kept held = subst (λ d. G pc [] st store (price 0 0 0 0) d (Gives Normal st)) (omega arith)
         (record { store = store; fits = kept; same = held; reaches = still linear pace (at (conf context site pc [] st store)) (at (conf context site pc [] st store)) st st 0 0 0 refl (omega arith) (prefix_self linear pace st.events) (λ k. refl) })
@@ -53,7 +53,7 @@ module _ (program : Program) (linear : LinearProgram) (pace body : ℕ) (n : ℕ
         (then_normal linear pace (at (conf context site pc [] st store)) (λ st store. at (conf context site pc1 [] st store)) (S done) st (price 0 0 a a) (price 0 0 b b) (price 0 0 (a + b) (a + b)) (within program n (Run s) context st) (λ st. all (within program n) ss context st)
         (omega arith, omega arith, omega arith, omega arith) (omega arith)
         (bih.run s scope z shapes context site base pc st store steps (omega arith) has.0 (inner_part linear site.body scope site.regions pc hi pc pc1 (omega arith) (omega arith) inner)
-        (standing_less program linear pace body scope.names z shapes context site base (max (statement_notes s) (statements_notes ss)) (statement_notes s) (max_left (statement_notes s) (statements_notes ss)) standing) kept held)
+        (surroundings_less program linear pace body scope.names z shapes context site base (max (statement_notes s) (statements_notes ss)) (statement_notes s) (max_left (statement_notes s) (statements_notes ss)) standing) kept held)
         (λ mid after low kept held.
         all_runs ss pc1 mid after (omega arith) (omega arith) has.1 (inner_part linear site.body scope site.regions pc hi pc1 done (omega arith) (omega arith) inner)
-        (standing_less program linear pace body scope.names z shapes context site base (max (statement_notes s) (statements_notes ss)) (statements_notes ss) (max_right (statement_notes s) (statements_notes ss)) standing) kept held))
+        (surroundings_less program linear pace body scope.names z shapes context site base (max (statement_notes s) (statements_notes ss)) (statements_notes ss) (max_right (statement_notes s) (statements_notes ss)) standing) kept held))

@@ -31,10 +31,10 @@ use Rattle.ir_follows.proofs.Turns.{constant_turn, jump_turn, test_turn}
 use Rattle.ir_follows.proofs.Claims.{Runs}
 use Rattle.ir_follows.proofs.Environments.{same_length}
 use Rattle.ir_follows.specs.Placed.{AllDeclaredPlaced, Placed, for_end, do_end}
-use Rattle.ir_follows.proofs.Bodies.{Inner, inner_part, Stays, Standing, standing_less, BodyRuns, statement_eval}
+use Rattle.ir_follows.proofs.Bodies.{Inner, inner_part, Stays, Surroundings, surroundings_less, BodyRuns, statement_eval}
 use Rattle.ir_follows.proofs.BodySequences.{max_left, max_right, all_runs}
-use Rattle.ir_follows.proofs.BodyParts.{Ks, S, G, ends_at, go_on, here, normal_then, discard_then, leaves_by, breaks_by, ends_try, declared_runs}
-use Rattle.ir_follows.proofs.Tries.{inside_except, inside_finally, within_region, noted_stays, standing_except, noted_kept, stays_out, standing_try, standing_guarded, block_claim}
+use Rattle.ir_follows.proofs.BodyParts.{Ks, S, G, ends_at, continue_from, here, normal_then, discard_then, leaves_by, breaks_by, ends_try, declared_runs}
+use Rattle.ir_follows.proofs.Tries.{inside_except, inside_finally, within_region, noted_stays, surroundings_except, noted_kept, stays_out, surroundings_try, surroundings_guarded, block_claim}
 use Rattle.ir_follows.proofs.TryEnds.{except_ends}
 use Rattle.ir_follows.proofs.FinallyEnds.{finally_ends}
 
@@ -53,7 +53,7 @@ module _ (program : Program) (linear : LinearProgram) (pace body : ℕ) (roomy :
     C = G program linear pace body roomy n ih bih scope z shapes context site base
 
     abbrev Sd : ℕ → Type 0
-    Sd notes = Standing program linear pace body scope.names z shapes context site base notes
+    Sd notes = Surroundings program linear pace body scope.names z shapes context site base notes
 
     abbrev In : ℕ → ℕ → Type 0
     In lo hi = Inner linear site.body scope site.regions lo hi
@@ -62,7 +62,7 @@ module _ (program : Program) (linear : LinearProgram) (pace body : ℕ) (roomy :
     part_in lo hi lo' hi' l h f = inner_part linear site.body scope site.regions lo hi lo' hi' l h f
 
     fewer : (notes notes' : ℕ) → notes' ≤ notes → Sd notes → Sd notes'
-    fewer notes notes' le s = standing_less program linear pace body scope.names z shapes context site base notes notes' le s
+    fewer notes notes' le s = surroundings_less program linear pace body scope.names z shapes context site base notes notes' le s
 
     declares_runs : (ds : List Declared) (pc : ℕ) (st : State) (store : Store) → st.steps_left ≤ n → all_declared_weight ds + body + 4 ≤ pace → AllDeclaredPlaced program linear pace body z.own site.body scope.names ds site.regions pc
         → In pc (pc + all_declared_size ds) → Sd 0 → K st store → st.held ≡ site.held → C pc [] st store (price 0 0 (all_declared_weight ds) (all_declared_weight ds)) (pc + all_declared_size ds) (declare_each (within program n) ds context st)
@@ -92,7 +92,7 @@ module _ (program : Program) (linear : LinearProgram) (pace body : ℕ) (roomy :
     return_runs : (e : Option Expression) (notes pc : ℕ) (st : State) (store : Store) → st.steps_left ≤ n → 1 + optional_weight e + body + 4 ≤ pace → Placed program linear pace body z.own site.body scope (Return e) site.regions pc → Sd notes → K st store → st.held ≡ site.held
         → C pc [] st store (price 16 1 (1 + optional_weight e) (1 + optional_weight e)) (pc + (returned_size e + 2)) (optional (within program n) 0 e context st (λ v st. Gives (Returned v) st))
     return_runs None notes pc st store steps light has standing kept held =
-        go_on program linear pace body roomy n ih bih scope z shapes context site base pc (pc + 1) [] (0 ∷ []) st store store (price 1 0 0 0) (price 16 1 1 1) (pc + (1 + 2)) (Gives (Returned 0) st) (omega arith, omega arith, omega arith)
+        continue_from program linear pace body roomy n ih bih scope z shapes context site base pc (pc + 1) [] (0 ∷ []) st store store (price 1 0 0 0) (price 16 1 1 1) (pc + (1 + 2)) (Gives (Returned 0) st) (omega arith, omega arith, omega arith)
         (λ k. constant_turn linear pace context site 0 0 (0 ∷ []) pc [] st store k (omega arith) has.computes refl)
         (leaves_by program linear pace body roomy n ih bih scope z shapes context site base scope.exit (pc + 1) 0 st store (price 1 0 0 0) (omega arith) (omega arith) has.leads has.returns kept held)
     return_runs (Some e) notes pc st store steps light has standing kept held =
@@ -120,7 +120,7 @@ module _ (program : Program) (linear : LinearProgram) (pace body : ℕ) (roomy :
         let inside = within_region (region pc target (except_kind filter target)) site in
         let body_out = within program n (TryBody ss) within_it st in
         let go : Exception → State → Outcome = λ exc st. all (within program n) block (record context { exception = exc }) st in
-        let here_standing = fewer notes (1 + statements_notes block) (max_right (statements_notes ss) (1 + statements_notes block)) standing in
+        let here_surrounded = fewer notes (1 + statements_notes block) (max_right (statements_notes ss) (1 + statements_notes block)) standing in
         let o : ℕ → Outcome = λ h. landing (length context.handlers) h body_out go in
         subst (λ h. C pc [] st store (price 16 1 w w) hi (o h)) (sym held)
         (ends_at program linear pace body roomy n ih bih scope z shapes context site base pc [] st store (price 16 1 w w) done hi (o site.held) end
@@ -131,17 +131,17 @@ module _ (program : Program) (linear : LinearProgram) (pace body : ℕ) (roomy :
         let base' = set_local after context.activation scope.names.free exc.code in
         let names' = except_names scope.names in
         let context' : Context = record context { exception = exc } in
-        let stays = noted_stays program linear pace body scope.names z shapes context site base (1 + statements_notes block) exc.code after here_standing kept.1 in
+        let stays = noted_stays program linear pace body scope.names z shapes context site base (1 + statements_notes block) exc.code after here_surrounded kept.1 in
         block_claim program linear pace body (at (conf context site (target + 1) [] mid base')) mid (price 0 0 y y) scope context context.handlers exc site (Stays program linear pace body names' shapes context' base') K done (go exc mid)
         (stays_out program linear pace body scope.names names' shapes context base base' refl stays)
         (all_runs program linear pace body n bih (in_except scope) z shapes context' site base' block (target + 1) mid base' (omega arith) (omega arith) has.block
         (inner_except linear site.body scope site.regions (target + 1) done (part_in pc hi (target + 1) done (omega arith) (omega arith) inner))
-        (standing_except program linear pace body scope.names z shapes context site base (statements_notes block) exc mid after here_standing kept)
+        (surroundings_except program linear pace body scope.names z shapes context site base (statements_notes block) exc mid after here_surrounded kept)
         (noted_kept program linear pace body scope.names names' z shapes context base exc.code mid after refl standing.env.shape standing.past kept) held))
         (λ e store k f m fr. (subst (λ fs. Alike shapes f.memory fs store) (sym fr) (subst (λ mm. Alike shapes mm e.frames store) (sym m) k.0), k.1))
         (bih.try_run ss (in_try done scope) z shapes within_it inside base pc st store steps (omega arith) has.body
         (inside_except linear site.body scope filter target done site.regions pc hi pcj (omega arith) (omega arith) inner)
-        (standing_try program linear pace body filter scope.names z shapes context site base pc target (statements_notes ss) has.filter (fewer notes (statements_notes ss) (max_left (statements_notes ss) (1 + statements_notes block)) standing)) kept held))))
+        (surroundings_try program linear pace body filter scope.names z shapes context site base pc target (statements_notes ss) has.filter (fewer notes (statements_notes ss) (max_left (statements_notes ss) (1 + statements_notes block)) standing)) kept held))))
 
     guarded_runs : (ss : Statements) (k : ℕ) (last : Statements) (pc : ℕ) (st : State) (store : Store) → st.steps_left ≤ n → statement_weight (TryFinally ss k last) + body + 4 ≤ pace → Placed program linear pace body z.own site.body scope (TryFinally ss k last) site.regions pc
         → In pc (pc + statement_size (TryFinally ss k last)) → Sd (statement_notes (TryFinally ss k last)) → K st store → st.held ≡ site.held
@@ -164,7 +164,7 @@ module _ (program : Program) (linear : LinearProgram) (pace body : ℕ) (roomy :
         pc x (at (conf context site pc [] st store)) st body_out steps inner has.end has.calls
         (bih.try_run ss (in_guarded e0 scope) z shapes context inside base pc st store steps (omega arith) has.body
         (inside_finally linear site.body scope (k - 1) (e0 + 1) e0 site.regions pc hi e0 (omega arith) (omega arith) inner)
-        (standing_guarded program linear pace body scope.names z shapes context site base pc (e0 + 1) (k - 1) (statements_notes ss) (fewer notes (statements_notes ss) (max_left (statements_notes ss) (1 + statements_notes last)) standing)) kept held)))
+        (surroundings_guarded program linear pace body scope.names z shapes context site base pc (e0 + 1) (k - 1) (statements_notes ss) (fewer notes (statements_notes ss) (max_left (statements_notes ss) (1 + statements_notes last)) standing)) kept held)))
 
     pub statement_runs : (s : Statement) (pc : ℕ) (st : State) (store : Store) → st.steps_left ≤ n → statement_weight s + body + 4 ≤ pace → Placed program linear pace body z.own site.body scope s site.regions pc → In pc (pc + statement_size s) → Sd (statement_notes s) → K st store → st.held ≡ site.held
         → C pc [] st store (price 16 1 (statement_weight s) (statement_weight s)) (pc + statement_size s) (statement (within program n) s context st)
@@ -221,7 +221,7 @@ module _ (program : Program) (linear : LinearProgram) (pace body : ℕ) (roomy :
         (normal_then program linear pace body (at (conf context site then [] mid after)) (λ st store. at (conf context site jump [] st store)) (W done) mid (price 0 0 ws ws) (price 1 0 0 0) (price 2 0 q q) (yes mid) (omega arith, omega arith, omega arith, omega arith) (omega arith)
         (sub_run s then jump mid after (price 0 0 ws ws) notes pc done steps (omega arith) (omega arith) (omega arith) refl has.yes (omega arith) (omega arith) inner (max_left (statement_notes s) (statement_notes t)) standing kept held refl)
         (λ st store low kept held.
-        go_on program linear pace body roomy n ih bih scope z shapes context site base jump label [] [] st store store (price 0 0 0 0) (price 1 0 0 0) done (Gives Normal st) (omega arith, omega arith, omega arith) (λ k. jump_turn linear pace context site label jump [] st store k has.skip)
+        continue_from program linear pace body roomy n ih bih scope z shapes context site base jump label [] [] st store store (price 0 0 0 0) (price 1 0 0 0) done (Gives Normal st) (omega arith, omega arith, omega arith) (λ k. jump_turn linear pace context site label jump [] st store k has.skip)
         (here program linear pace body roomy n ih bih scope z shapes context site base label done st store (price 0 0 0 0) end (omega arith) kept held))))
     statement_runs (For ds first c next s) pc st store steps light has inner standing kept held =
         let wd = all_declared_weight ds in

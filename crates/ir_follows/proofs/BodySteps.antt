@@ -28,8 +28,8 @@ use Rattle.ir_follows.proofs.Lengths.{expression_length}
 use Rattle.ir_follows.proofs.Turns.{jump_turn, test_turn}
 use Rattle.ir_follows.proofs.Claims.{Runs}
 use Rattle.ir_follows.specs.Placed.{ForPlaced, DoPlaced, for_end, do_end}
-use Rattle.ir_follows.proofs.Bodies.{Lands, Inner, exit_part, Standing, BodyRuns, statement_eval}
-use Rattle.ir_follows.proofs.BodyParts.{Ks, S, G, starts_at, go_on, separator_turn, here, discard_then, loop_ends}
+use Rattle.ir_follows.proofs.Bodies.{Lands, Inner, exit_part, Surroundings, BodyRuns, statement_eval}
+use Rattle.ir_follows.proofs.BodyParts.{Ks, S, G, starts_at, continue_from, separator_turn, here, discard_then, loop_ends}
 
 lands_around : (rs : List Region) (lo hi label : ℕ) → Around rs lo hi → lo ≤ label → label ≤ hi → Lands rs label
 lands_around [] lo hi label a l h = tt
@@ -56,7 +56,7 @@ module _ (program : Program) (linear : LinearProgram) (pace body : ℕ) (roomy :
     C = G program linear pace body roomy n ih bih scope z shapes context site base
 
     abbrev Sd : ℕ → Type 0
-    Sd notes = Standing program linear pace body scope.names z shapes context site base notes
+    Sd notes = Surroundings program linear pace body scope.names z shapes context site base notes
 
     abbrev In : ℕ → ℕ → Type 0
     In lo hi = Inner linear site.body scope site.regions lo hi
@@ -72,11 +72,11 @@ module _ (program : Program) (linear : LinearProgram) (pace body : ℕ) (roomy :
         let again = pc + condition_size c + statement_size s in
         let end = for_end c next s pc in
         let f : ℕ → State → Outcome = λ w st. within program n (ForIteration c next s) context st in
-        go_on program linear pace body roomy n ih bih scope z shapes context site base again (again + 1) [] [] st store store (price 2 0 wi wi) (price 3 pace wi wi) end (optional (within program n) 0 next context st f) (omega arith, omega arith, omega arith)
+        continue_from program linear pace body roomy n ih bih scope z shapes context site base again (again + 1) [] [] st store store (price 2 0 wi wi) (price 3 pace wi wi) end (optional (within program n) 0 next context st f) (omega arith, omega arith, omega arith)
         (λ k. separator_turn program linear pace body roomy n ih bih scope z shapes context site base again [] st store k has.end)
         (discard_then program linear pace body roomy n ih bih scope z shapes context site base next 0 (statement_notes s) (again + 1) st store (price 1 pace wi wi) (price 2 0 wi wi) end f steps (omega arith) (omega arith, omega arith, omega arith, omega arith) has.next has.steps standing kept held
         (λ v mid after steps kept held.
-        go_on program linear pace body roomy n ih bih scope z shapes context site base (again + 1 + discarded_size next) pc [] [] mid after after (price 0 0 wi wi) (price 1 pace wi wi) end (within program n (ForIteration c next s) context mid) (omega arith, omega arith, omega arith)
+        continue_from program linear pace body roomy n ih bih scope z shapes context site base (again + 1 + discarded_size next) pc [] [] mid after after (price 0 0 wi wi) (price 1 pace wi wi) end (within program n (ForIteration c next s) context mid) (omega arith, omega arith, omega arith)
         (λ k. jump_turn linear pace context site pc (again + 1 + discarded_size next) [] mid after k has.repeats)
         (bih.for_run c next s scope z shapes context site base pc mid after steps light has inner standing kept held)))
 
@@ -135,7 +135,7 @@ module _ (program : Program) (linear : LinearProgram) (pace body : ℕ) (roomy :
         let code = expression_code scope.names c 0 (again + 1) in
         let go : State → Outcome = λ st. within program n (DoIteration s c) context st in
         let f : ℕ → State → Outcome = λ v st. choose (nat_eq v 0) (λ st. Gives Normal st) go st in
-        go_on program linear pace body roomy n ih bih scope z shapes context site base again (again + 1) [] [] st store store (price 4 0 wi wi) (price 5 pace wi wi) end (with_value (within program n (Eval c) context st) f) (omega arith, omega arith, omega arith)
+        continue_from program linear pace body roomy n ih bih scope z shapes context site base again (again + 1) [] [] st store store (price 4 0 wi wi) (price 5 pace wi wi) end (with_value (within program n (Eval c) context st) f) (omega arith, omega arith, omega arith)
         (λ k. separator_turn program linear pace body roomy n ih bih scope z shapes context site base again [] st store k has.end)
         (statement_eval program linear pace body n ih c scope.names z shapes context site base (statement_notes s) (again + 1) st store (price 4 pace wi wi) (price 4 0 wi wi) (W end) f steps (omega arith)
         (omega arith, omega arith, omega arith, omega arith) has.condition (has_front linear site.body site.regions (again + 1) code (JumpIfZero (Temporary 0) end ∷ []) has.tests) standing kept held
@@ -143,7 +143,7 @@ module _ (program : Program) (linear : LinearProgram) (pace body : ℕ) (roomy :
         chosen linear pace (nat_eq v 0) (conf context site pc1 (v ∷ []) mid after) (at (conf context site end [] mid after)) (at (conf context site (pc1 + 1) [] mid after)) (price 2 0 wi wi) (price 4 pace wi wi) (W end) (λ st. Gives Normal st) go mid (omega arith, omega arith, omega arith) refl
         (λ k. test_turn linear pace context site end v pc1 [] mid after k (has_after linear site.body site.regions (again + 1) (expression_size c) code (JumpIfZero (Temporary 0) end ∷ []) (expression_length scope.names c 0 (again + 1)) has.tests))
         (here program linear pace body roomy n ih bih scope z shapes context site base end end mid after (price 2 0 wi wi) refl (omega arith) kept held)
-        (go_on program linear pace body roomy n ih bih scope z shapes context site base (pc1 + 1) pc [] [] mid after after (price 0 0 wi wi) (price 2 0 wi wi) end (go mid) (omega arith, omega arith, omega arith)
+        (continue_from program linear pace body roomy n ih bih scope z shapes context site base (pc1 + 1) pc [] [] mid after after (price 0 0 wi wi) (price 2 0 wi wi) end (go mid) (omega arith, omega arith, omega arith)
         (λ k. jump_turn linear pace context site pc (pc1 + 1) [] mid after k has.repeats)
         (bih.do_run s c scope z shapes context site base pc mid after steps light has inner standing kept held))))
 

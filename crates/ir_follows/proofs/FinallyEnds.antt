@@ -39,12 +39,12 @@ use Rattle.ir_follows.proofs.Stores.{Shape}
 use Rattle.ir_follows.specs.Places.{HasAt}
 use Rattle.ir_follows.proofs.Raises.{unwound_is, IsFunclet}
 use Rattle.ir_follows.specs.Placed.{HasFunclet, FinallyPlaced}
-use Rattle.ir_follows.proofs.Bodies.{JumpFits, ExitFits, Inner, comes_there, own_target, finally_site, exit_way, jump_way, statement_ways, Stays, Standing, BodyRuns}
+use Rattle.ir_follows.proofs.Bodies.{JumpFits, ExitFits, Inner, comes_there, own_target, finally_site, exit_way, jump_way, statement_ways, Stays, Surroundings, BodyRuns}
 use Rattle.ir_follows.proofs.Tries.{within_region}
 use Rattle.ir_follows.proofs.TryEnds.{outward}
 
 module _ (program : Program) (linear : LinearProgram) (pace body : ℕ) where
-  -- a normal end, beside which only a target or an end may come, goes on elsewhere
+  -- a normal end, beside which only a target or an end may come, continues elsewhere
   pub plain_then : (s : Part) (t : State → Store → Part) (w : Ways) (st : State) (p q r : Price) (o : Outcome) → Join p q r → Claim linear pace s st p (record (normal_ways t w.kept w.context w.site) { held = w.held }) o
       → ((mid : State) (store : Store) → mid.steps_left ≤ st.steps_left → w.kept mid store → mid.held ≡ w.held → Claim linear pace (t mid store) mid q w (Gives Normal mid)) → Claim linear pace s st r w o
   plain_then s t w st p q r (Gives (Value x) mid) j a b = absurd a
@@ -66,7 +66,7 @@ module _ (program : Program) (linear : LinearProgram) (pace body : ℕ) where
       ∙ ap (λ kd. with_some c.events (flag_in kd) (λ x. deeper 2 held c.store c.events (next (begin_finally (k - 1) x flag held below c)))) f.2
 
   module _ (n : ℕ) (bih : BodyRuns program linear pace body n) (k : ℕ) (last : Statements) (begin end hi : ℕ) (forth : begin ≤ end + 1) (le : end + 1 < hi) (scope : Scope) (z : Shape) (shapes : List Shape) (context : Context) (site : Site) (base : Store)
-      (placed : FinallyPlaced program linear pace body z.own scope.names k last) (standing : Standing program linear pace body scope.names z shapes context site base (1 + statements_notes last)) (light : 1 + statements_weight last + body + 4 ≤ pace) where
+      (placed : FinallyPlaced program linear pace body z.own scope.names k last) (standing : Surroundings program linear pace body scope.names z shapes context site base (1 + statements_notes last)) (light : 1 + statements_weight last + body + 4 ≤ pace) where
     abbrev R : Region
     R = region begin (end + 1) (regions.Finally (k - 1))
 
@@ -82,7 +82,7 @@ module _ (program : Program) (linear : LinearProgram) (pace body : ℕ) where
     abbrev begun : Bool → ℕ → List Item → (pc : ℕ) (temps : List ℕ) (st : State) (store : Store) → Part
     begun flag held below pc temps st store next = deeper 2 held store st.events (next (begin_finally (k - 1) scope.names.free flag held below (conf context site pc temps st store)))
 
-    -- it runs for an unwinding, and then that goes on
+    -- it runs for an unwinding, and then that continues
     unwinds_on : (s : Part) (from : State) (x pc : ℕ) (temps : List ℕ) (to : machine.Target) (how : Result) (st : State) (store : Store) (w : Ways) → st.steps_left ≤ n → st.held ≡ to.held → Kf st store → Outward to R (length site.below)
         → Reaches linear pace s (unwound linear pace context inside to temps st store pc) from st 0 0 x
         → ((mid : State) (store' : Store) → mid.steps_left ≤ st.steps_left → Kf mid store' → mid.held ≡ to.held → Claim linear pace (unwound linear pace context site to temps mid store' pc) mid (price 1 0 0 0) (record w { context = context; site = site; kept = Kf }) (Gives how mid))

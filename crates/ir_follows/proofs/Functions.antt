@@ -38,7 +38,7 @@ use Rattle.ir_follows.proofs.Environments.{FlagBound, HowFits, Match, match_kept
 use Rattle.ir_follows.proofs.Claims.{pushed, Within, Around}
 use Rattle.ir_follows.proofs.Raises.{unwound_is}
 use Rattle.ir_follows.specs.Placed.{FunctionPlaced}
-use Rattle.ir_follows.proofs.Bodies.{statement_ways, Stays, Standing, BodyRuns}
+use Rattle.ir_follows.proofs.Bodies.{statement_ways, Stays, Surroundings, BodyRuns}
 use Rattle.ir_follows.proofs.BodySequences.{all_runs}
 
 -- ---- the locals of an activation that begins
@@ -245,7 +245,7 @@ module _ (program : Program) (linear : LinearProgram) (pace body : ℕ) where
       let alike : FrameAlike new given locals = subst (λ p. FrameAlike new given (vs ++ replicate (lf.body.locals - p) 0)) (sym f.parameters) (begins_alike (length fn.parameters) (length fn.locals) lf.body.locals vs len roomy) in
       let walk : handlers linear below None ≡ found linear pace context site = ap (λ rs. handlers_in rs context.activation (length site.below) ++ handlers linear site.below None) walked in
       let top : slice_get shapes' m ≡ Some new = ap (slice_get shapes') kept.0.count ∙ get_push_new shapes new in
-      let standing : Standing program linear pace body scope.names new shapes' inner csite store' (statements_notes fn.body) = record {
+      let standing : Surroundings program linear pace body scope.names new shapes' inner csite store' (statements_notes fn.body) = record {
         env = record {
           shape = top;
           code = refl;

@@ -27,7 +27,7 @@ use Rattle.seh_ir.specs.Regions.{except_kind, region}
 use Rattle.ir_follows.proofs.Stores.{Shape, NotesKept, below_slot, kept_set, kept_through, kept_fewer, kept_itself, note_read, note_set_alike}
 use Rattle.ir_follows.proofs.Environments.{CodeBound, code_kept, code_among, flag_kept, flag_among, Match, match_kept, match_among}
 use Rattle.ir_follows.specs.Placed.{FilterPlaced}
-use Rattle.ir_follows.proofs.Bodies.{JumpFits, ExitFits, Inner, exit_way, jump_way, leave_way, statement_ways, Stays, Standing}
+use Rattle.ir_follows.proofs.Bodies.{JumpFits, ExitFits, Inner, exit_way, jump_way, leave_way, statement_ways, Stays, Surroundings}
 
 -- inside one region more
 abbrev pub within_region : Region → Site → Site
@@ -121,17 +121,17 @@ module _ (program : Program) (linear : LinearProgram) (pace body : ℕ) where
   one_more activation free k x o e = let l = o e in omega arith
 
   -- a note is written at the first free slot
-  pub noted_stays : (names : Names) (z : Shape) (shapes : List Shape) (context : Context) (site : Site) (base : Store) (notes v : ℕ) (store : Store) → Standing program linear pace body names z shapes context site base notes
+  pub noted_stays : (names : Names) (z : Shape) (shapes : List Shape) (context : Context) (site : Site) (base : Store) (notes v : ℕ) (store : Store) → Surroundings program linear pace body names z shapes context site base notes
       → NotesKept (below_slot context.activation names.free) shapes base store → NotesKept (below_slot context.activation names.free) shapes base (set_local store context.activation names.free v)
   noted_stays names z shapes context site base notes v store standing k =
       let ok = below_slot context.activation names.free in
       kept_through ok shapes base store (set_local store context.activation names.free v) k
       (kept_set ok shapes store context.activation names.free v (λ y h past o. let l = o refl in absurd (omega arith)))
 
-  pub standing_except : (names : Names) (z : Shape) (shapes : List Shape) (context : Context) (site : Site) (base : Store) (m : ℕ) (exc : Exception) (mid : State) (store : Store) → Standing program linear pace body names z shapes context site base (1 + m)
+  pub surroundings_except : (names : Names) (z : Shape) (shapes : List Shape) (context : Context) (site : Site) (base : Store) (m : ℕ) (exc : Exception) (mid : State) (store : Store) → Surroundings program linear pace body names z shapes context site base (1 + m)
       → Stays program linear pace body names shapes context base mid store
-      → Standing program linear pace body (except_names names) z shapes (record context { exception = exc }) site (set_local store context.activation names.free exc.code) m
-  standing_except names z shapes context site base m exc mid store standing kept =
+      → Surroundings program linear pace body (except_names names) z shapes (record context { exception = exc }) site (set_local store context.activation names.free exc.code) m
+  surroundings_except names z shapes context site base m exc mid store standing kept =
       let a = context.activation in
       let ok = below_slot a names.free in
       let ok' = below_slot a (names.free + 1) in
@@ -153,10 +153,10 @@ module _ (program : Program) (linear : LinearProgram) (pace body : ℕ) where
         plain = λ e. absurd (cc);
       }
 
-  pub standing_finally : (names : Names) (z : Shape) (shapes : List Shape) (context : Context) (site fsite : Site) (base : Store) (m : ℕ) (flag : Bool) (mid : State) (store : Store) → Standing program linear pace body names z shapes context site base (1 + m)
+  pub surroundings_finally : (names : Names) (z : Shape) (shapes : List Shape) (context : Context) (site fsite : Site) (base : Store) (m : ℕ) (flag : Bool) (mid : State) (store : Store) → Surroundings program linear pace body names z shapes context site base (1 + m)
       → Stays program linear pace body names shapes context base mid store → found linear pace context fsite ≡ found linear pace context site
-      → Standing program linear pace body (finally_names names) z shapes (record context { abnormal = flag }) fsite (set_local store context.activation names.free (of_test flag)) m
-  standing_finally names z shapes context site fsite base m flag mid store standing kept same =
+      → Surroundings program linear pace body (finally_names names) z shapes (record context { abnormal = flag }) fsite (set_local store context.activation names.free (of_test flag)) m
+  surroundings_finally names z shapes context site fsite base m flag mid store standing kept same =
       let a = context.activation in
       let ok = below_slot a names.free in
       let ok' = below_slot a (names.free + 1) in
@@ -194,13 +194,13 @@ module _ (program : Program) (linear : LinearProgram) (pace body : ℕ) where
       (p.0, kept_through ok shapes base base' store k (kept_fewer ok' ok shapes base' store (λ j x o q. let l = o q in omega arith) p.1))
 
   -- the body of a `__try` with an `__except`
-  pub standing_try : (filter : Filter) (names : Names) (z : Shape) (shapes : List Shape) (context : Context) (site : Site) (base : Store) (lo target notes : ℕ) → FilterPlaced program linear pace body z.own names filter
-      → Standing program linear pace body names z shapes context site base notes
-      → Standing program linear pace body names z shapes (record context { handlers = record { filter = filter; activation = context.activation; abnormal = context.abnormal } ∷ context.handlers }) (within_region (region lo target (except_kind filter target)) site) base notes
-  standing_try Always names z shapes context site base lo target notes f s =
+  pub surroundings_try : (filter : Filter) (names : Names) (z : Shape) (shapes : List Shape) (context : Context) (site : Site) (base : Store) (lo target notes : ℕ) → FilterPlaced program linear pace body z.own names filter
+      → Surroundings program linear pace body names z shapes context site base notes
+      → Surroundings program linear pace body names z shapes (record context { handlers = record { filter = filter; activation = context.activation; abnormal = context.abnormal } ∷ context.handlers }) (within_region (region lo target (except_kind filter target)) site) base notes
+  surroundings_try Always names z shapes context site base lo target notes f s =
       let hs = record { filter = Always; activation = context.activation; abnormal = context.abnormal } ∷ context.handlers in
       record { env = record { shape = s.env.shape; code = code_inside z names.free names.exception context hs site.exception base s.env.code; flag = s.env.flag; informed = λ e. absurd (cc); handlers = ((refl, tt), s.env.handlers) }; past = s.past; room = s.room; plain = s.plain }
-  standing_try (Funclet k e) names z shapes context site base lo target notes f s =
+  surroundings_try (Funclet k e) names z shapes context site base lo target notes f s =
       let hs = record { filter = Funclet k e; activation = context.activation; abnormal = context.abnormal } ∷ context.handlers in
       record {
         env = record {
@@ -235,9 +235,9 @@ module _ (program : Program) (linear : LinearProgram) (pace body : ℕ) where
       }
 
   -- the body of one with a `__finally`
-  pub standing_guarded : (names : Names) (z : Shape) (shapes : List Shape) (context : Context) (site : Site) (base : Store) (lo end k notes : ℕ) → Standing program linear pace body names z shapes context site base notes
-      → Standing program linear pace body names z shapes context (within_region (region lo end (regions.Finally k)) site) base notes
-  standing_guarded names z shapes context site base lo end k notes s =
+  pub surroundings_guarded : (names : Names) (z : Shape) (shapes : List Shape) (context : Context) (site : Site) (base : Store) (lo end k notes : ℕ) → Surroundings program linear pace body names z shapes context site base notes
+      → Surroundings program linear pace body names z shapes context (within_region (region lo end (regions.Finally k)) site) base notes
+  surroundings_guarded names z shapes context site base lo end k notes s =
       record { env = record { shape = s.env.shape; code = s.env.code; flag = s.env.flag; informed = λ e. absurd (cc); handlers = s.env.handlers }; past = s.past; room = s.room; plain = s.plain }
 
   -- ---- a block claims what is claimed of what is around it

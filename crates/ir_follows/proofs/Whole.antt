@@ -36,7 +36,7 @@ use Rattle.ir_follows.proofs.Stores.{Shape, FrameAlike, Alike, below_slot, kept_
 use Rattle.ir_follows.specs.Places.{HasAt}
 use Rattle.ir_follows.proofs.Places.{has_at}
 use Rattle.ir_follows.proofs.Turns.{constant_turn}
-use Rattle.ir_follows.proofs.Bodies.{statement_ways, Stays, Standing}
+use Rattle.ir_follows.proofs.Bodies.{statement_ways, Stays, Surroundings}
 use Rattle.ir_follows.proofs.BodySequences.{all_runs}
 use Rattle.ir_follows.specs.Placed.{FunctionPlaced}
 use Rattle.ir_follows.proofs.Functions.{begins_alike}
@@ -85,7 +85,7 @@ against (Finished f fs) b e es m q =
     (([], append-nil fs ∙ ap events_of same), (λ g h. ap shown (sym same)), (λ gs h. absurd (subst IsFinished h tt)))
 against (Stuck fs) b e es m q = absurd (subst IsStuck (sym m ∙ q) tt)
 
--- one that goes on
+-- one that continues
 against_running : (x b : Seen) (sh es : List Event) → More x b → b ≡ Running sh → Prefix sh es
     → IsPrefixOf (shown x).events es × ((f : Ended) → (shown x).end ≡ Some f → record { events = es; end = None } ≡ shown x) × ((fs : List Event) → x ≡ Stuck fs → ⊥)
 against_running (Running fs) b sh es m q p =
@@ -186,7 +186,7 @@ module _ (program : Program) (linear : LinearProgram) (pace body : ℕ) (same_gl
         let wide : own_locals fn ≤ lf.body.locals = omega (arith, f.locals) in
         let alike : FrameAlike new given locals = subst (λ p. FrameAlike new given (vs ++ replicate (lf.body.locals - p) 0)) (sym f.parameters) (begins_alike (length fn.parameters) (length fn.locals) lf.body.locals vs (arguments_length fn.parameters (wrapped W64 arg) few) wide) in
         let nothing : Alike [] (first_memory program.globals) [] first_store = record { same_memory = ap first_memory same_globals; count = refl; activations = refl; each = λ k z h. absurd (cc) } in
-        let standing : Standing program linear pace body (scope_of fn).names new (new ∷ []) inner csite store' (statements_notes fn.body) = record {
+        let standing : Surroundings program linear pace body (scope_of fn).names new (new ∷ []) inner csite store' (statements_notes fn.body) = record {
           env = record { shape = refl; code = refl; flag = refl; informed = λ e. absurd (cc); handlers = tt };
           past = omega arith;
           room = omega (arith, f.locals);

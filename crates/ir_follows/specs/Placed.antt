@@ -1,4 +1,4 @@
--- The code of statements stands at its places, inside its regions, and it is code that means
+-- The code of statements is at its places, inside its regions, and it is code that means
 -- something.
 use Rattle.std.specs.Prelude.{◌≡◌, ◌<◌, ◌≤◌, ℕ, ◌+◌, ◌-◌, true, false, List, [], ◌∷◌, ◌++◌, length, slice_get, Option, Some, None}
 use Rattle.c_checked.specs.Expression.{Expression}
@@ -243,7 +243,7 @@ module _ (program : Program) (linear : LinearProgram) (pace body own : ℕ) wher
       (Return (Local names.free) ∷ []))
 
 module _ (program : Program) (linear : LinearProgram) (pace body : ℕ) where
-  -- a function of this number stands in the linear code
+  -- a function of this number is in the linear code
   pub record FunctionPlaced (k : ℕ) (fn : Function) (lf : LinearFunction) : Type 0 where
     pub parameters : lf.parameters ≡ length fn.parameters
     pub locals : lf.body.locals ≡ all_locals fn
@@ -254,7 +254,7 @@ module _ (program : Program) (linear : LinearProgram) (pace body : ℕ) where
     pub light : statements_weight fn.body ≤ body
     pub quick : statements_weight fn.body + body + 4 ≤ pace
 
-  -- each function stands in the linear code, beside globals and a `main` that are the same
+  -- each function is in the linear code, beside globals and a `main` that are the same
   pub record IsLinked : Type 0 where
     pub globals : linear.globals ≡ program.globals
     pub main : linear.main ≡ program.main

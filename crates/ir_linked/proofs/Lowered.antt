@@ -24,10 +24,10 @@ use Rattle.ir_follows.proofs.Whole.{linked_follows}
 use Rattle.ir_linked.specs.Pace.{weight_of, pace_of}
 use Rattle.ir_linked.specs.Laws.{LoweredIsLinked, LoweredFollows, LoweredShowsNoMore}
 use Rattle.ir_linked.proofs.SoundExpressions.{both_left, both_right}
-use Rattle.ir_linked.proofs.Segments.{StandsAt, front, back, stands_itself}
+use Rattle.ir_linked.proofs.Segments.{IsSegmentAt, front, back, whole_is_at}
 use Rattle.ir_linked.proofs.Numbers.{count_front, count_back, statements_count}
 use Rattle.ir_linked.proofs.Regions.{all_outside}
-use Rattle.ir_linked.proofs.Placing.{Alike, code_stands, whole_cover, bare, place_all}
+use Rattle.ir_linked.proofs.Placing.{Alike, code_is_at, whole_cover, bare, place_all}
 
 the_same : {X : Type 0} (x y : X) → Some x ≡ Some y → x ≡ y
 the_same x y e = ap (λ o. elim o [ None ↦ x | Some z ↦ z ]) e
@@ -45,17 +45,17 @@ main_is None h = absurd (cc)
 main_is (Some f) h = (f, refl, few_parameters f.parameters (both_left _ _ h))
 
 module _ (program : Program) where
-  -- a function whose funclets stand from an index on
+  -- a function whose funclets are from an index on
   record Found (fn : Function) : Type 0 where
     owner : Owner
     begin : ℕ
     sound : function_sound program.functions fn ≡ true
     light : statements_weight fn.body ≤ weight_of program.functions
-    stands : StandsAt (lowered program).funclets begin (statements_funclets owner (scope_of fn).names fn.body)
+    is_there : IsSegmentAt (lowered program).funclets begin (statements_funclets owner (scope_of fn).names fn.body)
     numbered : count_up (begin + 1) (funclets fn.body) ≡ true
 
   find : (fs : List Function) (number j : ℕ) → functions_sound program.functions fs ≡ true → weight_of fs ≤ weight_of program.functions
-      → StandsAt (lowered program).funclets j (all_funclets number fs) → count_up (j + 1) (sound.all_funclets fs) ≡ true → (k : ℕ) (fn : Function) → slice_get fs k ≡ Some fn → Found fn
+      → IsSegmentAt (lowered program).funclets j (all_funclets number fs) → count_up (j + 1) (sound.all_funclets fs) ≡ true → (k : ℕ) (fn : Function) → slice_get fs k ≡ Some fn → Found fn
   find [] number j ok light h n k fn e = absurd (cc)
   find (f ∷ fs) number j ok light h n zero fn e =
       let own = lowered_funclets number f in
@@ -66,7 +66,7 @@ module _ (program : Program) where
         begin = j;
         sound = both_left _ _ ok;
         light = omega arith;
-        stands = front (lowered program).funclets j own rest h;
+        is_there = front (lowered program).funclets j own rest h;
         numbered = count_front (j + 1) (funclets f.body) (sound.all_funclets fs) n;
       })
   find (f ∷ fs) number j ok light h n (suc k) fn e =
@@ -102,14 +102,14 @@ module _ (program : Program) where
       let ends = constant 0 0 ∷ instructions.Return (Temporary 0) ∷ [] in
       let l = statements_length (scope_of fn) fn.body 0 in
       let wide = length-append code ends in
-      let whole = stands_itself lb.code in
+      let whole = whole_is_at lb.code in
       let cover = whole_cover program linear pace most (own_locals fn) (FunctionBody k) lb home 0 (length lb.code) in
       record {
         parameters = refl;
         locals = refl;
         placed = place_all program linear pace most (own_locals fn) quick fn.body (FunctionBody k) lb home (inside fn) (scope_of fn) (whole_alike fn) g.owner [] 0 g.begin (both_left _ _ (both_left _ _ g.sound)) light
-            (front lb.code 0 code ends whole) (λ q lo hi. cover q lo (omega arith)) g.stands g.numbered;
-        ends = code_stands program linear pace most (own_locals fn) (FunctionBody k) lb home [] (statements_size fn.body) ends (back lb.code 0 (statements_size fn.body) code ends (omega arith) whole)
+            (front lb.code 0 code ends whole) (λ q lo hi. cover q lo (omega arith)) g.is_there g.numbered;
+        ends = code_is_at program linear pace most (own_locals fn) (FunctionBody k) lb home [] (statements_size fn.body) ends (back lb.code 0 (statements_size fn.body) code ends (omega arith) whole)
             (λ q lo hi. bare program linear pace most (own_locals fn) (FunctionBody k) [] (statements_regions fn.body 0) q (all_outside fn.body 0 q (inr (omega arith))) (cover q (omega arith) (omega arith)));
         light = light;
         quick = omega arith;
@@ -126,7 +126,7 @@ lowered_is_linked program h =
       least = omega arith;
       functions = λ k fn e.
           let there = slice_get-map lowered_function program.functions k ∙ ap (option_map lowered_function) e in
-          (lowered_function fn, there, function_placed program k fn there (find program program.functions 0 0 (both_left _ _ starts) (omega arith) (stands_itself (lowered program).funclets) (both_right _ _ counts) k fn e));
+          (lowered_function fn, there, function_placed program k fn there (find program program.functions 0 0 (both_left _ _ starts) (omega arith) (whole_is_at (lowered program).funclets) (both_right _ _ counts) k fn e));
       begins = begin.0;
       is_main = begin.1;
       few = begin.2;

@@ -1,4 +1,4 @@
--- Code of sound statements that stands in a body, with its regions and its funclets, is placed.
+-- Code of sound statements that is in a body, with its regions and its funclets, is placed.
 use Rattle.std.proofs.Common.{◌≡◌, inl, inr, ℕ, ◌+◌, ◌-◌, ◌<◌, ◌≤◌, List, [], ◌∷◌, ◌++◌, length, refl, sym, ap, subst, ◌∙◌, arith, append-nil, append_assoc, length-append}
 use Rattle.std.proofs.lemmas.Bool.{ltb-true}
 use Rattle.std.specs.Prelude.{true, false, slice_get, Option, Some, None}
@@ -35,7 +35,7 @@ use Rattle.seh_ir.proofs.StatementCodes.{jump_length, return_length, discarded_l
 use Rattle.ir_follows.specs.Places.{HasAt}
 use Rattle.ir_follows.specs.Placed.{IsWay, IsPlace, OptionalFits, DeclaredPlaced, AllDeclaredPlaced, FilterPlaced, Placed, AllPlaced}
 use Rattle.ir_follows.specs.Weights.{filter_weight, statement_weight, statements_weight}
-use Rattle.ir_linked.proofs.Segments.{StandsAt, front, back, with_next, stands_itself}
+use Rattle.ir_linked.proofs.Segments.{IsSegmentAt, front, back, with_next, whole_is_at}
 use Rattle.ir_linked.proofs.SoundExpressions.{both_left, both_right, Knows, expression_fits}
 use Rattle.ir_linked.proofs.Numbers.{count_front, count_back, counted, filter_count, statement_count, statements_count}
 use Rattle.ir_linked.proofs.Regions.{held, own_out, own_in, left_only, right_only, held_append, outside, all_outside}
@@ -108,21 +108,21 @@ module _ (program : Program) (linear : LinearProgram) (pace most own : ℕ) wher
     abbrev Plain : List Region → ℕ → ℕ → Type 0
     Plain rs lo hi = (q : ℕ) → lo ≤ q → q < hi → regions_at linear b q ≡ rs
 
-    pub code_stands : (rs : List Region) (pc : ℕ) (is : List Instruction) → StandsAt lb.code pc is → Plain rs pc (pc + length is) → HasAt linear b rs pc is
-    code_stands rs pc [] h c = tt
-    code_stands rs pc (i ∷ is) h c = (ap (λ o. instruction_in o pc) there ∙ h.0, c pc (omega arith) (omega arith), code_stands rs (pc + 1) is h.1 (λ q lo hi. c q (omega arith) (omega arith)))
+    pub code_is_at : (rs : List Region) (pc : ℕ) (is : List Instruction) → IsSegmentAt lb.code pc is → Plain rs pc (pc + length is) → HasAt linear b rs pc is
+    code_is_at rs pc [] h c = tt
+    code_is_at rs pc (i ∷ is) h c = (ap (λ o. instruction_in o pc) there ∙ h.0, c pc (omega arith) (omega arith), code_is_at rs (pc + 1) is h.1 (λ q lo hi. c q (omega arith) (omega arith)))
 
     declared_placed : (s : sound.Scope) (k : Knows program own false s) (names : Names) (d : Declared) (rs : List Region) (at : ℕ) → declared_sound s d ≡ true
-        → StandsAt lb.code at (declared_code names d at) → Plain rs at (at + declared_size d) → DeclaredPlaced program linear pace most own b names d rs at
+        → IsSegmentAt lb.code at (declared_code names d at) → Plain rs at (at + declared_size d) → DeclaredPlaced program linear pace most own b names d rs at
     declared_placed s k names d rs at ok h c =
         let n = declared_length names d at in (
           subst (λ m. d.local < m) k.sizes (ltb-true d.local (length s.sizes) (both_left _ _ ok)),
           value_optional s k (slice_get s.sizes d.local) d.value (both_right _ _ ok),
-          code_stands rs at (declared_code names d at) h (λ q lo hi. c q lo (omega arith)),
+          code_is_at rs at (declared_code names d at) h (λ q lo hi. c q lo (omega arith)),
         )
 
     all_declared_placed : (s : sound.Scope) (k : Knows program own false s) (names : Names) (ds : List Declared) (rs : List Region) (at : ℕ) → all_declared_sound s ds ≡ true
-        → StandsAt lb.code at (all_declared_code names ds at) → Plain rs at (at + all_declared_size ds) → AllDeclaredPlaced program linear pace most own b names ds rs at
+        → IsSegmentAt lb.code at (all_declared_code names ds at) → Plain rs at (at + all_declared_size ds) → AllDeclaredPlaced program linear pace most own b names ds rs at
     all_declared_placed s k names [] rs at ok h c = tt
     all_declared_placed s k names (d ∷ ds) rs at ok h c =
         let n = declared_length names d at in
@@ -145,7 +145,7 @@ module _ (program : Program) (linear : LinearProgram) (pace most own : ℕ) wher
   pub bare : (b : BodyName) (rs regions : List Region) (q : ℕ) → held q regions ≡ [] → regions_at linear b q ≡ held q regions ++ rs → regions_at linear b q ≡ rs
   bare b rs regions q e c = c ∙ ap (λ x. x ++ rs) e
 
-  -- inside the region of a `__try`, which stands after those of its body
+  -- inside the region of a `__try`, which is after those of its body
   inside_own : (b : BodyName) (rs : List Region) (own : Region) (body rest : List Region) (q : ℕ) → held q rest ≡ own ∷ [] → regions_at linear b q ≡ held q (body ++ rest) ++ rs → regions_at linear b q ≡ held q body ++ (own ∷ rs)
   inside_own b rs own body rest q e c =
       c ∙ ap (λ x. x ++ rs) (held_append body rest q ∙ ap (λ x. held q body ++ x) e) ∙ append_assoc (held q body) (own ∷ []) rs
@@ -158,7 +158,7 @@ module _ (program : Program) (linear : LinearProgram) (pace most own : ℕ) wher
     -- ---- filters
 
     filter_placed : (i : Inside) (scope : Scope) → Alike i scope → (owner : Owner) (f : Filter) (j : ℕ) → filter_sound i.scope f ≡ true → filter_weight f ≤ most
-        → StandsAt linear.funclets j (filter_funclets owner (filter_names scope.names) f) → count_up (j + 1) (filter_funclet f) ≡ true → FilterPlaced program linear pace most own scope.names f
+        → IsSegmentAt linear.funclets j (filter_funclets owner (filter_names scope.names) f) → count_up (j + 1) (filter_funclet f) ≡ true → FilterPlaced program linear pace most own scope.names f
     filter_placed i scope a owner Always j ok light h n = tt
     filter_placed i scope a owner (Funclet k e) j ok light h n =
         let numbered = counted (j + 1) k [] n in
@@ -169,7 +169,7 @@ module _ (program : Program) (linear : LinearProgram) (pace most own : ℕ) wher
         let knows : Knows program own true (record i.scope { code = true; information = true }) = record { functions = a.knows.functions; sizes = a.knows.sizes; information = refl } in record {
           numbered = omega arith;
           funclet = (funclet, there, refl);
-          code = code_stands (FuncletBody (k - 1)) funclet.body home [] 0 funclet.body.code (stands_itself funclet.body.code) (whole_cover (FuncletBody (k - 1)) funclet.body home 0 (0 + length funclet.body.code));
+          code = code_is_at (FuncletBody (k - 1)) funclet.body home [] 0 funclet.body.code (whole_is_at funclet.body.code) (whole_cover (FuncletBody (k - 1)) funclet.body home 0 (0 + length funclet.body.code));
           fits = expression_fits program own true (record i.scope { code = true; information = true }) knows e (both_left _ _ ok);
           light = omega arith;
         }
@@ -178,13 +178,13 @@ module _ (program : Program) (linear : LinearProgram) (pace most own : ℕ) wher
 
     mutual
       pub place : (s : Statement) (b : BodyName) (lb : LinearBody) → body_of linear b ≡ Some lb → (i : Inside) (scope : Scope) → Alike i scope → (owner : Owner) (rs : List Region) (at j : ℕ)
-          → statement_sound i s ≡ true → statement_weight s ≤ most → StandsAt lb.code at (statement_code scope s at) → Cover b rs at (at + statement_size s) (statement_regions s at)
-          → StandsAt linear.funclets j (statement_funclets owner scope.names s) → count_up (j + 1) (funclets_in s) ≡ true → Placed program linear pace most own b scope s rs at
+          → statement_sound i s ≡ true → statement_weight s ≤ most → IsSegmentAt lb.code at (statement_code scope s at) → Cover b rs at (at + statement_size s) (statement_regions s at)
+          → IsSegmentAt linear.funclets j (statement_funclets owner scope.names s) → count_up (j + 1) (funclets_in s) ≡ true → Placed program linear pace most own b scope s rs at
       place (Declare d) b lb there i scope a owner rs at j ok light h c f n = declared_placed b lb there i.scope a.knows scope.names d rs at ok h c
       place (Block ss) b lb there i scope a owner rs at j ok light h c f n = place_all ss b lb there i scope a owner rs at j ok (omega arith) h c f n
       place (Evaluate e) b lb there i scope a owner rs at j ok light h c f n =
           let l = discarded_length scope.names e at in
-          (optional_fits i.scope a.knows e ok, code_stands b lb there rs at (discarded_code scope.names e at) h (λ q lo hi. c q lo (omega arith)))
+          (optional_fits i.scope a.knows e ok, code_is_at b lb there rs at (discarded_code scope.names e at) h (λ q lo hi. c q lo (omega arith)))
       place (If t s) b lb there i scope a owner rs at j ok light h c f n =
           let code = expression_code scope.names t 0 at in
           let l = expression_length scope.names t 0 at in
@@ -193,7 +193,7 @@ module _ (program : Program) (linear : LinearProgram) (pace most own : ℕ) wher
           let rest = statement_code scope s then in
           let tested = length-append code (test ∷ []) in (
             expression_fits program own false i.scope a.knows t (both_left _ _ (both_left _ _ ok)),
-            code_stands b lb there rs at (code ++ test ∷ []) (with_next lb.code at code test rest h)
+            code_is_at b lb there rs at (code ++ test ∷ []) (with_next lb.code at code test rest h)
                 (λ q lo hi. bare b rs (statement_regions s then) q (outside s then q (inl (omega arith))) (c q lo (omega arith))),
             place s b lb there i scope a owner rs then j (both_right _ _ ok) (omega arith) (back lb.code at (at + expression_size t) code (test ∷ rest) (omega arith) h).1 (λ q lo hi. c q (omega arith) (omega arith)) f n,
           )
@@ -217,12 +217,12 @@ module _ (program : Program) (linear : LinearProgram) (pace most own : ℕ) wher
           let second_part = back lb.code then (then + statement_size s) yes (skip ∷ no) (omega arith) after in
           let at_skip = then + statement_size s in record {
             condition = expression_fits program own false i.scope a.knows t (both_left _ _ (both_left _ _ (both_left _ _ ok)));
-            test = code_stands b lb there rs at (code ++ test ∷ []) (with_next lb.code at code test (yes ++ skip ∷ no) h)
+            test = code_is_at b lb there rs at (code ++ test ∷ []) (with_next lb.code at code test (yes ++ skip ∷ no) h)
                 (λ q lo hi. bare b rs (ry ++ rn) q (right_only ry rn q (outside s then q (inl (omega arith))) ∙ outside u otherwise q (inl (omega arith))) (c q lo (omega arith)));
             yes = place s b lb there i scope a owner rs then j (both_right _ _ (both_left _ _ ok)) (omega arith) (front lb.code then yes (skip ∷ no) after)
                 (λ q lo hi. part b rs (ry ++ rn) ry q (left_only ry rn q (outside u otherwise q (inl (omega arith)))) (c q (omega arith) (omega arith)))
                 (front linear.funclets j fy fn f) (count_front (j + 1) (funclets_in s) (funclets_in u) n);
-            skip = code_stands b lb there rs at_skip (skip ∷ []) (second_part.0, tt)
+            skip = code_is_at b lb there rs at_skip (skip ∷ []) (second_part.0, tt)
                 (λ q lo hi. bare b rs (ry ++ rn) q (right_only ry rn q (outside s then q (inr (omega arith))) ∙ outside u otherwise q (inl (omega arith))) (c q (omega arith) (omega arith)));
             no = place u b lb there i scope a owner rs otherwise (j + length fy) (both_right _ _ ok) (omega arith) second_part.1
                 (λ q lo hi. part b rs (ry ++ rn) rn q (right_only ry rn q (outside s then q (inr (omega arith)))) (c q (omega arith) (omega arith)))
@@ -257,15 +257,15 @@ module _ (program : Program) (linear : LinearProgram) (pace most own : ℕ) wher
           let following = λ (q : ℕ) (lo : again ≤ q) (hi : q < end). bare b rs r q (outside s start q (inr lo)) (c q (omega arith) (omega arith)) in record {
             declared = all_declared_placed b lb there i.scope a.knows names ds rs at (both_left _ _ (both_left _ _ (both_left _ _ (both_left _ _ ok)))) (front lb.code at declares _ h) (λ q lo hi. before q lo (omega arith));
             first = optional_fits i.scope a.knows first' (both_right _ _ (both_left _ _ (both_left _ _ (both_left _ _ ok))));
-            begins = code_stands b lb there rs begin begins (front lb.code begin begins _ h1) (λ q lo hi. before q (omega arith) (omega arith));
+            begins = code_is_at b lb there rs begin begins (front lb.code begin begins _ h1) (λ q lo hi. before q (omega arith) (omega arith));
             iterations = record {
               condition = test_fits i.scope a.knows t (both_right _ _ (both_left _ _ (both_left _ _ ok)));
               next = optional_fits i.scope a.knows next (both_right _ _ (both_left _ _ ok));
-              tests = code_stands b lb there rs iteration tests (front lb.code iteration tests _ h2) (λ q lo hi. before q (omega arith) (omega arith));
+              tests = code_is_at b lb there rs iteration tests (front lb.code iteration tests _ h2) (λ q lo hi. before q (omega arith) (omega arith));
               body = place s b lb there (record i { loop = true }) inner (loop_alike i scope end again a) owner rs start j (both_right _ _ ok) (omega arith) (front lb.code start body _ h3) (λ q lo hi. c q (omega arith) (omega arith)) f n;
-              end = code_stands b lb there rs again (Separator ∷ []) (h4.0, tt) (λ q lo hi. following q lo (omega arith));
-              steps = code_stands b lb there rs (again + 1) steps (front lb.code (again + 1) steps repeat h4.1) (λ q lo hi. following q (omega arith) (omega arith));
-              repeats = code_stands b lb there rs (again + 1 + discarded_size next) repeat h5 (λ q lo hi. following q (omega arith) (omega arith));
+              end = code_is_at b lb there rs again (Separator ∷ []) (h4.0, tt) (λ q lo hi. following q lo (omega arith));
+              steps = code_is_at b lb there rs (again + 1) steps (front lb.code (again + 1) steps repeat h4.1) (λ q lo hi. following q (omega arith) (omega arith));
+              repeats = code_is_at b lb there rs (again + 1 + discarded_size next) repeat h5 (λ q lo hi. following q (omega arith) (omega arith));
             };
           }
       place (DoWhile s t) b lb there i scope a owner rs at j ok light h c f n =
@@ -285,26 +285,26 @@ module _ (program : Program) (linear : LinearProgram) (pace most own : ℕ) wher
           let following = λ (q : ℕ) (lo : again ≤ q) (hi : q < end). bare b rs r q (outside s at q (inr lo)) (c q (omega arith) (omega arith)) in record {
             condition = expression_fits program own false i.scope a.knows t (both_left _ _ (both_left _ _ ok));
             body = place s b lb there (record i { loop = true }) inner (loop_alike i scope end again a) owner rs at j (both_right _ _ ok) (omega arith) (front lb.code at body _ h) (λ q lo hi. c q lo (omega arith)) f n;
-            end = code_stands b lb there rs again (Separator ∷ []) (h1.0, tt) (λ q lo hi. following q lo (omega arith));
-            tests = code_stands b lb there rs (again + 1) (code ++ test ∷ []) (with_next lb.code (again + 1) code test (Jump at ∷ []) h1.1) (λ q lo hi. following q (omega arith) (omega arith));
-            repeats = code_stands b lb there rs (again + 1 + expression_size t + 1) (Jump at ∷ []) h2.1 (λ q lo hi. following q (omega arith) (omega arith));
+            end = code_is_at b lb there rs again (Separator ∷ []) (h1.0, tt) (λ q lo hi. following q lo (omega arith));
+            tests = code_is_at b lb there rs (again + 1) (code ++ test ∷ []) (with_next lb.code (again + 1) code test (Jump at ∷ []) h1.1) (λ q lo hi. following q (omega arith) (omega arith));
+            repeats = code_is_at b lb there rs (again + 1 + expression_size t + 1) (Jump at ∷ []) h2.1 (λ q lo hi. following q (omega arith) (omega arith));
           }
       place (Return e) b lb there i scope a owner rs at j ok light h c f n =
           let code = returned_code scope.names e at in
           let l = returned_length scope.names e at in
           let m = return_length scope.exit in record {
             value = result_fits i a.knows e (both_right _ _ ok);
-            computes = code_stands b lb there rs at code (front lb.code at code (return_code scope.exit) h) (λ q lo hi. c q lo (omega arith));
-            returns = code_stands b lb there rs (at + returned_size e) (return_code scope.exit) (back lb.code at (at + returned_size e) code (return_code scope.exit) (omega arith) h) (λ q lo hi. c q (omega arith) (omega arith));
+            computes = code_is_at b lb there rs at code (front lb.code at code (return_code scope.exit) h) (λ q lo hi. c q lo (omega arith));
+            returns = code_is_at b lb there rs (at + returned_size e) (return_code scope.exit) (back lb.code at (at + returned_size e) code (return_code scope.exit) (omega arith) h) (λ q lo hi. c q (omega arith) (omega arith));
             leads = a.exits (both_left _ _ ok);
           }
       place Break b lb there i scope a owner rs at j ok light h c f n =
           let l = jump_length scope.loop_end in
-          (a.ends ok, code_stands b lb there rs at (jump_code scope.loop_end) h (λ q lo hi. c q lo (omega arith)))
+          (a.ends ok, code_is_at b lb there rs at (jump_code scope.loop_end) h (λ q lo hi. c q lo (omega arith)))
       place Continue b lb there i scope a owner rs at j ok light h c f n =
           let l = jump_length scope.loop_next in
-          (a.again ok, code_stands b lb there rs at (jump_code scope.loop_next) h (λ q lo hi. c q lo (omega arith)))
-      place Leave b lb there i scope a owner rs at j ok light h c f n = (a.leaves ok, code_stands b lb there rs at (leave_code scope.leave ∷ []) h (λ q lo hi. c q lo (omega arith)))
+          (a.again ok, code_is_at b lb there rs at (jump_code scope.loop_next) h (λ q lo hi. c q lo (omega arith)))
+      place Leave b lb there i scope a owner rs at j ok light h c f n = (a.leaves ok, code_is_at b lb there rs at (leave_code scope.leave ∷ []) h (λ q lo hi. c q lo (omega arith)))
       place (TryExcept body filter block) b lb there i scope a owner rs at j ok light h c f n =
           let names = scope.names in
           let at_jump = at + statements_size body in
@@ -333,9 +333,9 @@ module _ (program : Program) (linear : LinearProgram) (pace most own : ℕ) wher
             body = place_all body b lb there (record i { body = true }) inner (try_alike i scope end a) owner (try ∷ rs) at j (both_left _ _ (both_left _ _ ok)) (omega arith) (front lb.code at guarded _ h)
                 (λ q lo hi. inside_own b rs try rb (try ∷ rh) q (alone q lo (omega arith)) (c q lo (omega arith)))
                 (front linear.funclets j fb (ff ++ fh) f) (count_front (j + 1) (funclets body) numbers nb);
-            end = code_stands b lb there (try ∷ rs) at_jump (Jump end ∷ []) (h1.0, tt)
+            end = code_is_at b lb there (try ∷ rs) at_jump (Jump end ∷ []) (h1.0, tt)
                 (λ q lo hi. c q (omega arith) (omega arith) ∙ ap (λ x. x ++ rs) (right_only rb (try ∷ rh) q (all_outside body at q (inr lo)) ∙ alone q (omega arith) (omega arith)));
-            landing = code_stands b lb there rs target (Landing (Local names.free) ∷ []) (h1.1.0, tt)
+            landing = code_is_at b lb there rs target (Landing (Local names.free) ∷ []) (h1.1.0, tt)
                 (λ q lo hi. bare b rs (rb ++ (try ∷ rh)) q (past q lo ∙ all_outside block (target + 1) q (inl (omega arith))) (c q (omega arith) (omega arith)));
             block = place_all block b lb there (record i { scope = record i.scope { code = true } }) (in_except scope) (except_alike i scope a) owner rs (target + 1) (j + length fb + length ff) (both_right _ _ ok) (omega arith) h1.1.1
                 (λ q lo hi. part b rs (rb ++ (try ∷ rh)) rh q (past q (omega arith)) (c q (omega arith) (omega arith)))
@@ -359,9 +359,9 @@ module _ (program : Program) (linear : LinearProgram) (pace most own : ℕ) wher
           let n1 = count_back (j + 1) (j + length fb + 1) (funclets body) (k ∷ funclets last) (omega arith) n in
           let numbered = counted (j + length fb + 1) k (funclets last) n1 in
           let same : k - 1 ≡ j + length fb = omega arith in
-          let stands : slice_get linear.funclets (k - 1) ≡ Some funclet = ap (slice_get linear.funclets) same ∙ f1.0 in
-          let home : body_of linear (FuncletBody (k - 1)) ≡ Some funclet.body = ap funclet_body stands in
-          let whole = stands_itself funclet.body.code in
+          let is_there : slice_get linear.funclets (k - 1) ≡ Some funclet = ap (slice_get linear.funclets) same ∙ f1.0 in
+          let home : body_of linear (FuncletBody (k - 1)) ≡ Some funclet.body = ap funclet_body is_there in
+          let whole = whole_is_at funclet.body.code in
           let code = statements_code (finally_scope names) last 0 in
           let ends = instructions.Return (Local names.free) ∷ [] in
           let ll = statements_length (finally_scope names) last 0 in
@@ -371,23 +371,23 @@ module _ (program : Program) (linear : LinearProgram) (pace most own : ℕ) wher
             body = place_all body b lb there (record i { body = true }) inner (guarded_alike i scope at_end a) owner (try ∷ rs) at j (both_left _ _ ok) (omega arith) (front lb.code at guarded _ h)
                 (λ q lo hi. inside_own b rs try rb (try ∷ []) q (own_in try [] q lo (omega arith)) (c q lo (omega arith)))
                 (front linear.funclets j fb (funclet ∷ fl) f) (count_front (j + 1) (funclets body) (k ∷ funclets last) n);
-            end = code_stands b lb there (try ∷ rs) at_end (Separator ∷ []) (h1.0, tt)
+            end = code_is_at b lb there (try ∷ rs) at_end (Separator ∷ []) (h1.0, tt)
                 (λ q lo hi. c q (omega arith) (omega arith) ∙ ap (λ x. x ++ rs) (right_only rb (try ∷ []) q (all_outside body at q (inr lo)) ∙ own_in try [] q (omega arith) (omega arith)));
-            calls = code_stands b lb there rs (at_end + 1) (CallFinally (k - 1) ∷ Separator ∷ []) h1.1
+            calls = code_is_at b lb there rs (at_end + 1) (CallFinally (k - 1) ∷ Separator ∷ []) h1.1
                 (λ q lo hi. bare b rs (rb ++ (try ∷ [])) q (past q lo) (c q (omega arith) (omega arith)));
             block = record {
               numbered = omega arith;
-              funclet = (funclet, stands, refl);
+              funclet = (funclet, is_there, refl);
               code = place_all last (FuncletBody (k - 1)) funclet.body home (in_finally i) (finally_scope names) (finally_alike i scope names a) (in_funclet (k - 1) owner) [] 0 (j + length fb + 1) (both_right _ _ ok) (omega arith)
                   (front funclet.body.code 0 code ends whole) (λ q lo hi. cover q lo (omega arith)) f1.1 (both_right _ _ n1);
-              returns = code_stands (FuncletBody (k - 1)) funclet.body home [] (statements_size last) ends (back funclet.body.code 0 (statements_size last) code ends (omega arith) whole)
+              returns = code_is_at (FuncletBody (k - 1)) funclet.body home [] (statements_size last) ends (back funclet.body.code 0 (statements_size last) code ends (omega arith) whole)
                   (λ q lo hi. bare (FuncletBody (k - 1)) [] (statements_regions last 0) q (all_outside last 0 q (inr (omega arith))) (cover q (omega arith) (omega arith)));
             };
           }
 
       pub place_all : (ss : Statements) (b : BodyName) (lb : LinearBody) → body_of linear b ≡ Some lb → (i : Inside) (scope : Scope) → Alike i scope → (owner : Owner) (rs : List Region) (at j : ℕ)
-          → statements_sound i ss ≡ true → statements_weight ss ≤ most → StandsAt lb.code at (statements_code scope ss at) → Cover b rs at (at + statements_size ss) (statements_regions ss at)
-          → StandsAt linear.funclets j (statements_funclets owner scope.names ss) → count_up (j + 1) (funclets ss) ≡ true → AllPlaced program linear pace most own b scope ss rs at
+          → statements_sound i ss ≡ true → statements_weight ss ≤ most → IsSegmentAt lb.code at (statements_code scope ss at) → Cover b rs at (at + statements_size ss) (statements_regions ss at)
+          → IsSegmentAt linear.funclets j (statements_funclets owner scope.names ss) → count_up (j + 1) (funclets ss) ≡ true → AllPlaced program linear pace most own b scope ss rs at
       place_all Empty b lb there i scope a owner rs at j ok light h c f n = tt
       place_all (Then s ss) b lb there i scope a owner rs at j ok light h c f n =
           let next = at + statement_size s in

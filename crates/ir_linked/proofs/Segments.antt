@@ -1,25 +1,25 @@
--- Elements of a list that stand one after another from a place on.
+-- Elements of a list that are one after another from a place on.
 use Rattle.std.proofs.Common.{◌≡◌, ℕ, ◌+◌, List, [], ◌∷◌, ◌++◌, length, refl, sym, ap, subst, ◌∙◌, arith, append_assoc, length-append}
 use Rattle.std.specs.Prelude.{slice_get, Some}
 
-abbrev pub StandsAt : {X : Type 0} → List X → ℕ → List X → Type 0
-StandsAt xs at [] = Unit {0}
-StandsAt xs at (y ∷ ys) = (slice_get xs at ≡ Some y) × StandsAt xs (at + 1) ys
+abbrev pub IsSegmentAt : {X : Type 0} → List X → ℕ → List X → Type 0
+IsSegmentAt xs at [] = Unit {0}
+IsSegmentAt xs at (y ∷ ys) = (slice_get xs at ≡ Some y) × IsSegmentAt xs (at + 1) ys
 
 module _ {X : Type 0} (xs : List X) where
-  pub moved : (at to : ℕ) (ys : List X) → at ≡ to → StandsAt xs at ys → StandsAt xs to ys
-  moved at to ys e h = subst (λ k. StandsAt xs k ys) e h
+  pub moved : (at to : ℕ) (ys : List X) → at ≡ to → IsSegmentAt xs at ys → IsSegmentAt xs to ys
+  moved at to ys e h = subst (λ k. IsSegmentAt xs k ys) e h
 
-  pub front : (at : ℕ) (ys zs : List X) → StandsAt xs at (ys ++ zs) → StandsAt xs at ys
+  pub front : (at : ℕ) (ys zs : List X) → IsSegmentAt xs at (ys ++ zs) → IsSegmentAt xs at ys
   front at [] zs h = tt
   front at (y ∷ ys) zs h = (h.0, front (at + 1) ys zs h.1)
 
-  pub back : (at to : ℕ) (ys zs : List X) → at + length ys ≡ to → StandsAt xs at (ys ++ zs) → StandsAt xs to zs
+  pub back : (at to : ℕ) (ys zs : List X) → at + length ys ≡ to → IsSegmentAt xs at (ys ++ zs) → IsSegmentAt xs to zs
   back at to [] zs e h = moved at to zs (omega arith) h
   back at to (y ∷ ys) zs e h = back (at + 1) to ys zs (omega arith) h.1
 
   -- a part with the first element after it
-  pub with_next : (at : ℕ) (ys : List X) (z : X) (zs : List X) → StandsAt xs at (ys ++ z ∷ zs) → StandsAt xs at (ys ++ z ∷ [])
+  pub with_next : (at : ℕ) (ys : List X) (z : X) (zs : List X) → IsSegmentAt xs at (ys ++ z ∷ zs) → IsSegmentAt xs at (ys ++ z ∷ [])
   with_next at [] z zs h = (h.0, tt)
   with_next at (y ∷ ys) z zs h = (h.0, with_next (at + 1) ys z zs h.1)
 
@@ -30,10 +30,10 @@ get_next (x ∷ front) y ys = get_next front y ys
 length_push : {X : Type 0} (front : List X) (y : X) → length (front ++ y ∷ []) ≡ length front + 1
 length_push front y = length-append front (y ∷ [])
 
-following : {X : Type 0} (xs front ys : List X) → xs ≡ front ++ ys → StandsAt xs (length front) ys
+following : {X : Type 0} (xs front ys : List X) → xs ≡ front ++ ys → IsSegmentAt xs (length front) ys
 following xs front [] e = tt
 following xs front (y ∷ ys) e =
-    (ap (λ l. slice_get l (length front)) e ∙ get_next front y ys, subst (λ k. StandsAt xs k ys) (length_push front y) (following xs (front ++ y ∷ []) ys (e ∙ sym (append_assoc front (y ∷ []) ys))))
+    (ap (λ l. slice_get l (length front)) e ∙ get_next front y ys, subst (λ k. IsSegmentAt xs k ys) (length_push front y) (following xs (front ++ y ∷ []) ys (e ∙ sym (append_assoc front (y ∷ []) ys))))
 
-pub stands_itself : {X : Type 0} (xs : List X) → StandsAt xs 0 xs
-stands_itself xs = following xs [] xs refl
+pub whole_is_at : {X : Type 0} (xs : List X) → IsSegmentAt xs 0 xs
+whole_is_at xs = following xs [] xs refl

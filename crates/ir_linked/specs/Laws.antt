@@ -6,7 +6,7 @@ use Rattle.ir_follows.specs.Laws.{Follows, NoMore}
 use Rattle.ir_follows.specs.Placed.{IsLinked}
 use Rattle.ir_linked.specs.Pace.{weight_of, pace_of}
 
--- each function stands in the code, and each funclet
+-- each function is in the code, and each funclet
 abbrev pub LoweredIsLinked : Type 0
 LoweredIsLinked =
     (program : Program) → IsSound program

@@ -1,4 +1,4 @@
--- How many steps of a checked program one turn of its linear code may stand for.
+-- How many steps of a checked program one turn of its linear code may represent.
 use Rattle.std.specs.Prelude.{ℕ, ◌+◌, ◌*◌, List, [], ◌∷◌}
 use Rattle.c_checked.specs.Program.{Program, Function}
 use Rattle.ir_follows.specs.Weights.{statements_weight}

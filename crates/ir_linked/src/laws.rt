@@ -2,7 +2,7 @@
 
 ghost use Rattle.ir_linked.specs.Laws.{LoweredIsLinked, LoweredFollows, LoweredShowsNoMore};
 
-/// Each function and each funclet of a sound program stands in its linear code.
+/// Each function and each funclet of a sound program is in its linear code.
 pub fn is_linked()
     ensures linked { LoweredIsLinked }
 {}

@@ -34,7 +34,7 @@ abbrev head_of : List Instruction → Option Instruction
 head_of [] = None
 head_of (i ∷ is) = Some i
 
--- in the list itself, so that nothing depends on what it stands before
+-- in the list itself, so that nothing depends on what it is before
 abbrev Follows : List Instruction → Type 0
 Follows [] = Unit {0}
 Follows (i ∷ is) = (runs_blocks i ≡ true → head_of is ≡ Some Separator) × Follows is

@@ -54,7 +54,7 @@ call_within (j ∷ k ∷ is) zero i h e c = omega arith
 call_within (j ∷ k ∷ is) (suc label) i h e c = let r = call_within (k ∷ is) label i h e c in omega arith
 
 module _ (around : ℕ → List Region) where
-  -- each call of a list that stands at a place has the regions of what comes after it
+  -- each call of a list that is at a place has the regions of what comes after it
   abbrev Separate : ℕ → List Instruction → Type 0
   Separate at [] = Unit {0}
   Separate at (i ∷ is) = (is_call i ≡ true → around (at + 1) ≡ around at) × Separate (at + 1) is
@@ -85,7 +85,7 @@ module _ (around : ℕ → List Region) where
   part : (rs regions sub : List Region) (q : ℕ) → held q regions ≡ held q sub → around q ≡ held q regions ++ rs → around q ≡ held q sub ++ rs
   part rs regions sub q e c = c ∙ ap (λ x. x ++ rs) e
 
-  -- inside the region of a `__try`, which stands after those of its body
+  -- inside the region of a `__try`, which is after those of its body
   inside_own : (rs : List Region) (own : Region) (body rest : List Region) (q : ℕ) → held q rest ≡ own ∷ [] → around q ≡ held q (body ++ rest) ++ rs → around q ≡ held q body ++ (own ∷ rs)
   inside_own rs own body rest q e c = c ∙ ap (λ x. x ++ rs) (held_append body rest q ∙ ap (λ x. held q body ++ x) e) ∙ append_assoc (held q body) (own ∷ []) rs
 

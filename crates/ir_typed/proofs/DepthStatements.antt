@@ -144,7 +144,7 @@ module _ (depth : ℕ → ℕ) where
   leave_leads (Some label) h = h
 
   module _ (names : Names) where
-    -- an expression, and what stands after it
+    -- an expression, and what is after it
     value_leads : (e : Expression) (at : ℕ) (rest : List Instruction) → At at 0 (expression_code names e 0 at ++ rest) → All 1 rest → All 0 (expression_code names e 0 at ++ rest)
     value_leads e at rest h k = lead_both depth (expression_code names e 0 at) rest 0 1 (expression_past names e 0 at) (expression_leads depth names e 0 at (scan_front depth at 0 (expression_code names e 0 at) rest h)) k
 

@@ -206,7 +206,7 @@ module _ (program : LinearProgram) where
   raise_turn : (exception : Exception) (resumption : Resumption) (c : Configuration) → IsSmallException exception → at_rest c → Turn HasSmallNumbers (λ next. raise program next exception resumption c)
   raise_turn exception resumption c x o = search_turn (handlers program (Waits c.frame ∷ c.below) None) exception resumption (record c { events = c.events ++ raise_event exception ∷ [] }) x o
 
-  -- a body goes on with one more temporary
+  -- a body continues with one more temporary
   with_result : (c : Configuration) (v : ℕ) → v < 2 ^ 64 → at_rest c → at_rest (with_last (c.frame.temporaries ++ v ∷ []) c)
   with_result c v lt o = ((frame_with c.frame (c.frame.temporaries ++ v ∷ []) (all_joined c.frame.temporaries (v ∷ []) o.0.0.temporaries (lt, tt)) o.0.0, o.0.1), o.1)
 

@@ -23,7 +23,7 @@ use Rattle.ir_linked.specs.Pace.{pace_of}
 use Rattle.ir_linked.proofs.Lowered.{lowered_shows_no_more}
 use Rattle.ir_typed.specs.Turns.{IsReached}
 use Rattle.ir_typed.specs.Ready.{IsHeld, IsNext, IsRead, held, IsReady}
-use Rattle.ir_typed.specs.Laws.{ReachedGoesOn}
+use Rattle.ir_typed.specs.Laws.{ReachedContinues}
 use Rattle.ir_typed.proofs.Turns.{there, come}
 
 -- ---- slots
@@ -100,9 +100,9 @@ not_stuck program h c r es e =
     let never = (lowered_shows_no_more program h r.argument (r.turns + 1) ((r.turns + 1 + 1) * pace_of program) (omega arith)).2 es in
     never (ap (λ o. with_some [] o (λ main. exec linear (r.turns + 1) (start linear r.argument main))) r.is_main ∙ come linear r.turns 1 (start linear r.argument r.main) c r.comes ∙ e)
 
-pub goes_on : ReachedGoesOn
+pub continues : ReachedContinues
 unfolding exec
-goes_on program h c r =
+continues program h c r =
     let linear = lowered program in
     let i = there c.events (instruction_at linear c) (λ i. act linear i (exec linear 0) c) (not_stuck program h c r) in
     record { instruction = i.it; at = i.is; ready = ready linear (exec linear 0) c i.it i.moves }

@@ -16,12 +16,12 @@ use Rattle.linear_machine.specs.Frames.{BodyName, FunctionBody, FuncletBody, Fra
 use Rattle.ir_typed.specs.Laws.{SeenAlikeIsSame}
 
 -- two things that each test answers with the same number are the same
-abbrev pub Told : Type 0 → Type 0
-Told A = (x y : A) → ((f : A → ℕ) → f x ≡ f y) → x ≡ y
+abbrev pub IsDetermined : Type 0 → Type 0
+IsDetermined A = (x y : A) → ((f : A → ℕ) → f x ≡ f y) → x ≡ y
 
 -- ---- plain things
 
-number : Told ℕ
+number : IsDetermined ℕ
 number x y h = h (λ n. n)
 
 none_apart : zero ≡ suc zero → ⊥
@@ -30,7 +30,7 @@ none_apart e = cc
 some_apart : suc zero ≡ zero → ⊥
 some_apart e = cc
 
-truth : Told Bool
+truth : IsDetermined Bool
 truth true true h = refl
 truth false false h = refl
 truth true false h = absurd (some_apart (h (λ b. if b then 1 else 0)))
@@ -40,7 +40,7 @@ abbrev of_option : {A : Type 0} → ℕ → (A → ℕ) → Option A → ℕ
 of_option n f None = n
 of_option n f (Some x) = f x
 
-optional : {A : Type 0} → Told A → Told (Option A)
+optional : {A : Type 0} → IsDetermined A → IsDetermined (Option A)
 optional t None None h = refl
 optional t (Some x) (Some y) h = ap (λ z. Some z) (t x y (λ f. h (of_option 0 f)))
 optional t None (Some y) h = absurd (none_apart (h (of_option 0 (λ z. 1))))
@@ -50,7 +50,7 @@ abbrev of_list : {A : Type 0} → ℕ → (A → List A → ℕ) → List A → 
 of_list n f [] = n
 of_list n f (x ∷ xs) = f x xs
 
-listed : {A : Type 0} → Told A → Told (List A)
+listed : {A : Type 0} → IsDetermined A → IsDetermined (List A)
 listed t [] [] h = refl
 listed t (x ∷ xs) (y ∷ ys) h =
     let e = t x y (λ f. h (of_list 0 (λ z zs. f z))) in
@@ -65,26 +65,26 @@ abbrev of_name : (ℕ → ℕ) → (ℕ → ℕ) → BodyName → ℕ
 of_name f g (FunctionBody k) = f k
 of_name f g (FuncletBody k) = g k
 
-name : Told BodyName
+name : IsDetermined BodyName
 name (FunctionBody k) (FunctionBody j) h = ap (λ z. FunctionBody z) (h (of_name (λ n. n) (λ n. 0)))
 name (FuncletBody k) (FuncletBody j) h = ap (λ z. FuncletBody z) (h (of_name (λ n. 0) (λ n. n)))
 name (FunctionBody k) (FuncletBody j) h = absurd (none_apart (h (of_name (λ n. 0) (λ n. 1))))
 name (FuncletBody k) (FunctionBody j) h = absurd (some_apart (h (of_name (λ n. 0) (λ n. 1))))
 
-access : Told (Bool × ℕ)
+access : IsDetermined (Bool × ℕ)
 access x y h =
     let a = truth x.0 y.0 (λ f. h (λ z. f z.0)) in
     let b = h (λ z. z.1) in
     λ i. (a i, b i)
 
-exception : Told Exception
+exception : IsDetermined Exception
 exception x y h =
     let a = h (λ z. z.code) in
     let b = truth x.flag y.flag (λ f. h (λ z. f z.flag)) in
     let c = optional access x.access y.access (λ f. h (λ z. f z.access)) in
     λ i. record { code = a i; flag = b i; access = c i }
 
-frame : Told Frame
+frame : IsDetermined Frame
 frame x y h =
     let a = name x.body y.body (λ f. h (λ z. f z.body)) in
     let b = h (λ z. z.next) in
@@ -97,7 +97,7 @@ frame x y h =
 
 -- ---- what waits
 
-handler : Told Handler
+handler : IsDetermined Handler
 handler x y h =
     let a = optional number x.filter y.filter (λ f. h (λ z. f z.filter)) in
     let b = h (λ z. z.activation) in
@@ -105,7 +105,7 @@ handler x y h =
     let d = h (λ z. z.target) in
     λ i. record { filter = a i; activation = b i; depth = c i; target = d i }
 
-target : Told Target
+target : IsDetermined Target
 target x y h =
     let a = h (λ z. z.depth) in
     let b = h (λ z. z.label) in
@@ -118,7 +118,7 @@ of_kind f g h (kinds.Finally k) = f k
 of_kind f g h (kinds.Filter k t) = g k t
 of_kind f g h (kinds.Always t) = h t
 
-kind : Told RegionKind
+kind : IsDetermined RegionKind
 kind (kinds.Finally k) (kinds.Finally j) h = ap (λ z. kinds.Finally z) (h (of_kind (λ n. n) (λ n m. 0) (λ n. 0)))
 kind (kinds.Filter k t) (kinds.Filter j s) h =
     let a = h (of_kind (λ n. 0) (λ n m. n) (λ n. 0)) in
@@ -132,7 +132,7 @@ kind (kinds.Filter k t) (kinds.Always s) h = absurd (some_apart (h (of_kind (λ 
 kind (kinds.Always t) (kinds.Finally j) h = absurd (some_apart (h (of_kind (λ n. 0) (λ n m. 1) (λ n. 1))))
 kind (kinds.Always t) (kinds.Filter j s) h = absurd (none_apart (h (of_kind (λ n. 0) (λ n m. 1) (λ n. 0))))
 
-region : Told Region
+region : IsDetermined Region
 region x y h =
     let a = h (λ z. z.begin) in
     let b = h (λ z. z.end) in
@@ -143,7 +143,7 @@ abbrev of_resumption : ℕ → ℕ → Resumption → ℕ
 of_resumption n m AfterCall = n
 of_resumption n m SameOperation = m
 
-resumption : Told Resumption
+resumption : IsDetermined Resumption
 resumption AfterCall AfterCall h = refl
 resumption SameOperation SameOperation h = refl
 resumption AfterCall SameOperation h = absurd (none_apart (h (of_resumption 0 1)))
@@ -154,7 +154,7 @@ of_item f g h (Waits w) = f w
 of_item f g h (Searches e r a rest) = g e r a rest
 of_item f g h (Unwinds rest t) = h rest t
 
-item : Told Item
+item : IsDetermined Item
 item (Waits w) (Waits v) h = ap (λ z. Waits z) (frame w v (λ f. h (of_item f (λ e r a s. 0) (λ s t. 0))))
 item (Searches e r a s) (Searches e' r' a' s') h =
     let x = exception e e' (λ f. h (of_item (λ w. 0) (λ e r a s. f e) (λ s t. 0))) in
@@ -180,7 +180,7 @@ of_rights a b c Nothing = a
 of_rights a b c Read = b
 of_rights a b c ReadWrite = c
 
-rights : Told Rights
+rights : IsDetermined Rights
 rights Nothing Nothing h = refl
 rights Read Read h = refl
 rights ReadWrite ReadWrite h = refl
@@ -191,19 +191,19 @@ rights Read ReadWrite h = absurd (some_apart (h (of_rights 0 1 0)))
 rights ReadWrite Nothing h = absurd (some_apart (h (of_rights 0 1 1)))
 rights ReadWrite Read h = absurd (none_apart (h (of_rights 0 1 0)))
 
-protection : Told Protection
+protection : IsDetermined Protection
 protection x y h =
     let a = rights x.rights y.rights (λ f. h (λ z. f z.rights)) in
     let b = truth x.execute y.execute (λ f. h (λ z. f z.execute)) in
     λ i. record { rights = a i; execute = b i }
 
-memory : Told Memory
+memory : IsDetermined Memory
 memory x y h =
     let a = fun_ext (λ k. protection (x.protection k) (y.protection k) (λ f. h (λ z. f (z.protection k)))) in
     let b = fun_ext (λ k. h (λ z. z.byte k)) in
     λ i. record { protection = a i; byte = b i }
 
-store : Told Store
+store : IsDetermined Store
 store x y h =
     let a = memory x.memory y.memory (λ f. h (λ z. f z.memory)) in
     let b = listed (listed number) x.activations y.activations (λ f. h (λ z. f z.activations)) in

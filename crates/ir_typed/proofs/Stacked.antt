@@ -113,21 +113,21 @@ module _ (program : LinearProgram) (bodies : AreBodies program) where
 
   -- ---- handlers
 
-  pub handlers_stand : (f : Frame) (rs : List Region) (below : List Item) → Regions f.body rs → AreHandlers program (handlers_in rs f.activation (length below)) (Waits f ∷ below)
-  handlers_stand f [] below h = tt
-  handlers_stand f (r ∷ rs) below h =
-      all_append (λ h. IsHandler program h (Waits f ∷ below)) (handlers_of r.kind f.activation (length below)) (handlers_in rs f.activation (length below)) (of r.kind refl) (handlers_stand f rs below h.1)
+  pub handlers_are_at : (f : Frame) (rs : List Region) (below : List Item) → Regions f.body rs → AreHandlers program (handlers_in rs f.activation (length below)) (Waits f ∷ below)
+  handlers_are_at f [] below h = tt
+  handlers_are_at f (r ∷ rs) below h =
+      all_append (λ h. IsHandler program h (Waits f ∷ below)) (handlers_of r.kind f.activation (length below)) (handlers_in rs f.activation (length below)) (of r.kind refl) (handlers_are_at f rs below h.1)
     where
       of : (k : RegionKind) → r.kind ≡ k → AreHandlers program (handlers_of k f.activation (length below)) (Waits f ∷ below)
       of (kinds.Finally k) e = tt
-      of (kinds.Filter k t) e = (inl (record { depth = refl; activation = refl; region = r; stands = h.0; handles = subst (λ k'. Handles program k' (Some k) t) (sym e) (refl, refl) }), tt)
-      of (kinds.Always t) e = (inl (record { depth = refl; activation = refl; region = r; stands = h.0; handles = subst (λ k'. Handles program k' None t) (sym e) (refl, refl) }), tt)
+      of (kinds.Filter k t) e = (inl (record { depth = refl; activation = refl; region = r; is_there = h.0; handles = subst (λ k'. Handles program k' (Some k) t) (sym e) (refl, refl) }), tt)
+      of (kinds.Always t) e = (inl (record { depth = refl; activation = refl; region = r; is_there = h.0; handles = subst (λ k'. Handles program k' None t) (sym e) (refl, refl) }), tt)
 
   pub handlers_are : (items : List Item) (left : Option (List Region)) → Left left items → Items items → AreHandlers program (handlers program items left) items
   handlers_are [] left l w = tt
   handlers_are (Waits f ∷ below) left l w =
       let rs = regions_left left (regions_at program f.body f.next) in
-      all_append (λ h. IsHandler program h (Waits f ∷ below)) (handlers_in rs f.activation (length below)) (handlers program below None) (handlers_stand f rs below (left_are left f below l))
+      all_append (λ h. IsHandler program h (Waits f ∷ below)) (handlers_in rs f.activation (length below)) (handlers program below None) (handlers_are_at f rs below (left_are left f below l))
       (all_map (λ h. IsHandler program h below) (λ h. IsHandler program h (Waits f ∷ below)) (handlers program below None) (λ h p. inr p) (handlers_are below None tt w.2))
   handlers_are (Searches exception resumption asked rest ∷ below) left l w = handlers_are below None tt w.2
   handlers_are (Unwinds rest target ∷ below) left l w = handlers_are below (Some rest) w.0 w.2
@@ -141,7 +141,7 @@ module _ (program : LinearProgram) (bodies : AreBodies program) where
 
   pub aimed : (h : Handler) (code held : ℕ) (items : List Item) → IsHandler program h items → IsTarget program (target_of h code held) items
   aimed h code held [] p = p
-  aimed h code held (Waits f ∷ below) (inl p) = inl (record { depth = p.depth; lands = landing_of f.body p.region.end p.region.kind h.filter h.target p.stands.kind p.handles })
+  aimed h code held (Waits f ∷ below) (inl p) = inl (record { depth = p.depth; lands = landing_of f.body p.region.end p.region.kind h.filter h.target p.is_there.kind p.handles })
   aimed h code held (Waits f ∷ below) (inr p) = inr (aimed h code held below p)
   aimed h code held (Searches exception resumption asked rest ∷ below) p = aimed h code held below p
   aimed h code held (Unwinds rest target ∷ below) p = aimed h code held below p
@@ -233,7 +233,7 @@ module _ (program : LinearProgram) (bodies : AreBodies program) where
   raise_turn exception resumption c r w =
       search_turn (handlers program (Waits c.frame ∷ c.below) None) exception resumption (record c { events = c.events ++ raise_event exception ∷ [] }) (handlers_are (Waits c.frame ∷ c.below) None tt w) r w
 
-  -- a body that waited goes on
+  -- a body that waited continues
   resumed_turn : (resumption : Resumption) (c : Configuration) → Items (Waits c.frame ∷ c.below) → Turn Ok (λ next. next (resumed resumption c))
   resumed_turn AfterCall c w = Moves _ (record { above = w.1; below = w.2; landed = none_lands c.frame.body (c.frame.next + 1) c.frame.landed w.0.landed }) (λ next. refl)
   resumed_turn SameOperation c w = Moves _ (record { above = w.1; below = w.2; landed = none_lands c.frame.body c.frame.next c.frame.landed w.0.landed }) (λ next. refl)

@@ -34,7 +34,7 @@ use Rattle.ir_expressions.proofs.Codes.{expression_length}
 use Rattle.seh_ir.proofs.StatementCodes.{discarded_length, condition_length, all_declared_length, statement_length, statements_length}
 use Rattle.ir_follows.specs.Fits.{IsCalled}
 use Rattle.ir_linked.proofs.Numbers.{count_front, count_back, counted, filter_count, statement_count, statements_count}
-use Rattle.ir_linked.proofs.Segments.{StandsAt, front, back, stands_itself}
+use Rattle.ir_linked.proofs.Segments.{IsSegmentAt, front, back, whole_is_at}
 use Rattle.ir_linked.proofs.SoundExpressions.{both_left, both_right, Knows, expression_fits}
 use Rattle.ir_bounds.proofs.PlainExpressions.{all_append}
 use Rattle.ir_typed.specs.Bodies.{IsFinally, parent_of, function_of, owner_of, IsFuncletOf, IsLanding, IsKindOf, IsRegionOf, IsCallee, IsInstructionOf, IsBodyOf}
@@ -52,7 +52,7 @@ module _ (program : Program) (linear : LinearProgram) (callee : (f count : ℕ) 
     pub function : owner_of linear name ≡ Some owner.function
 
   -- what is claimed of a part
-  pub record Stands (name : BodyName) (code : List Instruction) (rs : List Region) (j n : ℕ) : Type 0 where
+  pub record IsTypedAt (name : BodyName) (code : List Instruction) (rs : List Region) (j n : ℕ) : Type 0 where
     pub calls : AllByRecursion (IsInstructionOf linear name) code
     pub regions : AllByRecursion (IsRegionOf linear name) rs
     pub funclets : Range Fine j (j + n)
@@ -123,11 +123,11 @@ module _ (program : Program) (linear : LinearProgram) (callee : (f count : ℕ) 
 
     -- ---- filters
 
-    filter_stands : (name : BodyName) (i : Inside) → Knows program own false i.scope → (owner : Owner) → IsOwner name owner → (names : Names) (f : Filter) (j target : ℕ) → filter_sound i.scope f ≡ true
-        → StandsAt linear.funclets j (filter_funclets owner (filter_names names) f) → count_up (j + 1) (filter_funclet f) ≡ true → IsLanding linear name target
+    filter_is_set : (name : BodyName) (i : Inside) → Knows program own false i.scope → (owner : Owner) → IsOwner name owner → (names : Names) (f : Filter) (j target : ℕ) → filter_sound i.scope f ≡ true
+        → IsSegmentAt linear.funclets j (filter_funclets owner (filter_names names) f) → count_up (j + 1) (filter_funclet f) ≡ true → IsLanding linear name target
         → IsKindOf linear name target (except_kind f target) × Range Fine j (j + length (filter_funclets owner (filter_names names) f))
-    filter_stands name i knows owner o names Always j target ok f n l = ((l, refl), no_part Fine j (j + 0) (omega arith))
-    filter_stands name i knows owner o names (Funclet k e) j target ok f n l =
+    filter_is_set name i knows owner o names Always j target ok f n l = ((l, refl), no_part Fine j (j + 0) (omega arith))
+    filter_is_set name i knows owner o names (Funclet k e) j target ok f n l =
         let numbered = counted (j + 1) k [] n in
         let funclet = funclets_of.filter_funclet owner (filter_names names) e in
         let same : k - 1 ≡ j = omega arith in
@@ -143,29 +143,29 @@ module _ (program : Program) (linear : LinearProgram) (callee : (f count : ℕ) 
 
     -- ---- statements
 
-    none_stands : (name : BodyName) (code : List Instruction) (j : ℕ) → AllByRecursion (IsInstructionOf linear name) code → Stands name code [] j 0
-    none_stands name code j h = record { calls = h; regions = tt; funclets = no_part Fine j (j + 0) (omega arith) }
+    none_is_at : (name : BodyName) (code : List Instruction) (j : ℕ) → AllByRecursion (IsInstructionOf linear name) code → IsTypedAt name code [] j 0
+    none_is_at name code j h = record { calls = h; regions = tt; funclets = no_part Fine j (j + 0) (omega arith) }
 
     mutual
-      pub stands : (s : Statement) (name : BodyName) (b : LinearBody) → body_of linear name ≡ Some b → (i : Inside) → Knows program own false i.scope → (scope : Scope) (owner : Owner) → IsOwner name owner → (at j : ℕ)
-          → statement_sound i s ≡ true → StandsAt b.code at (statement_code scope s at) → StandsAt linear.funclets j (statement_funclets owner scope.names s) → count_up (j + 1) (funclets_in s) ≡ true
-          → Stands name (statement_code scope s at) (statement_regions s at) j (length (statement_funclets owner scope.names s))
-      stands (Declare d) name b there i k scope owner o at j ok h f n = none_stands name _ j (declared_calls name i.scope k scope.names d at ok)
-      stands (Block ss) name b there i k scope owner o at j ok h f n = all_stand ss name b there i k scope owner o at j ok h f n
-      stands (Evaluate e) name b there i k scope owner o at j ok h f n = none_stands name _ j (discarded_calls name i.scope k scope.names e at ok)
-      stands (If t s) name b there i k scope owner o at j ok h f n =
+      pub is_there : (s : Statement) (name : BodyName) (b : LinearBody) → body_of linear name ≡ Some b → (i : Inside) → Knows program own false i.scope → (scope : Scope) (owner : Owner) → IsOwner name owner → (at j : ℕ)
+          → statement_sound i s ≡ true → IsSegmentAt b.code at (statement_code scope s at) → IsSegmentAt linear.funclets j (statement_funclets owner scope.names s) → count_up (j + 1) (funclets_in s) ≡ true
+          → IsTypedAt name (statement_code scope s at) (statement_regions s at) j (length (statement_funclets owner scope.names s))
+      is_there (Declare d) name b there i k scope owner o at j ok h f n = none_is_at name _ j (declared_calls name i.scope k scope.names d at ok)
+      is_there (Block ss) name b there i k scope owner o at j ok h f n = all_are_at ss name b there i k scope owner o at j ok h f n
+      is_there (Evaluate e) name b there i k scope owner o at j ok h f n = none_is_at name _ j (discarded_calls name i.scope k scope.names e at ok)
+      is_there (If t s) name b there i k scope owner o at j ok h f n =
           let code = expression_code scope.names t 0 at in
           let l = expression_length scope.names t 0 at in
           let then = at + expression_size t + 1 in
           let test = JumpIfZero (Temporary 0) (then + statement_size s) in
           let rest = statement_code scope s then in
-          let x = stands s name b there i k scope owner o then j (both_right _ _ ok) (back b.code at (at + expression_size t) code (test ∷ rest) (omega arith) h).1 f n in
+          let x = is_there s name b there i k scope owner o then j (both_right _ _ ok) (back b.code at (at + expression_size t) code (test ∷ rest) (omega arith) h).1 f n in
           record {
             calls = append program linear callee name code (test ∷ rest) (value_calls name i.scope k scope.names t at (both_left _ _ (both_left _ _ ok))) (tt, x.calls);
             regions = x.regions;
             funclets = x.funclets;
           }
-      stands (IfElse t s u) name b there i k scope owner o at j ok h f n =
+      is_there (IfElse t s u) name b there i k scope owner o at j ok h f n =
           let code = expression_code scope.names t 0 at in
           let l = expression_length scope.names t 0 at in
           let then = at + expression_size t + 1 in
@@ -181,14 +181,14 @@ module _ (program : Program) (linear : LinearProgram) (callee : (f count : ℕ) 
           let both = length-append fy fn in
           let after = (back b.code at (at + expression_size t) code (test ∷ (yes ++ skip ∷ no)) (omega arith) h).1 in
           let second_part = back b.code then (then + statement_size s) yes (skip ∷ no) (omega arith) after in
-          let x = stands s name b there i k scope owner o then j (both_right _ _ (both_left _ _ ok)) (front b.code then yes (skip ∷ no) after) (front linear.funclets j fy fn f) (count_front (j + 1) (funclets_in s) (funclets_in u) n) in
-          let y = stands u name b there i k scope owner o otherwise (j + length fy) (both_right _ _ ok) second_part.1 (back linear.funclets j (j + length fy) fy fn refl f) (count_back (j + 1) (j + length fy + 1) (funclets_in s) (funclets_in u) (omega arith) n) in
+          let x = is_there s name b there i k scope owner o then j (both_right _ _ (both_left _ _ ok)) (front b.code then yes (skip ∷ no) after) (front linear.funclets j fy fn f) (count_front (j + 1) (funclets_in s) (funclets_in u) n) in
+          let y = is_there u name b there i k scope owner o otherwise (j + length fy) (both_right _ _ ok) second_part.1 (back linear.funclets j (j + length fy) fy fn refl f) (count_back (j + 1) (j + length fy + 1) (funclets_in s) (funclets_in u) (omega arith) n) in
           record {
             calls = append program linear callee name code (test ∷ (yes ++ skip ∷ no)) (value_calls name i.scope k scope.names t at (both_left _ _ (both_left _ _ (both_left _ _ ok)))) (tt, append program linear callee name yes (skip ∷ no) x.calls (tt, y.calls));
             regions = all_append (IsRegionOf linear name) (statement_regions s then) (statement_regions u otherwise) x.regions y.regions;
             funclets = part_of Fine j (j + length fy + length fn) j _ (omega arith) (omega arith) (both_parts Fine j (j + length fy) (j + length fy + length fn) x.funclets y.funclets);
           }
-      stands (For ds first' t next s) name b there i k scope owner o at j ok h f n =
+      is_there (For ds first' t next s) name b there i k scope owner o at j ok h f n =
           let names = scope.names in
           let begin = at + all_declared_size ds in
           let iteration = begin + discarded_size first' in
@@ -208,7 +208,7 @@ module _ (program : Program) (linear : LinearProgram) (callee : (f count : ℕ) 
           let h1 = back b.code at begin declares (begins ++ (tests ++ (body ++ (Separator ∷ (steps ++ repeat))))) (omega arith) h in
           let h2 = back b.code begin iteration begins (tests ++ (body ++ (Separator ∷ (steps ++ repeat)))) (omega arith) h1 in
           let h3 = back b.code iteration start tests (body ++ (Separator ∷ (steps ++ repeat))) (omega arith) h2 in
-          let x = stands s name b there (record i { loop = true }) k inner owner o start j (both_right _ _ ok) (front b.code start body _ h3) f n in
+          let x = is_there s name b there (record i { loop = true }) k inner owner o start j (both_right _ _ ok) (front b.code start body _ h3) f n in
           record {
             calls = append program linear callee name declares _ (all_declared_calls name i.scope k names ds at (both_left _ _ (both_left _ _ (both_left _ _ (both_left _ _ ok)))))
                 (append program linear callee name begins _ (discarded_calls name i.scope k names first' begin (both_right _ _ (both_left _ _ (both_left _ _ (both_left _ _ ok)))))
@@ -217,24 +217,24 @@ module _ (program : Program) (linear : LinearProgram) (callee : (f count : ℕ) 
             regions = x.regions;
             funclets = x.funclets;
           }
-      stands (DoWhile s t) name b there i k scope owner o at j ok h f n =
+      is_there (DoWhile s t) name b there i k scope owner o at j ok h f n =
           let again = at + statement_size s in
           let end = again + 1 + expression_size t + 2 in
           let inner = in_loop end again scope in
           let body = statement_code inner s at in
           let code = expression_code scope.names t 0 (again + 1) in
-          let x = stands s name b there (record i { loop = true }) k inner owner o at j (both_right _ _ ok) (front b.code at body _ h) f n in
+          let x = is_there s name b there (record i { loop = true }) k inner owner o at j (both_right _ _ ok) (front b.code at body _ h) f n in
           record {
             calls = append program linear callee name body _ x.calls (tt, append program linear callee name code (repeated end at) (value_calls name i.scope k scope.names t (again + 1) (both_left _ _ (both_left _ _ ok))) (tt, (tt, tt)));
             regions = x.regions;
             funclets = x.funclets;
           }
-      stands (Return e) name b there i k scope owner o at j ok h f n =
-          none_stands name _ j (append program linear callee name (returned_code scope.names e at) (return_code scope.exit) (returned_calls name i k scope.names e at (both_right _ _ ok)) (exit_calls name scope.exit))
-      stands Break name b there i k scope owner o at j ok h f n = none_stands name _ j (way_calls name scope.loop_end)
-      stands Continue name b there i k scope owner o at j ok h f n = none_stands name _ j (way_calls name scope.loop_next)
-      stands Leave name b there i k scope owner o at j ok h f n = none_stands name _ j (leave_calls name scope.leave, tt)
-      stands (TryExcept body filter block) name b there i k scope owner o at j ok h f n =
+      is_there (Return e) name b there i k scope owner o at j ok h f n =
+          none_is_at name _ j (append program linear callee name (returned_code scope.names e at) (return_code scope.exit) (returned_calls name i k scope.names e at (both_right _ _ ok)) (exit_calls name scope.exit))
+      is_there Break name b there i k scope owner o at j ok h f n = none_is_at name _ j (way_calls name scope.loop_end)
+      is_there Continue name b there i k scope owner o at j ok h f n = none_is_at name _ j (way_calls name scope.loop_next)
+      is_there Leave name b there i k scope owner o at j ok h f n = none_is_at name _ j (leave_calls name scope.leave, tt)
+      is_there (TryExcept body filter block) name b there i k scope owner o at j ok h f n =
           let names = scope.names in
           let at_jump = at + statements_size body in
           let target = at_jump + 1 in
@@ -257,16 +257,16 @@ module _ (program : Program) (linear : LinearProgram) (callee : (f count : ℕ) 
           let m2 = length-append ff fh in
           let nb = count_front (j + 1) (funclets body ++ numbers) (funclets block) n in
           let landing : IsLanding linear name target = (names.free, ap (λ p. instruction_in p target) there ∙ h1.1.0) in
-          let x = all_stand body name b there (record i { body = true }) k inner owner o at j (both_left _ _ (both_left _ _ ok)) (front b.code at guarded _ h) (front linear.funclets j fb (ff ++ fh) f) (count_front (j + 1) (funclets body) numbers nb) in
-          let y = filter_stands name i k owner o names filter (j + length fb) target (both_right _ _ (both_left _ _ ok)) (front linear.funclets (j + length fb) ff fh f1) (count_back (j + 1) (j + length fb + 1) (funclets body) numbers (omega arith) nb) landing in
-          let z = all_stand block name b there (record i { scope = record i.scope { code = true } }) (in_block i k) (in_except scope) owner o (target + 1) (j + length fb + length ff) (both_right _ _ ok) h1.1.1 f2 (count_back (j + 1) (j + length fb + length ff + 1) (funclets body ++ numbers) (funclets block) (omega arith) n) in
+          let x = all_are_at body name b there (record i { body = true }) k inner owner o at j (both_left _ _ (both_left _ _ ok)) (front b.code at guarded _ h) (front linear.funclets j fb (ff ++ fh) f) (count_front (j + 1) (funclets body) numbers nb) in
+          let y = filter_is_set name i k owner o names filter (j + length fb) target (both_right _ _ (both_left _ _ ok)) (front linear.funclets (j + length fb) ff fh f1) (count_back (j + 1) (j + length fb + 1) (funclets body) numbers (omega arith) nb) landing in
+          let z = all_are_at block name b there (record i { scope = record i.scope { code = true } }) (in_block i k) (in_except scope) owner o (target + 1) (j + length fb + length ff) (both_right _ _ ok) h1.1.1 f2 (count_back (j + 1) (j + length fb + length ff + 1) (funclets body ++ numbers) (funclets block) (omega arith) n) in
           let last = j + length fb + length ff + length fh in
           record {
             calls = append program linear callee name guarded (landed end names.free ++ handles) x.calls (tt, (tt, z.calls));
             regions = all_append (IsRegionOf linear name) (statements_regions body at) (region at target (except_kind filter target) ∷ statements_regions block (target + 1)) x.regions (record { begins = omega arith; kind = y.0 }, z.regions);
             funclets = part_of Fine j last j _ (omega arith) (omega arith) (both_parts Fine j (j + length fb) last x.funclets (both_parts Fine (j + length fb) (j + length fb + length ff) last y.1 z.funclets));
           }
-      stands (TryFinally body k' last) name b there i k scope owner o at j ok h f n =
+      is_there (TryFinally body k' last) name b there i k scope owner o at j ok h f n =
           let names = scope.names in
           let at_end = at + statements_size body in
           let inner = in_guarded at_end scope in
@@ -284,10 +284,10 @@ module _ (program : Program) (linear : LinearProgram) (callee : (f count : ℕ) 
           let home : body_of linear (FuncletBody (k' - 1)) ≡ Some funclet.body = ap funclet_body there' in
           let code = statements_code (finally_scope names) last 0 in
           let ends = instructions.Return (Local names.free) ∷ [] in
-          let whole = stands_itself funclet.body.code in
+          let whole = whole_is_at funclet.body.code in
           let is : IsFuncletOf linear name IsFinally (k' - 1) = record { funclet = funclet; there = there'; parent = o.parent; owner = o.function; fits = tt } in
-          let x = all_stand body name b there (record i { body = true }) k inner owner o at j (both_left _ _ ok) (front b.code at guarded _ h) (front linear.funclets j fb (funclet ∷ fl) f) (count_front (j + 1) (funclets body) (k' ∷ funclets last) n) in
-          let y = all_stand last (FuncletBody (k' - 1)) funclet.body home (in_finally i) (in_last i k) (finally_scope names) (in_funclet (k' - 1) owner) (record { parent = refl; function = ap function_of there' }) 0 (j + length fb + 1) (both_right _ _ ok)
+          let x = all_are_at body name b there (record i { body = true }) k inner owner o at j (both_left _ _ ok) (front b.code at guarded _ h) (front linear.funclets j fb (funclet ∷ fl) f) (count_front (j + 1) (funclets body) (k' ∷ funclets last) n) in
+          let y = all_are_at last (FuncletBody (k' - 1)) funclet.body home (in_finally i) (in_last i k) (finally_scope names) (in_funclet (k' - 1) owner) (record { parent = refl; function = ap function_of there' }) 0 (j + length fb + 1) (both_right _ _ ok)
           (front funclet.body.code 0 code ends whole) f1.1 (both_right _ _ n1) in
           let own_body : Fine (k' - 1) = fine (k' - 1) funclet there' (record { regions = y.regions; code = append program linear callee (FuncletBody (k' - 1)) code ends y.calls (tt, tt) }) in
           let end = j + length fb + 1 + length fl in
@@ -297,11 +297,11 @@ module _ (program : Program) (linear : LinearProgram) (callee : (f count : ℕ) 
             funclets = part_of Fine j end j _ (omega arith) (omega arith) (both_parts Fine j (j + length fb) end x.funclets (both_parts Fine (j + length fb) (j + length fb + 1) end (one_part Fine (j + length fb) (subst Fine same own_body)) y.funclets));
           }
 
-      pub all_stand : (ss : Statements) (name : BodyName) (b : LinearBody) → body_of linear name ≡ Some b → (i : Inside) → Knows program own false i.scope → (scope : Scope) (owner : Owner) → IsOwner name owner → (at j : ℕ)
-          → statements_sound i ss ≡ true → StandsAt b.code at (statements_code scope ss at) → StandsAt linear.funclets j (statements_funclets owner scope.names ss) → count_up (j + 1) (funclets ss) ≡ true
-          → Stands name (statements_code scope ss at) (statements_regions ss at) j (length (statements_funclets owner scope.names ss))
-      all_stand Empty name b there i k scope owner o at j ok h f n = none_stands name [] j tt
-      all_stand (Then s ss) name b there i k scope owner o at j ok h f n =
+      pub all_are_at : (ss : Statements) (name : BodyName) (b : LinearBody) → body_of linear name ≡ Some b → (i : Inside) → Knows program own false i.scope → (scope : Scope) (owner : Owner) → IsOwner name owner → (at j : ℕ)
+          → statements_sound i ss ≡ true → IsSegmentAt b.code at (statements_code scope ss at) → IsSegmentAt linear.funclets j (statements_funclets owner scope.names ss) → count_up (j + 1) (funclets ss) ≡ true
+          → IsTypedAt name (statements_code scope ss at) (statements_regions ss at) j (length (statements_funclets owner scope.names ss))
+      all_are_at Empty name b there i k scope owner o at j ok h f n = none_is_at name [] j tt
+      all_are_at (Then s ss) name b there i k scope owner o at j ok h f n =
           let next = at + statement_size s in
           let l = statement_length scope s at in
           let code = statement_code scope s at in
@@ -310,8 +310,8 @@ module _ (program : Program) (linear : LinearProgram) (callee : (f count : ℕ) 
           let fm = statements_funclets owner scope.names ss in
           let count = statement_count owner scope.names s in
           let m = length-append fs fm in
-          let x = stands s name b there i k scope owner o at j (both_left _ _ ok) (front b.code at code rest h) (front linear.funclets j fs fm f) (count_front (j + 1) (funclets_in s) (funclets ss) n) in
-          let y = all_stand ss name b there i k scope owner o next (j + length fs) (both_right _ _ ok) (back b.code at next code rest (omega arith) h) (back linear.funclets j (j + length fs) fs fm refl f) (count_back (j + 1) (j + length fs + 1) (funclets_in s) (funclets ss) (omega arith) n) in
+          let x = is_there s name b there i k scope owner o at j (both_left _ _ ok) (front b.code at code rest h) (front linear.funclets j fs fm f) (count_front (j + 1) (funclets_in s) (funclets ss) n) in
+          let y = all_are_at ss name b there i k scope owner o next (j + length fs) (both_right _ _ ok) (back b.code at next code rest (omega arith) h) (back linear.funclets j (j + length fs) fs fm refl f) (count_back (j + 1) (j + length fs + 1) (funclets_in s) (funclets ss) (omega arith) n) in
           record {
             calls = append program linear callee name code rest x.calls y.calls;
             regions = all_append (IsRegionOf linear name) (statement_regions s at) (statements_regions ss next) x.regions y.regions;

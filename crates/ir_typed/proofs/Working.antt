@@ -137,7 +137,7 @@ module _ (program : LinearProgram) where
       → (function : ℕ) × (owner_of program (FuncletBody k) ≡ Some function) × (slice_get (owners_of items) h.activation ≡ Some function)
   filter_owned h k [] e p w = absurd p
   filter_owned h k (Waits f ∷ below) e (inl p) w =
-      let q = owned f below IsFilter k w (filter_of f.body p.region.end p.region.kind h.filter h.target k e p.stands.kind p.handles) in
+      let q = owned f below IsFilter k w (filter_of f.body p.region.end p.region.kind h.filter h.target k e p.is_there.kind p.handles) in
       (q.0, q.1, ap (slice_get (owners_of (Waits f ∷ below))) p.activation ∙ q.2)
   filter_owned h k (Waits f ∷ below) e (inr p) w =
       let q = filter_owned h k below e p w.1 in (q.0, q.1, own_more f.body (owners_of below) h.activation q.0 q.2)

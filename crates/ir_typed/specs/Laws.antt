@@ -6,7 +6,7 @@ use Rattle.linear_machine.specs.Frames.{Configuration, Next}
 use Rattle.seh_ir.specs.Lowered.{lowered}
 use Rattle.ir_bounds.specs.Nesting.{AreShallow}
 use Rattle.ir_typed.specs.Turns.{IsReached}
-use Rattle.ir_typed.specs.Ready.{CanGoOn}
+use Rattle.ir_typed.specs.Ready.{CanContinue}
 use Rattle.ir_typed.specs.Bodies.{IsWhole}
 use Rattle.ir_typed.specs.Waiting.{IsStacked}
 use Rattle.ir_typed.specs.Activations.{HasActivations}
@@ -32,10 +32,10 @@ abbrev pub LoweredIsApart : Type 0
 LoweredIsApart = (program : Program) → AreApart (lowered program)
 
 -- it is at an instruction, and what that needs is there
-abbrev pub ReachedGoesOn : Type 0
-ReachedGoesOn =
+abbrev pub ReachedContinues : Type 0
+ReachedContinues =
     (program : Program) → IsSound program → (c : Configuration) → IsReached (lowered program) c
-    → CanGoOn (lowered program) c
+    → CanContinue (lowered program) c
 
 abbrev pub ReachedIsStacked : Type 0
 ReachedIsStacked =

@@ -55,7 +55,7 @@ module _ (program : LinearProgram) where
   IsReady c (instructions.Return from) = IsHeld (held c) from
 
   -- it is at an instruction, and what that needs is there
-  pub record CanGoOn (c : Configuration) : Type 0 where
+  pub record CanContinue (c : Configuration) : Type 0 where
     pub instruction : Instruction
     pub at : instruction_at program c ≡ Some instruction
     pub ready : IsReady c instruction

@@ -49,7 +49,7 @@ module _ (program : LinearProgram) where
     pub depth : h.depth ≡ items
     pub activation : h.activation ≡ f.activation
     pub region : Region
-    pub stands : IsRegionOf program f.body region
+    pub is_there : IsRegionOf program f.body region
     pub handles : Handles region.kind h.filter h.target
 
   abbrev pub IsHandler : Handler → List Item → Type 0
@@ -74,7 +74,7 @@ module _ (program : LinearProgram) where
   IsTarget t (Searches exception resumption asked rest ∷ below) = IsTarget t below
   IsTarget t (Unwinds rest older ∷ below) = IsTarget t below
 
-  -- ---- what a body stands above, by its exception and its activation
+  -- ---- what a body is above, by its exception and its activation
 
   -- a filter runs for a handler that is asked
   pub record IsAsked (k : ℕ) (own : Exception) (works_on : ℕ) (searched : Exception)

@@ -1,6 +1,6 @@
 //! Laws of the configurations that the linear code of a sound program comes to.
 
-ghost use Rattle.ir_typed.specs.Laws.{SeenAlikeIsSame, LoweredIsWhole, LoweredHasRoom, LoweredIsApart, ReachedGoesOn, ReachedIsStacked, ReachedHasActivations, ReachedIsSmall, ReachedHasDepths};
+ghost use Rattle.ir_typed.specs.Laws.{SeenAlikeIsSame, LoweredIsWhole, LoweredHasRoom, LoweredIsApart, ReachedContinues, ReachedIsStacked, ReachedHasActivations, ReachedIsSmall, ReachedHasDepths};
 
 /// A configuration is determined by what may be seen from it on.
 pub fn alike_is_same()
@@ -24,8 +24,8 @@ pub fn lowered_is_apart()
 {}
 
 /// Each configuration that is reached is at an instruction, and what that needs is there.
-pub fn reached_goes_on()
-    ensures goes_on { ReachedGoesOn }
+pub fn reached_continues()
+    ensures continues { ReachedContinues }
 {}
 
 /// What waits below the body that runs is there, where it is meant to wait.

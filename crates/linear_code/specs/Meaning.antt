@@ -50,7 +50,7 @@ HasSlots n (instructions.Landing to) = IsSlot n to
 HasSlots n (instructions.Return from) = IsSlot n from
 HasSlots n other = Unit {0}
 
--- ---- several instructions of a body, each of which goes on to another
+-- ---- several instructions of a body, each of which continues to another
 
 -- where a body is: the number of its next instruction, and what it works on
 abbrev pub BodyPoint : Type 0

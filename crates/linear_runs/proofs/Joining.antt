@@ -10,7 +10,7 @@ use Rattle.linear_machine.specs.Frames.{Store, Seen, Finished}
 use Rattle.linear_machine.specs.Searching.{target_of}
 use Rattle.linear_machine.specs.Run.{exec}
 use Rattle.linear_runs.proofs.Longer.{events_of}
-use Rattle.linear_runs.proofs.Stretch.{Part, Site, Way, Never, To, Out, Ways, Kept, value_ways, normal_ways, first_ways, Prefix, Before, Price, price, Join, Dearer, Reaches, Finishes, Stops, unwound, Arrival, Arrives, Targets, Meets, Claim}
+use Rattle.linear_runs.proofs.Stretch.{Part, Site, Way, Never, To, Out, Ways, Kept, value_ways, normal_ways, first_ways, Prefix, Before, Price, price, Join, Dearer, Reaches, Finishes, Stops, unwound, Arrival, Arrives, Targets, Reaches, Claim}
 
 module _ (linear : LinearProgram) (pace : ℕ) where
   prefix_more : (a b c : List Event) → Prefix a b → Prefix b c → Prefix a c
@@ -61,15 +61,15 @@ module _ (linear : LinearProgram) (pace : ℕ) where
   abbrev pub Joined : ℕ → ℕ → ℕ → Price → Price → Type 0
   Joined r1 e1 d1 q r = (r1 + q.turns ≤ r.turns) × (r.extra + d1 + q.slack ≤ e1 + q.extra + r.slack) × (r.extra + d1 + q.out ≤ e1 + q.extra + r.out)
 
-  pub meets_after : (s t : Part) (st mid end : State) (r1 e1 d1 : ℕ) (q r : Price) (w : Ways) (x : Result) → Joined r1 e1 d1 q r
-      → Reaches linear pace s t st mid r1 e1 d1 → Meets linear pace t mid q w end x → Meets linear pace s st r w end x
-  meets_after s t st mid end r1 e1 d1 q r w (Value x) j a b = arrives_after s t st mid end r1 e1 d1 q r w.kept w.held (w.value x) j.0 j.1 a b
-  meets_after s t st mid end r1 e1 d1 q r w Normal j a b = arrives_after s t st mid end r1 e1 d1 q r w.kept w.held w.normal j.0 j.1 a b
-  meets_after s t st mid end r1 e1 d1 q r w (Returned v) j a b = arrives_after s t st mid end r1 e1 d1 q r w.kept w.held (w.returned v) j.0 j.1 a b
-  meets_after s t st mid end r1 e1 d1 q r w Broke j a b = arrives_after s t st mid end r1 e1 d1 q r w.kept w.held w.broke j.0 j.1 a b
-  meets_after s t st mid end r1 e1 d1 q r w Continued j a b = arrives_after s t st mid end r1 e1 d1 q r w.kept w.held w.again j.0 j.1 a b
-  meets_after s t st mid end r1 e1 d1 q r w LeftTry j a b = arrives_after s t st mid end r1 e1 d1 q r w.kept w.held w.left j.0 j.1 a b
-  meets_after s t st mid end r1 e1 d1 q r w (Target level exc) j a b = record {
+  pub finds_after : (s t : Part) (st mid end : State) (r1 e1 d1 : ℕ) (q r : Price) (w : Ways) (x : Result) → Joined r1 e1 d1 q r
+      → Reaches linear pace s t st mid r1 e1 d1 → Reaches linear pace t mid q w end x → Reaches linear pace s st r w end x
+  finds_after s t st mid end r1 e1 d1 q r w (Value x) j a b = arrives_after s t st mid end r1 e1 d1 q r w.kept w.held (w.value x) j.0 j.1 a b
+  finds_after s t st mid end r1 e1 d1 q r w Normal j a b = arrives_after s t st mid end r1 e1 d1 q r w.kept w.held w.normal j.0 j.1 a b
+  finds_after s t st mid end r1 e1 d1 q r w (Returned v) j a b = arrives_after s t st mid end r1 e1 d1 q r w.kept w.held (w.returned v) j.0 j.1 a b
+  finds_after s t st mid end r1 e1 d1 q r w Broke j a b = arrives_after s t st mid end r1 e1 d1 q r w.kept w.held w.broke j.0 j.1 a b
+  finds_after s t st mid end r1 e1 d1 q r w Continued j a b = arrives_after s t st mid end r1 e1 d1 q r w.kept w.held w.again j.0 j.1 a b
+  finds_after s t st mid end r1 e1 d1 q r w LeftTry j a b = arrives_after s t st mid end r1 e1 d1 q r w.kept w.held w.left j.0 j.1 a b
+  finds_after s t st mid end r1 e1 d1 q r w (Target level exc) j a b = record {
     handler = b.handler;
     picked = b.picked;
     temps = b.temps;
@@ -78,9 +78,9 @@ module _ (linear : LinearProgram) (pace : ℕ) where
     fits = b.fits;
     reaches = reaches_after s t _ st mid end r1 e1 d1 q.turns q.extra q.out r.turns r.extra r.out j.0 j.2 a b.reaches;
   }
-  meets_after s t st mid end r1 e1 d1 q r w (End (Some code)) j a b =
+  finds_after s t st mid end r1 e1 d1 q r w (End (Some code)) j a b =
       let y = b.by in let x = a.by y.0 in let m = a.most in let lr = j.0 in record { by = (x.0, omega (arith, x.1, y.1), x.2 ∙ y.2) }
-  meets_after s t st mid end r1 e1 d1 q r w (End None) j a b =
+  finds_after s t st mid end r1 e1 d1 q r w (End None) j a b =
       let x = a.by b.cost in
       let lr = j.0 in let le = j.2 in
       let e : x.0 ≡ a.cost + b.cost = x.1 in
@@ -96,7 +96,7 @@ module _ (linear : LinearProgram) (pace : ℕ) where
       }
 
   pub after : (s t : Part) (st mid : State) (r1 e1 d1 : ℕ) (q r : Price) (w : Ways) (o : Outcome) → Joined r1 e1 d1 q r → Reaches linear pace s t st mid r1 e1 d1 → Claim linear pace t mid q w o → Claim linear pace s st r w o
-  after s t st mid r1 e1 d1 q r w (Gives x end) j a b = meets_after s t st mid end r1 e1 d1 q r w x j a b
+  after s t st mid r1 e1 d1 q r w (Gives x end) j a b = finds_after s t st mid end r1 e1 d1 q r w x j a b
 
   -- ---- another price, or more steps left at the beginning
 

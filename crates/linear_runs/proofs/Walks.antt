@@ -124,13 +124,13 @@ further target r depth block le (inr p) =
     (or_from (holds target.label r) (leads_to r.kind target.label) (holds_not r target.label p) (leads_not r.kind r.begin r.end target.label block le p))
 
 -- the first of these regions, if there is one, stops an unwinding to this place of their frame
-abbrev pub Meets : ℕ → List Region → Type 0
-Meets label [] = Unit {0}
-Meets label (r ∷ regions) = (holds label r || leads_to r.kind label) ≡ true
+abbrev pub Reaches : ℕ → List Region → Type 0
+Reaches label [] = Unit {0}
+Reaches label (r ∷ regions) = (holds label r || leads_to r.kind label) ≡ true
 
-pub meets_around : (regions : List Region) (lo hi label : ℕ) → Around regions lo hi → lo ≤ label → label ≤ hi → Meets label regions
-meets_around [] lo hi label h a b = tt
-meets_around (r ∷ regions) lo hi label h a b =
+pub finds_around : (regions : List Region) (lo hi label : ℕ) → Around regions lo hi → lo ≤ label → label ≤ hi → Reaches label regions
+finds_around [] lo hi label h a b = tt
+finds_around (r ∷ regions) lo hi label h a b =
     let x = h.0 in let y = h.1 in
     or_left (holds label r) (leads_to r.kind label) (holds_yes r label (omega arith) (omega arith))
 
@@ -146,8 +146,8 @@ except_leads (kinds.Filter k label) target e = eq-eqb label target e
 except_leads (kinds.Always label) target e = eq-eqb label target e
 
 -- it stops what goes to its block
-pub meets_own : (r : Region) (target : ℕ) (regions : List Region) → IsExcept r.kind target → Meets target (r ∷ regions)
-meets_own r target regions e = or_right (holds target r) (leads_to r.kind target) (except_leads r.kind target e)
+pub finds_own : (r : Region) (target : ℕ) (regions : List Region) → IsExcept r.kind target → Reaches target (r ∷ regions)
+finds_own r target regions e = or_right (holds target r) (leads_to r.kind target) (except_leads r.kind target e)
 
 pub except_left : (linear : LinearProgram) (next : Next) (target : Target) (kind : RegionKind) (label : ℕ) (regions : List Region) (seen : Seen) (c : Configuration) → IsExcept kind label → leave_region linear next target kind regions seen c ≡ seen
 except_left linear next target (kinds.Finally k) label regions seen c e = absurd e
@@ -155,7 +155,7 @@ except_left linear next target (kinds.Filter k l) label regions seen c e = refl
 except_left linear next target (kinds.Always l) label regions seen c e = refl
 
 module _ (linear : LinearProgram) where
-  pub lands : (next : Next) (target : Target) (out : Store → Seen) (regions : List Region) (c : Configuration) → target.depth ≡ length c.below → Meets target.label regions
+  pub lands : (next : Next) (target : Target) (out : Store → Seen) (regions : List Region) (c : Configuration) → target.depth ≡ length c.below → Reaches target.label regions
       → unwind_body linear next target out regions c ≡ arrive target target.code next c
   unfolding pick
   lands next target out [] c d e =

@@ -34,7 +34,7 @@ use Rattle.linked_stack.proofs.Items.{record_leaves_the_list}
 use Rattle.linked_stack.proofs.Contexts.{wide_of}
 use Rattle.linked_stack.proofs.SearchSearched.{at_first_row}
 use Rattle.linked_stack.specs.States.{IsSane}
-use Rattle.linked_stack.specs.Steps.{placed_in, AsksHost, IsException, RaiseSearches, LocalUnwindUnwinds, AcceptanceUnwinds, AnswersGoOn, FinallyReturnsUnwind}
+use Rattle.linked_stack.specs.Steps.{placed_in, AsksHost, IsException, RaiseSearches, LocalUnwindUnwinds, AcceptanceUnwinds, AnswersContinue, FinallyReturnsUnwind}
 
 -- ---- records
 
@@ -162,8 +162,8 @@ module _ (t : Functions) (fs : List Funclet) (program : LinearProgram) (p : Plan
   -- from the innermost frame on
   onward_here : (m : Memory) (c : Context) (is : List StackItem) (b : Frame) (below : List Item) (acts : List Activation) → Linked t fs program p m c is (Waits b ∷ below) acts → Onward t fs program p c 0 (handlers program (Waits b ∷ below) None) c is (Waits b ∷ below)
   onward_here m c [] b below acts h = absurd h
-  onward_here m c (Framed f ∷ is) b below acts h = inl (record { same = refl; meets = refl })
-  onward_here m c (Leaf back ∷ is) b below acts h = inl (record { same = refl; meets = refl })
+  onward_here m c (Framed f ∷ is) b below acts h = inl (record { same = refl; finds_handlers = refl })
+  onward_here m c (Leaf back ∷ is) b below acts h = inl (record { same = refl; finds_handlers = refl })
   onward_here m c (Searching r ∷ is) b below acts h = absurd h
   onward_here m c (Unwinding r ∷ is) b below acts h = absurd h
 
@@ -207,7 +207,7 @@ raise_searches t fs program p s code flags access saved is acts exception c a e 
         kind = refl;
         room = placed_room s.memory at r (rsp (context_of saved)) room;
         carries = record { code = e.same_code; flag = flag_is flags exception.flag e.one_flag e.same_flag; one_flag = e.one_flag; count = ap count e.same_access; parameters = ap parameters e.same_access };
-        onward = onward_here t fs program p s.memory (context_of saved) is c.frame c.below acts a.on.stands.linked;
+        onward = onward_here t fs program p s.memory (context_of saved) is c.frame c.below acts a.on.is_there.linked;
         near = near_of t fs program p s saved is (Waits c.frame ∷ c.below) acts a;
       };
     }
@@ -229,7 +229,7 @@ local_unwind_unwinds t fs program p s frame address saved is acts depth label f 
         room = placed_room s.memory at r (rsp (context_of saved)) room;
         at_row = at_first_row t fs program p (Waits f ∷ below);
         aimed = aimed;
-        space = space_here t fs program p s.memory (context_of saved) is f below acts at a.on.stands.linked (near_of t fs program p s saved is (Waits f ∷ below) acts a);
+        space = space_here t fs program p s.memory (context_of saved) is f below acts at a.on.is_there.linked (near_of t fs program p s saved is (Waits f ∷ below) acts a);
       };
     }
 
@@ -249,21 +249,21 @@ acceptance_unwinds t fs program p s at r frame address is acts exception found h
         room = placed_room s.memory at new above room;
         at_row = at_first_row t fs program p (Waits c.frame ∷ c.below);
         aimed = aimed;
-        space = space_here t fs program p s.memory (context_of r.saved) is c.frame c.below acts at a.on.stands.linked a.near;
+        space = space_here t fs program p s.memory (context_of r.saved) is c.frame c.below acts at a.on.is_there.linked a.near;
       };
     }
 
-pub answers_go_on : AnswersGoOn
-answers_go_on t fs program p s r is acts exception resumption asked rest c h =
+pub answers_continue : AnswersContinue
+answers_continue t fs program p s r is acts exception resumption asked rest c h =
     let at = rsp (context_of s.cpu) in
     let above = rsp (context_of r.saved) in
-    let stands = h.on.stands.stack.0 in
-    let waits = h.on.stands.linked.0 in
-    let outer : On t fs program p s.memory (context_of r.saved) is (Waits c.frame ∷ c.below) acts = record { stands = record { stack = h.on.stands.stack.1; linked = h.on.stands.linked.1 }; data_alone = h.on.data_alone } in
-    let kind : r.kind ≡ Search = kind_is_search r.kind stands.kind in
-    let room : HasRoom s.memory at r above = record { fits = waits.own.fits; below = stands.above; small = stands.small; room = waits.own.room } in
+    let is_there = h.on.is_there.stack.0 in
+    let waits = h.on.is_there.linked.0 in
+    let outer : On t fs program p s.memory (context_of r.saved) is (Waits c.frame ∷ c.below) acts = record { is_there = record { stack = h.on.is_there.stack.1; linked = h.on.is_there.linked.1 }; data_alone = h.on.data_alone } in
+    let kind : r.kind ≡ Search = kind_is_search r.kind is_there.kind in
+    let room : HasRoom s.memory at r above = record { fits = waits.own.fits; below = is_there.above; small = is_there.small; room = waits.own.room } in
     let new : DispatchRecord = again r in
-    let new_room : HasRoom s.memory at new above = record { fits = fits_again r waits.own.fits; below = stands.above; small = stands.small; room = waits.own.room } in
+    let new_room : HasRoom s.memory at new above = record { fits = fits_again r waits.own.fits; below = is_there.above; small = is_there.small; room = waits.own.room } in
     record {
       next = record { gives = h.gives; sane = h.sane; on = outer; kind = kind; room = room; carries = waits.carries; onward = waits.onward; near = waits.near };
       address = waits.address;
@@ -282,22 +282,22 @@ answers_go_on t fs program p s r is acts exception resumption asked rest c h =
         kind = kind;
         room = placed_room s.memory at new above new_room;
         carries = record { code = refl; flag = refl; one_flag = omega arith; count = refl; parameters = refl };
-        onward = onward_here t fs program p s.memory (context_of r.saved) is c.frame c.below acts h.on.stands.linked.1;
+        onward = onward_here t fs program p s.memory (context_of r.saved) is c.frame c.below acts h.on.is_there.linked.1;
         near = waits.near;
       };
     }
 
 pub finally_returns_unwind : FinallyReturnsUnwind
 finally_returns_unwind t fs program p s r is acts rest target items source shown gives sane on =
-    let stands = on.stands.stack.0 in
-    let waits = on.stands.linked.0 in
+    let is_there = on.is_there.stack.0 in
+    let waits = on.is_there.linked.0 in
     record {
       gives = gives;
       sane = sane;
-      on = record { stands = record { stack = on.stands.stack.1; linked = on.stands.linked.1 }; data_alone = on.data_alone };
-      kind = stands.kind;
+      on = record { is_there = record { stack = on.is_there.stack.1; linked = on.is_there.linked.1 }; data_alone = on.data_alone };
+      kind = is_there.kind;
       purpose = waits.purpose;
-      room = record { fits = waits.own.fits; below = stands.above; small = stands.small; room = waits.own.room };
+      room = record { fits = waits.own.fits; below = is_there.above; small = is_there.small; room = waits.own.room };
       at_row = waits.row;
       aimed = waits.aimed;
       space = waits.space;

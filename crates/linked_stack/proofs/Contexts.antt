@@ -9,7 +9,7 @@ use Rattle.virtual_unwind.specs.Contexts.{rsp}
 use Rattle.virtual_unwind.specs.CallerOf.{Functions}
 use Rattle.seh_records.specs.declared.dispatch.DispatchRecord.{DispatchRecord}
 use Rattle.seh_records.specs.Laws.{Fits, AllSmall}
-use Rattle.linked_stack.specs.Stack.{StackFrame, FrameStands, LeafStands, after_frame, after_leaf}
+use Rattle.linked_stack.specs.Stack.{StackFrame, FrameIsAt, LeafIsAt, after_frame, after_leaf}
 use Rattle.linked_stack.specs.Searching.{IsWide}
 
 small_set : (kept : List ℕ) (v : ℕ) → IsWide kept → v < 2 ^ 64 → IsWide (slice_set kept 0 v)
@@ -20,10 +20,10 @@ small_set (k ∷ ks) v s lt = record { count = s.count; each = at }
     at zero l = lt
     at (suc j) l = s.each (suc j) l
 
-pub wide_after : (t : Functions) (m : Memory) (c : Context) (f : StackFrame) → FrameStands t m c f → IsWide c.kept → IsWide (after_frame c f).kept
+pub wide_after : (t : Functions) (m : Memory) (c : Context) (f : StackFrame) → FrameIsAt t m c f → IsWide c.kept → IsWide (after_frame c f).kept
 wide_after t m c f h s = small_set c.kept (rsp c + f.size + 8) s h.room
 
-pub wide_after_leaf : (t : Functions) (m : Memory) (c : Context) (back : ℕ) → LeafStands t m c back → IsWide c.kept → IsWide (after_leaf c back).kept
+pub wide_after_leaf : (t : Functions) (m : Memory) (c : Context) (back : ℕ) → LeafIsAt t m c back → IsWide c.kept → IsWide (after_leaf c back).kept
 wide_after_leaf t m c back h s = small_set c.kept (rsp c + 8) s h.room
 
 pub wide_of : (c : Cpu) → length c.registers ≡ 16 → AllSmall c.registers → IsWide (context_of c).kept

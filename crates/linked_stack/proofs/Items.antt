@@ -15,7 +15,7 @@ use Rattle.linked_stack.specs.Stack.{StackItem, Searching, Unwinding}
 use Rattle.linked_stack.specs.WalkLaws.{context_below}
 use Rattle.linked_stack.specs.ImagePlan.{Plan}
 use Rattle.linked_stack.specs.Linked.{Activation}
-use Rattle.linked_stack.specs.ListLaws.{Stands}
+use Rattle.linked_stack.specs.ListLaws.{IsLinkedStack}
 use Rattle.linked_stack.proofs.ListKeeping.{misplaced_same, kept_by_stores_below}
 use Rattle.linked_stack.specs.Records.{On, HasRoom}
 use Rattle.linked_stack.specs.RecordLaws.{RecordLeavesTheList, SearchIsOneMore, UnwindingIsOneMore}
@@ -23,14 +23,14 @@ use Rattle.linked_stack.proofs.Laying.{bytes, laid_is, keeps_above, data_laid, r
 
 module _ (t : Functions) (fs : List Funclet) (program : LinearProgram) (p : Plan) (m : Memory) (at : ℕ) (r : DispatchRecord) (back : ℕ) (c : Context) (is : List StackItem) (items : List Item) (acts : List Activation) (on : On t fs program p m c is items acts) (room : HasRoom m at r (rsp c)) (small : back < 2 ^ 64) where
   -- what was above is there still
-  pub others_stand : Stands t fs program p (with_bytes m (bytes m at r back (rsp c) on.data_alone room small)) c is items acts
-  others_stand =
-      kept_by_stores_below t fs program p m (bytes m at r back (rsp c) on.data_alone room small) c is items acts (keeps_above m at r back (rsp c) on.data_alone room small (rsp c) room.below) on.stands
+  pub others_are_at : IsLinkedStack t fs program p (with_bytes m (bytes m at r back (rsp c) on.data_alone room small)) c is items acts
+  others_are_at =
+      kept_by_stores_below t fs program p m (bytes m at r back (rsp c) on.data_alone room small) c is items acts (keeps_above m at r back (rsp c) on.data_alone room small (rsp c) room.below) on.is_there
 
 pub record_leaves_the_list : RecordLeavesTheList
 unfolding placed
 record_leaves_the_list t fs program p m at r c is items acts on room = record {
-  stands = kept_by_stores_below t fs program p m (placed m at r).byte c is items acts (placed_keeps_above m at r 0 (rsp c) on.data_alone room (omega arith) (rsp c) room.below) on.stands;
+  is_there = kept_by_stores_below t fs program p m (placed m at r).byte c is items acts (placed_keeps_above m at r 0 (rsp c) on.data_alone room (omega arith) (rsp c) room.below) on.is_there;
   data_alone = data_placed m at r 0 (rsp c) on.data_alone room (omega arith);
 }
 
@@ -39,10 +39,10 @@ search_is_one_more t fs program p m at r is items acts exception resumption aske
     let c = context_of r.saved in
     let small : filter_return < 2 ^ 64 = omega arith in
     let new = bytes m at r filter_return (rsp c) on.data_alone room small in
-    let outer = others_stand t fs program p m at r filter_return c is items acts on room small in
+    let outer = others_are_at t fs program p m at r filter_return c is items acts on room small in
     subst (λ (n : Memory). On t fs program p n (context_below filter_return at others) (Searching r ∷ is) (Searches exception resumption asked rest ∷ items) acts) (sym (laid_is m at r filter_return (rsp c) on.data_alone room small))
     (record {
-      stands = record {
+      is_there = record {
         stack = (
           record { at_host = refl; fetches = record_laid m at r filter_return (rsp c) on.data_alone room small; pointers = pointers_laid m at r filter_return (rsp c) on.data_alone room small; kind = kind; above = room.below; small = room.small },
           outer.stack,
@@ -68,10 +68,10 @@ pub unwinding_is_one_more : UnwindingIsOneMore
 unwinding_is_one_more t fs program p m at r is items acts rest target others on kind room s =
     let small : finally_return < 2 ^ 64 = omega arith in
     let new = bytes m at r finally_return (rsp r.walk) on.data_alone room small in
-    let outer = others_stand t fs program p m at r finally_return r.walk is items acts on room small in
+    let outer = others_are_at t fs program p m at r finally_return r.walk is items acts on room small in
     subst (λ (n : Memory). On t fs program p n (context_below finally_return at others) (Unwinding r ∷ is) (Unwinds rest target ∷ items) acts) (sym (laid_is m at r finally_return (rsp r.walk) on.data_alone room small))
     (record {
-      stands = record {
+      is_there = record {
         stack = (
           record { at_host = refl; fetches = record_laid m at r finally_return (rsp r.walk) on.data_alone room small; pointers = pointers_laid m at r finally_return (rsp r.walk) on.data_alone room small; kind = kind; above = room.below; small = room.small },
           outer.stack,

@@ -14,11 +14,11 @@ use Rattle.host_model.specs.declared.funclet.Funclet.{Funclet}
 use Rattle.template_code.specs.declared.layout.Layout.{Layout}
 use Rattle.linear_code.specs.Program.{LinearProgram}
 use Rattle.linear_machine.specs.Frames.{BodyName, FunctionBody, FuncletBody, Frame, Item, Waits, Searches, Unwinds}
-use Rattle.linked_stack.specs.Stack.{StackFrame, StackItem, Framed, Leaf, Searching, Unwinding, FrameStands, LeafStands, RecordStands, IsStack, after_frame, after_leaf}
+use Rattle.linked_stack.specs.Stack.{StackFrame, StackItem, Framed, Leaf, Searching, Unwinding, FrameIsAt, LeafIsAt, RecordIsAt, IsStack, after_frame, after_leaf}
 use Rattle.linked_stack.proofs.Visiting.{set_head}
 use Rattle.linked_stack.specs.ImagePlan.{Plan}
 use Rattle.linked_stack.specs.Linked.{Activation, activations_below, HoldsWords, home_end, temporaries_end, HasActivation, HasPointers, BodyWaits, FrameWaits, LeafWaits, IsOwnRecord, Linked}
-use Rattle.linked_stack.specs.ListLaws.{Stands}
+use Rattle.linked_stack.specs.ListLaws.{IsLinkedStack}
 use Rattle.linked_stack.proofs.Ends.{words_fit, end_within, in_stack}
 
 -- what a memory reads as another does, from an address up to another
@@ -99,7 +99,7 @@ module _ (m m' : Memory) (top : ℕ) where
     -- ---- items of the stack
 
     -- a frame is kept where its return address and the code are read as before
-    pub frame_above : (low : ℕ) (c : Context) (f : StackFrame) → ReadsSame m m' low top → low ≤ rsp c + f.size → rsp c + f.size + 8 ≤ top → FrameStands t m c f → FrameStands t m' c f
+    pub frame_above : (low : ℕ) (c : Context) (f : StackFrame) → ReadsSame m m' low top → low ≤ rsp c + f.size → rsp c + f.size + 8 ≤ top → FrameIsAt t m c f → FrameIsAt t m' c f
     frame_above low c f r le fits s = record {
       live = s.live;
       not_filter = s.not_filter;
@@ -115,11 +115,11 @@ module _ (m m' : Memory) (top : ℕ) where
       returns = r.words (rsp c + f.size) f.return_address le fits s.returns;
     }
 
-    pub frame_stands : (c : Context) (f : StackFrame) → ReadsSame m m' (rsp c) top → rsp c + f.size + 8 ≤ top → FrameStands t m c f → FrameStands t m' c f
-    frame_stands c f r fits s = frame_above (rsp c) c f r (omega arith) fits s
+    pub frame_is_at : (c : Context) (f : StackFrame) → ReadsSame m m' (rsp c) top → rsp c + f.size + 8 ≤ top → FrameIsAt t m c f → FrameIsAt t m' c f
+    frame_is_at c f r fits s = frame_above (rsp c) c f r (omega arith) fits s
 
-    pub leaf_stands : (c : Context) (back : ℕ) → ReadsSame m m' (rsp c) top → rsp c + 8 ≤ top → LeafStands t m c back → LeafStands t m' c back
-    leaf_stands c back r fits s = record {
+    pub leaf_is_at : (c : Context) (back : ℕ) → ReadsSame m m' (rsp c) top → rsp c + 8 ≤ top → LeafIsAt t m c back → LeafIsAt t m' c back
+    leaf_is_at c back r fits s = record {
       live = s.live;
       not_filter = s.not_filter;
       not_finally = s.not_finally;
@@ -129,8 +129,8 @@ module _ (m m' : Memory) (top : ℕ) where
       returns = r.words (rsp c) back (omega arith) fits s.returns;
     }
 
-    pub record_stands : (c : Context) (d : DispatchRecord) (at : ℕ) (kind : Bool) (next : Context) → ReadsSame m m' (rsp c) top → rsp c + 1568 ≤ top → RecordStands m c d at kind next → RecordStands m' c d at kind next
-    record_stands c d at kind next r fits s = record {
+    pub record_is_at : (c : Context) (d : DispatchRecord) (at : ℕ) (kind : Bool) (next : Context) → ReadsSame m m' (rsp c) top → rsp c + 1568 ≤ top → RecordIsAt m c d at kind next → RecordIsAt m' c d at kind next
+    record_is_at c d at kind next r fits s = record {
       at_host = s.at_host;
       fetches = r.records (rsp c) (omega arith) fits ∙ s.fetches;
       pointers = r.words (rsp c + 80) (rsp c + 96) (omega arith) (omega arith) s.pointers;
@@ -142,26 +142,26 @@ module _ (m m' : Memory) (top : ℕ) where
 -- ---- the whole list
 
 module _ (m m' : Memory) (t : Functions) (fs : List Funclet) (program : LinearProgram) (p : Plan) where
-  pub list_kept : (c : Context) (is : List StackItem) (items : List Item) (acts : List Activation) → ReadsSame m m' (rsp c) 0x70800000 → IsStack t m c is → Linked t fs program p m c is items acts → Stands t fs program p m' c is items acts
+  pub list_kept : (c : Context) (is : List StackItem) (items : List Item) (acts : List Activation) → ReadsSame m m' (rsp c) 0x70800000 → IsStack t m c is → Linked t fs program p m c is items acts → IsLinkedStack t fs program p m' c is items acts
   list_kept c [] [] acts r s h = record { stack = s; linked = h }
   list_kept c (Framed f ∷ is) (Waits b ∷ below) acts r s h =
       let k = s.0.kept in
       let e = set_head c.kept (rsp c + f.size + 8) (omega arith) in
       let l = in_stack t fs program p m (after_frame c f) is below (activations_below b.body acts) s.1 h.2 in
       let outer = list_kept (after_frame c f) is below (activations_below b.body acts) (higher m m' 0x70800000 (rsp c) (rsp (after_frame c f)) (omega arith) r) s.1 h.2 in
-      record { stack = (frame_stands m m' 0x70800000 t fs program p c f r (omega arith) s.0, outer.stack); linked = (frame_kept m m' 0x70800000 t fs program p c f b below acts r (omega arith) h.0, h.1, outer.linked) }
+      record { stack = (frame_is_at m m' 0x70800000 t fs program p c f r (omega arith) s.0, outer.stack); linked = (frame_kept m m' 0x70800000 t fs program p c f b below acts r (omega arith) h.0, h.1, outer.linked) }
   list_kept c (Leaf back ∷ is) (Waits b ∷ below) acts r s h =
       let k = s.0.kept in
       let e = set_head c.kept (rsp c + 8) (omega arith) in
       let l = in_stack t fs program p m (after_leaf c back) is below (activations_below b.body acts) s.1 h.2 in
       let outer = list_kept (after_leaf c back) is below (activations_below b.body acts) (higher m m' 0x70800000 (rsp c) (rsp (after_leaf c back)) (omega arith) r) s.1 h.2 in
-      record { stack = (leaf_stands m m' 0x70800000 t fs program p c back r (omega arith) s.0, outer.stack); linked = (leaf_kept m m' 0x70800000 t fs program p c back b below acts r h.0.home h.0, h.1, outer.linked) }
+      record { stack = (leaf_is_at m m' 0x70800000 t fs program p c back r (omega arith) s.0, outer.stack); linked = (leaf_kept m m' 0x70800000 t fs program p c back b below acts r h.0.home h.0, h.1, outer.linked) }
   list_kept c (Searching d ∷ is) (Searches exception resumption asked rest ∷ below) acts r s h =
       let a = s.0.above in
       let l = in_stack t fs program p m (context_of d.saved) is below acts s.1 h.1 in
       let outer = list_kept (context_of d.saved) is below acts (higher m m' 0x70800000 (rsp c) (rsp (context_of d.saved)) (omega arith) r) s.1 h.1 in
       record {
-        stack = (record_stands m m' 0x70800000 t fs program p c d filter_return true (context_of d.saved) r (omega arith) s.0, outer.stack);
+        stack = (record_is_at m m' 0x70800000 t fs program p c d filter_return true (context_of d.saved) r (omega arith) s.0, outer.stack);
         linked = (
           record {
             own = own_kept m m' 0x70800000 t fs program p (rsp c) d r (omega arith) h.0.own;
@@ -181,7 +181,7 @@ module _ (m m' : Memory) (t : Functions) (fs : List Funclet) (program : LinearPr
       let l = in_stack t fs program p m d.walk is below acts s.1 h.1 in
       let outer = list_kept d.walk is below acts (higher m m' 0x70800000 (rsp c) (rsp d.walk) (omega arith) r) s.1 h.1 in
       record {
-        stack = (record_stands m m' 0x70800000 t fs program p c d finally_return false d.walk r (omega arith) s.0, outer.stack);
+        stack = (record_is_at m m' 0x70800000 t fs program p c d finally_return false d.walk r (omega arith) s.0, outer.stack);
         linked = (record { own = own_kept m m' 0x70800000 t fs program p (rsp c) d r (omega arith) h.0.own; purpose = h.0.purpose; row = h.0.row; aimed = h.0.aimed; space = h.0.space }, outer.linked);
       }
   list_kept c [] (j ∷ items) acts r s h = absurd h

@@ -16,7 +16,7 @@ use Rattle.linear_machine.specs.Frames.{BodyName}
 use Rattle.linear_machine.specs.Regions.{holds, handlers_of, handlers_in}
 use Rattle.linked_stack.specs.ImagePlan.{Plan, InCode, IsHandlerRow, IsOfKind, AreRegions}
 use Rattle.linked_stack.specs.Frames.{NoHandler, FirstHandler}
-use Rattle.linked_stack.specs.ListLaws.{SearchMeetsTheHandlers}
+use Rattle.linked_stack.specs.ListLaws.{SearchFindsTheHandlers}
 use Rattle.linked_stack.proofs.Places.{row_before_dropped, regions_dropped, dropped_again, all_dropped}
 
 module _ (t : Functions) (fs : List Funclet) (program : LinearProgram) (p : Plan) (name : BodyName) (next label rip : ℕ) (inside : InCode p name label rip) where
@@ -63,7 +63,7 @@ module _ (t : Functions) (fs : List Funclet) (program : LinearProgram) (p : Plan
       (λ a d. ap (λ b. handlers_in (cond b (r ∷ filter (holds next) rs) (filter (holds next) rs)) a d) h) more
 
   module _ (n : ℕ) (x : ScopeRecord) (xs : List ScopeRecord) (r : Region) (rs : List Region) (e : rows.holds x rva ≡ true) (h : holds next r ≡ true) where
-    -- the record and the region stand first
+    -- the record and the region are first
     rows_first : first_with_jump_target (holding rva n (x ∷ xs)) ≡ first_with_jump_target ((n, x) ∷ holding rva (n + 1) xs)
     rows_first = ap (λ b. first_with_jump_target (cond b ((n, x) ∷ holding rva (n + 1) xs) (holding rva (n + 1) xs))) e
 
@@ -108,8 +108,8 @@ module _ (t : Functions) (fs : List Funclet) (program : LinearProgram) (p : Plan
   first_handler n [] (r ∷ rs) s same = absurd s
   first_handler n (x ∷ xs) [] s same = absurd s
 
-pub search_meets_the_handlers : SearchMeetsTheHandlers
-search_meets_the_handlers t fs program p name next rip row scopes rs s =
+pub search_finds_the_handlers : SearchFindsTheHandlers
+search_finds_the_handlers t fs program p name next rip row scopes rs s =
     of (first_handler t fs program p name next s.label rip s.inside row (drop row scopes) (drop row rs) (regions_dropped t fs program p name row scopes rs s.rows)
     (all_dropped (λ (r : Region). holds s.label r ≡ holds next r) row rs s.same))
   where

@@ -11,7 +11,7 @@ use Rattle.seh_records.specs.Record.{placed}
 use Rattle.seh_records.proofs.Runs.{none_within}
 use Rattle.seh_records.proofs.Placed.{placed_is_fetched, placing_leaves_others}
 use Rattle.seh_walk.specs.Walk.{is_search, filter_return, finally_return}
-use Rattle.linked_stack.specs.Stack.{StackItem, IsStack, Owned, IsWithin, RecordStands}
+use Rattle.linked_stack.specs.Stack.{StackItem, IsStack, Owned, IsWithin, RecordIsAt}
 use Rattle.linked_stack.specs.WalkLaws.{CanBePlaced, RecordIsOneMore, context_below}
 use Rattle.linked_stack.proofs.Pointers.{placed_points}
 use Rattle.linked_stack.proofs.WalkKeeping.{kept_by_other_stores, nothing_below_is_owned}
@@ -31,8 +31,8 @@ module _ (t : Functions) (m : Memory) (is : List StackItem) (r : DispatchRecord)
   top_of above p (inr q) = let a = p.below in let b = p.small in absurd (omega arith)
 
   -- the record is there, and what was above it still is
-  stands : (address : ℕ) (b : Bool) (above : Context) → is_search r.kind ≡ b → CanBePlaced m at r above → RecordStands (placed m at r) (context_below address at others) r address b above
-  stands address b above kind p =
+  is_there : (address : ℕ) (b : Bool) (above : Context) → is_search r.kind ≡ b → CanBePlaced m at r above → RecordIsAt (placed m at r) (context_below address at others) r address b above
+  is_there address b above kind p =
       let top = top_of above p (cases_lt (at + 1568) (2 ^ 64)) in
       record {
         at_host = refl;
@@ -43,9 +43,9 @@ module _ (t : Functions) (m : Memory) (is : List StackItem) (r : DispatchRecord)
         small = p.small;
       }
 
-  rest_stands : (above : Context) → CanBePlaced m at r above → IsStack t m above is → IsStack t (placed m at r) above is
+  rest_is_at : (above : Context) → CanBePlaced m at r above → IsStack t m above is → IsStack t (placed m at r) above is
   unfolding placed
-  rest_stands above p s =
+  rest_is_at above p s =
       let top = top_of above p (cases_lt (at + 1568) (2 ^ 64)) in
       kept_by_other_stores t m (placed m at r).byte above is
       (record {
@@ -59,6 +59,6 @@ module _ (t : Functions) (m : Memory) (is : List StackItem) (r : DispatchRecord)
 
 pub record_is_one_more : RecordIsOneMore
 record_is_one_more t m is r at others = record {
-  search = λ k p s. (stands t m is r at others filter_return true (context_of r.saved) k p, rest_stands t m is r at others (context_of r.saved) p s);
-  unwinding = λ k p s. (stands t m is r at others finally_return false r.walk k p, rest_stands t m is r at others r.walk p s);
+  search = λ k p s. (is_there t m is r at others filter_return true (context_of r.saved) k p, rest_is_at t m is r at others (context_of r.saved) p s);
+  unwinding = λ k p s. (is_there t m is r at others finally_return false r.walk k p, rest_is_at t m is r at others r.walk p s);
 }

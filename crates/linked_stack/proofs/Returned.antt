@@ -24,7 +24,7 @@ use Rattle.linked_stack.specs.ImagePlan.{Plan}
 use Rattle.linked_stack.specs.Linked.{Activation}
 use Rattle.linked_stack.specs.Steps.{SearchIsAnswered, AnswersAs}
 use Rattle.linked_stack.specs.Returns.{filter_turn, with_answer, answered, linear_answer, AsksTheNext, AskedTakesOver, IsContinued, IsRaisedAnew, FilterReturns}
-use Rattle.linked_stack.proofs.Begun.{answers_go_on}
+use Rattle.linked_stack.proofs.Begun.{answers_continue}
 
 -- an answer is that of its low bits
 signed_low : (x : ℕ) → signed W32 x ≡ signed W32 (low W32 x)
@@ -38,13 +38,13 @@ module _ (t : Functions) (fs : List Funclet) (program : LinearProgram) (p : Plan
   v = eax s
 
   as_before : AnswersAs t fs program p s r is acts exception asked rest c
-  as_before = answers_go_on t fs program p s r is acts exception resumption asked rest c h
+  as_before = answers_continue t fs program p s r is acts exception resumption asked rest c h
 
   -- the record is there, and the answer is shown
   shown : filter_turn t s ≡ with_answer s (by_answer t s at r v (v == 0))
   shown =
-      ap (filter_returned t s at) h.on.stands.stack.0.fetches
-      ∙ ap (if_searching t s at r) h.on.stands.stack.0.kind
+      ap (filter_returned t s at) h.on.is_there.stack.0.fetches
+      ∙ ap (if_searching t s at r) h.on.is_there.stack.0.kind
       ∙ ap (λ (x : ℤ). with_event (events.Answer x) (by_answer t s at r v (v == 0))) (signed_low (register s.cpu Rax))
 
   -- EAX has 32 bits
@@ -88,16 +88,16 @@ module _ (t : Functions) (fs : List Funclet) (program : LinearProgram) (p : Plan
       shown
       ∙ ap (λ x. with_answer s (by_answer t s at r v x)) e
       ∙ ap (λ x. with_answer s (by_sign t s at r x)) f
-      ∙ ap (λ x. with_answer s (continued t s at r x)) (h.on.stands.linked.0.carries.flag ∙ ap not g)
+      ∙ ap (λ x. with_answer s (continued t s at r x)) (h.on.is_there.linked.0.carries.flag ∙ ap not g)
 
   is_continued : nat_eq v 0 ≡ false → nat_le (2 ^ 31) v ≡ true → exception.flag ≡ false → IsContinued t fs program p s r is acts exception resumption asked rest c
   unfolding pick
   is_continued e f g = record {
     turns = below_zero e f false g;
     goes = λ next. linear false false false e (le-ltb v (2 ^ 31) (leb-true (2 ^ 31) v f)) g next;
-    on = record { stands = record { stack = h.on.stands.stack.1; linked = h.on.stands.linked.1 }; data_alone = h.on.data_alone };
-    sane = record { rip_small = h.on.stands.linked.0.own.fits.rip; count = h.on.stands.linked.0.own.fits.registers; small = h.on.stands.linked.0.own.fits.registers_small };
-    resumes = h.on.stands.linked.0.resumes;
+    on = record { is_there = record { stack = h.on.is_there.stack.1; linked = h.on.is_there.linked.1 }; data_alone = h.on.data_alone };
+    sane = record { rip_small = h.on.is_there.linked.0.own.fits.rip; count = h.on.is_there.linked.0.own.fits.registers; small = h.on.is_there.linked.0.own.fits.registers_small };
+    resumes = h.on.is_there.linked.0.resumes;
   }
 
   is_raised_anew : nat_eq v 0 ≡ false → nat_le (2 ^ 31) v ≡ true → exception.flag ≡ true → IsRaisedAnew t program s r exception resumption asked rest c

@@ -29,9 +29,9 @@ use Rattle.linked_stack.proofs.Ends.{in_stack}
 use Rattle.linked_stack.specs.Records.{HasRoom}
 use Rattle.linked_stack.proofs.Laying.{IsPlace, place_of, laid_record_leaves_others}
 use Rattle.linked_stack.proofs.Items.{search_is_one_more}
-use Rattle.linked_stack.specs.Searching.{Asks, Accepts, Meets, SearchedAs}
+use Rattle.linked_stack.specs.Searching.{Asks, Accepts, FindsHandler, SearchedAs}
 use Rattle.linked_stack.proofs.Contexts.{wide_saved}
-use Rattle.linked_stack.proofs.SearchSearched.{search_goes_on}
+use Rattle.linked_stack.proofs.SearchSearched.{search_continues}
 use Rattle.linked_stack.specs.States.{IsSane}
 use Rattle.linked_stack.specs.Searches.{FilterBegins, TakesOver, NobodyTakesOver}
 use Rattle.linked_stack.specs.TurnLaws.{IsSearching, SearchTurns}
@@ -102,7 +102,7 @@ module _ (t : Functions) (fs : List Funclet) (program : LinearProgram) (p : Plan
         same_saved = refl;
         list = refl;
         pointers = pointers_above hand room a.frame k a.funclet.small frame_small;
-        untouched = laid_record_leaves_others s.memory at hand filter_return above h.on.data_alone room (in_stack t fs program p s.memory (context_of r.saved) is items acts h.on.stands.stack h.on.stands.linked) (omega arith);
+        untouched = laid_record_leaves_others s.memory at hand filter_return above h.on.data_alone room (in_stack t fs program p s.memory (context_of r.saved) is items acts h.on.is_there.stack h.on.is_there.linked) (omega arith);
       }
 
   takes_over : (x : SearchResult) (f : Handler) (rest : List Handler) → f.filter ≡ None → Accepts t fs program p (context_of r.saved) is items x f
@@ -125,7 +125,7 @@ module _ (t : Functions) (fs : List Funclet) (program : LinearProgram) (p : Plan
       ⊎ (TakesOver t fs program p s at r (turn_of x) hs exception resumption (context_of r.saved) is c
       ⊎ NobodyTakesOver t fs program p (turn_of x) hs exception resumption c)
 
-  by_filter : (x : SearchResult) (f : Handler) (rest : List Handler) (o : Option ℕ) → f.filter ≡ o → Meets t fs program p s.memory acts (context_of r.saved) is items x o f rest → Turned x (f ∷ rest)
+  by_filter : (x : SearchResult) (f : Handler) (rest : List Handler) (o : Option ℕ) → f.filter ≡ o → FindsHandler t fs program p s.memory acts (context_of r.saved) is items x o f rest → Turned x (f ∷ rest)
   by_filter x f rest None e a = inr (inl (takes_over x f rest e a))
   by_filter x f rest (Some k) e a = inl (filter_begins x k f rest e a)
 
@@ -140,10 +140,10 @@ module _ (t : Functions) (fs : List Funclet) (program : LinearProgram) (p : Plan
   pub searched : Turned (search steps t s.memory (walk_in r)) found
   searched =
       let small = h.room.small in
-      let few = few_items t s.memory (context_of r.saved) is h.on.stands.stack small in
+      let few = few_items t s.memory (context_of r.saved) is h.on.is_there.stack small in
       found_turned (search steps t s.memory (walk_in r)) found
-      (search_goes_on t fs program p s.memory (context_of r.saved) is items acts r.walk r.row found steps
-      (record { gives = h.gives; stack = h.on.stands.stack; linked = h.on.stands.linked; wide = wide_saved r h.room.fits }) h.onward (omega arith))
+      (search_continues t fs program p s.memory (context_of r.saved) is items acts r.walk r.row found steps
+      (record { gives = h.gives; stack = h.on.is_there.stack; linked = h.on.is_there.linked; wide = wide_saved r h.room.fits }) h.onward (omega arith))
 
 pub search_turns : SearchTurns
 search_turns t fs program p s at r is acts exception resumption found c h resumes = searched t fs program p s at r is acts exception resumption found c h resumes

@@ -80,7 +80,7 @@ module _ (t : Functions) (fs : List Funclet) (program : LinearProgram) (p : Plan
         goes = a.goes;
         arrives = arrives t fs program p s at hand finally_return 1 (rsp a.to) above a.block a.body.activation a.body.body (Unwinding hand ∷ a.is) (Unwinds a.left (record w.target { held = a.held }) ∷ Waits a.body ∷ a.below) a.acts
             h.sane h.on.data_alone room le frame_small (omega arith) (omega arith) a.funclet a.reaches
-            (λ others. unwinding_is_one_more t fs program p s.memory at hand a.is (Waits a.body ∷ a.below) a.acts a.left (record w.target { held = a.held }) others (record { stands = record { stack = a.stack; linked = a.linked }; data_alone = h.on.data_alone }) h.kind room_to
+            (λ others. unwinding_is_one_more t fs program p s.memory at hand a.is (Waits a.body ∷ a.below) a.acts a.left (record w.target { held = a.held }) others (record { is_there = record { stack = a.stack; linked = a.linked }; data_alone = h.on.data_alone }) h.kind room_to
             (record {
               own = record { fits = hand_fits; room = h.room.room };
               purpose = purpose_kept w.target.code h.purpose;
@@ -88,7 +88,7 @@ module _ (t : Functions) (fs : List Funclet) (program : LinearProgram) (p : Plan
               aimed = a.aimed;
               space = subst (λ n. HasSpace at (below_end + record_room) n) (sym a.counted) h.space;
             }));
-        untouched = laid_record_leaves_others s.memory at hand finally_return above h.on.data_alone room (in_stack t fs program p s.memory r.walk is w.items w.acts h.on.stands.stack h.on.stands.linked) (omega arith);
+        untouched = laid_record_leaves_others s.memory at hand finally_return above h.on.data_alone room (in_stack t fs program p s.memory r.walk is w.items w.acts h.on.is_there.stack h.on.is_there.linked) (omega arith);
         named = a.named new.cpu ∙ ap (λ v. events.Finally (a.block + 1) (not (low W32 v == 0)) ∷ []) first;
         to = a.to;
         row = a.row;
@@ -165,7 +165,7 @@ module _ (t : Functions) (fs : List Funclet) (program : LinearProgram) (p : Plan
         at_frame = a.at_frame;
         at_address = a.at_address;
         lands = a.lands;
-        on = record { stands = record { stack = a.stack; linked = a.linked }; data_alone = h.on.data_alone };
+        on = record { is_there = record { stack = a.stack; linked = a.linked }; data_alone = h.on.data_alone };
         sane = landed_sane a.to (landing_value w.target.code) a.wide (value_small w.target.code h.purpose);
       }
 
@@ -176,10 +176,10 @@ module _ (t : Functions) (fs : List Funclet) (program : LinearProgram) (p : Plan
   pub unwound : BlockBegins t fs program p s r (arrived t fs (unwinds_on t s at r)) w ⊎ LandsThere t fs program p s r (arrived t fs (unwinds_on t s at r)) w
   unwound =
       let small = h.room.small in
-      let few = few_items t s.memory r.walk is h.on.stands.stack small in
+      let few = few_items t s.memory r.walk is h.on.is_there.stack small in
       by_answer (unwind steps t s.memory r.target_frame r.target (walk_in r)) refl
       (unwinding_is_the_lists t fs program p s.memory r.walk is w.items w.acts r.row w.left w.target r.target_frame r.target w.source w.shown steps
-      (record { gives = h.gives; stack = h.on.stands.stack; linked = h.on.stands.linked; wide = wide_walk r h.room.fits }) h.at_row h.aimed (omega arith))
+      (record { gives = h.gives; stack = h.on.is_there.stack; linked = h.on.is_there.linked; wide = wide_walk r h.room.fits }) h.at_row h.aimed (omega arith))
 
 pub unwind_turns : UnwindTurns
 unwind_turns t fs program p s at r is w h = unwound t fs program p s at r is w h

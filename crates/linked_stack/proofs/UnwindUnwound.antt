@@ -23,7 +23,7 @@ use Rattle.linear_machine.specs.Frames.{BodyName, FunctionBody, FuncletBody, bod
 use Rattle.linear_machine.specs.Regions.{regions_of}
 use Rattle.linear_machine.specs.Unwinding as linear
 use Rattle.linear_machine.specs.Unwinding.{target_past, left_store, unwind_body}
-use Rattle.linked_stack.specs.Stack.{StackFrame, StackItem, Framed, Leaf, Searching, Unwinding, FrameStands, LeafStands, IsStack, after_frame, after_leaf, caller_frame, caller_of_leaf}
+use Rattle.linked_stack.specs.Stack.{StackFrame, StackItem, Framed, Leaf, Searching, Unwinding, FrameIsAt, LeafIsAt, IsStack, after_frame, after_leaf, caller_frame, caller_of_leaf}
 use Rattle.linked_stack.specs.PlainWalks.{state, decided_or, plain_unwind}
 use Rattle.linked_stack.proofs.WalkKeeping.{rises}
 use Rattle.linked_stack.proofs.Listing.{unwinding_is_of_the_list}
@@ -194,7 +194,7 @@ module _ (t : Functions) (fs : List Funclet) (program : LinearProgram) (p : Plan
       ∙ ap (λ (to : Target). linear.unwind program then to below None events (store_of source (activations_below name acts))) (past_is name target held)
 
   module _ (held : ℕ) (c : Context) (f : StackFrame) (is : List StackItem) (b : Frame) (below : List Item) (acts : List Activation) (row : ℕ) (left : Option (List Region))
-      (stands : FrameStands t m c f) (rear : IsStack t m (after_frame c f) is) (body : FrameWaits t fs program p m c f b below acts) (shape : IsAbove t fs program p b b.body below) (others : Linked t fs program p m (after_frame c f) is below (activations_below b.body acts)) (wide : IsWide c.kept)
+      (is_there : FrameIsAt t m c f) (rear : IsStack t m (after_frame c f) is) (body : FrameWaits t fs program p m c f b below acts) (shape : IsAbove t fs program p b b.body below) (others : Linked t fs program p m (after_frame c f) is below (activations_below b.body acts)) (wide : IsWide c.kept)
       (at : IsAtRow t fs program p row (Waits b ∷ below) left) (counts : length acts + held ≡ depth) where
     abbrev rows : List AskedRecord
     rows = rows_from (distance t.base c.rip) row f.entry.info.scopes
@@ -223,7 +223,7 @@ module _ (t : Functions) (fs : List Funclet) (program : LinearProgram) (p : Plan
         → Aimed t fs program p target.depth target.label frame address c (Framed f ∷ is) (Waits b ∷ below)
         → RunsBlock t fs program p m (course held (rsp c)) here_and_above (seen_from held (Waits b ∷ below) left acts)
     runs_here asked x e aimed =
-        let room = stands.room in
+        let room = is_there.room in
         let few = few_of_body t fs program p g m c f b below acts body in
         let short = row_before_short f.entry.info.scopes x.index x.row (ap (row_before f.entry.info.scopes) (let a : suc x.index ≡ x.index + 1 = omega arith in a) ∙ x.before) in
         record {
@@ -240,11 +240,11 @@ module _ (t : Functions) (fs : List Funclet) (program : LinearProgram) (p : Plan
           counted = counts;
           answer = e ∙ ap (λ a. unwinds.Finally a (rsp c) (x.index + 1) c) x.is.handler;
           goes = λ then. linear_step then ∙ x.runs then (out held b.body below then);
-          stack = (stands, rear);
+          stack = (is_there, rear);
           linked = (body, shape, others);
           at_row = refl;
           aimed = aimed;
-          reaches = body_reaches t fs program p m b.body (rsp c) f.size b.activation acts stands.room body.waits.activation;
+          reaches = body_reaches t fs program p m b.body (rsp c) f.size b.activation acts is_there.room body.waits.activation;
           funclet = x.is.funclet;
           named = x.is.named;
           above = omega arith;
@@ -281,7 +281,7 @@ module _ (t : Functions) (fs : List Funclet) (program : LinearProgram) (p : Plan
               counted = counts;
               answer = host_step true None le here (same ∙ x.first);
               goes = λ then. linear_step then ∙ x.arrives then (out held b.body below then);
-              stack = (stands, rear);
+              stack = (is_there, rear);
               linked = (body, shape, others);
               at_frame = a.at_frame;
               at_address = a.at_address;
@@ -303,7 +303,7 @@ module _ (t : Functions) (fs : List Funclet) (program : LinearProgram) (p : Plan
         away e = let h = aimed_below t fs program p target.depth target.label frame address (after_frame c f) is below a in absurd (omega arith)
 
         lt : rsp c < frame
-        lt = let r = rises t m c (Framed f) stands in let e = aimed_above t fs program p m target.depth target.label frame address (after_frame c f) is below rear a in omega arith
+        lt = let r = rises t m c (Framed f) is_there in let e = aimed_above t fs program p m target.depth target.label frame address (after_frame c f) is below rear a in omega arith
 
         elsewhere : nat_eq (rsp c) frame ≡ false
         elsewhere = ne_eqb (rsp c) frame (λ e. let l = lt in absurd (omega arith))
@@ -316,24 +316,24 @@ module _ (t : Functions) (fs : List Funclet) (program : LinearProgram) (p : Plan
             (seen_from held (Waits b ∷ below) left acts) (seen_from (held_past b.body held) below None (activations_below b.body acts))
             (host_step false None (let l = lt in omega arith) elsewhere x.first)
             (λ then. linear_step then ∙ x.leaves then (out held b.body below then) ∙ left_out held (rsp c) f.size b.activation acts b.body below then body.waits.activation)
-            (grows_past b.body held) (let r = rises t m c (Framed f) stands in omega arith) more
+            (grows_past b.body held) (let r = rises t m c (Framed f) is_there in omega arith) more
         by (inr x) = inl (runs_here rows x (host_step false (Some (x.index, x.row)) (let l = lt in omega arith) elsewhere x.first) (inr a))
 
   -- a leaf function is left: it has no regions, and isn't the target
   module _ (held : ℕ) (c : Context) (back : ℕ) (is : List StackItem) (b : Frame) (below : List Item) (acts : List Activation) (row : ℕ) (left : Option (List Region))
-      (stands : LeafStands t m c back) (rear : IsStack t m (after_leaf c back) is) (body : LeafWaits t fs program p m c back b below acts)
+      (is_there : LeafIsAt t m c back) (rear : IsStack t m (after_leaf c back) is) (body : LeafWaits t fs program p m c back b below acts)
       (at : IsAtRow t fs program p row (Waits b ∷ below) left) (a : Aimed t fs program p target.depth target.label frame address (after_leaf c back) is below) where
     away : target.depth ≢ length below
     away e = let h = aimed_below t fs program p target.depth target.label frame address (after_leaf c back) is below a in absurd (omega arith)
 
     lt : rsp c < frame
-    lt = let r = rises t m c (Leaf back) stands in let e = aimed_above t fs program p m target.depth target.label frame address (after_leaf c back) is below rear a in omega arith
+    lt = let r = rises t m c (Leaf back) is_there in let e = aimed_above t fs program p m target.depth target.label frame address (after_leaf c back) is below rear a in omega arith
 
     leaf_left : (then : Next) → seen_from held (Waits b ∷ below) left acts then ≡ seen_from (held_past b.body held) below None (activations_below b.body acts) then
     unfolding pick
     leaf_left then =
         let here = on_top b below source acts events in
-        ap (λ (rs : List Region). unwind_body program then (to_target held) (out held b.body below then) rs here) (at ∙ none_from t fs program p g m c back is b below acts stands body row)
+        ap (λ (rs : List Region). unwind_body program then (to_target held) (out held b.body below then) rs here) (at ∙ none_from t fs program p g m c back is b below acts is_there body row)
         ∙ ap (λ x. pick x (linear.arrive (to_target held) target.code then here) (out held b.body below then (left_store b.body b.activation (store_of source acts)))) (ne_eqb target.depth (length below) away)
         ∙ left_out held (rsp c) (p.layout b.body).temporaries b.activation acts b.body below then body.waits.activation
 
@@ -348,7 +348,7 @@ module _ (t : Functions) (fs : List Funclet) (program : LinearProgram) (p : Plan
         → UnwoundAs t fs program p m (course held (rsp c)) (plain_unwind t frame address c row (Leaf back ∷ is)) (seen_from held (Waits b ∷ below) left acts)
     past_leaf more =
         from_rear t fs program p m target held (held_past b.body held) frame address (rsp c) (rsp (after_leaf c back)) depth source events _ _ _ _
-        host_left leaf_left (grows_past b.body held) (let r = rises t m c (Leaf back) stands in omega arith) more
+        host_left leaf_left (grows_past b.body held) (let r = rises t m c (Leaf back) is_there in omega arith) more
 
   pub unwound_plainly : (held : ℕ) (acts : List Activation) (is : List StackItem) (items : List Item) (c : Context) (row : ℕ) (left : Option (List Region))
       → IsStack t m c is → Linked t fs program p m c is items acts → IsAtRow t fs program p row items left → IsWide c.kept → Aimed t fs program p target.depth target.label frame address c is items → length acts + held ≡ depth

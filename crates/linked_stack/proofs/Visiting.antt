@@ -17,7 +17,7 @@ use Rattle.virtual_unwind.specs.CallerOf.{Functions, CallerFrame, distance, base
 use Rattle.seh_records.specs.Record.{fetched}
 use Rattle.seh_walk.specs.declared.walk.WalkState.{WalkState}
 use Rattle.seh_walk.specs.Walk.{visited, if_over, if_filter, if_finally, framed, past_filter, past_finally, if_search, above, if_above, walk_in, saved_in, filter_return, finally_return}
-use Rattle.linked_stack.specs.Stack.{StackFrame, FrameStands, LeafStands, after_frame, after_leaf, caller_frame, caller_of_leaf}
+use Rattle.linked_stack.specs.Stack.{StackFrame, FrameIsAt, LeafIsAt, after_frame, after_leaf, caller_frame, caller_of_leaf}
 use Rattle.linked_stack.specs.PlainWalks.{state}
 use Rattle.linked_stack.specs.WalkLaws.{FrameIsVisited, LeafIsVisited, SearchIsPassed, UnwindingIsPassed, StackIsOver}
 
@@ -49,7 +49,7 @@ body_found m c f none no_parents codes kept room returns =
     ∙ ap (λ (k : List UnwindCode). found (rsp c) (Some i) (unwound m (rsp c) i [] (operations k) c)) codes
     ∙ ap (λ (r : Answer Context). found (rsp c) (Some i) r) (frame_popped m c.rip c.kept f.size f.return_address (omega arith) room returns)
 
-pub frame_called : (t : Functions) (m : Memory) (c : Context) (f : StackFrame) → FrameStands t m c f → caller_in t m c ≡ Ok (caller_frame c f)
+pub frame_called : (t : Functions) (m : Memory) (c : Context) (f : StackFrame) → FrameIsAt t m c f → caller_in t m c ≡ Ok (caller_frame c f)
 unfolding caller_in
 frame_called t m c f h =
     let rva = distance t.base c.rip in
@@ -74,7 +74,7 @@ leaf_popped m rip (k ∷ ks) back lt room w =
     let e : (k + 8) % 2 ^ 64 ≡ k + 8 = omega arith in
     ap (λ (o : Answer ℕ). o >>= up_by k ks) w ∙ ap (λ x. Ok (record { rip = back; kept = x ∷ ks })) e
 
-leaf_called : (t : Functions) (m : Memory) (c : Context) (back : ℕ) → LeafStands t m c back → caller_in t m c ≡ Ok (caller_of_leaf c back)
+leaf_called : (t : Functions) (m : Memory) (c : Context) (back : ℕ) → LeafIsAt t m c back → caller_in t m c ≡ Ok (caller_of_leaf c back)
 unfolding caller_in
 leaf_called t m c back h =
     let up : rsp (after_leaf c back) ≡ rsp c + 8 = set_head c.kept (rsp c + 8) (let k = h.kept in omega arith) in

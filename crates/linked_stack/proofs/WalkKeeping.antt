@@ -8,7 +8,7 @@ use Rattle.virtual_unwind.specs.CallerOf.{Functions}
 use Rattle.seh_records.specs.declared.dispatch.DispatchRecord.{DispatchRecord}
 use Rattle.seh_records.proofs.Unmoved.{fetched_by_its_bytes}
 use Rattle.seh_walk.specs.Walk.{filter_return, finally_return}
-use Rattle.linked_stack.specs.Stack.{StackItem, Framed, Leaf, Searching, Unwinding, RecordStands, Stands, IsStack, OwnedBy, IsWithin, after_frame, context_after, context_at}
+use Rattle.linked_stack.specs.Stack.{StackItem, Framed, Leaf, Searching, Unwinding, RecordIsAt, ItemIsAt, IsStack, OwnedBy, IsWithin, after_frame, context_after, context_at}
 use Rattle.linked_stack.specs.WalkLaws.{KeptByOtherStores, NothingBelowIsOwned, SlotsAreFree}
 use Rattle.linked_stack.proofs.Visiting.{set_head}
 use Rattle.linked_stack.proofs.Unchanged.{tail_at_same, word_same}
@@ -18,7 +18,7 @@ use Rattle.linked_stack.proofs.Unchanged.{tail_at_same, word_same}
 within : (a from to : ℕ) → from ≤ a → a < to → IsWithin a from to
 within a from to low high = record { low = low; high = high }
 
-record_same : (m : Memory) (byte : ℕ → ℕ) (c : Context) (r : DispatchRecord) (at : ℕ) (is : Bool) (next : Context) → ((a : ℕ) → IsWithin a (rsp c + 32) (rsp c + 1568) → byte a ≡ m.byte a) → RecordStands m c r at is next → RecordStands (with_bytes m byte) c r at is next
+record_same : (m : Memory) (byte : ℕ → ℕ) (c : Context) (r : DispatchRecord) (at : ℕ) (is : Bool) (next : Context) → ((a : ℕ) → IsWithin a (rsp c + 32) (rsp c + 1568) → byte a ≡ m.byte a) → RecordIsAt m c r at is next → RecordIsAt (with_bytes m byte) c r at is next
 record_same m byte c r at is next same s =
     let above = s.above in
     let small = s.small in
@@ -31,8 +31,8 @@ record_same m byte c r at is next same s =
       small = s.small;
     }
 
-stands_same : (t : Functions) (m : Memory) (byte : ℕ → ℕ) (c : Context) (i : StackItem) → ((a : ℕ) → (m.protection a).execute ≡ true → byte a ≡ m.byte a) → ((a : ℕ) → OwnedBy c i a → byte a ≡ m.byte a) → Stands t m c i → Stands t (with_bytes m byte) c i
-stands_same t m byte c (Framed f) code same s =
+item_is_same : (t : Functions) (m : Memory) (byte : ℕ → ℕ) (c : Context) (i : StackItem) → ((a : ℕ) → (m.protection a).execute ≡ true → byte a ≡ m.byte a) → ((a : ℕ) → OwnedBy c i a → byte a ≡ m.byte a) → ItemIsAt t m c i → ItemIsAt t (with_bytes m byte) c i
+item_is_same t m byte c (Framed f) code same s =
     let room = s.room in
     record {
       live = s.live;
@@ -48,7 +48,7 @@ stands_same t m byte c (Framed f) code same s =
       room = s.room;
       returns = word_same m byte (rsp c + f.size) (omega arith) (λ x p q. same x (within x (rsp c + f.size) (rsp c + f.size + 8) p q)) ∙ s.returns;
     }
-stands_same t m byte c (Leaf back) code same s =
+item_is_same t m byte c (Leaf back) code same s =
     let room = s.room in
     record {
       live = s.live;
@@ -59,18 +59,18 @@ stands_same t m byte c (Leaf back) code same s =
       room = s.room;
       returns = word_same m byte (rsp c) (omega arith) (λ x p q. same x (within x (rsp c) (rsp c + 8) p q)) ∙ s.returns;
     }
-stands_same t m byte c (Searching r) code same s = record_same m byte c r filter_return true (context_of r.saved) same s
-stands_same t m byte c (Unwinding r) code same s = record_same m byte c r finally_return false r.walk same s
+item_is_same t m byte c (Searching r) code same s = record_same m byte c r filter_return true (context_of r.saved) same s
+item_is_same t m byte c (Unwinding r) code same s = record_same m byte c r finally_return false r.walk same s
 
 pub kept_by_other_stores : KeptByOtherStores
 kept_by_other_stores t m byte c [] agree s = s
 kept_by_other_stores t m byte c (i ∷ is) agree s =
-    (stands_same t m byte c i agree.code (λ a o. agree.owned a (inl o)) s.0, kept_by_other_stores t m byte (context_after c i) is (record { code = agree.code; owned = λ a o. agree.owned a (inr o) }) s.1)
+    (item_is_same t m byte c i agree.code (λ a o. agree.owned a (inl o)) s.0, kept_by_other_stores t m byte (context_after c i) is (record { code = agree.code; owned = λ a o. agree.owned a (inr o) }) s.1)
 
 -- ---- what isn't owned
 
 -- each item's bytes lie between its RSP and the next one's
-pub rises : (t : Functions) (m : Memory) (c : Context) (i : StackItem) → Stands t m c i → rsp c < rsp (context_after c i)
+pub rises : (t : Functions) (m : Memory) (c : Context) (i : StackItem) → ItemIsAt t m c i → rsp c < rsp (context_after c i)
 rises t m c (Framed f) s = let k = s.kept in let e = set_head c.kept (rsp c + f.size + 8) (omega arith) in omega arith
 rises t m c (Leaf back) s = let k = s.kept in let e = set_head c.kept (rsp c + 8) (omega arith) in omega arith
 rises t m c (Searching r) s = let a = s.above in omega arith
@@ -82,7 +82,7 @@ owned_low c (Leaf back) a o = let p = o.low in omega arith
 owned_low c (Searching r) a o = let p = o.low in omega arith
 owned_low c (Unwinding r) a o = let p = o.low in omega arith
 
-owned_high : (t : Functions) (m : Memory) (c : Context) (i : StackItem) (a : ℕ) → Stands t m c i → OwnedBy c i a → a < rsp (context_after c i)
+owned_high : (t : Functions) (m : Memory) (c : Context) (i : StackItem) (a : ℕ) → ItemIsAt t m c i → OwnedBy c i a → a < rsp (context_after c i)
 owned_high t m c (Framed f) a s o = let k = s.kept in let e = set_head c.kept (rsp c + f.size + 8) (omega arith) in let p = o.high in omega arith
 owned_high t m c (Leaf back) a s o = let k = s.kept in let e = set_head c.kept (rsp c + 8) (omega arith) in let p = o.high in omega arith
 owned_high t m c (Searching r) a s o = let p = o.high in let q = s.above in omega arith

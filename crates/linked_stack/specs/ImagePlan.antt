@@ -25,7 +25,7 @@ pub record Plan : Type 0 where
   pub funclet : ℕ → ℕ  -- the first byte of a funclet, by its number
   pub leaf : BodyName → Bool  -- a leaf function, which has no frame and no entry
   pub entry : BodyName → Entry  -- the entry of the function table for any other body
-  pub layout : BodyName → Layout  -- where the slots of a body stand
+  pub layout : BodyName → Layout  -- where the slots of a body are
   pub lands : BodyName → ℕ → Bool  -- an unwinding may land at this instruction
   pub resumes : Resumption → Frame → Cpu → Bool  -- a body that waits continues so from a state that was saved where it raised an exception
 

@@ -185,7 +185,7 @@ module _ (t : Functions) (fs : List Funclet) (program : LinearProgram) (p : Plan
         (rsp c + end) b.temporaries
     pub space : HasSpace (rsp c) below_end (length acts + b.held)
 
-  -- a filter's frame keeps the address of the EXCEPTION_POINTERS that it is asked with: they stand
+  -- a filter's frame keeps the address of the EXCEPTION_POINTERS that it is asked with: they are
   -- in the record above its return address
   pub record KeepsPointers (m : Memory) (y : Layout) (sp size : ℕ) : Type 0 where
     pub room : y.pointers + 8 ≤ size
@@ -266,10 +266,10 @@ module _ (t : Functions) (fs : List Funclet) (program : LinearProgram) (p : Plan
   pub record OnwardHere (to : Context) (row : ℕ) (found : List Handler) (c : Context) (b : Frame)
       (below : List Item) : Type 0 where
     pub same : c ≡ to
-    pub meets : found ≡ handlers_in (regions_from b row) b.activation (length below)
+    pub finds_handlers : found ≡ handlers_in (regions_from b row) b.activation (length below)
         ++ handlers program below None
 
-  -- a search has come to a context of the list and a row there, and would still meet these handlers
+  -- a search has come to a context of the list and a row there, and would still find these handlers
   abbrev pub Onward : (to : Context) (row : ℕ) → List Handler → Context → List StackItem → List Item
       → Type 0
   Onward to row found c (Framed f ∷ is) (Waits b ∷ below) =

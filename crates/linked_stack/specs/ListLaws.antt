@@ -35,8 +35,8 @@ pub record IsInstruction (t : Functions) (fs : List Funclet) (program : LinearPr
   pub rows : AreRegions t fs program p name scopes regions
 
 -- from any row on
-abbrev pub SearchMeetsTheHandlers : Type 0
-SearchMeetsTheHandlers =
+abbrev pub SearchFindsTheHandlers : Type 0
+SearchFindsTheHandlers =
     (t : Functions) (fs : List Funclet) (program : LinearProgram) (p : Plan) (name : BodyName)
     (label rip row : ℕ) (scopes : List ScopeRecord) (regions : List Region)
     → IsInstruction t fs program p name label rip scopes regions
@@ -79,7 +79,7 @@ pub record KeepsAbove (m : Memory) (byte : ℕ → ℕ) (low : ℕ) : Type 0 whe
   pub above : (x : ℕ) → low ≤ x → byte x ≡ m.byte x
   pub code : (x : ℕ) → (m.protection x).execute ≡ true → byte x ≡ m.byte x
 
-pub record Stands (t : Functions) (fs : List Funclet) (program : LinearProgram) (p : Plan)
+pub record IsLinkedStack (t : Functions) (fs : List Funclet) (program : LinearProgram) (p : Plan)
     (m : Memory) (c : Context) (is : List StackItem) (items : List Item)
     (acts : List Activation) : Type 0 where
   pub stack : IsStack t m c is
@@ -90,8 +90,8 @@ abbrev pub KeptByStoresBelow : Type 0
 KeptByStoresBelow =
     (t : Functions) (fs : List Funclet) (program : LinearProgram) (p : Plan) (m : Memory)
     (byte : ℕ → ℕ) (c : Context) (is : List StackItem) (items : List Item) (acts : List Activation)
-    → KeepsAbove m byte (rsp c) → Stands t fs program p m c is items acts
-    → Stands t fs program p (with_bytes m byte) c is items acts
+    → KeepsAbove m byte (rsp c) → IsLinkedStack t fs program p m c is items acts
+    → IsLinkedStack t fs program p (with_bytes m byte) c is items acts
 
 -- what another memory has as it was: the stack's protections, its bytes from an address up, and
 -- code
@@ -107,5 +107,5 @@ abbrev pub KeptByOtherMemories : Type 0
 KeptByOtherMemories =
     (t : Functions) (fs : List Funclet) (program : LinearProgram) (p : Plan) (m m' : Memory)
     (c : Context) (is : List StackItem) (items : List Item) (acts : List Activation)
-    → KeepsStack m m' (rsp c) → STACK_START ≤ rsp c → Stands t fs program p m c is items acts
-    → Stands t fs program p m' c is items acts
+    → KeepsStack m m' (rsp c) → STACK_START ≤ rsp c → IsLinkedStack t fs program p m c is items acts
+    → IsLinkedStack t fs program p m' c is items acts

@@ -21,7 +21,7 @@ use Rattle.linked_stack.specs.ImagePlan.{Plan}
 use Rattle.linked_stack.specs.Linked.{Activation, SearchWaits, UnwindingWaits}
 use Rattle.linked_stack.specs.Records.{IsData, On, HasRoom, IsUntouched, laid}
 
--- a record below the list leaves it as it stands
+-- a record below the list leaves it as it is
 abbrev pub RecordLeavesTheList : Type 0
 RecordLeavesTheList =
     (t : Functions) (fs : List Funclet) (program : LinearProgram) (p : Plan) (m : Memory) (at : ℕ)

@@ -15,7 +15,7 @@ use Rattle.linear_machine.specs.Frames.{Item}
 use Rattle.linked_stack.specs.Stack.{StackItem}
 use Rattle.linked_stack.specs.ImagePlan.{Plan}
 use Rattle.linked_stack.specs.Linked.{Activation}
-use Rattle.linked_stack.specs.ListLaws.{Stands}
+use Rattle.linked_stack.specs.ListLaws.{IsLinkedStack}
 
 -- bytes are numbers of 8 bits, and what may be written isn't code
 pub record IsData (m : Memory) : Type 0 where
@@ -24,7 +24,7 @@ pub record IsData (m : Memory) : Type 0 where
 
 pub record On (t : Functions) (fs : List Funclet) (program : LinearProgram) (p : Plan) (m : Memory)
     (c : Context) (is : List StackItem) (items : List Item) (acts : List Activation) : Type 0 where
-  pub stands : Stands t fs program p m c is items acts
+  pub is_there : IsLinkedStack t fs program p m c is items acts
   pub data_alone : IsData m
 
 -- a record is placed, and the return address of a funclet below it

@@ -72,7 +72,7 @@ pub record AskedTakesOver (t : Functions) (fs : List Funclet) (program : LinearP
   pub aimed : Aimed t fs program p asked.depth asked.target r.frame address (context_of r.saved) is
       (Waits c.frame ∷ c.below)
 
--- below 0: the exception is continued, in the saved state, in which the body stands that raised it
+-- below 0: the exception is continued, in the saved state, in which the body is that raised it
 pub record IsContinued (t : Functions) (fs : List Funclet) (program : LinearProgram) (p : Plan)
     (s : State) (r : DispatchRecord) (is : List StackItem) (acts : List Activation)
     (exception : Exception) (resumption : Resumption) (asked : Handler) (rest : List Handler)

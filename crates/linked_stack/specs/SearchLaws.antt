@@ -16,7 +16,7 @@ use Rattle.linked_stack.specs.Linked.{Activation, IsAtRow, Onward, Linked}
 use Rattle.linked_stack.specs.Searching.{IsWide, SearchedAs}
 
 -- the list is in the stack from a context on
-pub record StandsIn (t : Functions) (fs : List Funclet) (program : LinearProgram) (p : Plan)
+pub record IsSearchedStack (t : Functions) (fs : List Funclet) (program : LinearProgram) (p : Plan)
     (m : Memory) (c : Context) (is : List StackItem) (items : List Item)
     (acts : List Activation) : Type 0 where
   pub gives : Gives t fs program p
@@ -30,17 +30,17 @@ SearchIsTheLists =
     (t : Functions) (fs : List Funclet) (program : LinearProgram) (p : Plan) (m : Memory)
     (c : Context) (is : List StackItem) (items : List Item) (acts : List Activation) (row : ℕ)
     (left : Option (List Region)) (n : ℕ)
-    → StandsIn t fs program p m c is items acts → IsAtRow t fs program p row items left
+    → IsSearchedStack t fs program p m c is items acts → IsAtRow t fs program p row items left
     → length is < n
     → SearchedAs t fs program p m acts c is items (search n t m (state c row))
     (handlers program items left)
 
 -- from where it was suspended
-abbrev pub SearchGoesOn : Type 0
-SearchGoesOn =
+abbrev pub SearchContinues : Type 0
+SearchContinues =
     (t : Functions) (fs : List Funclet) (program : LinearProgram) (p : Plan) (m : Memory)
     (c : Context) (is : List StackItem) (items : List Item) (acts : List Activation) (to : Context)
     (row : ℕ) (found : List Handler) (n : ℕ)
-    → StandsIn t fs program p m c is items acts → Onward t fs program p to row found c is items
+    → IsSearchedStack t fs program p m c is items acts → Onward t fs program p to row found c is items
     → length is < n
     → SearchedAs t fs program p m acts c is items (search n t m (state to row)) found

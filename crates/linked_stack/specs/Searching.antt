@@ -31,7 +31,7 @@ pub record CanBeKept (frame row : ℕ) (to : Context) : Type 0 where
 
 module _ (t : Functions) (fs : List Funclet) (program : LinearProgram) (p : Plan) where
   -- the filter of a handler is asked: with its frame in hand, and from the row after it on the
-  -- others are met
+  -- others are found
   pub record Asks (m : Memory) (acts : List Activation) (c : Context) (is : List StackItem)
       (items : List Item) (s : SearchResult) (k : ℕ) (h : Handler)
       (rest : List Handler) : Type 0 where
@@ -62,13 +62,13 @@ module _ (t : Functions) (fs : List Funclet) (program : LinearProgram) (p : Plan
     pub frame_small : frame < 2 ^ 64
     pub address_small : address < 2 ^ 64
 
-  abbrev pub Meets : Memory → List Activation → Context → List StackItem → List Item → SearchResult
+  abbrev pub FindsHandler : Memory → List Activation → Context → List StackItem → List Item → SearchResult
       → Option ℕ → Handler → List Handler → Type 0
-  Meets m acts c is items s None h rest = Accepts c is items s h
-  Meets m acts c is items s (Some k) h rest = Asks m acts c is items s k h rest
+  FindsHandler m acts c is items s None h rest = Accepts c is items s h
+  FindsHandler m acts c is items s (Some k) h rest = Asks m acts c is items s k h rest
 
   -- the first of the handlers that are left; with none left, nobody
   abbrev pub SearchedAs : Memory → List Activation → Context → List StackItem → List Item
       → SearchResult → List Handler → Type 0
   SearchedAs m acts c is items s [] = s ≡ searches.Nobody
-  SearchedAs m acts c is items s (h ∷ rest) = Meets m acts c is items s h.filter h rest
+  SearchedAs m acts c is items s (h ∷ rest) = FindsHandler m acts c is items s h.filter h rest

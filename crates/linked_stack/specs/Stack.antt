@@ -67,7 +67,7 @@ caller_of_leaf c back = record { frame = rsp c; context = after_leaf c back; ask
 -- ---- what is in memory
 
 -- a frame whose body is past its prologue, and not in an epilogue
-pub record FrameStands (t : Functions) (m : Memory) (c : Context) (f : StackFrame) : Type 0 where
+pub record FrameIsAt (t : Functions) (m : Memory) (c : Context) (f : StackFrame) : Type 0 where
   pub live : (c.rip == 0) ≡ false
   pub not_filter : (c.rip == filter_return) ≡ false
   pub not_finally : (c.rip == finally_return) ≡ false
@@ -83,7 +83,7 @@ pub record FrameStands (t : Functions) (m : Memory) (c : Context) (f : StackFram
   pub returns : word m (rsp c + f.size) ≡ Ok f.return_address
 
 -- a leaf function, which has no entry in the function table
-pub record LeafStands (t : Functions) (m : Memory) (c : Context) (back : ℕ) : Type 0 where
+pub record LeafIsAt (t : Functions) (m : Memory) (c : Context) (back : ℕ) : Type 0 where
   pub live : (c.rip == 0) ≡ false
   pub not_filter : (c.rip == filter_return) ≡ false
   pub not_finally : (c.rip == finally_return) ≡ false
@@ -94,7 +94,7 @@ pub record LeafStands (t : Functions) (m : Memory) (c : Context) (back : ℕ) : 
 
 -- a record at the return address of the host that its funclet has; its EXCEPTION_POINTERS begin
 -- with the address of its EXCEPTION_RECORD
-pub record RecordStands (m : Memory) (c : Context) (r : DispatchRecord) (address : ℕ)
+pub record RecordIsAt (m : Memory) (c : Context) (r : DispatchRecord) (address : ℕ)
     (searches : Bool) (next : Context) : Type 0 where
   pub at_host : c.rip ≡ address
   pub fetches : fetched m (rsp c) ≡ Some r
@@ -103,16 +103,16 @@ pub record RecordStands (m : Memory) (c : Context) (r : DispatchRecord) (address
   pub above : rsp c + RECORD_SIZE ≤ rsp next
   pub small : rsp next < 2 ^ 64
 
-abbrev pub Stands : Functions → Memory → Context → StackItem → Type 0
-Stands t m c (Framed f) = FrameStands t m c f
-Stands t m c (Leaf back) = LeafStands t m c back
-Stands t m c (Searching r) = RecordStands m c r filter_return true (context_of r.saved)
-Stands t m c (Unwinding r) = RecordStands m c r finally_return false r.walk
+abbrev pub ItemIsAt : Functions → Memory → Context → StackItem → Type 0
+ItemIsAt t m c (Framed f) = FrameIsAt t m c f
+ItemIsAt t m c (Leaf back) = LeafIsAt t m c back
+ItemIsAt t m c (Searching r) = RecordIsAt m c r filter_return true (context_of r.saved)
+ItemIsAt t m c (Unwinding r) = RecordIsAt m c r finally_return false r.walk
 
--- the list stands from a context on, up to the first frame, which returns to 0
+-- the list is in memory from a context on, up to the first frame, which returns to 0
 abbrev pub IsStack : Functions → Memory → Context → List StackItem → Type 0
 IsStack t m c [] = c.rip ≡ 0
-IsStack t m c (i ∷ is) = Stands t m c i × IsStack t m (context_after c i) is
+IsStack t m c (i ∷ is) = ItemIsAt t m c i × IsStack t m (context_after c i) is
 
 -- ---- the bytes on which this rests
 

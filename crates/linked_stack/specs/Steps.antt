@@ -171,8 +171,8 @@ pub record AnswersAs (t : Functions) (fs : List Funclet) (program : LinearProgra
       (rsp (context_of s.cpu)) (again r) is acts noncontinuable
       (handlers program (Waits c.frame ∷ c.below) None) c
 
-abbrev pub AnswersGoOn : Type 0
-AnswersGoOn =
+abbrev pub AnswersContinue : Type 0
+AnswersContinue =
     (t : Functions) (fs : List Funclet) (program : LinearProgram) (p : Plan) (s : State)
     (r : DispatchRecord) (is : List StackItem) (acts : List Activation) (exception : Exception)
     (resumption : Resumption) (asked : Handler) (rest : List Handler) (c : Configuration)

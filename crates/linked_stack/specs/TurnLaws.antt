@@ -21,8 +21,8 @@ use Rattle.linked_stack.specs.States.{IsSane}
 use Rattle.linked_stack.specs.Searches.{FilterBegins, TakesOver, NobodyTakesOver}
 use Rattle.linked_stack.specs.Unwinds.{Unwound, BlockBegins, LandsThere}
 
--- a search's record stands for the exception of a body that waits, and these handlers are still to
--- be met
+-- a search's record represents the exception of a body that waits, and these handlers are still to
+-- be found
 pub record IsSearching (t : Functions) (fs : List Funclet) (program : LinearProgram) (p : Plan)
     (s : State) (at : ℕ) (r : DispatchRecord) (is : List StackItem) (acts : List Activation)
     (exception : Exception) (found : List Handler) (c : Configuration) : Type 0 where
@@ -51,7 +51,7 @@ SearchTurns =
     ⊎ NobodyTakesOver t fs program p (arrived t fs (searches_on t s at r)) found exception
     resumption c)
 
--- an unwinding's record stands for a target of the list, from a row of its first body on
+-- an unwinding's record represents a target of the list, from a row of its first body on
 pub record IsUnwinding (t : Functions) (fs : List Funclet) (program : LinearProgram) (p : Plan)
     (s : State) (at : ℕ) (r : DispatchRecord) (is : List StackItem) (w : Unwound) : Type 0 where
   pub gives : Gives t fs program p

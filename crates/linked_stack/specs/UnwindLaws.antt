@@ -15,7 +15,7 @@ use Rattle.linked_stack.specs.Stack.{StackItem}
 use Rattle.linked_stack.specs.PlainWalks.{state}
 use Rattle.linked_stack.specs.ImagePlan.{Plan}
 use Rattle.linked_stack.specs.Linked.{Activation, IsAtRow, Aimed}
-use Rattle.linked_stack.specs.SearchLaws.{StandsIn}
+use Rattle.linked_stack.specs.SearchLaws.{IsSearchedStack}
 use Rattle.linked_stack.specs.Unwinding.{store_of, UnwoundAs}
 
 -- to a target in the list, from a row of the first body on or from its first one
@@ -25,7 +25,7 @@ UnwindingIsTheLists =
     (c : Context) (is : List StackItem) (items : List Item) (acts : List Activation) (row : ℕ)
     (left : Option (List Region))
     (target : Target) (frame address : ℕ) (source : Memory) (events : List Event) (n : ℕ)
-    → StandsIn t fs program p m c is items acts → IsAtRow t fs program p row items left
+    → IsSearchedStack t fs program p m c is items acts → IsAtRow t fs program p row items left
     → Aimed t fs program p target.depth target.label frame address c is items → length is < n
     → UnwoundAs t fs program p m (record {
       target = target;

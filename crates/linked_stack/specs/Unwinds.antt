@@ -51,7 +51,7 @@ pub record Unwound : Type 0 where
 module _ (t : Functions) (fs : List Funclet) (program : LinearProgram) (p : Plan) where
   -- a `__finally` block of a body begins, unless linear code is too deep; each activation that was
   -- left is held by the target; the record in the stack has come to that body's frame, from which
-  -- the list stands
+  -- the list is there
   pub record BlockBegins (s : State) (r : DispatchRecord) (turn : Turn) (w : Unwound) : Type 0 where
     pub block : ℕ
     pub held : ℕ

@@ -13,7 +13,7 @@ use Rattle.seh_walk.specs.Walk as walk
 use Rattle.seh_walk.specs.Walk.{visited, saved_in, walk_in, is_search, filter_return, finally_return}
 use Rattle.seh_search.specs.Search.{search}
 use Rattle.seh_unwind.specs.Unwind.{unwind}
-use Rattle.linked_stack.specs.Stack.{StackFrame, StackItem, Framed, Leaf, Searching, Unwinding, Stands, IsStack, Owned, Agree, IsWithin, after_frame, after_leaf, caller_frame, caller_of_leaf, context_at}
+use Rattle.linked_stack.specs.Stack.{StackFrame, StackItem, Framed, Leaf, Searching, Unwinding, ItemIsAt, IsStack, Owned, Agree, IsWithin, after_frame, after_leaf, caller_frame, caller_of_leaf, context_at}
 use Rattle.linked_stack.specs.PlainWalks.{state, plain_search, plain_unwind}
 
 -- ---- what a walk comes to
@@ -21,27 +21,27 @@ use Rattle.linked_stack.specs.PlainWalks.{state, plain_search, plain_unwind}
 -- a frame is visited, and then its caller
 abbrev pub FrameIsVisited : Type 0
 FrameIsVisited =
-    (t : Functions) (m : Memory) (c : Context) (row : ℕ) (f : StackFrame) → Stands t m c (Framed f)
+    (t : Functions) (m : Memory) (c : Context) (row : ℕ) (f : StackFrame) → ItemIsAt t m c (Framed f)
     → visited t m (state c row) ≡ walk.Frame (caller_frame c f) (state (after_frame c f) 0)
 
 -- a leaf function is visited, and then its caller
 abbrev pub LeafIsVisited : Type 0
 LeafIsVisited =
-    (t : Functions) (m : Memory) (c : Context) (row back : ℕ) → Stands t m c (Leaf back)
+    (t : Functions) (m : Memory) (c : Context) (row back : ℕ) → ItemIsAt t m c (Leaf back)
     → visited t m (state c row) ≡ walk.Frame (caller_of_leaf c back) (state (after_leaf c back) 0)
 
 -- past a search the walk is in its saved state
 abbrev pub SearchIsPassed : Type 0
 SearchIsPassed =
     (t : Functions) (m : Memory) (c : Context) (row : ℕ) (r : DispatchRecord)
-    → Stands t m c (Searching r)
+    → ItemIsAt t m c (Searching r)
     → visited t m (state c row) ≡ walk.Past (saved_in r)
 
 -- past an unwinding the walk is where the unwinding is
 abbrev pub UnwindingIsPassed : Type 0
 UnwindingIsPassed =
     (t : Functions) (m : Memory) (c : Context) (row : ℕ) (r : DispatchRecord)
-    → Stands t m c (Unwinding r)
+    → ItemIsAt t m c (Unwinding r)
     → visited t m (state c row) ≡ walk.Past (walk_in r)
 
 -- below the last frame the walk is over

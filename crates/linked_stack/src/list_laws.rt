@@ -1,6 +1,6 @@
 //! What holds in a single frame, and of the whole list.
 
-ghost use Rattle.linked_stack.specs.ListLaws.{SearchMeetsTheHandlers, UnwindingRunsTheBlocks, UnwindingStopsAtTheTarget, KeptByStoresBelow, KeptByOtherMemories};
+ghost use Rattle.linked_stack.specs.ListLaws.{SearchFindsTheHandlers, UnwindingRunsTheBlocks, UnwindingStopsAtTheTarget, KeptByStoresBelow, KeptByOtherMemories};
 
 /// In a frame whose scope records are the regions of its body, row by row: the first record that a
 /// search asks is that of the first handler, from any row on, with the same handlers after it; an
@@ -9,7 +9,7 @@ ghost use Rattle.linked_stack.specs.ListLaws.{SearchMeetsTheHandlers, UnwindingR
 /// stops there. Stores below the stack pointer leave the whole list as it is; it is also in
 /// each memory that has the stack from there up, its protections and the code as they were.
 pub fn laws()
-    ensures search { SearchMeetsTheHandlers }
+    ensures search { SearchFindsTheHandlers }
     ensures unwinding { UnwindingRunsTheBlocks }
     ensures target { UnwindingStopsAtTheTarget }
     ensures kept { KeptByStoresBelow }

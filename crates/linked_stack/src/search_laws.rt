@@ -1,6 +1,6 @@
 //! What holds of every search.
 
-ghost use Rattle.linked_stack.specs.SearchLaws.{SearchIsTheLists, SearchGoesOn};
+ghost use Rattle.linked_stack.specs.SearchLaws.{SearchIsTheLists, SearchContinues};
 
 /// Where the list of what waits is in the machine's stack, the host's search asks exactly the
 /// handlers that linear code comes to, in their order: from the innermost frame on, and from
@@ -8,5 +8,5 @@ ghost use Rattle.linked_stack.specs.SearchLaws.{SearchIsTheLists, SearchGoesOn};
 /// cases of this, since the list may have suspended searches and unwindings anywhere.
 pub fn laws()
     ensures searched { SearchIsTheLists }
-    ensures onward { SearchGoesOn }
+    ensures onward { SearchContinues }
 {}

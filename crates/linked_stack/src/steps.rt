@@ -1,6 +1,6 @@
 //! What holds where a search or an unwinding begins, and where it continues.
 
-ghost use Rattle.linked_stack.specs.Steps.{RaiseSearches, LocalUnwindUnwinds, AcceptanceUnwinds, AnswersGoOn, FinallyReturnsUnwind};
+ghost use Rattle.linked_stack.specs.Steps.{RaiseSearches, LocalUnwindUnwinds, AcceptanceUnwinds, AnswersContinue, FinallyReturnsUnwind};
 
 /// A raise, by a call or by a fault, shows its event and is a search from the innermost frame on. A
 /// local unwind is an unwinding to a body of the list. A handler that takes over makes its search
@@ -13,6 +13,6 @@ pub fn steps()
     ensures raises { RaiseSearches }
     ensures local { LocalUnwindUnwinds }
     ensures accepts { AcceptanceUnwinds }
-    ensures answers { AnswersGoOn }
+    ensures answers { AnswersContinue }
     ensures returns { FinallyReturnsUnwind }
 {}

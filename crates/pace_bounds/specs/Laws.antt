@@ -10,7 +10,7 @@ use Rattle.seh_ir.specs.Lowered.{lowered}
 use Rattle.ir_follows.specs.Laws.{Follows, NoMore}
 use Rattle.ir_linked.specs.Pace.{pace_of}
 
--- how many steps a turn may stand for, by the number of bytes of the text (own)
+-- how many steps a turn may represent, by the number of bytes of the text (own)
 abbrev pub pace_in : ℕ → ℕ
 pace_in bytes = 8 * bytes + 256
 

@@ -2,7 +2,7 @@
 
 ghost use Rattle.pace_bounds.specs.Laws.{PaceIsBounded, AcceptedFollows, AcceptedShowsNoMore};
 
-/// One turn stands for at most 8 steps for each byte of the text, and 256.
+/// One turn represents at most 8 steps for each byte of the text, and 256.
 pub fn pace_is_bounded()
     ensures bounded { PaceIsBounded }
 {}

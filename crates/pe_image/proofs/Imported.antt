@@ -130,8 +130,8 @@ module _ (ss : List Section) (dir : DataDirectory) (xs : List Import) (n m look 
   whole_refused f h =
       with_directory ss dir _ some (sym so_far ∙ library_refused ss xs (length xs) at n m d f e is z (ap (onto xs) (sym (same_entries ss (length xs) look slot d e1 e2)) ∙ h))
 
-  pub whole_goes_on : (zs : List Import) (next : ℕ) → onto xs (library max_count ss (length xs) look slot) ≡ Ok zs → next ≡ at + 20 → onto zs (libraries m ss (length zs) next) ≡ libraries max_count ss 0 dir.rva
-  whole_goes_on zs next h there =
+  pub whole_continues : (zs : List Import) (next : ℕ) → onto xs (library max_count ss (length xs) look slot) ≡ Ok zs → next ≡ at + 20 → onto zs (libraries m ss (length zs) next) ≡ libraries max_count ss 0 dir.rva
+  whole_continues zs next h there =
       ap (λ k. onto zs (libraries m ss (length zs) k)) there
       ∙ library_passed ss xs (length xs) at n m d zs e is z refl (ap (onto xs) (sym (same_entries ss (length xs) look slot d e1 e2)) ∙ h)
       ∙ so_far

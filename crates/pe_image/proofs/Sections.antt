@@ -42,11 +42,11 @@ not_laid_out : (bytes : List ℕ) (limit index end : ℕ) (s : SectionHeader) (h
 not_laid_out bytes limit index end s hs not front =
     ap (λ b. with_front front ((unless b (refusals.Layout index) >>= λ _. all_laid_out (length bytes) limit (index + 1) (s.address + s.size) hs) >>= λ _. Ok (map (section_of bytes) (s ∷ hs)))) not
 
-pub goes_on : (bytes : List ℕ) (limit index end at count : ℕ) (s : SectionHeader) (front : List Section) (all : Result (List Section) ImageErr)
+pub continues : (bytes : List ℕ) (limit index end at count : ℕ) (s : SectionHeader) (front : List Section) (all : Result (List Section) ImageErr)
     → index < count → s ≡ header_at bytes (at + 40 * index) → is_laid_out (length bytes) limit end s ≡ true
     → with_front front (sections_from bytes limit index end (headers_from bytes (count - index) (at + 40 * index))) ≡ all
     → with_front (front ++ section_of bytes s ∷ []) (sections_from bytes limit (index + 1) (s.address + s.size) (headers_from bytes (count - (index + 1)) (at + 40 * (index + 1)))) ≡ all
-goes_on bytes limit index end at count s front all lt is fits so_far =
+continues bytes limit index end at count s front all lt is fits so_far =
     let hs = headers_from bytes (count - (index + 1)) (at + 40 * (index + 1)) in
     sym (laid_out bytes limit index end s hs fits front)
     ∙ ap (λ h. with_front front (sections_from bytes limit index end (h ∷ hs))) is

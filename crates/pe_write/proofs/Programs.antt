@@ -58,21 +58,21 @@ module _ (p : Program) (fits : IsProgram p) where
       past_code rva (omega arith)
       ∙ ap (section_or (section_at rva others) tables) (above_holds_none rva tables (omega (arith, tables_length r)))
 
-  pub tables_stand : (k : ℕ) → k < 222 → stored_in (r + k) (section_at (r + k) (sections_of p)) ≡ drop k (import_tables r)
-  tables_stand k lt =
+  pub tables_are_at : (k : ℕ) → k < 222 → stored_in (r + k) (section_at (r + k) (sections_of p)) ≡ drop k (import_tables r)
+  tables_are_at k lt =
       let back : r + k - r ≡ k = omega arith in
       ap (stored_in (r + k)) (past_code (r + k) (omega arith) ∙ ap (section_or (section_at (r + k) others) tables) (inside (r + k) tables (omega arith) (omega (arith, tables_length r))))
       ∙ ap (λ n. drop n (import_tables r)) back
 
-  pub xdata_stands : (k : ℕ) → k < length p.xdata → stored_in (xdata_at (sizes_of p) + k) (section_at (xdata_at (sizes_of p) + k) (sections_of p)) ≡ drop k p.xdata
-  xdata_stands k lt =
+  pub xdata_is_at : (k : ℕ) → k < length p.xdata → stored_in (xdata_at (sizes_of p) + k) (section_at (xdata_at (sizes_of p) + k) (sections_of p)) ≡ drop k p.xdata
+  xdata_is_at k lt =
       let at = xdata_at (sizes_of p) in
       let back : at + k - at ≡ k = omega arith in
       ap (stored_in (at + k)) (past_tables (at + k) (omega arith) ∙ ap (section_or (section_at (at + k) (functions ∷ [])) infos) (inside (at + k) infos (omega arith) (omega arith)))
       ∙ ap (λ n. drop n p.xdata) back
 
-  pub pdata_stands : (k : ℕ) → k < length p.pdata → stored_in (pdata_at (sizes_of p) + k) (section_at (pdata_at (sizes_of p) + k) (sections_of p)) ≡ drop k p.pdata
-  pdata_stands k lt =
+  pub pdata_is_at : (k : ℕ) → k < length p.pdata → stored_in (pdata_at (sizes_of p) + k) (section_at (pdata_at (sizes_of p) + k) (sections_of p)) ≡ drop k p.pdata
+  pdata_is_at k lt =
       let at = pdata_at (sizes_of p) in
       let back : at + k - at ≡ k = omega arith in
       ap (stored_in (at + k))
@@ -82,7 +82,7 @@ module _ (p : Program) (fits : IsProgram p) where
       ∙ ap (λ n. drop n p.pdata) back
 
   pub imports_are : imports (image_of p) ≡ Ok (imports_of p)
-  imports_are = let e = fits.end in tables_read (sections_of p) r (omega arith) tables_stand
+  imports_are = let e = fits.end in tables_read (sections_of p) r (omega arith) tables_are_at
 
   -- ---- what is read
 

@@ -34,16 +34,16 @@ use Rattle.program_tables.specs.Entries.{entries}
 use Rattle.program_tables.specs.Entries as tables
 use Rattle.program_tables.proofs.Lookups.{entries_are_held, leaves_are_held_by_none, thunks_are_held_by_none}
 use Rattle.program_tables.proofs.Table.{table, table_entries, tables_are_read}
-use Rattle.program_frames.specs.Standing.{image_base, HasText}
+use Rattle.program_frames.specs.InMemory.{image_base, HasText}
 use Rattle.program_frames.specs.Functions.{rest_of, function_of, leaf, thunk_of, probe}
 use Rattle.program_frames.specs.Laws.{IsFramed, FindsCaller, IsIn, FramesAreFound, LeavesAreFound, ThunksAreFound, ProbesAreFound}
-use Rattle.program_frames.proofs.CodeStands.{there}
+use Rattle.program_frames.proofs.CodeInMemory.{there}
 use Rattle.program_frames.proofs.Layouts.{size_of}
 use Rattle.program_frames.proofs.Rest.{with_size}
-use Rattle.program_frames.proofs.Right.{sizes, right, stands, plan_near, rest_fine}
+use Rattle.program_frames.proofs.Right.{sizes, right, is_there, plan_near, rest_fine}
 use Rattle.program_frames.proofs.Waiting.{away}
 
--- ---- instructions that stand
+-- ---- instructions that are
 
 has_bytes : (m : Memory) (at : ℕ) (xs : List FetchedInstr) (to : ℕ) → HasItems m at xs to → at + bytes xs ≡ to
 has_bytes m at [] to h = let e : at ≡ to = h in omega arith
@@ -61,7 +61,7 @@ before_end m at [] to h ne = absurd (ne refl)
 before_end m at (x ∷ xs) to h ne = let r = has_bytes m (at + x.size) xs to h.2 in let s = h.1 in omega arith
 
 -- a state of a function is before its end
-inside : (g : Function) (e s : State) (d at to : ℕ) (m : Memory) → IsRight g → HasItems m at (items g.steps ++ g.rest) to → rules.Stands g e s d → at + d < to
+inside : (g : Function) (e s : State) (d at to : ℕ) (m : Memory) → IsRight g → HasItems m at (items g.steps ++ g.rest) to → rules.IsInFunction g e s d → at + d < to
 inside g e s d at to m ok has st = elim st [
   | inl h ↦
       let following' = following_items m at (items g.steps) g.rest to has in
@@ -86,7 +86,7 @@ inside g e s d at to m ok has st = elim st [
         let at' = at + bytes (items g.steps) in
         let more = following_items m at' l.done (l.run ++ l.left) to (subst (λ xs. HasItems m at' xs to) l.parts following') in
         let last = following_items m (at' + bytes l.done) l.run l.left to more in
-        let lt = before_end m (at' + bytes l.done + bytes l.run) l.left to last l.goes_on in
+        let lt = before_end m (at' + bytes l.done + bytes l.run) l.left to last l.continues in
         omega arith
   ]
 ]
@@ -111,7 +111,7 @@ frames_are_found p index x f e s d framed regions entry text rip st =
     let fits = framed.fits in
     let g = function_of p x f in
     let ok = right p index x f framed in
-    let has = stands p index x f framed s.memory text in
+    let has = is_there p index x f framed s.memory text in
     let h = there p index x fits framed.there in
     let room = h.room in
     let small = routine_small x.routine h.near in

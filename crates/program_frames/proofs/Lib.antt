@@ -1,5 +1,5 @@
 pub mod Loaded
-pub mod CodeStands
+pub mod CodeInMemory
 pub mod Inner
 pub mod Templates
 pub mod Links

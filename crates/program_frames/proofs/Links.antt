@@ -13,8 +13,8 @@ use Rattle.program_link.proofs.Images.{site_near, has_places}
 use Rattle.program_link.proofs.Nearness.{routines_near}
 use Rattle.program_tables.specs.Placed.{Placed, site_of}
 use Rattle.program_tables.proofs.Rows.{below_at}
-use Rattle.program_frames.specs.Standing.{links}
-use Rattle.program_frames.proofs.CodeStands.{IsThere}
+use Rattle.program_frames.specs.InMemory.{links}
+use Rattle.program_frames.proofs.CodeInMemory.{IsThere}
 use Rattle.program_frames.proofs.Templates.{AreLinksNear}
 
 thunk_near : (text : ℕ) (f : BuiltIn) → text < 2 ^ 29 → thunk_of (thunks_at text) f < 2 ^ 30

@@ -14,7 +14,7 @@ use Rattle.pe_write.proofs.Programs.{listed}
 use Rattle.host_model.specs.Loading.{section_of, mode_in, byte_in, stored_byte, with_slots, mapped}
 use Rattle.host_model.specs.Slots.{IsBeside}
 use Rattle.host_model.proofs.Slots.{slots-beside}
-use Rattle.frame_rules.specs.Bytes.{Stands}
+use Rattle.frame_rules.specs.Bytes.{IsExecutableAt}
 use Rattle.linear_code.specs.Program.{LinearProgram}
 use Rattle.program_link.specs.Fits.{FitsProgram}
 use Rattle.program_link.specs.Linked.{text_begin, data_size, linked}
@@ -22,7 +22,7 @@ use Rattle.program_link.specs.Routines.{routines}
 use Rattle.program_link.proofs.Images.{rdata_fits, has_places}
 use Rattle.program_link.proofs.Nearness.{routines_near}
 use Rattle.program_tables.proofs.Table.{is, text_is, rdata_is}
-use Rattle.program_frames.specs.Standing.{image_base, HasText}
+use Rattle.program_frames.specs.InMemory.{image_base, HasText}
 use Rattle.program_frames.specs.Laws.{ImagesHaveText, TextsAreFixed}
 
 module _ (p : LinearProgram) (fits : FitsProgram p) where
@@ -110,20 +110,20 @@ module _ (p : LinearProgram) (fits : FitsProgram p) where
   pub is_fixed : (k : ℕ) → k < length code → may_write (mapped image) (at + k) ≡ false
   is_fixed k lt = ap (λ (m : Protection). is_writable m.rights) (mode_is k lt)
 
--- bytes that stand one by one stand together
-stands_of : (m : Memory) (at : ℕ) (bytes : List ℕ) → ((k : ℕ) → k < length bytes → m.byte (at + k) ≡ get_or bytes k 0) → ((k : ℕ) → k < length bytes → (m.protection (at + k)).execute ≡ true) → Stands m at bytes
-stands_of m at [] b x = tt
-stands_of m at (c ∷ bytes) b x =
+-- bytes that are one by one are together
+executable_of : (m : Memory) (at : ℕ) (bytes : List ℕ) → ((k : ℕ) → k < length bytes → m.byte (at + k) ≡ get_or bytes k 0) → ((k : ℕ) → k < length bytes → (m.protection (at + k)).execute ≡ true) → IsExecutableAt m at bytes
+executable_of m at [] b x = tt
+executable_of m at (c ∷ bytes) b x =
     let z : at + 0 ≡ at = omega arith in (
       ap m.byte (sym z) ∙ b 0 (omega arith),
       ap (λ a. (m.protection a).execute) (sym z) ∙ x 0 (omega arith),
-      stands_of m (at + 1) bytes
+      executable_of m (at + 1) bytes
           (λ k lt. (let e : at + 1 + k ≡ at + suc k = omega arith in ap m.byte e ∙ b (suc k) (omega arith)))
           (λ k lt. (let e : at + 1 + k ≡ at + suc k = omega arith in ap (λ a. (m.protection a).execute) e ∙ x (suc k) (omega arith))),
     )
 
 pub images_have_text : ImagesHaveText
-images_have_text p fits = stands_of (mapped (image_of (linked p))) (image_base + text_begin p.globals) (linked p).text (byte_is p fits) (executes p fits)
+images_have_text p fits = executable_of (mapped (image_of (linked p))) (image_base + text_begin p.globals) (linked p).text (byte_is p fits) (executes p fits)
 
 pub texts_are_fixed : TextsAreFixed
 texts_are_fixed p k fits lt = is_fixed p fits k lt

@@ -1,4 +1,4 @@
--- Routines with a frame keep the rules, and are where the text stands.
+-- Routines with a frame keep the rules, and are where the text is.
 use Rattle.std.proofs.Common.{◌≡◌, ℕ, zero, suc, ◌+◌, ◌*◌, ◌^◌, ◌<◌, ◌≤◌, Bool, true, false, not, eqb, List, [], ◌∷◌, ◌++◌, length, Option, Some, None, refl, sym, ap, subst, ◌∙◌, arith, append_assoc}
 use Rattle.std.specs.Prelude.{slice_get}
 use Rattle.std.specs.List.{flat_map}
@@ -17,8 +17,8 @@ use Rattle.frame_rules.specs.Plan.{Plan, IsPlan, spelled_by, all_encodable, allo
 use Rattle.frame_rules.specs.Plan as rules
 use Rattle.frame_rules.specs.States.{HasItems}
 use Rattle.frame_rules.specs.Rules.{Function, IsRight, ops}
-use Rattle.frame_rules.specs.Bytes.{spell, Stands, prologue_code}
-use Rattle.frame_rules.proofs.Bytes.{spells_all, items_stand, plans_are_encodable}
+use Rattle.frame_rules.specs.Bytes.{spell, IsExecutableAt, prologue_code}
+use Rattle.frame_rules.proofs.Bytes.{spells_all, items_are_at, plans_are_encodable}
 use Rattle.frame_rules.proofs.Emitting.{plans_are_right}
 use Rattle.linear_code.specs.Program.{LinearProgram}
 use Rattle.frame_layout.specs.declared.frame.Frame.{Frame}
@@ -37,10 +37,10 @@ use Rattle.program_link.proofs.Images.{site_near, has_places}
 use Rattle.program_link.proofs.Nearness.{routines_near}
 use Rattle.program_link.specs.Routines.{routines}
 use Rattle.program_tables.specs.Placed.{Placed, end_of, body_begin, site_of, placed}
-use Rattle.program_frames.specs.Standing.{image_base, HasText, links}
+use Rattle.program_frames.specs.InMemory.{image_base, HasText, links}
 use Rattle.program_frames.specs.Functions.{plan, rest_of, function_of}
-use Rattle.program_frames.specs.Laws.{IsFramed, FunctionsStand, FunctionsKeepTheRules}
-use Rattle.program_frames.proofs.CodeStands.{IsThere, there, code_length, routine_stands}
+use Rattle.program_frames.specs.Laws.{IsFramed, FunctionsAreInMemory, FunctionsKeepTheRules}
+use Rattle.program_frames.proofs.CodeInMemory.{IsThere, there, code_length, routine_is_at}
 use Rattle.program_frames.proofs.Inner.{AllInner}
 use Rattle.program_frames.proofs.Arguments.{arguments_inner}
 use Rattle.program_frames.proofs.Layouts.{size_of, sized}
@@ -120,8 +120,8 @@ module _ (p : LinearProgram) (index : ℕ) (x : Placed) (f : Frame) (framed : Is
       let b = code_from (links p x) r.layout (body_begin x) r.body.code in
       ap (λ (o : Option Frame). (frame_code x.begin check o ++ a) ++ b) framed.framed ∙ append_assoc (prologue_code (plan p x f)) a b
 
-  pub stands : (m : Memory) → HasText m p → HasItems m (image_base + x.begin) (items (function_of p x f).steps ++ (function_of p x f).rest) (image_base + end_of x)
-  stands m text =
+  pub is_there : (m : Memory) → HasText m p → HasItems m (image_base + x.begin) (items (function_of p x f).steps ++ (function_of p x f).rest) (image_base + end_of x)
+  is_there m text =
       let q = plan p x f in
       let at = image_base + x.begin in
       let code = prologue_code q ++ rest_of p x in
@@ -129,13 +129,13 @@ module _ (p : LinearProgram) (index : ℕ) (x : Placed) (f : Frame) (framed : Is
       let small = routine_small x.routine here.near in
       let long : length (spelled code) ≡ routine_size x.routine = ap (λ (is : List Instr). length (spelled is)) (sym parts) ∙ code_length (site_of p) x.begin x.routine here.near in
       let enc = encodable_both (prologue_code q) (rest_of p x) (plans_are_encodable q is_plan).0 rest.encodable in
-      let has = items_stand m at code enc (omega arith) (subst (λ (is : List Instr). Stands m at (spelled is)) parts (routine_stands p m x text here)) in
+      let has = items_are_at m at code enc (omega arith) (subst (λ (is : List Instr). IsExecutableAt m at (spelled is)) parts (routine_is_at p m x text here)) in
       let same : spelled_by spell code ≡ items (function_of p x f).steps ++ (function_of p x f).rest = spelled_both (prologue_code q) (rest_of p x) ∙ ap (λ (ys : List FetchedInstr). ys ++ spelled_by spell (rest_of p x)) (spelled_steps q 0 (rules.turned [] (operations_of q))) in
       let end : at + length (spelled code) ≡ image_base + end_of x = omega arith in
       subst (λ (n : ℕ). HasItems m at (items (function_of p x f).steps ++ (function_of p x f).rest) n) end (subst (λ (ys : List FetchedInstr). HasItems m at ys (at + length (spelled code))) same has)
 
-pub functions_stand : FunctionsStand
-functions_stand p index x f m framed text = stands p index x f framed m text
+pub functions_are_at : FunctionsAreInMemory
+functions_are_at p index x f m framed text = is_there p index x f framed m text
 
 pub functions_keep_the_rules : FunctionsKeepTheRules
 functions_keep_the_rules p index x f framed = right p index x f framed

@@ -21,7 +21,7 @@ use Rattle.template_code.specs.Calls.{arguments_code, begin_call, call_code, pas
 use Rattle.template_code.specs.Template.{Links, template}
 use Rattle.x64_code.specs.Near.{IsSlotNear, AreArgumentsNear, IsFieldNear, IsInstructionNear}
 use Rattle.x64_code.proofs.Nearby.{near_signed, test_small, arguments_small, passing_small}
-use Rattle.program_frames.specs.Standing.{IsReturn}
+use Rattle.program_frames.specs.InMemory.{IsReturn}
 use Rattle.program_frames.proofs.Inner.{AllInner, inner_both, signed, fetch_inner, fetch_second, keep_inner, before_inner, work_inner}
 
 -- what code refers to is in the image

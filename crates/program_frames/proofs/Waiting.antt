@@ -19,9 +19,9 @@ use Rattle.virtual_unwind.specs.Contexts.{rsp}
 use Rattle.virtual_unwind.specs.Undone.{word}
 use Rattle.seh_walk.specs.Walk.{filter_return, finally_return}
 use Rattle.host_model.specs.Machine.{functions_in}
-use Rattle.linked_stack.specs.Stack.{FrameStands, LeafStands}
-use Rattle.frame_rules.specs.Bytes.{spell, Stands}
-use Rattle.frame_rules.proofs.Bytes.{never_empty, items_stand}
+use Rattle.linked_stack.specs.Stack.{FrameIsAt, LeafIsAt}
+use Rattle.frame_rules.specs.Bytes.{spell, IsExecutableAt}
+use Rattle.frame_rules.proofs.Bytes.{never_empty, items_are_at}
 use Rattle.pe_write.specs.Program.{image_of}
 use Rattle.linear_code.specs.declared.instruction.Instruction.{Instruction}
 use Rattle.linear_code.specs.declared.instruction.Instruction.TheVariants as instructions
@@ -44,9 +44,9 @@ use Rattle.program_tables.specs.Entries as tables
 use Rattle.program_tables.proofs.Lookups.{some_same, none_some, entries_are_held, leaves_are_held_by_none}
 use Rattle.program_tables.proofs.Prologues.{entry_least}
 use Rattle.program_tables.proofs.Table.{tables_are_read}
-use Rattle.program_frames.specs.Standing.{image_base, HasText, template_at, links, IsReturn, IsInBody}
-use Rattle.program_frames.specs.Laws.{IsWaiting, stack_frame, BodiesStand, IsLeafWaiting, LeavesStand}
-use Rattle.program_frames.proofs.CodeStands.{stands_split, code_split, IsThere, there, routine_stands, template_there}
+use Rattle.program_frames.specs.InMemory.{image_base, HasText, template_at, links, IsReturn, IsInBody}
+use Rattle.program_frames.specs.Laws.{IsWaiting, stack_frame, BodiesHaveFrames, IsLeafWaiting, LeavesHaveReturns}
+use Rattle.program_frames.proofs.CodeInMemory.{executable_split, code_split, IsThere, there, routine_is_at, template_there}
 use Rattle.program_frames.proofs.Inner.{Inner, AllInner, inner_at}
 use Rattle.program_frames.proofs.Templates.{template_inner}
 use Rattle.program_frames.proofs.Links.{links_near}
@@ -63,13 +63,13 @@ tail_none (suc n) f at first m x e r =
     ap (from_item (λ k. tail n false f m ((at + k) % 2 ^ 64)) f first) e
     ∙ other_none (λ k. tail n false f m ((at + k) % 2 ^ 64)) first x (role_of f x.plain x.instr) r
 
-pub no_epilogue : (at : ℕ) (m : Memory) (i : Instr) → Inner i → Stands m at (chosen i) → at + 15 < 2 ^ 63 → tail_at 0 m at ≡ None
+pub no_epilogue : (at : ℕ) (m : Memory) (i : Instr) → Inner i → IsExecutableAt m at (chosen i) → at + 15 < 2 ^ 63 → tail_at 0 m at ≡ None
 unfolding tail_at
-no_epilogue at m i inner stands lt =
+no_epilogue at m i inner is_there lt =
     let one = append-nil (chosen i) in
     let few = longest i in
     let l = ap length one in
-    let has = items_stand m at (i ∷ []) (and_from _ true inner.0 refl) (omega arith) (subst (Stands m at) (sym one) stands) in
+    let has = items_are_at m at (i ∷ []) (and_from _ true inner.0 refl) (omega arith) (subst (IsExecutableAt m at) (sym one) is_there) in
     tail_none 0xFFFF_FFFF_FFFF_FFFF 0 at true m (spell i) has.0 (inner.1 (spell i).plain)
 
 -- ---- the instruction at an address of a body
@@ -103,14 +103,14 @@ item_there p x rva fits h b =
     let here = b.here in
     let whole = ap sizes b.parts in
     let near = near_at (IsInstructionNear y) r.body.code b.number b.instruction h.near.code b.there in
-    let all = template_inner k y (template_at x b.number) b.instruction (links_near p x fits h) near (omega arith) b.goes_on in
+    let all = template_inner k y (template_at x b.number) b.instruction (links_near p x fits h) near (omega arith) b.continues in
     let inner : Inner b.item = inner_at b.done b.left b.item (subst AllInner b.parts all) in
     let some = size_some b.item inner in
     record { inner = inner; past = omega arith; inside = omega (arith, sizes_append b.done (b.item ∷ b.left)) }
 
--- where its routine's code stands
-pub item_stands : (p : LinearProgram) (m : Memory) (x : Placed) (rva : ℕ) → Stands m (image_base + x.begin) (spelled (routine_code (site_of p) x.begin x.routine)) → IsThere (site_of p) (linked p).text (text_begin p.globals) x → (b : IsInBody p x rva) → Stands m (image_base + rva) (chosen b.item)
-item_stands p m x rva code h b =
+-- where its routine's code is
+pub item_is_at : (p : LinearProgram) (m : Memory) (x : Placed) (rva : ℕ) → IsExecutableAt m (image_base + x.begin) (spelled (routine_code (site_of p) x.begin x.routine)) → IsThere (site_of p) (linked p).text (text_begin p.globals) x → (b : IsInBody p x rva) → IsExecutableAt m (image_base + rva) (chosen b.item)
+item_is_at p m x rva code h b =
     let r = x.routine in
     let s = site_of p in
     let k = links p x in
@@ -123,11 +123,11 @@ item_stands p m x rva code h b =
     let here = b.here in
     let base = image_base + x.begin in
     let body = (code_split m base entry (code_from k r.layout begin r.body.code) code).1 in
-    let from = (code_split m (base + sizes entry) t.before (own ++ t.after) (subst (λ (q : List Instr). Stands m (base + sizes entry) (spelled q)) t.parts body)).1 in
+    let from = (code_split m (base + sizes entry) t.before (own ++ t.after) (subst (λ (q : List Instr). IsExecutableAt m (base + sizes entry) (spelled q)) t.parts body)).1 in
     let split : own ++ t.after ≡ b.done ++ ((b.item ∷ b.left) ++ t.after) = ap (λ (q : List Instr). q ++ t.after) b.parts ∙ append_assoc b.done (b.item ∷ b.left) t.after in
-    let last = (code_split m (base + sizes entry + sizes t.before) b.done ((b.item ∷ b.left) ++ t.after) (subst (λ (q : List Instr). Stands m (base + sizes entry + sizes t.before) (spelled q)) split from)).1 in
+    let last = (code_split m (base + sizes entry + sizes t.before) b.done ((b.item ∷ b.left) ++ t.after) (subst (λ (q : List Instr). IsExecutableAt m (base + sizes entry + sizes t.before) (spelled q)) split from)).1 in
     let place : base + sizes entry + sizes t.before + sizes b.done ≡ image_base + rva = omega arith in
-    subst (λ (n : ℕ). Stands m n (chosen b.item)) place (stands_split m (base + sizes entry + sizes t.before + sizes b.done) (chosen b.item) (spelled (b.left ++ t.after)) last).0
+    subst (λ (n : ℕ). IsExecutableAt m n (chosen b.item)) place (executable_split m (base + sizes entry + sizes t.before + sizes b.done) (chosen b.item) (spelled (b.left ++ t.after)) last).0
 
 -- ---- a frame
 
@@ -149,12 +149,12 @@ pub record HasItem (m : Memory) (x : Placed) (rva : ℕ) : Type 0 where
   pub inner : Inner item
   pub past : body_begin x ≤ rva
   pub inside : rva < end_of x
-  pub stands : Stands m (image_base + rva) (chosen item)
+  pub is_there : IsExecutableAt m (image_base + rva) (chosen item)
 
 -- a frame at such an instruction
 pub frame_at : (p : LinearProgram) (m : Memory) (index : ℕ) (x : Placed) (f : Frame) (c : Context) (rva back : ℕ) → FitsProgram p → HasRegions p → slice_get (placed p) index ≡ Some x → x.routine.frame ≡ Some f
     → HasItem m x rva → c.rip ≡ image_base + rva → length c.kept ≡ 9 → rsp c + f.size + 8 < 2 ^ 64 → word m (rsp c + f.size) ≡ Ok back
-    → FrameStands (functions_in (image_of (linked p))) m c (stack_frame p x f back)
+    → FrameIsAt (functions_in (image_of (linked p))) m c (stack_frame p x f back)
 frame_at p m index x f c rva back fits regions e framed first here kept room' returns =
     let h = there p index x fits e in
     let room = h.room in
@@ -171,7 +171,7 @@ frame_at p m index x f c rva back fits regions e framed first here kept room' re
       not_finally = ne_eqb c.rip finally_return (λ z. (let q : c.rip ≡ finally_return = z in absurd (omega arith)));
       found = ap (entry_of (functions_in (image_of (linked p)))) here ∙ found_in p index x f rva fits regions e framed (omega arith) inside far;
       past_prologue = le-ltb (distance image_base c.rip - x.begin) (taking_size f.size) (omega arith);
-      not_epilogue = ap (tail_at 0 m) here ∙ no_epilogue (image_base + rva) m first.item first.inner first.stands (omega arith);
+      not_epilogue = ap (tail_at 0 m) here ∙ no_epilogue (image_base + rva) m first.item first.inner first.is_there (omega arith);
       codes = refl;
       no_register = refl;
       no_parents = refl;
@@ -180,19 +180,19 @@ frame_at p m index x f c rva back fits regions e framed first here kept room' re
       returns = returns;
     }
 
-pub frame_stands : (p : LinearProgram) (m : Memory) (index : ℕ) (x : Placed) (f : Frame) (c : Context) (rva back : ℕ) → FitsProgram p → HasRegions p → slice_get (placed p) index ≡ Some x → x.routine.frame ≡ Some f
-    → Stands m (image_base + x.begin) (spelled (routine_code (site_of p) x.begin x.routine)) → IsInBody p x rva → c.rip ≡ image_base + rva → length c.kept ≡ 9 → rsp c + f.size + 8 < 2 ^ 64 → word m (rsp c + f.size) ≡ Ok back
-    → FrameStands (functions_in (image_of (linked p))) m c (stack_frame p x f back)
-frame_stands p m index x f c rva back fits regions e framed code body here kept room' returns =
+pub frame_is_at : (p : LinearProgram) (m : Memory) (index : ℕ) (x : Placed) (f : Frame) (c : Context) (rva back : ℕ) → FitsProgram p → HasRegions p → slice_get (placed p) index ≡ Some x → x.routine.frame ≡ Some f
+    → IsExecutableAt m (image_base + x.begin) (spelled (routine_code (site_of p) x.begin x.routine)) → IsInBody p x rva → c.rip ≡ image_base + rva → length c.kept ≡ 9 → rsp c + f.size + 8 < 2 ^ 64 → word m (rsp c + f.size) ≡ Ok back
+    → FrameIsAt (functions_in (image_of (linked p))) m c (stack_frame p x f back)
+frame_is_at p m index x f c rva back fits regions e framed code body here kept room' returns =
     let h = there p index x fits e in
     let i = item_there p x rva fits h body in
     frame_at p m index x f c rva back fits regions e framed
-    (record { item = body.item; inner = i.inner; past = i.past; inside = i.inside; stands = item_stands p m x rva code h body })
+    (record { item = body.item; inner = i.inner; past = i.past; inside = i.inside; is_there = item_is_at p m x rva code h body })
     here kept room' returns
 
-pub bodies_stand : BodiesStand
-bodies_stand p m index x f c rva back fits regions e framed w =
-    frame_stands p m index x f c rva back fits regions e framed (routine_stands p m x w.text (there p index x fits e)) w.body w.here w.kept w.room w.returns
+pub bodies_have_frames : BodiesHaveFrames
+bodies_have_frames p m index x f c rva back fits regions e framed w =
+    frame_is_at p m index x f c rva back fits regions e framed (routine_is_at p m x w.text (there p index x fits e)) w.body w.here w.kept w.room w.returns
 
 -- ---- a leaf function
 
@@ -205,7 +205,7 @@ none_in p index x rva fits regions e none le lt small =
 
 -- a leaf function's return address
 pub leaf_at : (p : LinearProgram) (m : Memory) (index : ℕ) (x : Placed) (c : Context) (rva back : ℕ) → FitsProgram p → HasRegions p → slice_get (placed p) index ≡ Some x → x.routine.frame ≡ None
-    → x.begin ≤ rva → rva < end_of x → c.rip ≡ image_base + rva → length c.kept ≡ 9 → rsp c + 8 < 2 ^ 64 → word m (rsp c) ≡ Ok back → LeafStands (functions_in (image_of (linked p))) m c back
+    → x.begin ≤ rva → rva < end_of x → c.rip ≡ image_base + rva → length c.kept ≡ 9 → rsp c + 8 < 2 ^ 64 → word m (rsp c) ≡ Ok back → LeafIsAt (functions_in (image_of (linked p))) m c back
 leaf_at p m index x c rva back fits regions e none past inside here kept room' returns =
     let h = there p index x fits e in
     let room = h.room in
@@ -220,8 +220,8 @@ leaf_at p m index x c rva back fits regions e none past inside here kept room' r
       returns = returns;
     }
 
-pub leaves_stand : LeavesStand
-leaves_stand p m index x c rva back fits regions e none w =
+pub leaves_are_at : LeavesHaveReturns
+leaves_are_at p m index x c rva back fits regions e none w =
     let i = item_there p x rva fits (there p index x fits e) w.body in
     let past = i.past in
     leaf_at p m index x c rva back fits regions e none (omega arith) i.inside w.here w.kept w.room w.returns

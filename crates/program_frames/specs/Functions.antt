@@ -16,7 +16,7 @@ use Rattle.template_code.specs.Template.{code_from}
 use Rattle.program_link.specs.Text.{argument_code, check_stack_at, service_thunk}
 use Rattle.program_tables.specs.Placed.{Placed, body_begin, site_of}
 use Rattle.program_tables.specs.Entries.{entry_of}
-use Rattle.program_frames.specs.Standing.{links}
+use Rattle.program_frames.specs.InMemory.{links}
 
 -- ---- with a frame
 

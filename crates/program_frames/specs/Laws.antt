@@ -12,9 +12,9 @@ use Rattle.host_model.specs.Loading.{mapped}
 use Rattle.host_model.specs.Machine.{functions_in}
 use Rattle.frame_rules.specs.Frame.{left_to}
 use Rattle.frame_rules.specs.Prologue.{items}
-use Rattle.frame_rules.specs.Rules.{IsRight, Stands, IsFound}
+use Rattle.frame_rules.specs.Rules.{IsRight, IsInFunction, IsFound}
 use Rattle.frame_rules.specs.States.{registers, return_address, IsEntry, InBody, HasItems}
-use Rattle.linked_stack.specs.Stack.{StackFrame, FrameStands, LeafStands}
+use Rattle.linked_stack.specs.Stack.{StackFrame, FrameIsAt, LeafIsAt}
 use Rattle.host_layout.specs.declared.imported.ImportedService.{ImportedService}
 use Rattle.pe_write.specs.Program.{image_of}
 use Rattle.linear_code.specs.Program.{LinearProgram}
@@ -26,7 +26,7 @@ use Rattle.program_link.specs.Linked.{text_begin, linked}
 use Rattle.program_tables.specs.Placed.{Placed, end_of, site_of, placed}
 use Rattle.program_tables.specs.Ranges.{HasRegions}
 use Rattle.program_tables.specs.Entries.{entry_of}
-use Rattle.program_frames.specs.Standing.{image_base, HasText, IsInBody}
+use Rattle.program_frames.specs.InMemory.{image_base, HasText, IsInBody}
 use Rattle.program_frames.specs.Functions.{function_of, leaf, thunk_of, probe}
 
 -- ---- the text
@@ -63,15 +63,15 @@ pub record IsWaiting (p : LinearProgram) (m : Memory) (x : Placed) (f : Frame) (
   pub room : rsp c + f.size + 8 < 2 ^ 64
   pub returns : word m (rsp c + f.size) ≡ Ok back
 
--- at an instruction of its body a routine's frame stands: it has its entry, and is past its
+-- at an instruction of its body a routine's frame is there: it has its entry, and is past its
 -- prologue and not in an epilogue
-abbrev pub BodiesStand : Type 0
-BodiesStand =
+abbrev pub BodiesHaveFrames : Type 0
+BodiesHaveFrames =
     (p : LinearProgram) (m : Memory) (index : ℕ) (x : Placed) (f : Frame) (c : Context)
     (rva back : ℕ)
     → FitsProgram p → HasRegions p → slice_get (placed p) index ≡ Some x → x.routine.frame ≡ Some f
     → IsWaiting p m x f c rva back
-    → FrameStands (functions_in (image_of (linked p))) m c (stack_frame p x f back)
+    → FrameIsAt (functions_in (image_of (linked p))) m c (stack_frame p x f back)
 
 -- the same of a leaf function, which has neither
 pub record IsLeafWaiting (p : LinearProgram) (m : Memory) (x : Placed) (c : Context)
@@ -82,12 +82,12 @@ pub record IsLeafWaiting (p : LinearProgram) (m : Memory) (x : Placed) (c : Cont
   pub room : rsp c + 8 < 2 ^ 64
   pub returns : word m (rsp c) ≡ Ok back
 
-abbrev pub LeavesStand : Type 0
-LeavesStand =
+abbrev pub LeavesHaveReturns : Type 0
+LeavesHaveReturns =
     (p : LinearProgram) (m : Memory) (index : ℕ) (x : Placed) (c : Context) (rva back : ℕ)
     → FitsProgram p → HasRegions p → slice_get (placed p) index ≡ Some x → x.routine.frame ≡ None
     → IsLeafWaiting p m x c rva back
-    → LeafStands (functions_in (image_of (linked p))) m c back
+    → LeafIsAt (functions_in (image_of (linked p))) m c back
 
 -- ---- every frame
 
@@ -98,8 +98,8 @@ pub record IsFramed (p : LinearProgram) (index : ℕ) (x : Placed) (f : Frame) :
   pub framed : x.routine.frame ≡ Some f
 
 -- its instructions are in memory, from its first byte to its end
-abbrev pub FunctionsStand : Type 0
-FunctionsStand =
+abbrev pub FunctionsAreInMemory : Type 0
+FunctionsAreInMemory =
     (p : LinearProgram) (index : ℕ) (x : Placed) (f : Frame) (m : Memory) → IsFramed p index x f
     → HasText m p
     → HasItems m (image_base + x.begin)
@@ -124,7 +124,7 @@ FramesAreFound =
     (p : LinearProgram) (index : ℕ) (x : Placed) (f : Frame) (e s : State) (distance : ℕ)
     → IsFramed p index x f → HasRegions p
     → IsEntry f.size e → HasText s.memory p → s.cpu.rip ≡ image_base + x.begin + distance
-    → Stands (function_of p x f) e s distance
+    → IsInFunction (function_of p x f) e s distance
     → FindsCaller p e s
 
 -- of what has no entry: RSP, the return address and the nonvolatile registers are those at its

@@ -1,3 +1,3 @@
-pub mod Standing
+pub mod InMemory
 pub mod Functions
 pub mod Laws

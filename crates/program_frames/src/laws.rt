@@ -1,6 +1,6 @@
 //! What holds of the frames of every program that can be linked.
 
-ghost use Rattle.program_frames.specs.Laws.{ImagesHaveText, TextsAreFixed, BodiesStand, LeavesStand, FunctionsStand, FunctionsKeepTheRules, FramesAreFound, LeavesAreFound, ThunksAreFound, ProbesAreFound};
+ghost use Rattle.program_frames.specs.Laws.{ImagesHaveText, TextsAreFixed, BodiesHaveFrames, LeavesHaveReturns, FunctionsAreInMemory, FunctionsKeepTheRules, FramesAreFound, LeavesAreFound, ThunksAreFound, ProbesAreFound};
 
 /// The text of a program is in memory when its image is loaded, and may not be written.
 pub fn text()
@@ -8,18 +8,18 @@ pub fn text()
     ensures fixed { TextsAreFixed }
 {}
 
-/// At each instruction of its body a routine's frame stands: the function table has its entry
+/// At each instruction of its body a routine's frame is there: the function table has its entry
 /// there, and undoing that entry's one code finds its return address. A leaf function has no entry,
 /// and its return address at RSP.
 pub fn bodies()
-    ensures framed { BodiesStand }
-    ensures leaves { LeavesStand }
+    ensures framed { BodiesHaveFrames }
+    ensures leaves { LeavesHaveReturns }
 {}
 
 /// The routines of a program that have a frame keep the rules by which every frame can be unwound,
 /// with the unwind infos that are written for them.
 pub fn functions()
-    ensures stand { FunctionsStand }
+    ensures stand { FunctionsAreInMemory }
     ensures right { FunctionsKeepTheRules }
 {}
 

@@ -2,7 +2,7 @@
 
 ghost use Rattle.program_shape.specs.Laws.{TablesHaveShape, HandlersDiffer, EntriesAreFlagged, FramesAreSmall};
 
-/// The entries stand in the order of their addresses. Together they have exactly one scope record
+/// The entries are in the order of their addresses. Together they have exactly one scope record
 /// for each region, and each funclet begins an entry.
 pub fn shape()
     ensures shape { TablesHaveShape }

@@ -39,7 +39,7 @@ prologue_sizes f probe some =
 entry_by : (r : RoutineView) (f : Frame) (o : Option Frame) → o ≡ Some f → 0 < f.size → sizes (frame_code 0 0 o) ≡ taking_size f.size
 entry_by r f o e some = ap (λ (x : Option Frame). sizes (frame_code 0 0 x)) e ∙ prologue_sizes f _ some
 
--- that of a routine with a frame stands first
+-- that of a routine with a frame is first
 pub entry_least : (r : RoutineView) (f : Frame) → IsRoutineNear r → r.frame ≡ Some f → 0 < f.size → taking_size f.size ≤ entry_size r
 entry_least r f near e some =
     let h = entry_by r f r.frame e some in

@@ -9,7 +9,7 @@ use Rattle.pe_write.specs.ImportTables.{import_tables}
 use Rattle.pe_write.specs.Program.{Program, IsProgram, sizes_of, text_at, rdata_at, xdata_at, pdata_at, data_section, sections_of}
 use Rattle.pe_write.specs.Written.{raw_data}
 use Rattle.pe_write.proofs.Back.{raw_length}
-use Rattle.pe_write.proofs.Programs.{xdata_stands, pdata_stands}
+use Rattle.pe_write.proofs.Programs.{xdata_is_at, pdata_is_at}
 
 -- ---- pieces
 
@@ -39,8 +39,8 @@ module _ (p : Program) (fits : IsProgram p) where
       ∷ record { address = pdata_at (sizes_of p); size = length p.pdata; raw = p.pdata; flags = 0x40000040 }
       ∷ []
 
-  text_stands : (k : ℕ) → k < length p.text → stored_in (text_at (sizes_of p) + k) (section_at (text_at (sizes_of p) + k) (sections_of p)) ≡ drop k p.text
-  text_stands k lt =
+  text_is_at : (k : ℕ) → k < length p.text → stored_in (text_at (sizes_of p) + k) (section_at (text_at (sizes_of p) + k) (sections_of p)) ≡ drop k p.text
+  text_is_at k lt =
       let at = text_at (sizes_of p) in
       let back : at + k - at ≡ k = omega arith in
       let e = raw_length (data_section p) in
@@ -56,13 +56,13 @@ module _ (p : Program) (fits : IsProgram p) where
   text_there front bytes more e some =
       let l = ap length e in
       let k = length front in
-      there (sections_of p) (text_at (sizes_of p) + k) k p.text front bytes more (text_stands k (omega (arith, length-append front (bytes ++ more), length-append bytes more))) e refl
+      there (sections_of p) (text_at (sizes_of p) + k) k p.text front bytes more (text_is_at k (omega (arith, length-append front (bytes ++ more), length-append bytes more))) e refl
 
   pub xdata_there : (front bytes more : List ℕ) → p.xdata ≡ front ++ (bytes ++ more) → 0 < length bytes → stored (sections_of p) (xdata_at (sizes_of p) + length front) (length bytes) ≡ Some bytes
   xdata_there front bytes more e some =
       let l = ap length e in
       let k = length front in
-      there (sections_of p) (xdata_at (sizes_of p) + k) k p.xdata front bytes more (xdata_stands p fits k (omega (arith, length-append front (bytes ++ more), length-append bytes more))) e refl
+      there (sections_of p) (xdata_at (sizes_of p) + k) k p.xdata front bytes more (xdata_is_at p fits k (omega (arith, length-append front (bytes ++ more), length-append bytes more))) e refl
 
   -- the whole function table, also where it is empty
   pub pdata_there : stored (sections_of p) (pdata_at (sizes_of p)) (length p.pdata) ≡ Some p.pdata
@@ -74,6 +74,6 @@ module _ (p : Program) (fits : IsProgram p) where
           let at = pdata_at (sizes_of p) in
           let zero-less : at + 0 ≡ at = omega arith in
           let l = ap length e in
-          let h = pdata_stands p fits 0 (omega arith) in
+          let h = pdata_is_at p fits 0 (omega arith) in
           let all : p.pdata ≡ [] ++ ((b ∷ bytes) ++ []) = e ∙ sym (append-nil (b ∷ bytes)) in
           there (sections_of p) at 0 p.pdata [] (b ∷ bytes) [] (ap (λ n. stored_in n (section_at n (sections_of p))) (sym zero-less) ∙ h) all refl

@@ -1,4 +1,4 @@
--- The routines of a program where they stand: its functions, and then its funclets, by their
+-- The routines of a program where they are: its functions, and then its funclets, by their
 -- numbers.
 use Rattle.std.specs.Prelude.{ℕ, ◌+◌, List, [], ◌∷◌, length}
 use Rattle.pe_write.specs.Program.{xdata_at}

@@ -29,7 +29,7 @@ const HINTED: [&[u8]; 5] = [
     b"\0\0put\0\0\0\0\0\0\0\0\0\0\0\0\0\0\0\0\0\0\0",
 ];
 
-/// Puts what stands in each of the five slots by a call through the last one, and returns 7.
+/// Puts what is in each of the five slots by a call through the last one, and returns 7.
 const PUTS_SLOTS: [u8; 79] = [
     0x48, 0x83, 0xEC, 0x28, // sub rsp, 40
     0x48, 0x8B, 0x0D, 0x4D, 0xFF, 0xFF, 0xFF, // mov rcx, [slot 0]
@@ -69,7 +69,7 @@ fn with_imports(alloc: Global) -> Result<Vec<u8>, AllocError> {
     Ok(out)
 }
 
-/// An image of one library and five imports: the descriptors stand at 0x1000, the lookup table at
+/// An image of one library and five imports: the descriptors are at 0x1000, the lookup table at
 /// 0x1040, the slots at 0x1080, the names at 0x10B0 and the code at 0x1128.
 fn importing(alloc: Global) -> Result<Vec<u8>, AllocError> {
     let mut out = with_imports(alloc)?;

@@ -132,8 +132,8 @@ fn steps(rt: HostRuntime) -> Result<(), Fail> {
     all_show(&rt, rt.alloc(), &MEANING, STEPS)
 }
 
-/// A recursion without an end meets the guard below the stack.
-fn meets_the_guard(rt: &impl Abort, alloc: Global, way: &str) -> Result<(), Fail> {
+/// A recursion without an end touches the guard below the stack.
+fn touches_the_guard(rt: &impl Abort, alloc: Global, way: &str) -> Result<(), Fail> {
     let text = "int r(int n){ return r(n + 1) + 1; } int main(void){ put(r(900)); return 0; }";
     let shown = answer_by(alloc, way, "--turns 100000000", text)?;
     let line = str::from_utf8(&shown.out).unwrap_or("");
@@ -147,10 +147,10 @@ fn meets_the_guard(rt: &impl Abort, alloc: Global, way: &str) -> Result<(), Fail
 
 #[test]
 fn stack_limit_of_run(rt: HostRuntime) -> Result<(), Fail> {
-    meets_the_guard(&rt, rt.alloc(), "run")
+    touches_the_guard(&rt, rt.alloc(), "run")
 }
 
 #[test]
 fn stack_limit_of_exec(rt: HostRuntime) -> Result<(), Fail> {
-    meets_the_guard(&rt, rt.alloc(), "exec")
+    touches_the_guard(&rt, rt.alloc(), "exec")
 }

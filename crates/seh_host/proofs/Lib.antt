@@ -1,4 +1,4 @@
-pub mod Standing
+pub mod AsLoaded
 pub mod Runs
 pub mod Slots
 pub mod Loaded

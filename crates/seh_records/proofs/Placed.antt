@@ -14,7 +14,7 @@ use Rattle.seh_records.specs.Record.{words, head, front, back, number_of, eflags
 use Rattle.seh_records.specs.Laws.{AllSmall, AreBytes, Readable, Fits, PlacedIsRecord, PlacedIsFetched, PlacedIsFetchedWhereNotRefused, PlacingLeavesOthers}
 use Rattle.seh_records.proofs.Block.{outside, one_block}
 use Rattle.seh_records.proofs.Places.{readable_bytes, below_top}
-use Rattle.seh_records.proofs.Standing.{run_is, fetched_back, count_words, eflags_small}
+use Rattle.seh_records.proofs.Fetched.{run_is, fetched_back, count_words, eflags_small}
 
 -- ---- words that come before others
 
@@ -162,8 +162,8 @@ placed_words m at r fit top =
     ap (λ (p : Memory). words_at p.byte 192 ((at + 32) % 2 ^ 64)) (sym (placed_is_written m at r fit top))
     ∙ written_words m at r fit top
 
-pub placed_stands : PlacedIsRecord
-placed_stands m at r top aligned fit readable =
+pub placed_is_record : PlacedIsRecord
+placed_is_record m at r top aligned fit readable =
     let end : at + 1568 ≤ 2 ^ 64 = omega arith in
     record {
       aligned = aligned;

@@ -8,7 +8,7 @@ use Rattle.seh_walk.specs.declared.walk.WalkState.{WalkState}
 use Rattle.seh_walk.specs.Walk.{steps}
 use Rattle.seh_search.specs.Search.{search}
 
--- with more steps it comes to the same: the bound isn't met
+-- with more steps it comes to the same: the bound isn't reached
 abbrev pub SearchesEnd : Type 0
 SearchesEnd =
     (t : Functions) (m : Memory) (w : WalkState) (n : ℕ) → AreBytes m.byte → 0 < rsp w.context

@@ -8,7 +8,7 @@ use Rattle.seh_walk.specs.declared.walk.WalkState.{WalkState}
 use Rattle.seh_walk.specs.Walk.{steps}
 use Rattle.seh_unwind.specs.Unwind.{unwind}
 
--- with more steps it comes to the same: the bound isn't met
+-- with more steps it comes to the same: the bound isn't reached
 abbrev pub UnwindingsEnd : Type 0
 UnwindingsEnd =
     (t : Functions) (m : Memory) (frame target : ℕ) (w : WalkState) (n : ℕ) → AreBytes m.byte

@@ -11,51 +11,51 @@ use Rattle.seh_records.specs.declared.dispatch.DispatchRecord.{DispatchRecord}
 use Rattle.seh_records.specs.declared.refusal.BadRecord.{BadRecord}
 use Rattle.seh_walk.specs.declared.walk.WalkState.{WalkState}
 use Rattle.seh_walk.specs.declared.walk.WalkItem as code
-use Rattle.seh_walk.specs.declared.walk.WalkItem.TheVariants as met
+use Rattle.seh_walk.specs.declared.walk.WalkItem.TheVariants as items
 use Rattle.seh_walk.specs.Walk.{Visited, Over, Past, Frame, Broken, stop_cause, refusal, saved_in, walk_in}
 
 -- what is asked at a frame is that of the entry which holds RIP
 abbrev pub seen : Functions → WalkState → code.WalkItem → Visited
-seen t w met.Over = Over
-seen t w (met.Past u) = Past u
-seen t w (met.Frame c u) =
+seen t w items.Over = Over
+seen t w (items.Past u) = Past u
+seen t w (items.Frame c u) =
     Frame (record {
       frame = c.frame;
       context = c.context;
       asked = asked_in c.in_body (entry_of t w.context.rip);
     }) u
-seen t w (met.Broken y) = Broken y
+seen t w (items.Broken y) = Broken y
 
 -- ---- what the code answers
 
-abbrev pub bad_met : ℕ → code.WalkItem
-bad_met at = met.Broken (stop_cause reasons.BadRecord at)
+abbrev pub bad_item : ℕ → code.WalkItem
+bad_item at = items.Broken (stop_cause reasons.BadRecord at)
 
-abbrev pub if_above_met : ℕ → WalkState → Bool → code.WalkItem
-if_above_met at w true = met.Past w
-if_above_met at w false = met.Broken (stop_cause reasons.Backward at)
+abbrev pub if_above_item : ℕ → WalkState → Bool → code.WalkItem
+if_above_item at w true = items.Past w
+if_above_item at w false = items.Broken (stop_cause reasons.Backward at)
 
-abbrev pub above_met : ℕ → WalkState → code.WalkItem
-above_met at w = if_above_met at w (nat_lt at (rsp w.context))
+abbrev pub above_item : ℕ → WalkState → code.WalkItem
+above_item at w = if_above_item at w (nat_lt at (rsp w.context))
 
-abbrev pub searching_met : ℕ → DispatchRecord → Kind → code.WalkItem
-searching_met at r Search = above_met at (saved_in r)
-searching_met at r ExceptionUnwind = bad_met at
-searching_met at r LocalUnwind = bad_met at
+abbrev pub searching_item : ℕ → DispatchRecord → Kind → code.WalkItem
+searching_item at r Search = above_item at (saved_in r)
+searching_item at r ExceptionUnwind = bad_item at
+searching_item at r LocalUnwind = bad_item at
 
-abbrev pub unwinding_met : ℕ → DispatchRecord → Kind → code.WalkItem
-unwinding_met at r Search = bad_met at
-unwinding_met at r ExceptionUnwind = above_met at (walk_in r)
-unwinding_met at r LocalUnwind = above_met at (walk_in r)
+abbrev pub unwinding_item : ℕ → DispatchRecord → Kind → code.WalkItem
+unwinding_item at r Search = bad_item at
+unwinding_item at r ExceptionUnwind = above_item at (walk_in r)
+unwinding_item at r LocalUnwind = above_item at (walk_in r)
 
-abbrev pub filter_met : ℕ → Result DispatchRecord BadRecord → code.WalkItem
-filter_met at (Ok r) = searching_met at r r.kind
-filter_met at (Err e) = bad_met at
+abbrev pub filter_item : ℕ → Result DispatchRecord BadRecord → code.WalkItem
+filter_item at (Ok r) = searching_item at r r.kind
+filter_item at (Err e) = bad_item at
 
-abbrev pub finally_met : ℕ → Result DispatchRecord BadRecord → code.WalkItem
-finally_met at (Ok r) = unwinding_met at r r.kind
-finally_met at (Err e) = bad_met at
+abbrev pub finally_item : ℕ → Result DispatchRecord BadRecord → code.WalkItem
+finally_item at (Ok r) = unwinding_item at r r.kind
+finally_item at (Err e) = bad_item at
 
-abbrev pub met_of : Result Caller UnwindErr → code.WalkItem
-met_of (Ok c) = met.Frame c (record { context = c.context; row = 0 })
-met_of (Err e) = met.Broken (refusal e)
+abbrev pub item_of : Result Caller UnwindErr → code.WalkItem
+item_of (Ok c) = items.Frame c (record { context = c.context; row = 0 })
+item_of (Err e) = items.Broken (refusal e)

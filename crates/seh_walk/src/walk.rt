@@ -5,7 +5,7 @@ ghost use Rattle.eh_tables.specs.Tables.{IsWhole};
 ghost use Rattle.virtual_unwind.specs.CallerOf.{functions_of};
 ghost use Rattle.seh_records.specs.Record.{fetched, fetch_answer};
 ghost use Rattle.seh_walk.specs.Walk as spec;
-ghost use Rattle.seh_walk.specs.Seen.{seen, met_of, bad_met, above_met, filter_met, finally_met};
+ghost use Rattle.seh_walk.specs.Seen.{seen, item_of, bad_item, above_item, filter_item, finally_item};
 
 use crate::stop_cause::StopCause;
 use eh_tables::Tables;
@@ -40,7 +40,7 @@ pub enum WalkItem {
 }
 
 fn bad(at: u64) -> WalkItem
-    ensures { result ≡ bad_met at }
+    ensures { result ≡ bad_item at }
 {
     WalkItem::Broken(StopCause {
         reason: Reason::BadRecord,
@@ -49,7 +49,7 @@ fn bad(at: u64) -> WalkItem
 }
 
 fn above(at: u64, to: WalkState) -> WalkItem
-    ensures { result ≡ above_met at to }
+    ensures { result ≡ above_item at to }
 {
     if at < to.context.kept[0] {
         WalkItem::Past(to)
@@ -62,7 +62,7 @@ fn above(at: u64, to: WalkState) -> WalkItem
 }
 
 fn past_filter(at: u64, answer: Result<DispatchRecord, BadRecord>) -> WalkItem
-    ensures { result ≡ filter_met at answer }
+    ensures { result ≡ filter_item at answer }
 {
     match answer {
         Err(_) => bad(at),
@@ -80,7 +80,7 @@ fn past_filter(at: u64, answer: Result<DispatchRecord, BadRecord>) -> WalkItem
 }
 
 fn past_finally(at: u64, answer: Result<DispatchRecord, BadRecord>) -> WalkItem
-    ensures { result ≡ finally_met at answer }
+    ensures { result ≡ finally_item at answer }
 {
     match answer {
         Err(_) => bad(at),
@@ -98,7 +98,7 @@ fn past_finally(at: u64, answer: Result<DispatchRecord, BadRecord>) -> WalkItem
 }
 
 fn framed(answer: Result<Caller, UnwindErr>) -> WalkItem
-    ensures { result ≡ met_of answer }
+    ensures { result ≡ item_of answer }
 {
     match answer {
         Ok(caller) => WalkItem::Frame(
@@ -120,7 +120,7 @@ fn framed(answer: Result<Caller, UnwindErr>) -> WalkItem
 }
 
 /// What a walk finds at its state.
-#[tactic(auto, using(crate::proofs::Meeting::met), unfolding(crate::specs::Walk::visited))]
+#[tactic(auto, using(crate::proofs::SeenItems::items), unfolding(crate::specs::Walk::visited))]
 pub fn visit<S: AddressSpace>(tables: &Tables, space: &S, at: &WalkState) -> WalkItem
     requires { IsWhole tables.now }
     ensures { seen (functions_of tables.now) at.now result

@@ -26,7 +26,7 @@ use Rattle.unset_locals.proofs.Events.{adds_none}
 use Rattle.scoped_programs.specs.Scoped.{Seen, IsPart}
 use Rattle.scoped_programs.proofs.Split.{seen_cases, is_parameter}
 use Rattle.set_locals.specs.Sets.{with_slot, IsLocalOf, locals_at, Leads, IsSetMap}
-use Rattle.set_locals.specs.Lives.{Marked, here, AreKept, AreCovered, IsTold, IsGiven, Before, Written, Passed, IsStep}
+use Rattle.set_locals.specs.Lives.{Marked, here, AreKept, AreCovered, IsRecorded, IsGiven, Before, Written, Passed, IsStep}
 use Rattle.set_locals.proofs.Goes as goes
 
 -- a result leaves these alone
@@ -44,7 +44,7 @@ write_stays : (c : Configuration) (to : Slot) (v : ℕ) (d : Configuration) → 
 write_stays c (Local x) v d e = subst (Stays c) (same_it (record c { store = set_local c.store c.frame.activation x v }) d e) (record { body = refl; next = refl; activation = refl; below = refl })
 write_stays c (Temporary i) v d e = temporaries_stay c (with_temporary c.frame.temporaries i v) d e
 
-module _ (program : LinearProgram) (whole : IsWhole program) (sets : BodyName → ℕ → Seen) (told : IsSetMap program sets) (marks : Marks) (c : Configuration) (stacked : IsStacked program c) (now : IsTold program sets marks c) where
+module _ (program : LinearProgram) (whole : IsWhole program) (sets : BodyName → ℕ → Seen) (recorded : IsSetMap program sets) (marks : Marks) (c : Configuration) (stacked : IsStacked program c) (now : IsRecorded program sets marks c) where
   abbrev Ok : Instruction → Configuration → Type 0
   Ok i d = IsStep program sets marks i c d
 
@@ -54,7 +54,7 @@ module _ (program : LinearProgram) (whole : IsWhole program) (sets : BodyName �
   -- to a place of the same body
   on_turn : (i : Instruction) (d : Configuration) → d.frame.body ≡ c.frame.body → d.frame.activation ≡ c.frame.activation → d.below ≡ c.below → IsPart (sets c.frame.body d.frame.next) Here → Turn (Ok i) (λ next. next d)
   on_turn i d b a w p =
-      goes.to_turn program sets told marks i c d c.frame now.running (sym a) (subst (λ name. IsPart (sets name d.frame.next) Here) (sym b) p) (subst (AreKept program sets) (sym w) now.kept) (subst (AreCovered program sets marks) (sym w) now.waiting)
+      goes.to_turn program sets recorded marks i c d c.frame now.running (sym a) (subst (λ name. IsPart (sets name d.frame.next) Here) (sym b) p) (subst (AreKept program sets) (sym w) now.kept) (subst (AreCovered program sets marks) (sym w) now.waiting)
 
   -- the result in its slot
   given : (i : Instruction) (d : Configuration) (to : Slot) (x : ℕ) → d.frame.body ≡ c.frame.body → d.frame.activation ≡ c.frame.activation → local_written program i c ≡ local_in to → IsLocalOf (locals_at program c.frame.body) to
@@ -80,7 +80,7 @@ module _ (program : LinearProgram) (whole : IsWhole program) (sets : BodyName �
       }) (λ next. refl))
 
   leads : (i : Instruction) → instruction_at program c ≡ Some i → Leads program sets c.frame.body c.frame.next i
-  leads i at = goes.leads program sets told marks i c c.frame i at
+  leads i at = goes.leads program sets recorded marks i c c.frame i at
 
   computed_turn : (to : Slot) (o : Operation) (first second : Slot) (a b : ℕ) (r : Outcome) → instruction_at program c ≡ Some (instructions.Compute to o first second) → operand (is_constant o) c first ≡ Some a → operand (is_constant o) c second ≡ Some b
       → performed (is_reserved program.globals) o a b c.store.memory ≡ r → Turn (Ok (instructions.Compute to o first second)) (λ next. computed program next to c r)
@@ -91,14 +91,14 @@ module _ (program : LinearProgram) (whole : IsWhole program) (sets : BodyName �
       (ap (λ p. local_given (outcome_of program o p (operand (is_constant o) c second) c.store.memory) to) e ∙ ap (λ p. local_given (outcome_of program o (Some a) p c.store.memory) to) f ∙ ap (λ p. local_given (Some p) to) g)
       l.1 l.2
   computed_turn to o first second a b (Raises code access) at e f g =
-      goes.raise_turn program sets told marks (instructions.Compute to o first second) c (record { code = code.0; flag = false; access = access }) SameOperation c now.kept (now.running, now.waiting) (adds_none c.events)
+      goes.raise_turn program sets recorded marks (instructions.Compute to o first second) c (record { code = code.0; flag = false; access = access }) SameOperation c now.kept (now.running, now.waiting) (adds_none c.events)
   computed_turn to o first second a b (Undefined n) at e f g = Halts (Finished (ends.Undefined n) c.events) (λ next. refl)
 
   built_in_turn : (k : BuiltIn) (first : ℕ) (vs ts : List ℕ) → instruction_at program c ≡ Some (instructions.CallBuiltIn k first) → Turn (Ok (instructions.CallBuiltIn k first)) (λ next. built_in program next k vs (with_last ts c))
   built_in_turn Put first vs ts at = on_turn (instructions.CallBuiltIn Put first) _ refl refl refl (leads (instructions.CallBuiltIn Put first) at)
   built_in_turn Protect first vs ts at = on_turn (instructions.CallBuiltIn Protect first) _ refl refl refl (leads (instructions.CallBuiltIn Protect first) at)
   built_in_turn RaiseException first vs ts at =
-      goes.raise_turn program sets told marks (instructions.CallBuiltIn RaiseException first) c (raised (get_or vs 0 0) (get_or vs 1 0)) AfterCall (with_last ts c) now.kept (now.running, now.waiting) (adds_none c.events)
+      goes.raise_turn program sets recorded marks (instructions.CallBuiltIn RaiseException first) c (raised (get_or vs 0 0) (get_or vs 1 0)) AfterCall (with_last ts c) now.kept (now.running, now.waiting) (adds_none c.events)
 
   tested_turn : (slot : Slot) (label v : ℕ) → instruction_at program c ≡ Some (instructions.JumpIfZero slot label)
       → Turn (Ok (instructions.JumpIfZero slot label)) (λ next. pick (nat_eq v 0) (next (at_label label (tested slot c))) (next (forth (tested slot c))))
@@ -117,7 +117,7 @@ module _ (program : LinearProgram) (whole : IsWhole program) (sets : BodyName �
   passed f first count function at g x q =
       let callee : IsCallee program f count = instruction_fits program whole.bodies c (instructions.Call f first count) at in
       let takes = callee.takes ∙ ap (λ (h : LinearFunction). h.parameters) (same_it callee.function function (sym callee.there ∙ g)) in
-      subst (λ n. x < n) (sym takes) (is_parameter function.parameters x (told.begins f function g x q))
+      subst (λ n. x < n) (sym takes) (is_parameter function.parameters x (recorded.begins f function g x q))
 
   act_turn : (i : Instruction) → instruction_at program c ≡ Some i → Turn (Ok i) (λ next. act program i next c)
   act_turn (instructions.Compute to o first second) at =
@@ -143,10 +143,10 @@ module _ (program : LinearProgram) (whole : IsWhole program) (sets : BodyName �
       some_turn (Ok (instructions.CallBuiltIn k first)) c.events (last_temporaries c.frame.temporaries first (count_of k)) _ (λ vs e. built_in_turn k first vs (take first c.frame.temporaries) at)
   act_turn (instructions.CallFinally k) at =
       let i = instructions.CallFinally k in
-      goes.block_turn program sets told marks i c k c.frame.held false (Waits c.frame ∷ c.below) c (leads i at).0 now.running now.kept (now.running, now.waiting) (adds_none c.events)
+      goes.block_turn program sets recorded marks i c k c.frame.held false (Waits c.frame ∷ c.below) c (leads i at).0 now.running now.kept (now.running, now.waiting) (adds_none c.events)
   act_turn (instructions.LocalUnwind label) at =
       let i = instructions.LocalUnwind label in
-      goes.unwind_turn program sets told marks i c (record { depth = length c.below; label = label; code = None; held = c.frame.held }) (Waits c.frame ∷ c.below) None c.events c.store tt (inl (record { depth = refl; label = leads i at })) now.kept
+      goes.unwind_turn program sets recorded marks i c (record { depth = length c.below; label = label; code = None; held = c.frame.held }) (Waits c.frame ∷ c.below) None c.events c.store tt (inl (record { depth = refl; label = leads i at })) now.kept
       (now.running, now.waiting) (adds_none c.events)
   act_turn (instructions.Landing to) at =
       let i = instructions.Landing to in
@@ -155,9 +155,9 @@ module _ (program : LinearProgram) (whole : IsWhole program) (sets : BodyName �
       (λ code e. written_turn i (not_landed c) to code (record { body = refl; next = refl; activation = refl; below = refl }) refl l.0 l.1)
   act_turn instructions.Separator at = on_turn instructions.Separator _ refl refl refl (leads instructions.Separator at)
   act_turn (instructions.Return from) at =
-      some_turn (Ok (instructions.Return from)) c.events (read c from) _ (λ v e. goes.end_turn program sets told marks (instructions.Return from) c c.frame.body v c stacked.above stacked.below now.kept now.waiting (adds_none c.events))
+      some_turn (Ok (instructions.Return from)) c.events (read c from) _ (λ v e. goes.end_turn program sets recorded marks (instructions.Return from) c c.frame.body v c stacked.above stacked.below now.kept now.waiting (adds_none c.events))
 
-pub step_of : (program : LinearProgram) → IsWhole program → (sets : BodyName → ℕ → Seen) → IsSetMap program sets → (marks : Marks) (c d : Configuration) → IsStacked program c → IsTold program sets marks c → (t : IsTurn program c d)
+pub step_of : (program : LinearProgram) → IsWhole program → (sets : BodyName → ℕ → Seen) → IsSetMap program sets → (marks : Marks) (c d : Configuration) → IsStacked program c → IsRecorded program sets marks c → (t : IsTurn program c d)
     → IsStep program sets marks t.instruction c d
-step_of program whole sets told marks c d s h t =
-    kept (IsStep program sets marks t.instruction c) (λ next. act program t.instruction next c) d (act_turn program whole sets told marks c s h t.instruction t.at) t.goes
+step_of program whole sets recorded marks c d s h t =
+    kept (IsStep program sets marks t.instruction c) (λ next. act program t.instruction next c) d (act_turn program whole sets recorded marks c s h t.instruction t.at) t.goes

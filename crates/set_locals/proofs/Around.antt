@@ -1,4 +1,4 @@
--- What is told around a part goes on to be told in the parts of it.
+-- What is recorded around a part continues to be recorded in the parts of it.
 use Rattle.std.proofs.Common.{◌≡◌, ◌⊎◌, inl, inr, ℕ, ◌+◌, ◌<◌, ◌≤◌, List, length, subst, arith}
 use Rattle.std.proofs.lemmas.Bool.{cases_lt}
 use Rattle.std.specs.Prelude.{true, Option, Some, None}
@@ -11,7 +11,7 @@ use Rattle.ir_expressions.specs.declared.scope.Names.{Names}
 use Rattle.ir_expressions.specs.declared.scope.Way.{Way}
 use Rattle.ir_expressions.specs.declared.scope.Way.TheVariants.{Nowhere, Jumps, Unwinds}
 use Rattle.ir_expressions.specs.Scope.{filter_names, finally_names, unwound}
-use Rattle.ir_linked.proofs.Segments.{StandsAt}
+use Rattle.ir_linked.proofs.Segments.{IsSegmentAt}
 use Rattle.scoped_programs.specs.Scoped.{Seen, with_local, IsPart, after_statement}
 use Rattle.scoped_programs.proofs.Split.{sees_own, sees_before, itself, within}
 use Rattle.set_locals.specs.Places.{statements_sets, set_in}
@@ -63,7 +63,7 @@ module _ (linear : LinearProgram) (lists : BodyName → List Seen) where
   unwound_in name seen (Unwinds label) h = h
 
   -- in the body of a `__try`, and at its end
-  pub above_body : (name : BodyName) (body : Statements) (free : ℕ) (seen : Seen) (at label : ℕ) → StandsAt (lists name) at (statements_sets free seen body) → sets name (at + statements_size body) ≡ seen → at ≤ label → label < at + statements_size body + 1
+  pub above_body : (name : BodyName) (body : Statements) (free : ℕ) (seen : Seen) (at label : ℕ) → IsSegmentAt (lists name) at (statements_sets free seen body) → sets name (at + statements_size body) ≡ seen → at ≤ label → label < at + statements_size body + 1
       → IsPart seen (sets name label)
   above_body name body free seen at label h e le lt = of (cases_lt label last)
     where

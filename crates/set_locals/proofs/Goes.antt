@@ -39,7 +39,7 @@ use Rattle.set_locals.proofs.Kept.{Left, left_are, handlers_are, filter_marked, 
 quiet_raise : (exception : Exception) → begins_block (raise_event exception ∷ []) ≡ false
 quiet_raise exception = refl
 
-module _ (program : LinearProgram) (sets : BodyName → ℕ → SeenLocals) (told : IsSetMap program sets) (marks : Marks) (j : Instruction) (begin : Configuration) where
+module _ (program : LinearProgram) (sets : BodyName → ℕ → SeenLocals) (recorded : IsSetMap program sets) (marks : Marks) (j : Instruction) (begin : Configuration) where
   abbrev Ok : Configuration → Type 0
   Ok d = IsStep program sets marks j begin d
 
@@ -63,7 +63,7 @@ module _ (program : LinearProgram) (sets : BodyName → ℕ → SeenLocals) (tol
     where
       of : (o : Option LinearBody) → body_of program f.body ≡ o → instruction_in o f.next ≡ Some i → Leads program sets f.body f.next i
       of None e at = absurd (cc)
-      of (Some b) e at = (told.bodies f.body b e).code f.next i at
+      of (Some b) e at = (recorded.bodies f.body b e).code f.next i at
 
   -- ---- unwinding
 
@@ -75,7 +75,7 @@ module _ (program : LinearProgram) (sets : BodyName → ℕ → SeenLocals) (tol
   block_given : (k flag : ℕ) (d : Configuration) (x : ℕ) → d.frame.body ≡ FuncletBody k → begins_block (drop (length begin.events) d.events) ≡ true → flag_of (slice_get program.funclets k) ≡ Some flag → x ≡ flag
       → IsGiven program sets marks j begin d x
   block_given k flag d x b s e g =
-      let lt = told.flags k flag e in
+      let lt = recorded.flags k flag e in
       Flag (ap (λ t. flag_set program t d.frame.body) s ∙ ap (flag_set program true) b ∙ e ∙ ap Some (sym g)) (subst (λ name. x < locals_at program name) (sym b) (subst (λ y. y < locals_at program (FuncletBody k)) (sym g) lt))
 
   pub block_turn : (k held : ℕ) (abnormal : Bool) (items : List Item) (c : Configuration) → Begins program sets k (here program sets c.frame) → IsCovered program sets marks c.frame → Kept items → Covered items → Since c.events
@@ -103,20 +103,20 @@ module _ (program : LinearProgram) (sets : BodyName → ℕ → SeenLocals) (tol
       → Since c.events → (IsTarget program sets t c.below → (store : Store) → Turn Ok (λ next. out next store)) → Turn Ok (λ next. unwind_body program next t (out next) rs c)
   body_turn t out [] c r p k w s o =
       pick_turn Ok (nat_eq t.depth (length c.below)) (λ next. arrive t t.code next c) (λ next. out next (left_store c.frame.body c.frame.activation c.store))
-      (λ e. arrive_turn t.code t c (reached program sets told t c.frame c.below p (eqb-true t.depth (length c.below) e)) k w)
-      (λ e. o (further program sets told t c.frame c.below p (eqb-false t.depth (length c.below) e)) (left_store c.frame.body c.frame.activation c.store))
+      (λ e. arrive_turn t.code t c (reached program sets recorded t c.frame c.below p (eqb-true t.depth (length c.below) e)) k w)
+      (λ e. o (further program sets recorded t c.frame c.below p (eqb-false t.depth (length c.below) e)) (left_store c.frame.body c.frame.activation c.store))
   body_turn t out (x ∷ rs) c r p k w s o =
       pick_turn Ok (stops t x (length c.below)) (λ next. arrive t t.code next c) (λ next. leave_region program next t x.kind rs (unwind_body program next t (out next) rs c) c)
-      (λ e. arrive_turn t.code t c (reached program sets told t c.frame c.below p (eqb-true t.depth (length c.below) (both_left _ _ e))) k w)
+      (λ e. arrive_turn t.code t c (reached program sets recorded t c.frame c.below p (eqb-true t.depth (length c.below) (both_left _ _ e))) k w)
       (λ e. leave_turn x.kind t rs (λ next. unwind_body program next t (out next) rs c) c r.0 r.1 p k w s (body_turn t out rs c r.1 p k w s o))
 
-  pub unwind_turn : (t : Target) (items : List Item) (left : Option (List Region)) (es : List Event) (store : Store) → Left program sets told left items → IsTarget program sets t items → Kept items → Covered items → Since es
+  pub unwind_turn : (t : Target) (items : List Item) (left : Option (List Region)) (es : List Event) (store : Store) → Left program sets recorded left items → IsTarget program sets t items → Kept items → Covered items → Since es
       → Turn Ok (λ next. unwind program next t items left es store)
   unwind_turn t [] left es store l p k w s = absurd p
   unwind_turn t (Waits f ∷ below) left es store l p k w s =
       body_turn t (λ next store. unwind program next (target_past f.body t) below None es store) (regions_left left (regions_at program f.body f.next)) (record { frame = f; below = below; store = store; events = es })
-      (left_are program sets told left f below l) p k w s
-      (λ q store. unwind_turn (target_past f.body t) below None es store tt (past_target program sets told f.body t below q) k w.1 s)
+      (left_are program sets recorded left f below l) p k w s
+      (λ q store. unwind_turn (target_past f.body t) below None es store tt (past_target program sets recorded f.body t below q) k w.1 s)
   unwind_turn t (Searches exception resumption asked rest ∷ below) left es store l p k w s = unwind_turn t below None es store tt p k.1 w s
   unwind_turn t (Unwinds rest older ∷ below) left es store l p k w s = unwind_turn t below (Some rest) es store k.0 p k.2 w s
 
@@ -124,14 +124,14 @@ module _ (program : LinearProgram) (sets : BodyName → ℕ → SeenLocals) (tol
 
   accept_turn : (h : Handler) (exception : Exception) (c : Configuration) → IsHandler program sets h (Waits c.frame ∷ c.below) → Kept c.below → Covered (Waits c.frame ∷ c.below) → Since c.events → Turn Ok (λ next. accept program h exception next c)
   accept_turn h exception c p k w s =
-      unwind_turn (target_of h exception.code c.frame.held) (Waits c.frame ∷ c.below) None c.events c.store tt (aimed program sets told h exception.code c.frame.held (Waits c.frame ∷ c.below) p) k w s
+      unwind_turn (target_of h exception.code c.frame.held) (Waits c.frame ∷ c.below) None c.events c.store tt (aimed program sets recorded h exception.code c.frame.held (Waits c.frame ∷ c.below) p) k w s
 
   consult_turn : (o : Option ℕ) (h : Handler) (rest : List Handler) (exception : Exception) (resumption : Resumption) (c : Configuration) → h.filter ≡ o → AreHandlers program sets (h ∷ rest) (Waits c.frame ∷ c.below)
       → Kept c.below → Covered (Waits c.frame ∷ c.below) → Since c.events → Turn Ok (λ next. consult program o h rest exception resumption next c)
   consult_turn None h rest exception resumption c e p k w s = accept_turn h exception c p.0 k w s
   consult_turn (Some i) h rest exception resumption c e p k w s =
       deeper_turn Ok 2 c.frame.held c.store c.events _ (Moves _ (record {
-        running = λ x q. Before (filter_marked program sets told marks h i (Waits c.frame ∷ c.below) e p.0 w x q);
+        running = λ x q. Before (filter_marked program sets recorded marks h i (Waits c.frame ∷ c.below) e p.0 w x q);
         waiting = w;
         kept = (p, k);
       }) (λ next. refl))
@@ -144,7 +144,7 @@ module _ (program : LinearProgram) (sets : BodyName → ℕ → SeenLocals) (tol
   pub raise_turn : (exception : Exception) (resumption : Resumption) (c : Configuration) → Kept c.below → Covered (Waits c.frame ∷ c.below) → Since c.events → Turn Ok (λ next. raise program next exception resumption c)
   raise_turn exception resumption c k w s =
       search_turn (handlers program (Waits c.frame ∷ c.below) None) exception resumption (record c { events = c.events ++ raise_event exception ∷ [] })
-      (handlers_are program sets told (Waits c.frame ∷ c.below) None tt k) k w (adds_one begin.events c.events (raise_event exception) s (quiet_raise exception))
+      (handlers_are program sets recorded (Waits c.frame ∷ c.below) None tt k) k w (adds_one begin.events c.events (raise_event exception) s (quiet_raise exception))
 
   resumed_turn : (resumption : Resumption) (c : Configuration) → IsRaisedIn program resumption (Waits c.frame ∷ c.below) → Kept c.below → Covered (Waits c.frame ∷ c.below) → Turn Ok (λ next. next (resumed resumption c))
   resumed_turn AfterCall c r k w = to_turn _ c.frame w.0 refl (leads c.frame (instructions.CallBuiltIn RaiseException r.0) r.1) k w.1

@@ -26,7 +26,7 @@ passed {X = X} P test (x ∷ xs) h = one (test x) refl (filter test xs) (passed 
     one true e ys k = (h.0 e, k)
     one false e ys k = k
 
-module _ (program : LinearProgram) (sets : BodyName → ℕ → Seen) (told : IsSetMap program sets) where
+module _ (program : LinearProgram) (sets : BodyName → ℕ → Seen) (recorded : IsSetMap program sets) where
   -- ---- regions
 
   regions_here : (f : Frame) → AreRegions program sets f (regions_at program f.body f.next)
@@ -34,7 +34,7 @@ module _ (program : LinearProgram) (sets : BodyName → ℕ → Seen) (told : Is
     where
       of : (o : Option LinearBody) → body_of program f.body ≡ o → AreRegions program sets f (filter (holds f.next) (regions_of o))
       of None e = tt
-      of (Some b) e = passed (λ (r : Region). Guards program sets f.body f.next r.kind) (holds f.next) b.regions ((told.bodies f.body b e).regions f.next)
+      of (Some b) e = passed (λ (r : Region). Guards program sets f.body f.next r.kind) (holds f.next) b.regions ((recorded.bodies f.body b e).regions f.next)
 
   abbrev pub Left : Option (List Region) → List Item → Type 0
   Left None items = Unit {0}
@@ -46,10 +46,10 @@ module _ (program : LinearProgram) (sets : BodyName → ℕ → Seen) (told : Is
 
   -- ---- handlers
 
-  handlers_stand : (f : Frame) (rs : List Region) (below : List Item) → AreRegions program sets f rs → AreHandlers program sets (handlers_in rs f.activation (length below)) (Waits f ∷ below)
-  handlers_stand f [] below h = tt
-  handlers_stand f (r ∷ rs) below h =
-      all_append (λ (g : Handler). IsHandler program sets g (Waits f ∷ below)) (handlers_of r.kind f.activation (length below)) (handlers_in rs f.activation (length below)) (of r.kind h.0) (handlers_stand f rs below h.1)
+  handlers_are_at : (f : Frame) (rs : List Region) (below : List Item) → AreRegions program sets f rs → AreHandlers program sets (handlers_in rs f.activation (length below)) (Waits f ∷ below)
+  handlers_are_at f [] below h = tt
+  handlers_are_at f (r ∷ rs) below h =
+      all_append (λ (g : Handler). IsHandler program sets g (Waits f ∷ below)) (handlers_of r.kind f.activation (length below)) (handlers_in rs f.activation (length below)) (of r.kind h.0) (handlers_are_at f rs below h.1)
     where
       of : (k : RegionKind) → Guards program sets f.body f.next k → AreHandlers program sets (handlers_of k f.activation (length below)) (Waits f ∷ below)
       of (kinds.Finally k) g = tt
@@ -68,7 +68,7 @@ module _ (program : LinearProgram) (sets : BodyName → ℕ → Seen) (told : Is
   handlers_are [] left l w = tt
   handlers_are (Waits f ∷ below) left l w =
       let rs = regions_left left (regions_at program f.body f.next) in
-      all_append (λ (h : Handler). IsHandler program sets h (Waits f ∷ below)) (handlers_in rs f.activation (length below)) (handlers program below None) (handlers_stand f rs below (left_are left f below l))
+      all_append (λ (h : Handler). IsHandler program sets h (Waits f ∷ below)) (handlers_in rs f.activation (length below)) (handlers program below None) (handlers_are_at f rs below (left_are left f below l))
       (all_map (λ (h : Handler). IsHandler program sets h below) (λ (h : Handler). IsHandler program sets h (Waits f ∷ below)) (handlers program below None) (λ h p. inr p) (handlers_are below None tt w))
   handlers_are (Searches exception resumption asked rest ∷ below) left l w = handlers_are below None tt w.1
   handlers_are (Unwinds rest target ∷ below) left l w = handlers_are below (Some rest) w.0 w.2

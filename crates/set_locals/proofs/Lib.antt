@@ -2,7 +2,7 @@ pub mod Marked
 pub mod Kept
 pub mod Goes
 pub mod Acts
-pub mod Told
+pub mod Recorded
 pub mod Straight
 pub mod Fine
 pub mod Shapes
@@ -11,5 +11,5 @@ pub mod Choices
 pub mod Loops
 pub mod Tries
 pub mod Around
-pub mod Stands
+pub mod SetParts
 pub mod Programs

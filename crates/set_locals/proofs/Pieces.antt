@@ -1,4 +1,4 @@
--- Expressions in statements, declarations and ways out, where they stand beside their sets.
+-- Expressions in statements, declarations and ways out, where they are beside their sets.
 use Rattle.std.proofs.Common.{◌≡◌, ◌⊎◌, inl, inr, ℕ, ◌+◌, ◌<◌, ◌≤◌, List, [], ◌∷◌, ◌++◌, length, refl, sym, subst, arith, length-append}
 use Rattle.std.proofs.lemmas.Bool.{ltb-true}
 use Rattle.std.proofs.lemmas.List.{length-replicate}
@@ -22,17 +22,17 @@ use Rattle.ir_expressions.specs.Expressions.{copy, expression_code}
 use Rattle.seh_ir.specs.Statements.{jump_code, return_code, leave_code, discarded_code, returned_code, condition_code, initialiser_code, declared_code, all_declared_code}
 use Rattle.ir_expressions.proofs.Codes.{expression_length}
 use Rattle.seh_ir.proofs.StatementCodes.{discarded_length, declared_length}
-use Rattle.ir_linked.proofs.Segments.{StandsAt, front, back}
+use Rattle.ir_linked.proofs.Segments.{IsSegmentAt, front, back}
 use Rattle.ir_bounds.proofs.PlainExpressions.{all_append}
 use Rattle.scoped_programs.specs.Scoped.{Seen, with_local, IsPart, expression_within, optional_within, after_declared, after_all_declared, declared_within, all_declared_within}
 use Rattle.scoped_programs.proofs.Split.{both_left, both_right, seen_cases, sees_before, part_with, within}
 use Rattle.set_locals.specs.Sets.{locals_at, Leads}
 use Rattle.set_locals.specs.Places.{initialiser_size, declared_sets, all_declared_sets, set_in}
-use Rattle.set_locals.proofs.Straight.{is_same, is_same_back, head_told, Even, even_part, even_list, Fine, AllFine, AllLead, both_lead, straight}
+use Rattle.set_locals.proofs.Straight.{is_same, is_same_back, head_recorded, Even, even_part, even_list, Fine, AllFine, AllLead, both_lead, straight}
 use Rattle.set_locals.proofs.Fine.{CodeIn, FlagIn, IsAround, expression_fine}
 use Rattle.set_locals.proofs.Shapes.{declared_long, all_declared_long, replicate_first, all_declared_first, begins, initialiser_is}
 
--- ---- what is told around a part, with one more local
+-- ---- what is recorded around a part, with one more local
 
 pub code_kept : (seen more : Seen) (s : ExceptionSource) → IsPart seen more → CodeIn seen s → CodeIn more s
 code_kept seen more NoException p h = tt
@@ -72,27 +72,27 @@ module _ (linear : LinearProgram) (lists : BodyName → List Seen) (name : BodyN
   sets n label = set_in (lists n) label
 
   abbrev pub At : ℕ → List Seen → Type 0
-  At at ys = StandsAt (lists name) at ys
+  At at ys = IsSegmentAt (lists name) at ys
 
-  abbrev pub Told : ℕ → Seen → Type 0
-  Told label seen = IsPart (sets name label) seen
+  abbrev pub IsRecordedAt : ℕ → Seen → Type 0
+  IsRecordedAt label seen = IsPart (sets name label) seen
 
   abbrev pub Lead : ℕ → List Instruction → Type 0
   Lead at code = AllLead linear sets name at code
 
-  -- where ways out lead to, no more is told
+  -- where ways out lead to, no more is recorded
   abbrev pub WayIn : Seen → Way → Type 0
   WayIn seen Nowhere = Unit {0}
-  WayIn seen (Jumps label) = Told label seen
-  WayIn seen (Unwinds label) = Told label seen
+  WayIn seen (Jumps label) = IsRecordedAt label seen
+  WayIn seen (Unwinds label) = IsRecordedAt label seen
 
   abbrev pub LabelIn : Seen → Option ℕ → Type 0
   LabelIn seen None = Unit {0}
-  LabelIn seen (Some label) = Told label seen
+  LabelIn seen (Some label) = IsRecordedAt label seen
 
   -- ---- single instructions
 
-  pub from_here : (at label : ℕ) (seen : Seen) → sets name at ≡ seen → Told label seen → IsPart (sets name label) (sets name at)
+  pub from_here : (at label : ℕ) (seen : Seen) → sets name at ≡ seen → IsRecordedAt label seen → IsPart (sets name label) (sets name at)
   from_here at label seen e t = within (sets name label) seen (sets name at) t (is_same_back (sets name at) seen e)
 
   pub jump_leads : (w : Way) (at : ℕ) (seen : Seen) → WayIn seen w → Even (sets name) seen at (at + 2) → Lead at (jump_code w)
@@ -108,7 +108,7 @@ module _ (linear : LinearProgram) (lists : BodyName → List Seen) (name : BodyN
       next = from_here at (at + 1) seen first (is_same (sets name (at + 1)) seen second)
 
       last : IsPart (sets name (at + 1 + 1)) (sets name (at + 1))
-      last = let same : at + 2 ≡ at + 1 + 1 = omega arith in from_here (at + 1) (at + 1 + 1) seen second (subst (λ n. Told n seen) same e.end)
+      last = let same : at + 2 ≡ at + 1 + 1 = omega arith in from_here (at + 1) (at + 1 + 1) seen second (subst (λ n. IsRecordedAt n seen) same e.end)
 
       of : (w : Way) → WayIn seen w → Lead at (jump_code w)
       of Nowhere h = (next, (last, tt))
@@ -128,7 +128,7 @@ module _ (linear : LinearProgram) (lists : BodyName → List Seen) (name : BodyN
       next = from_here at (at + 1) seen first (is_same (sets name (at + 1)) seen second)
 
       last : IsPart (sets name (at + 1 + 1)) (sets name (at + 1))
-      last = let same : at + 2 ≡ at + 1 + 1 = omega arith in from_here (at + 1) (at + 1 + 1) seen second (subst (λ n. Told n seen) same e.end)
+      last = let same : at + 2 ≡ at + 1 + 1 = omega arith in from_here (at + 1) (at + 1 + 1) seen second (subst (λ n. IsRecordedAt n seen) same e.end)
 
       of : (w : Way) → WayIn seen w → Lead at (return_code w)
       of Nowhere h = (next, (last, tt))
@@ -169,10 +169,10 @@ module _ (linear : LinearProgram) (lists : BodyName → List Seen) (name : BodyN
     returned_leads (Some e) at w v = value_leads e at w v
 
     -- to a label beyond, where the condition is 0
-    pub test_leads : (at label i : ℕ) → sets name at ≡ seen → Told label seen → Told (at + 1) seen → Leads linear sets name at (instructions.JumpIfZero (Temporary i) label)
+    pub test_leads : (at label i : ℕ) → sets name at ≡ seen → IsRecordedAt label seen → IsRecordedAt (at + 1) seen → Leads linear sets name at (instructions.JumpIfZero (Temporary i) label)
     test_leads at label i e t n = (tt, from_here at label seen e t, from_here at (at + 1) seen e n)
 
-    pub condition_leads : (e : Option Expression) (label at : ℕ) → optional_within before e ≡ true → Told label seen → Even (sets name) seen at (at + condition_size e) → Lead at (condition_code names e label at)
+    pub condition_leads : (e : Option Expression) (label at : ℕ) → optional_within before e ≡ true → IsRecordedAt label seen → Even (sets name) seen at (at + condition_size e) → Lead at (condition_code names e label at)
     condition_leads None label at w t v = tt
     condition_leads (Some e) label at w t v =
         let place = at + expression_size e in
@@ -180,7 +180,7 @@ module _ (linear : LinearProgram) (lists : BodyName → List Seen) (name : BodyN
         let same : at + condition_size (Some e) ≡ place + 1 = omega arith in
         both_lead linear sets name at place (expression_code names e 0 at) (instructions.JumpIfZero (Temporary 0) label ∷ []) (omega arith)
         (value_leads e at w (even_part (sets name) seen at (at + condition_size (Some e)) at place v (omega arith) (omega arith) (omega arith)))
-        (test_leads place label 0 (v.inside place (omega arith) (omega arith)) t (subst (λ n. Told n seen) same v.end), tt)
+        (test_leads place label 0 (v.inside place (omega arith) (omega arith)) t (subst (λ n. IsRecordedAt n seen) same v.end), tt)
 
     pub initialiser_leads : (x : ℕ) (e : Option Expression) (at : ℕ) → x < locals → optional_within before e ≡ true → Even (sets name) seen at (at + initialiser_size e) → Lead at (initialiser_code names x e at)
     initialiser_leads x None at lt w v = tt
@@ -193,7 +193,7 @@ module _ (linear : LinearProgram) (lists : BodyName → List Seen) (name : BodyN
   -- ---- declarations
 
   module _ (locals : ℕ) (room : locals_at linear name ≡ locals) (names : Names) (s : sound.Scope) (fits : length s.sizes ≤ locals) where
-    pub declared_leads : (d : Declared) (before seen : Seen) (at : ℕ) → IsAround locals names before seen → declared_sound s d ≡ true → declared_within before d ≡ true → At at (declared_sets seen d) → Told (at + declared_size d) (after_declared seen d)
+    pub declared_leads : (d : Declared) (before seen : Seen) (at : ℕ) → IsAround locals names before seen → declared_sound s d ≡ true → declared_within before d ≡ true → At at (declared_sets seen d) → IsRecordedAt (at + declared_size d) (after_declared seen d)
         → Lead at (declared_code names d at)
     declared_leads d before seen at a ok w h end =
         let x = d.local in
@@ -202,15 +202,15 @@ module _ (linear : LinearProgram) (lists : BodyName → List Seen) (name : BodyN
         let i = initialiser_is d.value in
         let l = length-replicate n (after_declared seen d) in
         let same : at + declared_size d ≡ at + 1 + n = omega arith in
-        let end' : Told (at + 1 + n) (after_declared seen d) = subst (λ k. Told k (after_declared seen d)) same end in
-        let first = head_told (lists name) at seen (replicate n (after_declared seen d)) h in
-        let next : Told (at + 1) (after_declared seen d) = begins (lists name) (at + 1) (at + 1 + n) (replicate n (after_declared seen d)) (after_declared seen d) (after_declared seen d) h.1 (replicate_first n (after_declared seen d)) (omega arith) end' in (
+        let end' : IsRecordedAt (at + 1 + n) (after_declared seen d) = subst (λ k. IsRecordedAt k (after_declared seen d)) same end in
+        let first = head_recorded (lists name) at seen (replicate n (after_declared seen d)) h in
+        let next : IsRecordedAt (at + 1) (after_declared seen d) = begins (lists name) (at + 1) (at + 1 + n) (replicate n (after_declared seen d)) (after_declared seen d) (after_declared seen d) h.1 (replicate_first n (after_declared seen d)) (omega arith) end' in (
           (tt, subst (λ k. x < k) (sym room) lt, subst (λ (f : Seen). IsPart (sets name (at + 1)) (with_local x f)) (sym first) next),
           initialiser_leads locals room names (after_declared before d) (after_declared seen d) (around_declared locals names before seen x lt a) x d.value (at + 1) lt w (even_list (lists name) (after_declared seen d) n (at + 1) (at + 1 + n) refl h.1 end'),
         )
 
     pub all_declared_leads : (ds : List Declared) (before seen : Seen) (at to : ℕ) → at + all_declared_size ds ≡ to → IsAround locals names before seen → all_declared_sound s ds ≡ true → all_declared_within before ds ≡ true → At at (all_declared_sets seen ds)
-        → Told to (after_all_declared seen ds) → Lead at (all_declared_code names ds at)
+        → IsRecordedAt to (after_all_declared seen ds) → Lead at (all_declared_code names ds at)
     all_declared_leads [] before seen at to e a ok w h end = tt
     all_declared_leads (d ∷ ds) before seen at to e a ok w h end =
         let mid = at + declared_size d in

@@ -19,18 +19,18 @@ use Rattle.seh_ir.specs.Statements.{statements_code}
 use Rattle.seh_ir.specs.Lowered.{own_locals, all_locals, scope_of, lowered_function, lowered_funclets, all_funclets, lowered}
 use Rattle.seh_ir.proofs.StatementCodes.{statements_length}
 use Rattle.ir_linked.proofs.Numbers.{statements_count}
-use Rattle.ir_linked.proofs.Segments.{StandsAt, front, back, stands_itself}
+use Rattle.ir_linked.proofs.Segments.{IsSegmentAt, front, back, whole_is_at}
 use Rattle.ir_typed.proofs.Stacked.{same_it}
 use Rattle.ir_typed.proofs.Lowered.{lowered_is_whole}
 use Rattle.scoped_programs.specs.Scoped.{Seen, IsPart, first_seen, function_within, functions_within, IsScoped}
 use Rattle.scoped_programs.proofs.Split.{both_left, both_right, itself, is_parameter, within}
 use Rattle.set_locals.specs.Sets.{function_locals, IsSetBody, IsSetMap}
-use Rattle.set_locals.proofs.Told.{set_map_reads_no_unset}
+use Rattle.set_locals.proofs.Recorded.{set_map_reads_no_unset}
 use Rattle.set_locals.specs.Places.{statements_sets, statements_funclet_sets, parameters_seen, function_sets, all_funclet_sets, list_of, sets_of}
 use Rattle.set_locals.specs.ScopedLaws.{ScopedHasSetMap, ScopedReadsNoUnset}
-use Rattle.set_locals.proofs.Straight.{is_same, is_same_back, head_told, both_lead}
+use Rattle.set_locals.proofs.Straight.{is_same, is_same_back, head_recorded, both_lead}
 use Rattle.set_locals.proofs.Shapes.{statements_long, statements_many, statements_first, begins}
-use Rattle.set_locals.proofs.Stands.{IsFine, IsPlace, HasFunclets, has_front, has_back, whole_body, statements_stand}
+use Rattle.set_locals.proofs.SetParts.{IsFine, IsPlace, HasFunclets, has_front, has_back, whole_body, statements_are_set}
 
 get_is : {X : Type 0} (xs : List X) (k : ℕ) (x other : X) → slice_get xs k ≡ Some x → get_or xs k other ≡ x
 get_is [] k x other e = absurd (cc)
@@ -70,9 +70,9 @@ module _ (program : Program) where
   abbrev owner : ℕ → Function → Owner
   owner number fn = record { function = number; locals = all_locals fn; parent = None }
 
-  function_stands : (fn : Function) (number j : ℕ) → function_sound program.functions fn ≡ true → function_within fn ≡ true → slice_get linear.functions number ≡ Some (lowered_function fn) → lists (FunctionBody number) ≡ function_sets fn
+  function_is_at : (fn : Function) (number j : ℕ) → function_sound program.functions fn ≡ true → function_within fn ≡ true → slice_get linear.functions number ≡ Some (lowered_function fn) → lists (FunctionBody number) ≡ function_sets fn
       → Has j (lowered_funclets number fn) (statements_funclet_sets (own_locals fn) (parameters_seen fn) fn.body) (funclets fn.body) → IsGood number × Range Fine j (j + length (funclets fn.body))
-  function_stands fn number j ok w there told f =
+  function_is_at fn number j ok w there recorded f =
       let name = FunctionBody number in
       let own = own_locals fn in
       let seen = parameters_seen fn in
@@ -85,13 +85,13 @@ module _ (program : Program) where
       let lc = statements_length scope fn.body 0 in
       let ls = length-append fn.parameters fn.locals in
       let same : size ≡ 0 + size = omega arith in
-      let whole : StandsAt (lists name) 0 list = subst (λ (l : List Seen). StandsAt l 0 list) (sym told) (stands_itself list) in
+      let whole : IsSegmentAt (lists name) 0 list = subst (λ (l : List Seen). IsSegmentAt l 0 list) (sym recorded) (whole_is_at list) in
       let tail = back (lists name) 0 size ll (replicate 2 seen) (omega arith) whole in
-      let here = head_told (lists name) size seen (seen ∷ []) tail in
-      let here_exit = head_told (lists name) (size + 1) seen [] tail.1 in
+      let here = head_recorded (lists name) size seen (seen ∷ []) tail in
+      let here_exit = head_recorded (lists name) (size + 1) seen [] tail.1 in
       let front_part = front (lists name) 0 ll (replicate 2 seen) whole in
-      let told_end = is_same (sets name size) seen here in
-      let start = begins (lists name) 0 size ll seen seen front_part (statements_first fn.body own seen seen (itself seen)) (omega arith) told_end in
+      let recorded_end = is_same (sets name size) seen here in
+      let start = begins (lists name) 0 size ll seen seen front_part (statements_first fn.body own seen seen (itself seen)) (omega arith) recorded_end in
       let few : length fn.parameters ≤ all_locals fn = omega arith in
       let place : IsPlace linear lists funclet_lists listed name (owner number fn) scope seen seen = record {
         owned = refl;
@@ -102,8 +102,8 @@ module _ (program : Program) where
         loop_next = tt;
         leave = tt;
       } in
-      let x = statements_stand linear lists funclet_lists listed fn.body name (owner number fn) (inside fn) scope seen seen 0 j place (omega arith) (omega arith) (both_left _ _ (both_left _ _ ok)) w front_part
-      (subst (λ n. IsPart (sets name n) seen) same told_end) f in
+      let x = statements_are_set linear lists funclet_lists listed fn.body name (owner number fn) (inside fn) scope seen seen 0 j place (omega arith) (omega arith) (both_left _ _ (both_left _ _ ok)) w front_part
+      (subst (λ n. IsPart (sets name n) seen) same recorded_end) f in
       let next = within (sets name (size + 1)) seen (sets name size) (is_same (sets name (size + 1)) seen here_exit) (is_same_back (sets name size) seen here) in
       let leads = both_lead linear sets name 0 size (statements_code scope fn.body 0) (constant 0 0 ∷ instructions.Return (Temporary 0) ∷ []) (omega arith) x.leads ((tt, tt, next), (tt, tt)) in
       let set : IsSetBody linear sets name body = whole_body linear lists funclet_lists listed name body leads x.regions in (
@@ -114,10 +114,10 @@ module _ (program : Program) where
         x.funclets,
       )
 
-  functions_stand : (fs : List Function) (number j : ℕ) → functions_sound program.functions fs ≡ true → functions_within fs ≡ true → StandsAt linear.functions number (map lowered_function fs) → StandsAt (map function_sets program.functions) number (map function_sets fs)
+  functions_are_at : (fs : List Function) (number j : ℕ) → functions_sound program.functions fs ≡ true → functions_within fs ≡ true → IsSegmentAt linear.functions number (map lowered_function fs) → IsSegmentAt (map function_sets program.functions) number (map function_sets fs)
       → Has j (all_funclets number fs) (all_funclet_sets fs) (sound.all_funclets fs) → Range IsGood number (number + length fs) × Range Fine j (j + length (sound.all_funclets fs))
-  functions_stand [] number j ok w g l f = (no_part IsGood number (number + 0) (omega arith), no_part Fine j (j + 0) (omega arith))
-  functions_stand (fn ∷ fs) number j ok w g l f =
+  functions_are_at [] number j ok w g l f = (no_part IsGood number (number + 0) (omega arith), no_part Fine j (j + 0) (omega arith))
+  functions_are_at (fn ∷ fs) number j ok w g l f =
       let own = lowered_funclets number fn in
       let own_sets = statements_funclet_sets (own_locals fn) (parameters_seen fn) fn.body in
       let numbers = funclets fn.body in
@@ -127,8 +127,8 @@ module _ (program : Program) where
       let many = statements_many fn.body (own_locals fn) (parameters_seen fn) in
       let first : Has j own own_sets numbers = has_front linear lists funclet_lists listed j own rest own_sets (all_funclet_sets fs) numbers (sound.all_funclets fs) f in
       let after : Has mid rest (all_funclet_sets fs) (sound.all_funclets fs) = has_back linear lists funclet_lists listed j mid own rest own_sets (all_funclet_sets fs) numbers (sound.all_funclets fs) refl count many f in
-      let x = function_stands fn number j (both_left _ _ ok) (both_left _ _ w) g.0 (get_is (map function_sets program.functions) number (function_sets fn) [] l.0) first in
-      let y = functions_stand fs (number + 1) mid (both_right _ _ ok) (both_right _ _ w) g.1 l.1 after in
+      let x = function_is_at fn number j (both_left _ _ ok) (both_left _ _ w) g.0 (get_is (map function_sets program.functions) number (function_sets fn) [] l.0) first in
+      let y = functions_are_at fs (number + 1) mid (both_right _ _ ok) (both_right _ _ w) g.1 l.1 after in
       (good_parts number (length fs) x.0 y.0, fine_parts j numbers (sound.all_funclets fs) x.1 y.1)
     where
       good_parts : (number n : ℕ) → IsGood number → Range IsGood (number + 1) (number + 1 + n) → Range IsGood number (number + suc n)
@@ -167,23 +167,23 @@ module _ (program : Program) where
     funclets_all : 0 + length (sound.all_funclets program.functions) ≡ length linear.funclets
     funclets_all = let m = as_many 0 program.functions in omega arith
 
-    all_stand : Range IsGood 0 (length linear.functions) × Range Fine 0 (length linear.funclets)
-    all_stand =
+    all_are_at : Range IsGood 0 (length linear.functions) × Range Fine 0 (length linear.funclets)
+    all_are_at =
         let counts = both_left _ _ (both_left _ _ (both_left _ _ ok)) in
         let starts = both_left _ _ counts in
-        let x = functions_stand program.functions 0 0 (both_left _ _ starts) w (stands_itself linear.functions) (stands_itself (map function_sets program.functions))
-        (record { funclets = stands_itself linear.funclets; told = stands_itself funclet_lists; numbers = both_right _ _ counts }) in
+        let x = functions_are_at program.functions 0 0 (both_left _ _ starts) w (whole_is_at linear.functions) (whole_is_at (map function_sets program.functions))
+        (record { funclets = whole_is_at linear.funclets; recorded = whole_is_at funclet_lists; numbers = both_right _ _ counts }) in
         (subst (λ n. Range IsGood 0 n) functions_all x.0, subst (λ n. Range Fine 0 n) funclets_all x.1)
 
-    bodies_told : (name : BodyName) (b : LinearBody) → body_of linear name ≡ Some b → IsSetBody linear sets name b
-    bodies_told (FunctionBody k) b e = (all_stand.0 k (omega arith) (function_there k (slice_get linear.functions k) b refl e)).body b e
-    bodies_told (FuncletBody k) b e = (all_stand.1 k (omega arith) (funclet_there k (slice_get linear.funclets k) b refl e)).body b e
+    bodies_recorded : (name : BodyName) (b : LinearBody) → body_of linear name ≡ Some b → IsSetBody linear sets name b
+    bodies_recorded (FunctionBody k) b e = (all_are_at.0 k (omega arith) (function_there k (slice_get linear.functions k) b refl e)).body b e
+    bodies_recorded (FuncletBody k) b e = (all_are_at.1 k (omega arith) (funclet_there k (slice_get linear.funclets k) b refl e)).body b e
 
     pub has_set_map : IsSetMap linear sets
     has_set_map = record {
-      begins = λ k f e. (all_stand.0 k (omega arith) (slice_get_within linear.functions k f e)).begun f e;
-      bodies = bodies_told;
-      flags = λ k x e. (all_stand.1 k (omega arith) (flag_there k (slice_get linear.funclets k) x refl e)).flag x e;
+      begins = λ k f e. (all_are_at.0 k (omega arith) (slice_get_within linear.functions k f e)).begun f e;
+      bodies = bodies_recorded;
+      flags = λ k x e. (all_are_at.1 k (omega arith) (flag_there k (slice_get linear.funclets k) x refl e)).flag x e;
     }
 
 pub scoped_has_set_map : ScopedHasSetMap

@@ -8,12 +8,12 @@ use Rattle.c_checked.specs.Expression.{Expression}
 use Rattle.c_checked.specs.Sound.{funclets_in, funclets, filter_funclet}
 use Rattle.c_checked.specs.Statement.{Declared, Filter, Always, Funclet, Statement, Declare, Block, Evaluate, If, IfElse, For, DoWhile, Return, Break, Continue, Leave, TryExcept, TryFinally, Statements, Empty, Then}
 use Rattle.ir_sizes.specs.Sizes.{expression_size, discarded_size, condition_size, returned_size, declared_size, all_declared_size, statement_size, statements_size}
-use Rattle.ir_linked.proofs.Segments.{StandsAt}
+use Rattle.ir_linked.proofs.Segments.{IsSegmentAt}
 use Rattle.ir_bounds.proofs.PlainExpressions.{all_append}
 use Rattle.scoped_programs.specs.Scoped.{Seen, with_local, IsPart, after_declared, after_all_declared, after_statement}
 use Rattle.scoped_programs.proofs.Split.{sees_before, itself, within}
 use Rattle.set_locals.specs.Places.{initialiser_size, declared_sets, all_declared_sets, statement_sets, statements_sets, filter_sets, finally_sets, statement_funclet_sets, statements_funclet_sets, set_in}
-use Rattle.set_locals.proofs.Straight.{is_same, is_same_back, head_told}
+use Rattle.set_locals.proofs.Straight.{is_same, is_same_back, head_recorded}
 
 -- ---- lengths
 
@@ -141,7 +141,7 @@ pub all_grow : (ds : List Declared) (seen : Seen) → IsPart seen (after_all_dec
 all_grow [] seen = itself seen
 all_grow (d ∷ ds) seen = within seen (after_declared seen d) (after_all_declared (after_declared seen d) ds) (sees_before seen d.local) (all_grow ds (after_declared seen d))
 
--- ---- where a part begins, no more is told than is seen before it
+-- ---- where a part begins, no more is recorded than is seen before it
 
 -- the first of a list, or where that is empty what comes after it
 abbrev pub IsFirst : Seen → Seen → List Seen → Type 0
@@ -194,11 +194,11 @@ mutual
       let more = after_statement seen s in
       first_join seen more end (statement_sets free seen s) (statements_sets free more ss) (statement_first s free seen) (statements_first ss free more end (within end seen more h (grows s seen)))
 
-pub begins : (list : List Seen) (at to : ℕ) (ys : List Seen) (seen end : Seen) → StandsAt list at ys → IsFirst seen end ys → at + length ys ≡ to → IsPart (set_in list to) end → IsPart (set_in list at) seen
+pub begins : (list : List Seen) (at to : ℕ) (ys : List Seen) (seen end : Seen) → IsSegmentAt list at ys → IsFirst seen end ys → at + length ys ≡ to → IsPart (set_in list to) end → IsPart (set_in list at) seen
 begins list at to [] seen end h k e p = let same : to ≡ at = omega arith in within (set_in list at) end seen (subst (λ n. IsPart (set_in list n) end) same p) k
-begins list at to (y ∷ ys) seen end h k e p = within (set_in list at) y seen (is_same (set_in list at) y (head_told list at y ys h)) k
+begins list at to (y ∷ ys) seen end h k e p = within (set_in list at) y seen (is_same (set_in list at) y (head_recorded list at y ys h)) k
 
--- ---- in a part at least what is seen before it is told
+-- ---- in a part at least what is seen before it is recorded
 
 abbrev pub Above : Seen → List Seen → Type 0
 Above base ys = AllByRecursion (λ (y : Seen). IsPart base y) ys
@@ -253,7 +253,7 @@ mutual
       let more = after_statement seen s in
       joined base (statement_sets free seen s) (statements_sets free more ss) (statement_above s free base seen p) (statements_above ss free base more (within base seen more p (grows s seen)))
 
-pub above_at : (list : List Seen) (at : ℕ) (ys : List Seen) (base : Seen) → StandsAt list at ys → Above base ys → (label : ℕ) → at ≤ label → label < at + length ys → IsPart base (set_in list label)
+pub above_at : (list : List Seen) (at : ℕ) (ys : List Seen) (base : Seen) → IsSegmentAt list at ys → Above base ys → (label : ℕ) → at ≤ label → label < at + length ys → IsPart base (set_in list label)
 above_at list at [] base h p label le lt = absurd (omega arith)
 above_at list at (y ∷ ys) base h p label le lt = of (cases_lt at label) (λ more. above_at list (at + 1) ys base h.1 p.1 label (omega arith) (omega arith))
   where
@@ -261,4 +261,4 @@ above_at list at (y ∷ ys) base h p label le lt = of (cases_lt at label) (λ mo
     of (inl more) go = go more
     of (inr last) go =
         let same : at ≡ label = omega arith in
-        subst (λ n. IsPart base (set_in list n)) same (within base y (set_in list at) p.0 (is_same_back (set_in list at) y (head_told list at y ys h)))
+        subst (λ n. IsPart base (set_in list n)) same (within base y (set_in list at) p.0 (is_same_back (set_in list at) y (head_recorded list at y ys h)))

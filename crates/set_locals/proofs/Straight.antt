@@ -1,4 +1,4 @@
--- Code that goes straight on, or jumps within itself, where one set is told all along.
+-- Code that goes straight on, or jumps within itself, where one set is recorded all along.
 use Rattle.std.proofs.Common.{◌≡◌, ◌⊎◌, inl, inr, ℕ, zero, suc, ◌+◌, ◌<◌, ◌≤◌, List, [], ◌∷◌, ◌++◌, length, refl, sym, ap, subst, ◌∙◌, arith}
 use Rattle.std.proofs.lemmas.Bool.{cases_lt}
 use Rattle.std.specs.List.{AllByRecursion}
@@ -10,14 +10,14 @@ use Rattle.linear_code.specs.declared.instruction.Instruction.TheVariants as ins
 use Rattle.linear_code.specs.Program.{LinearProgram}
 use Rattle.linear_machine.specs.Frames.{BodyName}
 use Rattle.linear_machine.specs.Instructions.{is_constant}
-use Rattle.ir_linked.proofs.Segments.{StandsAt}
+use Rattle.ir_linked.proofs.Segments.{IsSegmentAt}
 use Rattle.ir_typed.proofs.Stacked.{same_it}
 use Rattle.scoped_programs.specs.Scoped.{Seen, IsPart}
 use Rattle.scoped_programs.proofs.Split.{sees_before}
 use Rattle.set_locals.specs.Sets.{with_slot, ReadsIn, OperandsIn, IsLocalOf, locals_at, Leads}
 use Rattle.set_locals.specs.Places.{none_seen, set_in}
 
--- ---- what is told at a place
+-- ---- what is recorded at a place
 
 get_is : (list : List Seen) (at : ℕ) (seen : Seen) → slice_get list at ≡ Some seen → set_in list at ≡ seen
 get_is [] at seen e = absurd (cc)
@@ -30,16 +30,16 @@ is_same a b e x h = ap (λ (f : Seen). f x) (sym e) ∙ h
 pub is_same_back : (a b : Seen) → a ≡ b → IsPart b a
 is_same_back a b e x h = ap (λ (f : Seen). f x) e ∙ h
 
--- the first of a part that stands there
-pub head_told : (list : List Seen) (at : ℕ) (seen : Seen) (rest : List Seen) → StandsAt list at (seen ∷ rest) → set_in list at ≡ seen
-head_told list at seen rest h = get_is list at seen h.0
+-- the first of a part that is there
+pub head_recorded : (list : List Seen) (at : ℕ) (seen : Seen) (rest : List Seen) → IsSegmentAt list at (seen ∷ rest) → set_in list at ≡ seen
+head_recorded list at seen rest h = get_is list at seen h.0
 
 pub past_end : (list : List Seen) (label : ℕ) → length list ≤ label → set_in list label ≡ none_seen
 past_end [] label le = refl
 past_end (y ∷ list) zero le = absurd (omega arith)
 past_end (y ∷ list) (suc label) le = past_end list label (omega arith)
 
--- from one place to another a set is told, and where it ends no more
+-- from one place to another a set is recorded, and where it ends no more
 pub record Even (own : ℕ → Seen) (seen : Seen) (lo hi : ℕ) : Type 0 where
   pub inside : (label : ℕ) → lo ≤ label → label < hi → own label ≡ seen
   pub end : IsPart (own hi) seen
@@ -51,7 +51,7 @@ even_part own seen lo hi lo' hi' e a m b = record { inside = λ label le lt. e.i
     of (inl lt) = is_same (own hi') seen (e.inside hi' (omega arith) lt)
     of (inr le) = let same : hi ≡ hi' = omega arith in subst (λ n. IsPart (own n) seen) same e.end
 
-evenly : (list : List Seen) (seen : Seen) (n at : ℕ) → StandsAt list at (replicate n seen) → (label : ℕ) → at ≤ label → label < at + n → set_in list label ≡ seen
+evenly : (list : List Seen) (seen : Seen) (n at : ℕ) → IsSegmentAt list at (replicate n seen) → (label : ℕ) → at ≤ label → label < at + n → set_in list label ≡ seen
 evenly list seen zero at h label le lt = absurd (omega arith)
 evenly list seen (suc n) at h label le lt = of (cases_lt at label) (λ more. evenly list seen n (at + 1) h.1 label (omega arith) (omega arith))
   where
@@ -59,7 +59,7 @@ evenly list seen (suc n) at h label le lt = of (cases_lt at label) (λ more. eve
     of (inl more) go = go more
     of (inr last) go = let same : at ≡ label = omega arith in ap (set_in list) (sym same) ∙ get_is list at seen h.0
 
-pub even_list : (list : List Seen) (seen : Seen) (n at hi : ℕ) → at + n ≡ hi → StandsAt list at (replicate n seen) → IsPart (set_in list hi) seen → Even (set_in list) seen at hi
+pub even_list : (list : List Seen) (seen : Seen) (n at hi : ℕ) → at + n ≡ hi → IsSegmentAt list at (replicate n seen) → IsPart (set_in list hi) seen → Even (set_in list) seen at hi
 even_list list seen n at hi e h end = record { inside = λ label le lt. evenly list seen n at h label le (omega arith); end = end }
 
 -- ---- instructions of such code
@@ -104,15 +104,15 @@ module _ (program : LinearProgram) (sets : BodyName → ℕ → Seen) (name : Bo
   lead_at at (j ∷ code) (suc label) i h e = let same : at + 1 + label ≡ at + suc label = omega arith in subst (λ n. Leads program sets name n i) same (lead_at (at + 1) code label i h.1 e)
 
   -- a read of what is seen
-  pub reads_told : (own seen : Seen) (slot : Slot) → own ≡ seen → ReadsIn seen slot → ReadsIn own slot
-  reads_told own seen slot e r = subst (λ (s : Seen). ReadsIn s slot) (sym e) r
+  pub reads_recorded : (own seen : Seen) (slot : Slot) → own ≡ seen → ReadsIn seen slot → ReadsIn own slot
+  reads_recorded own seen slot e r = subst (λ (s : Seen). ReadsIn s slot) (sym e) r
 
   written_part : (a b : Seen) (to : Slot) → IsPart a b → IsPart a (with_slot to b)
   written_part a b (Local x) h y e = sees_before b x y (h y e)
   written_part a b (Temporary i) h y e = h y e
 
   module _ (locals : ℕ) (room : locals_at program name ≡ locals) (seen : Seen) (lo hi : ℕ) (even : Even (sets name) seen lo hi) where
-    -- at a place of it and at the next one no more is told than at each of its places
+    -- at a place of it and at the next one no more is recorded than at each of its places
     at_most : (label : ℕ) → lo ≤ label → label ≤ hi → IsPart (sets name label) seen
     at_most label le lt = (even_part (sets name) seen lo hi lo label even (omega arith) le lt).end
 
@@ -136,14 +136,14 @@ module _ (program : LinearProgram) (sets : BodyName → ℕ → Seen) (name : Bo
             (subst (λ (s : Seen). OperandsIn (is_constant o) s first second) (sym here) h.0, is_local to h.1, written_part (sets name (at + 1)) (sets name at) to next)
         of (instructions.Information to field) h = (is_local to h, written_part (sets name (at + 1)) (sets name at) to next)
         of (instructions.Jump label) h = from label h.0 h.1
-        of (instructions.JumpIfZero slot label) h = (reads_told (sets name at) seen slot here h.0, from label h.1.0 h.1.1, next)
+        of (instructions.JumpIfZero slot label) h = (reads_recorded (sets name at) seen slot here h.0, from label h.1.0 h.1.1, next)
         of (instructions.Call f first count) h = next
         of (instructions.CallBuiltIn f first) h = next
         of (instructions.CallFinally k) h = absurd h
         of (instructions.LocalUnwind label) h = absurd h
         of (instructions.Landing to) h = absurd h
         of instructions.Separator h = next
-        of (instructions.Return slot) h = reads_told (sets name at) seen slot here h
+        of (instructions.Return slot) h = reads_recorded (sets name at) seen slot here h
 
     pub straight : (at : ℕ) (code : List Instruction) → lo ≤ at → at + length code ≤ hi → AllFine locals lo hi seen code → AllLead at code
     straight at [] a b h = tt

@@ -1,5 +1,5 @@
--- What is known of a run with its marks: of each body that runs or waits, what its place tells has
--- been set.
+-- What is known of a run with its marks: of each body that runs or waits, what is known at its
+-- place has been set.
 use Rattle.std.specs.Prelude.{◌≡◌, ◌⊎◌, ℕ, ◌<◌, true, drop, length, List, [], ◌∷◌, slice_get, Some}
 use Rattle.std.specs.List.{AllByRecursion}
 use Rattle.linear_code.specs.declared.instruction.Instruction.{Instruction}
@@ -19,7 +19,7 @@ Marked marks k x = slice_get (marks_of marks k) x ≡ Some true
 module _ (program : LinearProgram) (sets : BodyName → ℕ → Seen) where
   -- ---- where what waits may lead
 
-  -- what is told at a frame's place
+  -- what is recorded at a frame's place
   abbrev pub here : Frame → Seen
   here f = sets f.body f.next
 
@@ -77,7 +77,7 @@ module _ (program : LinearProgram) (sets : BodyName → ℕ → Seen) where
     AreCovered (Unwinds rest target ∷ below) = AreCovered below
 
     -- marks are as many as locals; each body that runs or waits, and what waits for it
-    pub record IsTold (c : Configuration) : Type 0 where
+    pub record IsRecorded (c : Configuration) : Type 0 where
       pub marked : AreActivationsAlike marks c.store.activations c.store.activations
       pub running : IsCovered c.frame
       pub waiting : AreCovered c.below

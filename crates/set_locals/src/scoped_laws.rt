@@ -2,10 +2,10 @@
 
 ghost use Rattle.set_locals.specs.ScopedLaws.{ScopedHasSetMap, ScopedReadsNoUnset};
 
-/// Each place of the linear code tells which locals have been set: those that are declared there,
+/// Each place of the linear code records which locals have been set: those that are declared there,
 /// and the code and the flags of the blocks around.
 pub fn scoped_has_set_map()
-    ensures told { ScopedHasSetMap }
+    ensures recorded { ScopedHasSetMap }
 {}
 
 /// No run reads a local that hasn't been set.

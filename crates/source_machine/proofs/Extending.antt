@@ -19,7 +19,7 @@ use Rattle.c_model.specs.Laws.{IsPrefixOf}
 use Rattle.source_machine.specs.Frames as frames
 use Rattle.source_machine.specs.Frames.{Place, Callee, Frame, Operand, Assignment, InStatement, Sequel, Body, EndsCall, Lands, Finishes, Next, Over, Give, Start, Begin, Plan, Then, Push}
 use Rattle.source_machine.specs.Plans.{operand_plan, assignment_plan, in_statement_plan, sequel_plan, body_plan}
-use Rattle.source_machine.specs.Machine.{Machine, go_on, follow, at_state, over, unless_deep, started, begun, fetched, put, operated, entered, built_in, called, asked_by, asked, searched, target_landed, landed, finished, left_call, after_value, after_normal, after_body, resumed, given, outside, done, is_deep, with_local}
+use Rattle.source_machine.specs.Machine.{Machine, with_next, follow, at_state, over, unless_deep, started, begun, fetched, put, operated, entered, built_in, called, asked_by, asked, searched, target_landed, landed, finished, left_call, after_value, after_normal, after_body, resumed, given, outside, done, is_deep, with_local}
 use Rattle.source_machine.specs.Laws.{Extends}
 
 nothing : (es : List Event) → IsPrefixOf es es

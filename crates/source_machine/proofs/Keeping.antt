@@ -19,7 +19,7 @@ use Rattle.seh_num.specs.Widths.{low}
 use Rattle.source_machine.specs.Frames as frames
 use Rattle.source_machine.specs.Frames.{Place, context_at, ForLoop, OperandFrame, AssignmentFrame, StatementFrame, SequelFrame, BodyFrame, Frame, Operand, Assignment, InStatement, Sequel, Body, EndsCall, Lands, Finishes, Next, Start, Give, Plan, Then, Push}
 use Rattle.source_machine.specs.Plans.{chosen, operand, gives, ends, evaluates, operand_plan, assignment_plan, evaluated, iterate, for_body, branch, answer_plan, in_statement_plan, sequel_plan, body_plan}
-use Rattle.source_machine.specs.Machine.{Machine, go_on, follow, over, after_value, after_normal, after_body, left_call, target_landed, landed, finished, resumed, outside, given, unless_deep}
+use Rattle.source_machine.specs.Machine.{Machine, with_next, follow, over, after_value, after_normal, after_body, left_call, target_landed, landed, finished, resumed, outside, given, unless_deep}
 use Rattle.source_machine.specs.Waiting.{below, operand_meaning, assignment_meaning, branch_meaning, in_statement_meaning, first_meaning, sequel_meaning, body_meaning, through, through_all, comes_to}
 
 module _ (program : Program) (d : Does) where

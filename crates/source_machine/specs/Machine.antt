@@ -26,16 +26,16 @@ use Rattle.source_machine.specs.Frames as frames
 use Rattle.source_machine.specs.Frames.{Place, Callee, ForLoop, OperandFrame, AssignmentFrame, StatementFrame, SequelFrame, BodyFrame, Frame, Operand, Assignment, InStatement, Sequel, Body, EndsCall, Lands, Finishes, Next, Over, Give, Start, Begin, Plan, Then, Push}
 use Rattle.source_machine.specs.Plans.{node_plan, expression_plan, find_plan, pass_plan, operand_plan, assignment_plan, load_plan, store_plan, proceed_plan, declare_plan, evaluates, evaluated, for_body, statement_plan, in_statement_plan, sequel_plan, body_plan}
 
--- a state with the handlers around the place where it goes on, outermost first; what waits, newest
--- first; and what is done next
+-- a state with the handlers around the place where it continues, outermost first; what waits,
+-- newest first; and what is done next
 pub record Machine : Type 0 where
   pub state : State
   pub handlers : List Handler
   pub stack : List Frame
   pub next : Next
 
-abbrev pub go_on : Machine → Next → Machine
-go_on m next = record m { next = next }
+abbrev pub with_next : Machine → Next → Machine
+with_next m next = record m { next = next }
 
 abbrev pub follow : Machine → Plan → Machine
 follow m (Then next) = record m { next = next }
@@ -64,14 +64,14 @@ started m task p (suc n) =
 
 abbrev pub begun : Machine → Task → Place → Machine
 begun m (tasks.Eval e) p = follow m (expression_plan e p)
-begun m (tasks.Locate l) p = go_on m (frames.Find l p)
+begun m (tasks.Locate l) p = with_next m (frames.Find l p)
 begun m (tasks.Run s) p = follow m (statement_plan s p)
 begun m (tasks.ForIteration c next s) p =
     let k : ForLoop = record { condition = c; next = next; body = s }
     in follow m (evaluated (frames.TestsFor k p) c p (for_body k p))
 begun m (tasks.DoIteration s c) p =
     follow m (Push (Body (frames.EndsDoBody s c p)) (Start (tasks.Run s) p))
-begun m (tasks.TryBody ss) p = go_on m (frames.Proceed ss p)
+begun m (tasks.TryBody ss) p = with_next m (frames.Proceed ss p)
 begun m (tasks.Raise exc) p =
     record m {
       state = emit (raise_event exc) m.state;
@@ -90,12 +90,12 @@ begun m (tasks.RunFinally k last flag) p =
     unless_deep (is_deep m.state 2) m
     (follow (at_state m (emit (events.Finally k flag) (hold m.state)))
     (Push (Sequel frames.EndsFinally) (frames.Proceed last (record p { abnormal = flag }))))
-begun m (tasks.Retry o a b) p = go_on m (frames.Operate o a b p)
+begun m (tasks.Retry o a b) p = with_next m (frames.Operate o a b p)
 
 -- ---- places and operations
 
 abbrev pub fetched : Machine → Lvalue → ℕ → Place → Machine
-fetched m (Local x) a p = go_on m (Give (Value (local_of m.state p.activation x)))
+fetched m (Local x) a p = with_next m (Give (Value (local_of m.state p.activation x)))
 fetched m (Global access _) a p = follow m (load_plan access a p)
 fetched m (Indirection access _) a p = follow m (load_plan access a p)
 fetched m (Element access _ _) a p = follow m (load_plan access a p)
@@ -104,14 +104,14 @@ abbrev pub with_local : Machine → Place → ℕ → ℕ → Machine
 with_local m p x v = at_state m (set_local m.state p.activation x v)
 
 abbrev pub put : Machine → Lvalue → ℕ → ℕ → Place → Machine
-put m (Local x) a v p = go_on (with_local m p x v) (Give (Value v))
+put m (Local x) a v p = with_next (with_local m p x v) (Give (Value v))
 put m (Global access _) a v p = follow m (store_plan access a v p)
 put m (Indirection access _) a v p = follow m (store_plan access a v p)
 put m (Element access _ _) a v p = follow m (store_plan access a v p)
 
 abbrev pub operated : Machine → Operation → ℕ → ℕ → Place → performing.Outcome → Machine
 operated m o a b p (performing.Gives v memory) =
-    go_on (at_state m (set_memory m.state memory)) (Give (Value v))
+    with_next (at_state m (set_memory m.state memory)) (Give (Value v))
 operated m o a b p (performing.Raises code access) =
     follow m (Push (Sequel (frames.Retries o a b p))
     (Start (tasks.Raise (record { code = code.0; flag = false; access = access })) p))
@@ -120,7 +120,7 @@ operated m o a b p (performing.Undefined a') = over m (End (Some (Undefined a'))
 -- ---- calls
 
 abbrev pub entered : Machine → Option Function → List ℕ → Machine
-entered m None vs = go_on m (Give (Value 0))
+entered m None vs = with_next m (Give (Value 0))
 entered m (Some f) vs =
     let n = length m.state.frames in
     unless_deep (is_deep m.state 1) m
@@ -136,11 +136,11 @@ entered m (Some f) vs =
 
 abbrev pub built_in : Machine → BuiltIn → List ℕ → Place → Machine
 built_in m Put vs p =
-    go_on (at_state m (emit (events.Put (signed W64 (get_or vs 0 0))) m.state)) (Give (Value 0))
+    with_next (at_state m (emit (events.Put (signed W64 (get_or vs 0 0))) m.state)) (Give (Value 0))
 built_in m Protect vs p =
     let a = get_or vs 0 0 in
     let mode = signed W32 (get_or vs 1 0) in
-    go_on (at_state m (set_memory m.state (protected m.state.memory a mode)))
+    with_next (at_state m (set_memory m.state (protected m.state.memory a mode)))
     (Give (Value (of_test (is_some (rights_asked a mode)))))
 built_in m RaiseException vs p =
     follow m (Push (Sequel frames.GivesZero)
@@ -174,7 +174,7 @@ abbrev pub unhandled : Machine → Exception → Machine
 unhandled m exc = over m (End (Some (Unhandled (record { 0 = exc.code }))))
 
 abbrev pub asked_by : Machine → Filter → Handler → ℕ → Exception → Place → Machine
-asked_by m Always h level exc p = go_on m (Give (Target level exc))
+asked_by m Always h level exc p = with_next m (Give (Target level exc))
 asked_by m (Funclet k e) h level exc p =
     follow m (Push (InStatement (frames.IsAnswered level exc p))
     (Start (tasks.RunFilter k e h exc) p))
@@ -191,20 +191,20 @@ searched m (suc level) exc p = asked m (slice_get m.handlers level) level exc p
 
 abbrev pub target_landed : Machine → Bool → ℕ → Statements → Place → ℕ → Exception → Machine
 target_landed m true held block p to exc =
-    go_on (at_state m (emit (events.Except (record { 0 = exc.code }))
+    with_next (at_state m (emit (events.Except (record { 0 = exc.code }))
     (record m.state { held = held }))) (frames.Proceed block (record p { exception = exc }))
-target_landed m false held block p to exc = go_on m (Give (Target to exc))
+target_landed m false held block p to exc = with_next m (Give (Target to exc))
 
 abbrev pub landed : Machine → ℕ → Statements → Place → Result → Machine
-landed m held block p LeftTry = go_on m (Give Normal)
+landed m held block p LeftTry = with_next m (Give Normal)
 landed m held block p (Target to exc) =
     target_landed m (nat_eq to (length m.handlers)) held block p to exc
-landed m held block p how = go_on m (Give how)
+landed m held block p how = with_next m (Give how)
 
 abbrev pub finished : Machine → ℕ → Statements → Place → Result → Machine
-finished m k last p (End e) = go_on m (Give (End e))
-finished m k last p Normal = go_on m (Start (tasks.RunFinally k last false) p)
-finished m k last p LeftTry = go_on m (Start (tasks.RunFinally k last false) p)
+finished m k last p (End e) = with_next m (Give (End e))
+finished m k last p Normal = with_next m (Start (tasks.RunFinally k last false) p)
+finished m k last p LeftTry = with_next m (Start (tasks.RunFinally k last false) p)
 finished m k last p how =
     follow m (Push (Sequel (frames.GivesResult how)) (Start (tasks.RunFinally k last true) p))
 
@@ -217,25 +217,25 @@ left_by_target m n =
     at_state m (record m.state { frames = take n m.state.frames; held = m.state.held + 1 })
 
 abbrev pub left_call : Machine → ℕ → Result → Machine
-left_call m n (End e) = go_on m (Give (End e))
-left_call m n Normal = go_on (with_activations m n) (Give (Value 0))
-left_call m n (Returned v) = go_on (with_activations m n) (Give (Value v))
-left_call m n (Target to exc) = go_on (left_by_target m n) (Give (Target to exc))
-left_call m n how = go_on (with_activations m n) (Give how)
+left_call m n (End e) = with_next m (Give (End e))
+left_call m n Normal = with_next (with_activations m n) (Give (Value 0))
+left_call m n (Returned v) = with_next (with_activations m n) (Give (Value v))
+left_call m n (Target to exc) = with_next (left_by_target m n) (Give (Target to exc))
+left_call m n how = with_next (with_activations m n) (Give how)
 
 abbrev pub after_value : Machine → (ℕ → Plan) → Result → Machine
 after_value m plan (Value v) = follow m (plan v)
-after_value m plan how = go_on m (Give how)
+after_value m plan how = with_next m (Give how)
 
 abbrev pub after_normal : Machine → Plan → Result → Machine
 after_normal m plan Normal = follow m plan
-after_normal m plan how = go_on m (Give how)
+after_normal m plan how = with_next m (Give how)
 
 abbrev pub after_body : Machine → Plan → Result → Machine
 after_body m plan Normal = follow m plan
 after_body m plan Continued = follow m plan
-after_body m plan Broke = go_on m (Give Normal)
-after_body m plan how = go_on m (Give how)
+after_body m plan Broke = with_next m (Give Normal)
+after_body m plan how = with_next m (Give how)
 
 abbrev pub resumed : Machine → Frame → Result → Machine
 resumed m (Operand f) how = after_value m (operand_plan f) how
@@ -262,7 +262,7 @@ given m how (f ∷ fs) = resumed (record m { handlers = outside f m.handlers; st
 -- ---- a step
 
 abbrev pub done : Program → Machine → Next → Machine
-done program m (Over how) = go_on m (Over how)
+done program m (Over how) = with_next m (Over how)
 done program m (Give how) = given m how m.stack
 done program m (Start task p) = started m task p m.state.steps_left
 done program m (Begin task p) = begun m task p
@@ -277,11 +277,11 @@ done program m (frames.Call callee vs p) = called program m callee vs p
 done program m (frames.Proceed ss p) = follow m (proceed_plan ss p)
 done program m (frames.DeclareEach ds p) = follow m (declare_plan ds p)
 done program m (frames.DeclareName d p) = declared m d p
-done program m (frames.SetLocal x v p) = go_on (with_local m p x v) (Give Normal)
+done program m (frames.SetLocal x v p) = with_next (with_local m p x v) (Give Normal)
 done program m (frames.Guard body filter block p) = guarded m body filter block p
 done program m (frames.Answer v) =
-    go_on (at_state m (emit (events.Answer (signed W32 v)) (let_go m.state))) (Give (Value v))
-done program m frames.LetGo = go_on (at_state m (let_go m.state)) (Give Normal)
+    with_next (at_state m (emit (events.Answer (signed W32 v)) (let_go m.state))) (Give (Value v))
+done program m frames.LetGo = with_next (at_state m (let_go m.state)) (Give Normal)
 done program m (frames.Search level exc p) = searched m level exc p
 
 abbrev pub step : Program → Machine → Machine

@@ -30,7 +30,7 @@ ends = Then (Give Normal)
 abbrev pub evaluates : Expression → Place → Next
 evaluates e p = Start (tasks.Eval e) p
 
--- an operand is evaluated, and then a frame goes on
+-- an operand is evaluated, and then a frame continues
 abbrev pub operand : OperandFrame → Expression → Place → Plan
 operand f e p = Push (Operand f) (evaluates e p)
 
@@ -40,7 +40,7 @@ assignment f next = Push (Assignment f) next
 abbrev pub locates : Lvalue → Place → Next
 locates l p = Start (tasks.Locate l) p
 
--- an expression in a statement is evaluated, and without one a value stands for it
+-- an expression in a statement is evaluated, and without one a value takes its place
 abbrev pub chosen : Bool → Plan → Plan → Plan
 chosen true one other = one
 chosen false one other = other

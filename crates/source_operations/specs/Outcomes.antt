@@ -1,4 +1,4 @@
--- What the code's outcomes of operations stand for, with the memory after them.
+-- What the code's outcomes of operations represent, with the memory after them.
 use Rattle.std.specs.Prelude.{ℕ, Bool, true, false, Some}
 use Rattle.seh_num.specs.declared.width.Width.{Width}
 use Rattle.seh_num.specs.Widths.{bytes_of, low}

@@ -1,4 +1,4 @@
--- What stands in a list from an index on.
+-- What is in a list from an index on.
 use Rattle.std.proofs.Common.{◌≡◌, ℕ, suc, ◌+◌, ◌<◌, ◌≤◌, List, [], ◌∷◌, length, map, refl, sym, ap, ◌∙◌, arith, inl, inr, Some, None, add-one}
 use Rattle.std.specs.Prelude.{drop, get_or, slice_get, option_map}
 use Rattle.std.proofs.lemmas.Option.{slice_get_cases, slice_get_past, slice_get_read}

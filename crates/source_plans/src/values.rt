@@ -72,7 +72,7 @@ pub fn converted(conversion: Conversion, value: u64) -> u64
     }
 }
 
-/// The width of the numbers that stand for values of a type of a width.
+/// The width of the numbers that represent values of a type of a width.
 fn promoted(width: Width) -> Width
     ensures { result ≡ model.promoted width }
 {

@@ -1,4 +1,4 @@
--- What the activations stand for.
+-- What the activations represent.
 use Rattle.std.specs.Prelude.{ℕ, List, map}
 use Rattle.source_steps.specs.declared.activations.Activations.{Activations}
 

@@ -9,10 +9,10 @@ use Rattle.c_model.specs.State.{Result, Value, End}
 use Rattle.c_model.specs.Tasks as tasks
 use Rattle.source_machine.specs.Frames as frames
 use Rattle.source_machine.specs.Frames.{Place, Frame, Sequel, Give, Start, Push}
-use Rattle.source_machine.specs.Machine.{Machine, go_on, follow, over, outside, resumed}
+use Rattle.source_machine.specs.Machine.{Machine, with_next, follow, over, outside, resumed}
 
 abbrev pub finished : Machine → Operation → ℕ → ℕ → Place → Performed → Machine
-finished m o a b p (performed.Gives v) = go_on m (Give (Value v))
+finished m o a b p (performed.Gives v) = with_next m (Give (Value v))
 finished m o a b p (performed.Raises code access) =
     follow m (Push (Sequel (frames.Retries o a b p))
     (Start (tasks.Raise (record { code = code.0; flag = false; access = access })) p))

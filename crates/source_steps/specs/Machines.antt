@@ -1,4 +1,4 @@
--- What the code's machine stands for, with what was shown.
+-- What the code's machine represents, with what was shown.
 use Rattle.std.specs.Prelude.{◌≡◌, ℕ, List, [], ◌∷◌, ◌++◌, map, reverse, Option, Some, None}
 use Rattle.seh_num.specs.declared.event.Event.{Event}
 use Rattle.x64_memory.specs.PageMaps.{memory_of}

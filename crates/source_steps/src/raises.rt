@@ -26,7 +26,7 @@ use std::alloc::AllocError;
 
 fn unhandled<'p>(exception: Exception) -> Next<'p>
     ensures { (m : model.Machine) → model.unhandled m (views.exception_of exception)
-        ≡ model.go_on m (views.next_of result) }
+        ≡ model.with_next m (views.next_of result) }
 {
     Next::Over(Finish::Ended(Ended::Unhandled(Code(exception.code))))
 }

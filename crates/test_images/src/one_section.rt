@@ -2,7 +2,7 @@
 
 use std::alloc::{AllocError, Global};
 
-/// Where the headers of [`image`] stand.
+/// Where the headers of [`image`] are.
 pub const SIGNATURE: usize = 64;
 
 pub const OPTIONAL: usize = SIGNATURE + 24;

@@ -5,7 +5,7 @@
 //! `RtlVirtualUnwind` was called for each row on these bytes and a stack of such words, for
 //! handlers of searching and of unwinding alike. Where our answer differs by our own choice, the
 //! row's note has Wine's, and the table says what was chosen. Wine tells a handler or none: that a
-//! row without one stands in a body is ours to say.
+//! row without one is in a body is ours to say.
 
 use crate::caller_rows::all_unwind;
 use std::test::Fail;

@@ -1,6 +1,6 @@
 //! Declarations, scopes and the function that a run begins with.
 
-use crate::verdict::all_told;
+use crate::verdict::all_as_wanted;
 use std::test::Fail;
 
 /// Initialisers of globals, lengths of arrays and variables of type void (C11, 6.7.6.2 and 6.7.9).
@@ -207,15 +207,15 @@ int f(void){ return 0; } char main(void){ return 0; }
 
 #[test]
 fn initialisers(rt: HostRuntime) -> Result<(), Fail> {
-    all_told(&rt, rt.alloc(), INITIALISERS)
+    all_as_wanted(&rt, rt.alloc(), INITIALISERS)
 }
 
 #[test]
 fn names(rt: HostRuntime) -> Result<(), Fail> {
-    all_told(&rt, rt.alloc(), NAMES)
+    all_as_wanted(&rt, rt.alloc(), NAMES)
 }
 
 #[test]
 fn entry(rt: HostRuntime) -> Result<(), Fail> {
-    all_told(&rt, rt.alloc(), ENTRY)
+    all_as_wanted(&rt, rt.alloc(), ENTRY)
 }

@@ -1,6 +1,6 @@
 //! Jumps, and what filters and blocks alone may call.
 
-use crate::verdict::all_told;
+use crate::verdict::all_as_wanted;
 use std::test::Fail;
 
 /// Jumps (C11, 6.8.6; Microsoft C reference, "try-except statement", "try-finally statement"). A
@@ -96,7 +96,7 @@ int main(void){ __try{ } __finally{ return 1; } }
 
 /// What means something in filters, `__except` blocks and `__finally` blocks alone (Microsoft C
 /// reference, "try-except statement", "try-finally statement"). A fault is at the name; of two
-/// there, as where the count of the arguments is wrong too, the earlier rule is told.
+/// there, as where the count of the arguments is wrong too, the earlier rule is reported.
 const FILTERS: &str = r"
 int main(void){ __try { } __except (GetExceptionCode() == 5) { } __try { } __except (1) { GetExceptionCode(); } return 0; }
 => accepted
@@ -144,10 +144,10 @@ int main(void){ __try { } __finally { AbnormalTermination(1); } return 0; }
 
 #[test]
 fn jumps(rt: HostRuntime) -> Result<(), Fail> {
-    all_told(&rt, rt.alloc(), JUMPS)
+    all_as_wanted(&rt, rt.alloc(), JUMPS)
 }
 
 #[test]
 fn filters(rt: HostRuntime) -> Result<(), Fail> {
-    all_told(&rt, rt.alloc(), FILTERS)
+    all_as_wanted(&rt, rt.alloc(), FILTERS)
 }

@@ -1,6 +1,6 @@
 //! Lvalues and addresses.
 
-use crate::verdict::all_told;
+use crate::verdict::all_as_wanted;
 use std::test::Fail;
 
 /// Lvalues, and the operand of `&` (C11, 6.3.2.1 and 6.5.3.2). A fault is at the operand's first
@@ -70,5 +70,5 @@ int main(void){ int x; return &x == 0; }
 
 #[test]
 fn lvalues(rt: HostRuntime) -> Result<(), Fail> {
-    all_told(&rt, rt.alloc(), LVALUES)
+    all_as_wanted(&rt, rt.alloc(), LVALUES)
 }

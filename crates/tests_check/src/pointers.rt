@@ -1,6 +1,6 @@
 //! Operators on pointers.
 
-use crate::verdict::all_told;
+use crate::verdict::all_as_wanted;
 use std::test::Fail;
 
 /// Operators on pointers (C11, 6.5.2.1, 6.5.6, 6.5.8, 6.5.9 and 6.5.16.2). A fault is at the
@@ -78,5 +78,5 @@ int *p; char *q; void *v; int x; int main(void){ x <<= p; return 0; }
 
 #[test]
 fn pointers(rt: HostRuntime) -> Result<(), Fail> {
-    all_told(&rt, rt.alloc(), POINTERS)
+    all_as_wanted(&rt, rt.alloc(), POINTERS)
 }

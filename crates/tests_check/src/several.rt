@@ -1,10 +1,10 @@
 //! Texts with several faults.
 
-use crate::verdict::all_told;
+use crate::verdict::all_as_wanted;
 use std::test::Fail;
 
-/// Of several faults the one at the least place is told, and of those at one place the one whose
-/// rule is first. Where an operand holds a fault, no rule on types fails for the operator.
+/// Of several faults the one at the least place is reported, and of those at one place the one
+/// whose rule is first. Where an operand holds a fault, no rule on types fails for the operator.
 const SEVERAL: &str = r"
 int x; void x; int main(void){  return 0; }
 => Duplicate 12
@@ -62,5 +62,5 @@ int main(void){ put(1); return 0; } int put(int a, int b){ return a; }
 
 #[test]
 fn several(rt: HostRuntime) -> Result<(), Fail> {
-    all_told(&rt, rt.alloc(), SEVERAL)
+    all_as_wanted(&rt, rt.alloc(), SEVERAL)
 }

@@ -1,6 +1,6 @@
 //! Types of operands, arguments, results and conditions.
 
-use crate::verdict::all_told;
+use crate::verdict::all_as_wanted;
 use std::test::Fail;
 
 /// Implicit conversions (C11, 6.3): between integers, between pointers of one type, between a
@@ -221,30 +221,30 @@ void g(void){} void f(void){ return g(); } int main(void){  return 0; }
 
 #[test]
 fn conversions(rt: HostRuntime) -> Result<(), Fail> {
-    all_told(&rt, rt.alloc(), CONVERSIONS)
+    all_as_wanted(&rt, rt.alloc(), CONVERSIONS)
 }
 
 #[test]
 fn casts(rt: HostRuntime) -> Result<(), Fail> {
-    all_told(&rt, rt.alloc(), CASTS)
+    all_as_wanted(&rt, rt.alloc(), CASTS)
 }
 
 #[test]
 fn branches(rt: HostRuntime) -> Result<(), Fail> {
-    all_told(&rt, rt.alloc(), BRANCHES)
+    all_as_wanted(&rt, rt.alloc(), BRANCHES)
 }
 
 #[test]
 fn conditions(rt: HostRuntime) -> Result<(), Fail> {
-    all_told(&rt, rt.alloc(), CONDITIONS)
+    all_as_wanted(&rt, rt.alloc(), CONDITIONS)
 }
 
 #[test]
 fn calls(rt: HostRuntime) -> Result<(), Fail> {
-    all_told(&rt, rt.alloc(), CALLS)
+    all_as_wanted(&rt, rt.alloc(), CALLS)
 }
 
 #[test]
 fn returns(rt: HostRuntime) -> Result<(), Fail> {
-    all_told(&rt, rt.alloc(), RETURNS)
+    all_as_wanted(&rt, rt.alloc(), RETURNS)
 }

@@ -26,7 +26,7 @@ fn place(expr: &Expr) -> u64 {
     }
 }
 
-/// The place of an expression's operator, how many expressions stand around a part, and how many
+/// The place of an expression's operator, how many expressions are around a part, and how many
 /// tokens follow; or its refusal.
 pub fn told_of(alloc: Global, text: &[u8], room: u64) -> Result<String, Fail> {
     let tokens = lex(alloc, text)?;

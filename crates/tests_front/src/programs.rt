@@ -122,7 +122,7 @@ int f(){int a$255$,a$;} => 1 0 0 1
 int f(){int a$256$,a$;} => TooMany 523 Locals
 ";
 
-/// 64 statements and 64 expressions may stand around a statement or an expression, and one more
+/// 64 statements and 64 expressions may be around a statement or an expression, and one more
 /// makes it too deep.
 const NESTED: &str = r"
 int f(){$64${$;$65$}$ => 1 0 0 1

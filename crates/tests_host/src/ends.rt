@@ -1,5 +1,5 @@
 //! Exceptions that pass from function to function, and the ends of searches, unwindings and
-//! returns. `main` begins with RSP 0x707FFFD8, where its return address 0 stands.
+//! returns. `main` begins with RSP 0x707FFFD8, where its return address 0 is.
 
 use crate::dispatched::shows_of;
 use std::test::Fail;
@@ -23,7 +23,7 @@ fn an_exception_passes_to_the_caller(rt: HostRuntime) -> Result<(), Fail> {
     shows_of(&rt, rt.alloc(), &bytes, lines)
 }
 
-// The second search goes on after the block that raised: at the callee's next row, which isn't a
+// The second search continues after the block that raised: at the callee's next row, which isn't a
 // filter's, and then asks both filters of `main` anew. The second unwinding runs that next row and
 // the block of `main`; the block that raised isn't run again.
 #[test]
@@ -79,7 +79,7 @@ fn a_target_frame_is_above_all(rt: HostRuntime) -> Result<(), Fail> {
     shows_of(&rt, rt.alloc(), &bytes, lines)
 }
 
-// The record is at 0x707FF990. The search from the funclet that raises meets the return address of
+// The record is at 0x707FF990. The search from the funclet that raises finds the return address of
 // the funclet, and the record after it has no mark, or not the kind of that return.
 #[test]
 fn walks_refuse_harmed_records(rt: HostRuntime) -> Result<(), Fail> {

@@ -37,7 +37,7 @@ use Rattle.linked_stack.specs.States.{IsSane}
 use Rattle.linked_stack.specs.Unwinds.{Unwound}
 use Rattle.linked_stack.specs.Steps.{placed_in, SearchIsAnswered, AnswersAs}
 use Rattle.linked_stack.specs.Returns.{filter_turn, with_answer, answered, linear_answer, AsksTheNext, AskedTakesOver, IsContinued, IsRaisedAnew}
-use Rattle.linked_stack.proofs.Begun.{answers_go_on, finally_returns_unwind}
+use Rattle.linked_stack.proofs.Begun.{answers_continue, finally_returns_unwind}
 use Rattle.linked_stack.proofs.Returned.{filter_returns}
 use Rattle.whole_runs.specs.Ends.{HasRule}
 use Rattle.whole_runs.specs.Shadow.{WalkGives}
@@ -78,11 +78,11 @@ module _ (t : Functions) (fs : List Funclet) (program : LinearProgram) (p : Plan
     abbrev Answers : Type 0
     Answers = Shows t fs program p q (arrived t fs (filter_turn t s)) (event ∷ []) seen c.events (turns_left c + 3) shadow
 
-    go_on : AnswersAs t fs program p s r is acts exception asked rest c'
-    go_on = answers_go_on t fs program p s r is acts exception resumption asked rest c' (record { gives = answers.gives; sane = answers.sane; on = answers.on })
+    onward : AnswersAs t fs program p s r is acts exception asked rest c'
+    onward = answers_continue t fs program p s r is acts exception resumption asked rest c' (record { gives = answers.gives; sane = answers.sane; on = answers.on })
 
     resumes : p.resumes resumption c.frame r.saved ≡ true
-    resumes = answers.on.stands.linked.0.resumes
+    resumes = answers.on.is_there.linked.0.resumes
 
     shows : (x : Turn) → filter_turn t s ≡ with_answer s x → Outcome t fs program p q (arrived t fs x) seen (c.events ++ event ∷ []) (turns_left c + 3) shadow → Answers
     shows x e outcome = record { further = arrived t fs x; turns = ap (arrived t fs) e ∙ arrived_with t fs event x ∙ with_one event (arrived t fs x); outcome = outcome }
@@ -93,7 +93,7 @@ module _ (t : Functions) (fs : List Funclet) (program : LinearProgram) (p : Plan
         shows x a.turns
         (outcome_more t fs program p q (arrived t fs x) seen (c.events ++ event ∷ []) (turns_left c) (turns_left c + 3) shadow (omega arith)
         (outcome_same t fs program p q (arrived t fs x) (arrived t fs x) (λ next. search program next rest exception resumption c') seen (c.events ++ event ∷ []) (turns_left c) shadow refl a.goes
-        (searched t fs program p q image fits s at r is acts exception rest c' go_on.next memory store resumption resumes (subst HasRule (a.goes (exec program zero)) rule))))
+        (searched t fs program p q image fits s at r is acts exception rest c' onward.next memory store resumption resumes (subst HasRule (a.goes (exec program zero)) rule))))
 
     asked_takes_over : AskedTakesOver t fs program p s r is exception resumption asked rest c → HasRule (seen (exec program zero)) → Answers
     asked_takes_over a rule =
@@ -101,7 +101,7 @@ module _ (t : Functions) (fs : List Funclet) (program : LinearProgram) (p : Plan
         shows x a.turns
         (outcome_more t fs program p q (arrived t fs x) seen (c.events ++ event ∷ []) (turns_left c) (turns_left c + 3) shadow (omega arith)
         (outcome_same t fs program p q (arrived t fs x) (arrived t fs x) (λ next. accept program asked exception next c') seen (c.events ++ event ∷ []) (turns_left c) shadow refl a.goes
-        (taken_over t fs program p q image fits s at r is acts exception rest c' go_on.next memory store asked r.frame a.address a.frame_small a.address_small a.aimed (subst HasRule (a.goes (exec program zero)) rule))))
+        (taken_over t fs program p q image fits s at r is acts exception rest c' onward.next memory store asked r.frame a.address a.frame_small a.address_small a.aimed (subst HasRule (a.goes (exec program zero)) rule))))
 
     is_continued : IsContinued t fs program p s r is acts exception resumption asked rest c → Answers
     is_continued a =
@@ -116,7 +116,7 @@ module _ (t : Functions) (fs : List Funclet) (program : LinearProgram) (p : Plan
           acts = a.goes;
           shown = shown_same resumption;
           quiet = continued_quietly a;
-          walk = (let stack = a.on.stands.stack in subst (WalkGives t (restored s r)) (sym (none_below (rsp (context_of r.saved)) shadow (stack_rises t s.memory (context_of r.saved) is stack))) (on_stack t s.memory (context_of r.saved) 0 is stack));
+          walk = (let stack = a.on.is_there.stack in subst (WalkGives t (restored s r)) (sym (none_below (rsp (context_of r.saved)) shadow (stack_rises t s.memory (context_of r.saved) is stack))) (on_stack t s.memory (context_of r.saved) 0 is stack));
           leads = λ known. l.1 known free;
         }))
       where
@@ -137,12 +137,12 @@ module _ (t : Functions) (fs : List Funclet) (program : LinearProgram) (p : Plan
     raised_anew a rule =
         let e = raise_event noncontinuable in
         let c2 : Configuration = record { frame = c.frame; below = c.below; store = c.store; events = (c.events ++ event ∷ []) ++ e ∷ [] } in
-        let g = answers_go_on t fs program p s r is acts exception resumption asked rest c2 (record { gives = answers.gives; sane = answers.sane; on = answers.on }) in
+        let g = answers_continue t fs program p s r is acts exception resumption asked rest c2 (record { gives = answers.gives; sane = answers.sane; on = answers.on }) in
         let anew = again r in
         let x = searches_on t (placed_in s at anew) at anew in
         let y = arrived t fs x in
         let above = rsp (context_of r.saved) in
-        let top = in_stack t fs program p s.memory (context_of r.saved) is (Waits c.frame ∷ c.below) acts g.next.on.stands.stack g.next.on.stands.linked in
+        let top = in_stack t fs program p s.memory (context_of r.saved) is (Waits c.frame ∷ c.below) acts g.next.on.is_there.stack g.next.on.is_there.linked in
         let room : HasRoom s.memory at anew above = record { fits = g.anew.room.fits; below = g.next.room.below; small = g.next.room.small; room = g.next.room.room } in
         let untouched = placing s.memory at anew above answers.on.data_alone room top in
         let memory' = memory_untouched t fs program p q s.memory (placed s.memory at anew) c.store.memory untouched memory g.anew.on.data_alone in
@@ -186,7 +186,7 @@ module _ (t : Functions) (fs : List Funclet) (program : LinearProgram) (p : Plan
       let u = finally_returns_unwind t fs program p s r is acts rest target (Waits f ∷ below) c.store.memory c.events image.gives sane on in
       let x = arrived t fs (unwinds_on t s at r) in
       let y = arrived t fs (finally_returned t s at (fetched s.memory at)) in
-      let turns : y ≡ x = ap (λ (o : Option DispatchRecord). arrived t fs (finally_returned t s at o)) on.stands.stack.0.fetches ∙ ap (λ (b : Bool). arrived t fs (if_unwinding t s at r b)) on.stands.stack.0.kind in
+      let turns : y ≡ x = ap (λ (o : Option DispatchRecord). arrived t fs (finally_returned t s at o)) on.is_there.stack.0.fetches ∙ ap (λ (b : Bool). arrived t fs (if_unwinding t s at r b)) on.is_there.stack.0.kind in
       let same_store : c.store ≡ store_of c.store.memory acts = ap (λ (xs : List (List ℕ)). let z : Store = record { memory = c.store.memory; activations = xs } in z) store in
       let same = λ (next : Next). ap (λ (items : List Item). end_finally program next items c.events c.store) under ∙ ap (λ (z : Store). unwind program next target (Waits f ∷ below) (Some rest) c.events z) same_store in
       let few : 3 * held_below (Waits f ∷ below) ≤ turns_left c = (let z = ap held_below under in omega arith) in

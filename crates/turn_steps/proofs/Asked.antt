@@ -50,7 +50,7 @@ module _ (t : Functions) (fs : List Funclet) (program : LinearProgram) (p : Plan
   module _ (s : State) (saved : Cpu) (is : List StackItem) (acts : List Activation) (c : Configuration)
       (asks : AsksHost t fs program p s saved is (Waits c.frame ∷ c.below) acts) (memory : IsMachineMemory t fs program p q s.memory c.store.memory) (store : c.store.activations ≡ locals_of acts) where
     top : rsp (context_of saved) ≤ 0x70800000
-    top = in_stack t fs program p s.memory (context_of saved) is (Waits c.frame ∷ c.below) acts asks.on.stands.stack asks.on.stands.linked
+    top = in_stack t fs program p s.memory (context_of saved) is (Waits c.frame ∷ c.below) acts asks.on.is_there.stack asks.on.is_there.linked
 
     -- a raise shows its event, and searches
     pub raised_as : (code : Code) (flags : ℕ) (access : Option (Bool × ℕ)) (exception : Exception) (resumption : Resumption)

@@ -165,7 +165,7 @@ module _ (t : Functions) (fs : List Funclet) (program : LinearProgram) (p : Plan
     resumed = record {
       instruction = instructions.CallBuiltIn f first;
       there = here;
-      goes_on = λ r. absurd r;
+      continues = λ r. absurd r;
       done = done;
       item = put_back Rsp (temporary_at y first);
       left = [];

@@ -27,7 +27,7 @@ use Rattle.linked_stack.specs.Stack.{StackItem}
 use Rattle.linked_stack.specs.WalkLaws.{context_below}
 use Rattle.linked_stack.specs.ImagePlan.{Plan}
 use Rattle.linked_stack.specs.Linked.{HoldsWords, IsAbove, FuncletIsAbove}
-use Rattle.linked_stack.specs.ListLaws.{Stands}
+use Rattle.linked_stack.specs.ListLaws.{IsLinkedStack}
 use Rattle.linked_stack.specs.Records.{IsData, On}
 use Rattle.ir_typed.specs.Room.{HaveRoom}
 use Rattle.body_states.specs.Sites.{Sites}
@@ -99,7 +99,7 @@ module _ (t : Functions) (fs : List Funclet) (program : LinearProgram) (p : Plan
     resumed = record {
       instruction = instructions.Call f first count;
       there = at;
-      goes_on = λ r. absurd r;
+      continues = λ r. absurd r;
       done = passing ++ beginning;
       item = put_back Rsp (temporary_at y first);
       left = [];
@@ -184,11 +184,11 @@ module _ (t : Functions) (fs : List Funclet) (program : LinearProgram) (p : Plan
     awaits m room few framed keeps data_alone =
         let top = body_on_top t fs program p q image later (waiting c first) c.frame.next in_body resumed b.memory.code in
         let low = sp_low t fs program p q image s c b counted in
-        let stands : Stands t fs program p m (context_of later.cpu) top.is (Waits (waiting c first).frame ∷ c.below) b.body.acts =
+        let is_there : IsLinkedStack t fs program p m (context_of later.cpu) top.is (Waits (waiting c first).frame ∷ c.below) b.body.acts =
         outgoing_is_free s.memory m t fs program p image.laid_out room (context_of later.cpu) keeps (omega arith) top.is (waiting c first).frame c.below b.body.acts
-        (λ o e. subst (λ (x : LinearBody). room ≤ 32 + 8 * x.passed) (same_body b.body.slots.code o (sym b.body.slots.body ∙ e)) few) framed top.on.stands in (
+        (λ o e. subst (λ (x : LinearBody). room ≤ 32 + 8 * x.passed) (same_body b.body.slots.code o (sym b.body.slots.body ∙ e)) few) framed top.on.is_there in (
           top.is,
-          λ others n. on_moved t fs program p m (context_of later.cpu) (context_below back sp others) top.is (Waits (waiting c first).frame ∷ c.below) b.body.acts refl (omega (arith, n)) refl refl (record { stands = stands; data_alone = data_alone }),
+          λ others n. on_moved t fs program p m (context_of later.cpu) (context_below back sp others) top.is (Waits (waiting c first).frame ∷ c.below) b.body.acts refl (omega (arith, n)) refl refl (record { is_there = is_there; data_alone = data_alone }),
         )
       where
         same_body : (x o : LinearBody) → Some x ≡ Some o → x ≡ o

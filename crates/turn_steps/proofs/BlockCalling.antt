@@ -57,7 +57,7 @@ use Rattle.body_steps.proofs.Viewed.{IsCounted, sp_low, frame_top}
 use Rattle.body_steps.proofs.Running.{v, same_state, template_here, sp_is}
 use Rattle.turn_steps.proofs.Grounds.{top_of, begins_beneath}
 use Rattle.turn_steps.proofs.Ended.{offset_most, after_call}
-use Rattle.turn_steps.proofs.Standing.{ArrivesBelow}
+use Rattle.turn_steps.proofs.FuncletFrames.{ArrivesBelow}
 use Rattle.turn_steps.proofs.Apart.{apart_same}
 use Rattle.turn_steps.proofs.Memories.{memory_untouched}
 use Rattle.turn_steps.proofs.Pushed as pushing
@@ -173,7 +173,7 @@ module _ (t : Functions) (fs : List Funclet) (program : LinearProgram) (p : Plan
     next_resumed = record {
       instruction = instructions.Separator;
       there = separator;
-      goes_on = λ r. absurd r;
+      continues = λ r. absurd r;
       done = [];
       item = instrs.NoOperation;
       left = [];
@@ -230,7 +230,7 @@ module _ (t : Functions) (fs : List Funclet) (program : LinearProgram) (p : Plan
     resumed = record {
       instruction = instructions.Separator;
       there = separator;
-      goes_on = λ r. absurd r;
+      continues = λ r. absurd r;
       done = [];
       item = instrs.NoOperation;
       left = [];
@@ -270,7 +270,7 @@ module _ (t : Functions) (fs : List Funclet) (program : LinearProgram) (p : Plan
     list others eight =
         on_moved t fs program p called.memory (context_of later.cpu) (context_below back sp others) on_top.is (Waits c.frame ∷ c.below) b.body.acts refl (omega (arith, eight)) refl refl
         (record {
-          stands = kept_by_stores_below t fs program p s.memory bytes (context_of later.cpu) on_top.is (Waits c.frame ∷ c.below) b.body.acts keeps_above on_top.on.stands;
+          is_there = kept_by_stores_below t fs program p s.memory bytes (context_of later.cpu) on_top.is (Waits c.frame ∷ c.below) b.body.acts keeps_above on_top.on.is_there;
           data_alone = pushing.pushed_data before sp back low_enough high_enough b.memory.data_alone b.memory.stack;
         })
 

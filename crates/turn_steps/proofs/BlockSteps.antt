@@ -113,7 +113,7 @@ module _ (t : Functions) (fs : List Funclet) (program : LinearProgram) (p : Plan
               (calling.comes t fs program p q image made.room made.apart s c b counted k flagged.0 here separator framed block flagged.1) leads.comes;
           acts = goes;
           shown = refl;
-          stands = leads.stands;
+          is_there = leads.is_there;
         })
 
     pub matched : Goal

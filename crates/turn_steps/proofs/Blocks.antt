@@ -67,7 +67,7 @@ use Rattle.body_steps.proofs.Written.{set_length, local_after}
 use Rattle.body_steps.specs.Known.{IsKnown}
 use Rattle.turn_steps.specs.FuncletEntries.{entry_turns, FlagsFit}
 use Rattle.turn_steps.proofs.Making.{LeadsBy}
-use Rattle.turn_steps.proofs.Standing.{ArrivesBelow, IsLaid, funclet_laid, HasFrame, first_frame, beginning, begins}
+use Rattle.turn_steps.proofs.FuncletFrames.{ArrivesBelow, IsLaid, funclet_laid, HasFrame, first_frame, beginning, begins}
 use Rattle.turn_steps.proofs.Known.{HasLocals, activation_at, as_many, no_leaf, parent_locals, leads_by, locals_counted, owner_framed}
 use Rattle.turn_steps.proofs.Entering.{HasEntered, entered, first_small, quiet_there}
 use Rattle.turn_steps.proofs.Grounds.{top_of, begins_beneath}
@@ -148,7 +148,7 @@ module _ (t : Functions) (fs : List Funclet) (program : LinearProgram) (p : Plan
     leads = leads_by t fs program p q image s.memory f f.parent a.name (register s.cpu Rdx) a.reaches.base parent owner a.reaches.leads
 
     some : 0 < length f.body.code
-    some = has_first program (FuncletBody k) f.body typed.goes_on.instruction (ap funclet_body known.there) typed.goes_on.at
+    some = has_first program (FuncletBody k) f.body typed.continues.instruction (ap funclet_body known.there) typed.continues.at
 
     flag_fits : flag < f.body.locals
     flag_fits = fits k flag f known.there flagged
@@ -156,7 +156,7 @@ module _ (t : Functions) (fs : List Funclet) (program : LinearProgram) (p : Plan
     abbrev e : HasEntered t fs program p q image s k l a.reaches.base
     e = entered t fs program p q image s k (of_test abnormal) activation items acts l a store.memory memory (length acts + held) space few leads
 
-    -- ---- the frame stands before the flag is stored: as at the first instruction
+    -- ---- the frame is before the flag is stored: as at the first instruction
 
     abbrev s1 : State
     s1 = machine e.after (p.address (FuncletBody k) 0) e.flags
@@ -407,7 +407,7 @@ module _ (t : Functions) (fs : List Funclet) (program : LinearProgram) (p : Plan
         ran t fs program p q top1 (top1 + 8) b1.body.back others1 list1 mid y1 x y.frame 8 (run_3.0, run_3.1, (x, run_2.1, refl))
         ((refl, inl refl), ((near slot (omega arith), inl refl), tt)) (subst (λ n. HasCode y1.memory n mid) place code) kept_base.has beneath_1 refl refl finds
 
-    -- the store leads to another memory, in which the same list stands
+    -- the store leads to another memory, in which the same list is
     others_there : others_of u.cpu.registers ≡ others1
     others_there = ap (λ (xs : List ℕ). others_of (0 ∷ 0 ∷ 0 ∷ xs)) r.rest
 
@@ -416,7 +416,7 @@ module _ (t : Functions) (fs : List Funclet) (program : LinearProgram) (p : Plan
         let h = frame_top t fs program p q image s1 c1 b1 counted in
         let on = new_on t fs program p q image s1 c1 b1 counted u d values [] ran_here (λ z. let w : true ≡ false = sym z ∙ l.plan.framed in absurd cc) (λ j z. framed_owner) (others_of u.cpu.registers) refl in
         subst (λ o. Beneath t u top1 (top1 + 8) b1.body.back o list1) others_there
-        (beneath_by t u top1 b1.body.back list1 sane_here.count (returns t fs program p q image s1 c1 b1 counted u d values [] ran_here) on.stands.stack (omega arith) on.data_alone.no_code)
+        (beneath_by t u top1 b1.body.back list1 sane_here.count (returns t fs program p q image s1 c1 b1 counted u d values [] ran_here) on.is_there.stack (omega arith) on.data_alone.no_code)
 
     last_step : Steps x u
     last_step = subst (Steps x) run_1.2 run_1.1
@@ -456,5 +456,5 @@ module _ (t : Functions) (fs : List Funclet) (program : LinearProgram) (p : Plan
       few = (let z = e.few in let w = last_few in omega arith);
       state = u;
       comes = enters_quietly t fs program p q image (e.turns + length last) s u run keeps_shadow memory.code (quiet_there t fs program p q image k l u rip_here some);
-      stands = begins_here;
+      is_there = begins_here;
     }

@@ -74,7 +74,7 @@ module _ (t : Functions) (fs : List Funclet) (program : LinearProgram) (p : Plan
     resumed = record {
       instruction = instructions.CallBuiltIn f first;
       there = at;
-      goes_on = λ h. h;
+      continues = λ h. h;
       done = clear_result ∷ (arguments_code y first ++ (call_it ∷ []));
       item = put_back Rsp (temporary_at y first);
       left = [];

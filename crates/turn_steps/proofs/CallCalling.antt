@@ -203,10 +203,10 @@ module _ (t : Functions) (fs : List Funclet) (program : LinearProgram) (p : Plan
         let parts = code_split s.memory s.cpu.rip passing (call_code layout (Temporary first) first there target) whole in
         (parts.0, (code_split s.memory there (begin_call layout first there target) (keep layout (Temporary first)) parts.1).0)
 
-    -- the code of the call stands while arguments are passed
+    -- the code of the call is while arguments are passed
     kept_code : HasCode handed.memory there (begin_call layout first there target)
     kept_code = record {
-      stands = bytes_kept s.memory handed.memory there (spelled (begin_call layout first there target)) (λ a fixed. handed.same a (outside a fixed)) handed.protection codes.1.stands;
+      is_there = bytes_kept s.memory handed.memory there (spelled (begin_call layout first there target)) (λ a fixed. handed.same a (outside a fixed)) handed.protection codes.1.is_there;
       placed = codes.1.placed;
     }
       where

@@ -179,7 +179,7 @@ module _ (t : Functions) (fs : List Funclet) (program : LinearProgram) (p : Plan
     resumed = record {
       instruction = instructions.Call f first count;
       there = at;
-      goes_on = λ h. h;
+      continues = λ h. h;
       done = before ++ (call_it ∷ []);
       item = put_back Rsp (temporary_at y first);
       left = [];

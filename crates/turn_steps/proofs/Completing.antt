@@ -46,7 +46,7 @@ use Rattle.body_steps.proofs.Activated.{activated}
 use Rattle.body_steps.proofs.Viewed.{IsCounted, is_machine, placed}
 use Rattle.body_steps.proofs.Reaching.{Keeps, reaches_keeps, stays_sane}
 use Rattle.body_steps.proofs.Next.{Leaves, further, Ran, begins_next}
-use Rattle.body_steps.proofs.Shadowed.{kept_by_rest, stands_here, stands_after, ends_at, RunsKeep}
+use Rattle.body_steps.proofs.Shadowed.{kept_by_rest, is_here, is_after, ends_at, RunsKeep}
 use Rattle.body_steps.proofs.Whole.{finish_keeps}
 use Rattle.body_steps.proofs.Running.{Surroundings, dropped, has_slots, next_address, quiet_at}
 use Rattle.body_steps.proofs.Written.{locals_after, temporaries_after, FitsAfter, one_more}
@@ -137,13 +137,13 @@ module _ (t : Functions) (fs : List Funclet) (program : LinearProgram) (p : Plan
     -- each turn keeps the shadow
     keeps_shadow : AllKeep t fs n s
     keeps_shadow =
-        keep u r.comes (ends_at t fs program p q image old c begins counted u label at lt (kept_by_rest r.after.rest s.cpu.registers r.rest) (stands_after t fs program p q image old c begins counted u d values ts ran around.caller around.owner))
+        keep u r.comes (ends_at t fs program p q image old c begins counted u label at lt (kept_by_rest r.after.rest s.cpu.registers r.rest) (is_after t fs program p q image old c begins counted u d values ts ran around.caller around.owner))
 
     quietly : Comes t fs n s [] u
     quietly = reaches_quietly t fs program p q image n s u r.comes keeps_shadow w.memory.code (quiet_at t fs program p q image made.room old c begins counted label rip at lt small u refl)
 
-    goes_on : Begins t fs program p q u (further t fs program p q image c begins.body.acts label values ts landed d.memory c.events)
-    goes_on =
+    continues : Begins t fs program p q u (further t fs program p q image c begins.body.acts label values ts landed d.memory c.events)
+    continues =
         begins_next t fs program p q image old c begins counted u d values ts ran label landed c.events at lt (stays_sane s u keeps small w.sane)
         (λ value e. let z : ◌≡◌ {A = Option ℕ} None (Some value) = sym nothing ∙ e in absurd cc)
         around.caller around.owner
@@ -163,12 +163,12 @@ module _ (t : Functions) (fs : List Funclet) (program : LinearProgram) (p : Plan
           comes = quietly;
           acts = acts;
           shown = sym (append-nil c.events);
-          stands = subst (λ (xs : List (List ℕ)). let o : Configuration = record {
+          is_there = subst (λ (xs : List (List ℕ)). let o : Configuration = record {
             frame = record c.frame { next = label; temporaries = ts; landed = landed };
             below = c.below;
             store = record { memory = d.memory; activations = xs };
             events = c.events;
-          } in Begins t fs program p q u o) store goes_on;
+          } in Begins t fs program p q u o) store continues;
         }
 
   -- ---- the step
@@ -216,7 +216,7 @@ module _ (t : Functions) (fs : List Funclet) (program : LinearProgram) (p : Plan
     rest_keeps : RunsKeep t fs program p q image old c begins counted (length finish) s
     rest_keeps =
         finish_keeps t fs program p q image made.room old c begins counted around to o first second (midst.at_here t fs program p q image made s c w known) s (seen_by_templates s) (is_machine s w.sane.count)
-        (record { rip = w.again.here; registers = refl; stands = stands_here t fs program p q image old c begins counted }) refl refl (record { protection = refl; fixed = λ a f. refl; count = refl; small = λ h. h })
+        (record { rip = w.again.here; registers = refl; is_there = is_here t fs program p q image old c begins counted }) refl refl (record { protection = refl; fixed = λ a f. refl; count = refl; small = λ h. h })
         (register s.cpu Rax) (register s.cpu Rcx) value m (midst.first_small t fs program p q image made s c w known) (midst.second_small t fs program p q image made s c w known)
         (midst.operands_wait t fs program p q image made s c w known) (midst.same_outcome t fs program p q image made s c w known (Gives value m) gives)
 

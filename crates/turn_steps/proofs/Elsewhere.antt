@@ -83,7 +83,7 @@ module _ (t : Functions) (fs : List Funclet) (program : LinearProgram) (p : Plan
           returns = reads.words (sp + frame) b.body.back (omega arith) h b.body.returns;
           is = b.body.is;
           below = λ others eight. record {
-            stands = kept_by_other_memories t fs program p s.memory m (context_below b.body.back (sp + frame + 8) others) b.body.is c.below (activations_below c.frame.body b.body.acts) (higher_stack s.memory m sp (sp + frame + 8) (omega arith) keeps) (omega arith) (b.body.below others eight).stands;
+            is_there = kept_by_other_memories t fs program p s.memory m (context_below b.body.back (sp + frame + 8) others) b.body.is c.below (activations_below c.frame.body b.body.acts) (higher_stack s.memory m sp (sp + frame + 8) (omega arith) keeps) (omega arith) (b.body.below others eight).is_there;
             data_alone = memory.data_alone;
           };
         };

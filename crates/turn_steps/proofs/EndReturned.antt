@@ -41,7 +41,7 @@ use Rattle.body_steps.proofs.Viewed.{IsCounted}
 use Rattle.turn_steps.specs.FuncletEntries.{FlagsFit}
 use Rattle.turn_steps.proofs.Leaving as leaving
 use Rattle.turn_steps.proofs.Leaving.{returns_soon}
-use Rattle.turn_steps.specs.Outcomes.{Stands}
+use Rattle.turn_steps.specs.Outcomes.{Represents}
 use Rattle.turn_steps.specs.TurnEntries.{Continuations}
 use Rattle.turn_steps.specs.TurnLaws.{waiting_below}
 use Rattle.turn_steps.proofs.Funclets.{filter_step, finally_step}
@@ -109,8 +109,8 @@ module _ (t : Functions) (fs : List Funclet) (program : LinearProgram) (p : Plan
 
       on_top : IsSearchOnTop (context_below back top rest_of_context) b.body.is
       on_top =
-          let stands = (subst (λ ys. On t fs program p s.memory (context_below back top rest_of_context) b.body.is ys b.body.acts) under laid).stands in
-          search_on_top t fs program p s.memory (context_below back top rest_of_context) b.body.is exception resumption asked rest (Waits w ∷ below) b.body.acts stands.stack stands.linked
+          let is_there = (subst (λ ys. On t fs program p s.memory (context_below back top rest_of_context) b.body.is ys b.body.acts) under laid).is_there in
+          search_on_top t fs program p s.memory (context_below back top rest_of_context) b.body.is exception resumption asked rest (Waits w ∷ below) b.body.acts is_there.stack is_there.linked
 
       is_answered : SearchIsAnswered t fs program p after on_top.dispatch on_top.others b.body.acts exception resumption asked rest (waiting_below c w below)
       is_answered = record {
@@ -127,7 +127,7 @@ module _ (t : Functions) (fs : List Funclet) (program : LinearProgram) (p : Plan
           ∙ answer_low program next x exception resumption asked rest w below c.events c.store
           ∙ ap (λ v. answer program next (low W32 v) waiting c.events c.store) (sym (leaving.result_is t fs program p q image roomy s c b counted from at x reads))
 
-      pub filter_returns : IsMatched t fs program 16 turns_left (Stands t fs program p q) s c (instructions.Return from)
+      pub filter_returns : IsMatched t fs program 16 turns_left (Represents t fs program p q) s c (instructions.Return from)
       filter_returns =
           let at_host = on_top.at_host in
           filter_step t fs program p q image fits continues n s after c (instructions.Return from) on_top.dispatch on_top.others b.body.acts exception resumption asked rest w below
@@ -138,10 +138,10 @@ module _ (t : Functions) (fs : List Funclet) (program : LinearProgram) (p : Plan
     module _ (fits : FlagsFit program) (flag : ℕ) (kind : g.kind ≡ funclets.Finally flag) (rest : List Region) (target : Target) (f : Frame) (below : List Item) (under : c.below ≡ Unwinds rest target ∷ Waits f ∷ below) (waits : AreWaiting program c.below) where
       unwinding : IsUnwindingOnTop (context_below back top rest_of_context) b.body.is
       unwinding =
-          let stands = (subst (λ ys. On t fs program p s.memory (context_below back top rest_of_context) b.body.is ys b.body.acts) under laid).stands in
-          unwinding_on_top t fs program p s.memory (context_below back top rest_of_context) b.body.is rest target (Waits f ∷ below) b.body.acts stands.stack stands.linked
+          let is_there = (subst (λ ys. On t fs program p s.memory (context_below back top rest_of_context) b.body.is ys b.body.acts) under laid).is_there in
+          unwinding_on_top t fs program p s.memory (context_below back top rest_of_context) b.body.is rest target (Waits f ∷ below) b.body.acts is_there.stack is_there.linked
 
-      pub block_returns : IsMatched t fs program 16 turns_left (Stands t fs program p q) s c (instructions.Return from)
+      pub block_returns : IsMatched t fs program 16 turns_left (Represents t fs program p q) s c (instructions.Return from)
       block_returns =
           let at_host = unwinding.at_host in
           finally_step t fs program p q image fits n s after c (instructions.Return from) unwinding.dispatch unwinding.others b.body.acts rest target f below

@@ -22,7 +22,7 @@ use Rattle.body_steps.specs.Laws.{pace}
 use Rattle.body_steps.proofs.Around.{counted_here, code_at, ready_here}
 use Rattle.turn_steps.specs.FuncletEntries.{FlagsFit}
 use Rattle.turn_steps.proofs.FuncletSteps.{reads_some, returns_of_blocks_are_matched}
-use Rattle.turn_steps.specs.Outcomes.{Stands}
+use Rattle.turn_steps.specs.Outcomes.{Represents}
 use Rattle.turn_steps.specs.TurnEntries.{Continuations}
 use Rattle.turn_steps.specs.EndLaws.{FuncletReturnsAreMatched}
 use Rattle.turn_steps.proofs.EndReturned.{filter_returns, block_returns}
@@ -31,13 +31,13 @@ module _ (t : Functions) (fs : List Funclet) (program : LinearProgram) (p : Plan
   module _ (s : State) (c : Configuration) (k : ℕ) (from : Slot) (b : Begins t fs program p q s c) (known : IsKnown program c) (name : c.frame.body ≡ FuncletBody k) (at : instruction_at program c ≡ Some (instructions.Return from))
       (rule : HasRule (act program (instructions.Return from) (exec program zero) c)) (after : KnownNext program c (instructions.Return from)) where
     abbrev Goal : Type 0
-    Goal = IsMatched t fs program pace turns_left (Stands t fs program p q) s c (instructions.Return from)
+    Goal = IsMatched t fs program pace turns_left (Represents t fs program p q) s c (instructions.Return from)
 
     value : (x : ℕ) × (read c from ≡ Some x)
     value = reads_some c from (ready_here t fs program p q image made s c b known (instructions.Return from) at)
 
     moves_on : Moves t fs program pace turns_left (Begins t fs program p q) s c (instructions.Return from) → Goal
-    moves_on m = inl (record { turns = m.turns; some = m.some; configuration = m.configuration; few = m.few; state = m.state; events = m.events; comes = m.comes; acts = m.acts; shown = m.shown; stands = inl m.stands })
+    moves_on m = inl (record { turns = m.turns; some = m.some; configuration = m.configuration; few = m.few; state = m.state; events = m.events; comes = m.comes; acts = m.acts; shown = m.shown; is_there = inl m.is_there })
 
     module _ (g : LinearFunclet) (there : slice_get program.funclets k ≡ Some g) where
       by_list : (items : List Item) → c.below ≡ items → FuncletIsAbove t fs program p k c.frame (Some g) items → Goal

@@ -184,5 +184,5 @@ module _ (t : Functions) (fs : List Funclet) (program : LinearProgram) (p : Plan
           comes = reaches_quietly t fs program p q image n s after reaches (leaving.keeps t fs program p q image roomy s c b counted from at) b.memory.code quiet;
           acts = acts_as;
           shown = sym (append-nil c.events);
-          stands = begins;
+          is_there = begins;
         }

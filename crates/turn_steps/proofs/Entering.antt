@@ -30,11 +30,11 @@ use Rattle.body_states.specs.Sites as sites
 use Rattle.body_states.specs.Sites.{Sites, begin_of, links_of, making, frame_code, parent_base, keep_argument, base_in, funclet_arguments, arguments_code, entry_code, code_of}
 use Rattle.body_states.specs.Programs.{HasProgram, IsMachineMemory, IsProgramImage}
 use Rattle.body_steps.specs.Views.{seen_by_templates}
-use Rattle.body_steps.proofs.Activations.{activations_stand}
+use Rattle.body_steps.proofs.Activations.{activations_are_at}
 use Rattle.body_steps.proofs.Viewed.{is_machine}
 use Rattle.body_steps.proofs.Running.{index_of, sp_seen}
 use Rattle.turn_steps.proofs.Making.{LeadsBy, first_code, Made, HasRoom, made}
-use Rattle.turn_steps.proofs.Standing.{ArrivesBelow, IsLaid}
+use Rattle.turn_steps.proofs.FuncletFrames.{ArrivesBelow, IsLaid}
 
 dropped_count : (rs : List ℕ) → length rs ≡ 16 → length (drop 3 rs) ≡ 13
 dropped_count [] e = absurd (omega arith)
@@ -122,7 +122,7 @@ module _ (t : Functions) (fs : List Funclet) (program : LinearProgram) (p : Plan
     v = seen_by_templates s
 
     pub top : a.at ≤ STACK_END
-    top = in_stack t fs program p s.memory _ a.is items acts (a.on (replicate 8 0) refl).stands.stack (a.on (replicate 8 0) refl).stands.linked
+    top = in_stack t fs program p s.memory _ a.is items acts (a.on (replicate 8 0) refl).is_there.stack (a.on (replicate 8 0) refl).is_there.linked
 
     pub low : STACK_START + 8192 ≤ register s.cpu Rsp
     low = let e = a.stack in omega (arith, space, shallow)
@@ -131,7 +131,7 @@ module _ (t : Functions) (fs : List Funclet) (program : LinearProgram) (p : Plan
     sp_is = let e = low in let f = l.plan.layout.small in omega arith
 
     pub base_small : a.reaches.base < 2 ^ 64
-    base_small = let r = activations_stand t fs program p s.memory _ a.is items acts activation a.reaches.base _ (a.on (replicate 8 0) refl).stands a.reaches.activation in let h = r.high_end in omega arith
+    base_small = let r = activations_are_at t fs program p s.memory _ a.is items acts activation a.reaches.base _ (a.on (replicate 8 0) refl).is_there a.reaches.activation in let h = r.high_end in omega arith
 
     pub room : HasRoom v sp frame (l.plan.layout.slot)
     room =

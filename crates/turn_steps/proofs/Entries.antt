@@ -62,7 +62,7 @@ module _ (t : Functions) (fs : List Funclet) (program : LinearProgram) (p : Plan
     called_code : (to : ℕ) (code : List Instr) → HasCode s.memory to code → HasCode (entering.called t fs program p q image roomy s c b counted f first count at few few_passed framed fn callee parameters fits).memory to code
     called_code to code h =
         let k = entering.keeps t fs program p q image roomy s c b counted f first count at few few_passed framed fn callee parameters fits in
-        record { stands = bytes_kept s.memory _ to (spelled code) k.fixed k.protection h.stands; placed = h.placed }
+        record { is_there = bytes_kept s.memory _ to (spelled code) k.fixed k.protection h.is_there; placed = h.placed }
 
     low : STACK_START + 196568 ≤ caller
     low = calling.low t fs program p q image roomy s c b counted f first count at few few_passed framed

@@ -48,7 +48,7 @@ use Rattle.body_steps.specs.Known.{IsWellMade, IsKnown, KnownNext}
 use Rattle.body_steps.specs.Views.{seen_by_templates}
 use Rattle.body_steps.proofs.Viewed.{is_machine}
 use Rattle.turn_steps.specs.FuncletEntries.{FlagsFit}
-use Rattle.turn_steps.specs.Outcomes.{WorksOn, Stands, Shows}
+use Rattle.turn_steps.specs.Outcomes.{WorksOn, Represents, Shows}
 use Rattle.turn_steps.proofs.Asked.{raised_as}
 use Rattle.turn_steps.proofs.Hosts.{Asks, asks_host}
 use Rattle.turn_steps.proofs.Served.{fault_turns, raised_keeps, matched_when_shown}
@@ -114,7 +114,7 @@ module _ (t : Functions) (fs : List Funclet) (program : LinearProgram) (p : Plan
       record {
         instruction = i;
         there = there t fs program p q image made s c w known;
-        goes_on = λ h. h;
+        continues = λ h. h;
         done = ops;
         item = x.item;
         left = x.left;
@@ -156,8 +156,8 @@ module _ (t : Functions) (fs : List Funclet) (program : LinearProgram) (p : Plan
         raised_as t fs program p q image fits s s.cpu asks.is w.body.acts c asks.asks w.memory w.body.store code 0 access (exception_of code access) SameOperation
         (is_exception code access small) ((image.resumptions SameOperation c.frame s.cpu).says w.again) (subst HasRule (acts (exec program zero)) rule)
 
-    pub raised_at_once : HasRule (act program i (exec program zero) c) → KnownNext program c i → IsMatched t fs program 7 turns_left (Stands t fs program p q) s c i
+    pub raised_at_once : HasRule (act program i (exec program zero) c) → KnownNext program c i → IsMatched t fs program 7 turns_left (Represents t fs program p q) s c i
     raised_at_once rule next =
         matched_when_shown t fs program p q 7 0 (turns_left c) s s c i (arrived t fs (raised t s code 0 access s.cpu)) (raise_event (exception_of code access) ∷ [])
         (λ next. raise program next (exception_of code access) SameOperation c) (callers (context_of s.cpu) asks.is) (comes_nowhere t fs s) live (fault_turns t fs s code access faults)
-        (raised_keeps t fs program p q s code access (callers (context_of s.cpu) asks.is) faults (on_stack t s.memory (context_of s.cpu) 0 asks.is asks.asks.on.stands.stack)) (shows rule) acts (omega arith) next
+        (raised_keeps t fs program p q s code access (callers (context_of s.cpu) asks.is) faults (on_stack t s.memory (context_of s.cpu) 0 asks.is asks.asks.on.is_there.stack)) (shows rule) acts (omega arith) next

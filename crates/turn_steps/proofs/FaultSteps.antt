@@ -1,4 +1,4 @@
--- Each operation is matched, wherever the machine stands.
+-- Each operation is matched, wherever the machine is.
 use Rattle.std.proofs.Common.{◌≡◌, ℕ, zero, ◌+◌, Bool, List, Option, Some, sym, subst, ◌∙◌, arith, inl, inr}
 use Rattle.seh_num.specs.declared.event.Code.{Code}
 use Rattle.x64_machine.specs.Effect.{State}
@@ -31,7 +31,7 @@ use Rattle.body_steps.proofs.Running.{each}
 use Rattle.body_steps.proofs.Steps.{within_body}
 use Rattle.body_steps.proofs.Around.{some_is, label_in, body_there}
 use Rattle.turn_steps.specs.FuncletEntries.{FlagsFit}
-use Rattle.turn_steps.specs.Outcomes.{WorksOn, Stands}
+use Rattle.turn_steps.specs.Outcomes.{WorksOn, Represents}
 use Rattle.turn_steps.specs.Operations.{ComesTo}
 use Rattle.turn_steps.specs.FaultLaws.{RetriesAreMatched, ContinuationsAtOperations, OperationsAreMatched}
 use Rattle.turn_steps.proofs.Meant.{comes_to_something, undefined, not_constant, fault_reads}
@@ -46,12 +46,12 @@ Meets program c x (instructions.Compute to o first second) = ComesTo program c o
 Meets program c x i = ⊥
 
 ready_at : (program : LinearProgram) (c : Configuration) (i : Instruction) → IsKnown program c → instruction_at program c ≡ Some i → IsReady program c i
-ready_at program c i known e = subst (IsReady program c) (some_is known.goes_on.instruction i (sym known.goes_on.at ∙ e)) known.goes_on.ready
+ready_at program c i known e = subst (IsReady program c) (some_is known.continues.instruction i (sym known.continues.at ∙ e)) known.continues.ready
 
--- where an instruction begins, the machine stands
-pub begins_stands : (t : Functions) (fs : List Funclet) (program : LinearProgram) (p : Plan) (q : Sites) (most : ℕ) (s : State) (c : Configuration) (i : Instruction)
-    → Moves t fs program most turns_left (Begins t fs program p q) s c i → IsMatched t fs program most turns_left (Stands t fs program p q) s c i
-begins_stands t fs program p q most s c i m = inl (record {
+-- where an instruction begins, the machine is
+pub begins_represents : (t : Functions) (fs : List Funclet) (program : LinearProgram) (p : Plan) (q : Sites) (most : ℕ) (s : State) (c : Configuration) (i : Instruction)
+    → Moves t fs program most turns_left (Begins t fs program p q) s c i → IsMatched t fs program most turns_left (Represents t fs program p q) s c i
+begins_represents t fs program p q most s c i m = inl (record {
   turns = m.turns;
   some = m.some;
   configuration = m.configuration;
@@ -61,7 +61,7 @@ begins_stands t fs program p q most s c i m = inl (record {
   comes = m.comes;
   acts = m.acts;
   shown = m.shown;
-  stands = inl m.stands;
+  is_there = inl m.is_there;
 })
 
 module _ (t : Functions) (fs : List Funclet) (program : LinearProgram) (p : Plan) (q : Sites) (image : IsProgramImage t fs program p q) (made : IsWellMade program p)
@@ -75,17 +75,17 @@ module _ (t : Functions) (fs : List Funclet) (program : LinearProgram) (p : Plan
   pub in_midst : (s : State) (c : Configuration) (w : WorksOn t fs program p q s c) (known : IsKnown program c)
       → (x : Outcome) → ComesTo program c w.again.operation (Temporary w.again.first) (Temporary w.again.second) x
       → HasRule (act program (again s c w) (exec program zero) c) → KnownNext program c (again s c w)
-      → IsMatched t fs program pace turns_left (Stands t fs program p q) s c (again s c w)
-  in_midst s c w known (Gives value m) h rule next = begins_stands t fs program p q pace s c (again s c w) (completed t fs program p q image made s c w known value m h rule)
+      → IsMatched t fs program pace turns_left (Represents t fs program p q) s c (again s c w)
+  in_midst s c w known (Gives value m) h rule next = begins_represents t fs program p q pace s c (again s c w) (completed t fs program p q image made s c w known value m h rule)
   in_midst s c w known (Raises code access) h rule next =
-      matched_slower t fs program turns_left 7 pace (Stands t fs program p q) s c (again s c w) (omega arith)
+      matched_slower t fs program turns_left 7 pace (Represents t fs program p q) s c (again s c w) (omega arith)
       (raised_at_once t fs program p q image made fits s c w known code access h rule next)
   in_midst s c w known (Undefined at) h rule next =
       inr (inr (inr (undefined t fs program s c w.again.to w.again.operation (Temporary w.again.first) (Temporary w.again.second) at h)))
 
   pub retried : (s : State) (c : Configuration) (i : Instruction) → WorksOn t fs program p q s c → IsKnown program c → instruction_at program c ≡ Some i
-      → HasRule (act program i (exec program zero) c) → KnownNext program c i → IsMatched t fs program pace turns_left (Stands t fs program p q) s c i
-  retried s c i w known e = subst (λ j. HasRule (act program j (exec program zero) c) → KnownNext program c j → IsMatched t fs program pace turns_left (Stands t fs program p q) s c j) same
+      → HasRule (act program i (exec program zero) c) → KnownNext program c i → IsMatched t fs program pace turns_left (Represents t fs program p q) s c i
+  retried s c i w known e = subst (λ j. HasRule (act program j (exec program zero) c) → KnownNext program c j → IsMatched t fs program pace turns_left (Represents t fs program p q) s c j) same
       (λ rule next. let x = comes_to_something program c w.again.to w.again.operation (Temporary w.again.first) (Temporary w.again.second) (ready_at program c (again s c w) known w.again.works) in
       in_midst s c w known x.0 x.1 rule next)
     where
@@ -94,9 +94,9 @@ module _ (t : Functions) (fs : List Funclet) (program : LinearProgram) (p : Plan
 
   -- one that faults takes no more turns than the host's own
   faults_in_midst : (s : State) (c : Configuration) (i : Instruction) (code : Code) (access : Option (Bool × ℕ)) → WorksOn t fs program p q s c → IsKnown program c → instruction_at program c ≡ Some i
-      → Meets program c (Raises code access) i → HasRule (act program i (exec program zero) c) → KnownNext program c i → IsMatched t fs program 7 turns_left (Stands t fs program p q) s c i
+      → Meets program c (Raises code access) i → HasRule (act program i (exec program zero) c) → KnownNext program c i → IsMatched t fs program 7 turns_left (Represents t fs program p q) s c i
   faults_in_midst s c i code access w known e =
-      subst (λ j. Meets program c (Raises code access) j → HasRule (act program j (exec program zero) c) → KnownNext program c j → IsMatched t fs program 7 turns_left (Stands t fs program p q) s c j)
+      subst (λ j. Meets program c (Raises code access) j → HasRule (act program j (exec program zero) c) → KnownNext program c j → IsMatched t fs program 7 turns_left (Represents t fs program p q) s c j)
       (some_is (again s c w) i (sym w.again.works ∙ e))
       (λ h rule next. raised_at_once t fs program p q image made fits s c w known code access h rule next)
 
@@ -106,21 +106,21 @@ module _ (t : Functions) (fs : List Funclet) (program : LinearProgram) (p : Plan
     -- one that faults: its operands are fetched first
     faults : (first second : Slot) (code : Code) (access : Option (Bool × ℕ)) → IsTemporary first × IsTemporary second → (h : ComesTo program c o first second (Raises code access))
         → instruction_at program c ≡ Some (instructions.Compute to o first second) → HasRule (act program (instructions.Compute to o first second) (exec program zero) c)
-        → KnownNext program c (instructions.Compute to o first second) → IsMatched t fs program pace turns_left (Stands t fs program p q) s c (instructions.Compute to o first second)
+        → KnownNext program c (instructions.Compute to o first second) → IsMatched t fs program pace turns_left (Represents t fs program p q) s c (instructions.Compute to o first second)
     faults (Local x) second code access temporaries h e rule next = absurd temporaries.0
     faults (Temporary x) (Local y) code access temporaries h e rule next = absurd temporaries.1
     faults (Temporary x) (Temporary y) code access temporaries h e rule next =
         let i = instructions.Compute to o (Temporary x) (Temporary y) in
         let l = fetched t fs program p q image made s c to o x y b known (not_constant (is_reserved program.globals) o h.a h.b c.store.memory code access h.comes) e in
         let few = l.few in
-        matched_slower t fs program turns_left (l.turns + 7) pace (Stands t fs program p q) s c i (omega arith)
-        (matched_after t fs program turns_left l.turns 7 (Stands t fs program p q) s l.state c i l.comes (faults_in_midst l.state c i code access l.stands known e h rule next))
+        matched_slower t fs program turns_left (l.turns + 7) pace (Represents t fs program p q) s c i (omega arith)
+        (matched_after t fs program turns_left l.turns 7 (Represents t fs program p q) s l.state c i l.comes (faults_in_midst l.state c i code access l.is_there known e h rule next))
 
     from_beginning : (first second : Slot) (x : Outcome) → ComesTo program c o first second x → instruction_at program c ≡ Some (instructions.Compute to o first second)
         → HasRule (act program (instructions.Compute to o first second) (exec program zero) c) → KnownNext program c (instructions.Compute to o first second)
-        → IsMatched t fs program pace turns_left (Stands t fs program p q) s c (instructions.Compute to o first second)
+        → IsMatched t fs program pace turns_left (Represents t fs program p q) s c (instructions.Compute to o first second)
     from_beginning first second (Gives value m) h e rule next =
-        begins_stands t fs program p q pace s c (instructions.Compute to o first second)
+        begins_represents t fs program p q pace s c (instructions.Compute to o first second)
         (within_body t fs program p q image made s c (instructions.Compute to o first second) b known e (record { a = h.a; b = h.b; reads_first = h.reads_first; reads_second = h.reads_second; value = value; memory = m; gives = h.comes }) rule)
     from_beginning first second (Raises code access) h e rule next =
         let i = instructions.Compute to o first second in
@@ -144,5 +144,5 @@ retries t fs program p q image made fits s c i w known e rule next = retried t f
 pub continuations : ContinuationsAtOperations
 continuations t fs program p q image made s saved is acts c on sane resumes memory store = (
   quiet_there t fs program p q image made s saved is acts c on sane resumes memory store,
-  record { turns = 0; few = omega arith; state = record { cpu = saved; memory = s.memory }; comes = comes_nowhere t fs (record { cpu = saved; memory = s.memory }); stands = inr (works_on t fs program p q image made s saved is acts c on sane resumes memory store) },
+  record { turns = 0; few = omega arith; state = record { cpu = saved; memory = s.memory }; comes = comes_nowhere t fs (record { cpu = saved; memory = s.memory }); is_there = inr (works_on t fs program p q image made s saved is acts c on sane resumes memory store) },
 )

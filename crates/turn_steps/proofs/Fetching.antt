@@ -38,7 +38,7 @@ use Rattle.body_states.proofs.QuietTurns.{reaches_quietly}
 use Rattle.body_steps.specs.Known.{IsWellMade, IsKnown}
 use Rattle.body_steps.specs.Views.{counts_of}
 use Rattle.body_steps.proofs.Viewed.{IsCounted, room_here, holds_here}
-use Rattle.body_steps.proofs.Shadowed.{kept_by_rest, stands_here}
+use Rattle.body_steps.proofs.Shadowed.{kept_by_rest, is_here}
 use Rattle.body_steps.proofs.Whole.{operands_keep}
 use Rattle.body_steps.proofs.Running.{code, frame, slots, v, dropped, same_state, template_here, has_slots, next_address, sp_is, Surroundings}
 use Rattle.body_steps.proofs.Reaching.{reaches_keeps, stays_sane}
@@ -46,7 +46,7 @@ use Rattle.body_steps.proofs.Plain.{is_read}
 use Rattle.body_steps.proofs.Around.{counted_here, around_here, code_at, ready_here}
 use Rattle.turn_steps.specs.Outcomes.{WorksOn}
 use Rattle.turn_steps.specs.FaultLaws.{fetch_turns, OperandsAreFetched}
-use Rattle.turn_steps.proofs.Places.{some_finish, whole_size, finish_stands, quiet_in_midst}
+use Rattle.turn_steps.proofs.Places.{some_finish, whole_size, finish_is_at, quiet_in_midst}
 use Rattle.turn_steps.proofs.Midst.{in_body_at, ready_same}
 
 -- two temporaries are fetched in one turn each
@@ -113,7 +113,7 @@ module _ (t : Functions) (fs : List Funclet) (program : LinearProgram) (p : Plan
 
   small : u.cpu.rip < 2 ^ 64
   small =
-      let code = finish_stands t fs program p q image s.memory c.frame.body b.body.slots.code c.frame.next to o (Temporary first) (Temporary second) b.memory.code b.body.slots.body at_here in
+      let code = finish_is_at t fs program p q image s.memory c.frame.body b.body.slots.code c.frame.next to o (Temporary first) (Temporary second) b.memory.code b.body.slots.body at_here in
       let high = code.placed.high in
       let a = at_end in
       omega arith
@@ -153,7 +153,7 @@ module _ (t : Functions) (fs : List Funclet) (program : LinearProgram) (p : Plan
   keeps_shadow : AllKeep t fs n s
   keeps_shadow =
       operands_keep t fs program p q image made.room s c b counted around to o (Temporary first) (Temporary second) at_here u comes
-      (record { rip = at_end; registers = kept_by_rest begun.stopped.rest s.cpu.registers begun.rest; stands = stands_here t fs program p q image s c b counted })
+      (record { rip = at_end; registers = kept_by_rest begun.stopped.rest s.cpu.registers begun.rest; is_there = is_here t fs program p q image s c b counted })
 
   quietly : Comes t fs n s [] u
   quietly =
@@ -162,7 +162,7 @@ module _ (t : Functions) (fs : List Funclet) (program : LinearProgram) (p : Plan
       (quiet_in_midst t fs program p q image made.room s.memory c.frame.body b.body.slots.code c.frame.next to o (Temporary first) (Temporary second) b.memory.code b.body.slots.body at_here u.cpu))
 
   pub fetched : LeadsTo t fs fetch_turns (WorksOn t fs program p q) s c
-  fetched = record { turns = n; few = few_operands (p.layout c.frame.body) o first second; state = u; comes = quietly; stands = works }
+  fetched = record { turns = n; few = few_operands (p.layout c.frame.body) o first second; state = u; comes = quietly; is_there = works }
 
 pub operands_are_fetched : OperandsAreFetched
 operands_are_fetched t fs program p q image made s c to o first second b known reads e = fetched t fs program p q image made s c to o first second b known reads e

@@ -9,7 +9,7 @@ use Rattle.seh_records.specs.declared.dispatch.Kind.{Kind}
 use Rattle.seh_records.specs.declared.dispatch.DispatchRecord.{DispatchRecord}
 use Rattle.seh_records.specs.Record.{fetched, if_readable, if_marked, of_kind, kind_of, recorded, word, mark}
 use Rattle.seh_records.specs.Laws.{Fits}
-use Rattle.seh_records.proofs.Standing.{word_in}
+use Rattle.seh_records.proofs.Fetched.{word_in}
 use Rattle.host_model.specs.declared.funclet.Funclet.{Funclet}
 use Rattle.host_model.specs.Dispatch.{parameters, count, write_number}
 use Rattle.c_operations.specs.declared.field.Field.{Field}
@@ -53,9 +53,9 @@ recorded_field NumberParameters r = r.count
 recorded_field (ExceptionInformation k) r = get_or r.parameters k 0
 
 -- it is at its place in the EXCEPTION_RECORD
-pub field_stands : (m : Memory) (at : ℕ) (r : DispatchRecord) (field : Field) → at + 1568 < 2 ^ 64 → IsField field → fetched m at ≡ Some r
+pub field_is_at : (m : Memory) (at : ℕ) (r : DispatchRecord) (field : Field) → at + 1568 < 2 ^ 64 → IsField field → fetched m at ≡ Some r
     → number_at m.byte (bytes_of (field_width field)) (at + 96 + field_at field) ≡ recorded_field field r
-field_stands m at r field top is e = let f = fetched_is m at r e in by field is f.kind f.same
+field_is_at m at r field top is e = let f = fetched_is m at r e in by field is f.kind f.same
   where
     by : (field : Field) → IsField field → (k : Kind) → r ≡ recorded m at k → number_at m.byte (bytes_of (field_width field)) (at + 96 + field_at field) ≡ recorded_field field r
     by ExceptionCode is k e =

@@ -49,7 +49,7 @@ use Rattle.body_steps.proofs.Reaching.{enters_keeps, stays_sane}
 use Rattle.body_steps.specs.Known.{IsKnown}
 use Rattle.turn_steps.specs.FuncletEntries.{entry_turns, FiltersBegin}
 use Rattle.turn_steps.proofs.Making.{LeadsBy}
-use Rattle.turn_steps.proofs.Standing.{ArrivesBelow, arrives_below, IsLaid, funclet_laid, HasFrame, begins, word_within, stack_writable}
+use Rattle.turn_steps.proofs.FuncletFrames.{ArrivesBelow, arrives_below, IsLaid, funclet_laid, HasFrame, begins, word_within, stack_writable}
 use Rattle.turn_steps.proofs.Known.{IsFilterOfSome, filter_of_some, is_filter, parent_locals, leads_by}
 use Rattle.turn_steps.proofs.Spaces.{shallow_is, HasRecordSpace, search_space}
 use Rattle.turn_steps.proofs.Entering.{HasEntered, entered, first_small, quiet_there}
@@ -114,13 +114,13 @@ module _ (t : Functions) (fs : List Funclet) (program : LinearProgram) (p : Plan
     depth_is = ap length stored ∙ locals_count acts
 
     some : 0 < length f.body.code
-    some = has_first program (FuncletBody k) f.body typed.goes_on.instruction (ap funclet_body known.funclet.there) typed.goes_on.at
+    some = has_first program (FuncletBody k) f.body typed.continues.instruction (ap funclet_body known.funclet.there) typed.continues.at
 
     few : length acts + c.frame.held + 2 ≤ 1000
     few = let n = shallow_is (length c.store.activations + c.frame.held + 2) shallow in let e = depth_is in omega arith
 
     record_space : HasRecordSpace t fs program p a.at (length acts + c.frame.held)
-    record_space = search_space t fs program p s.memory (context_below a.back a.at []) a.is exception resumption handler rest c.frame c.below acts (a.on []).stands.linked
+    record_space = search_space t fs program p s.memory (context_below a.back a.at []) a.is exception resumption handler rest c.frame c.below acts (a.on []).is_there.linked
 
     abbrev e : HasEntered t fs program p q image s k l a.reaches.base
     e = entered t fs program p q image s k argument handler.activation items acts l w c.store.memory memory (length acts + c.frame.held) record_space.space few leads
@@ -244,7 +244,7 @@ module _ (t : Functions) (fs : List Funclet) (program : LinearProgram) (p : Plan
       few = (let z = e.few in omega arith);
       state = u;
       comes = enters_quietly t fs program p q image (e.turns + 1) s u run keeps_shadow memory.code (quiet_there t fs program p q image k l u rip_here some);
-      stands = begins_here;
+      is_there = begins_here;
     }
 
 pub filters_begin : (t : Functions) (fs : List Funclet) (program : LinearProgram) (p : Plan) (q : Sites) → IsProgramImage t fs program p q → FiltersBegin t fs program p q

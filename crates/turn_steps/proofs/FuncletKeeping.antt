@@ -20,7 +20,7 @@ use Rattle.body_states.proofs.Beneath.{StepsTo, AllPlain}
 use Rattle.body_states.proofs.FrameMaking.{making_steps}
 use Rattle.body_states.proofs.EntryKeeping.{EntryRan, entry_ran, base_plain}
 use Rattle.turn_steps.proofs.Making.{LeadsBy}
-use Rattle.turn_steps.proofs.Standing.{ArrivesBelow, IsLaid}
+use Rattle.turn_steps.proofs.FuncletFrames.{ArrivesBelow, IsLaid}
 use Rattle.turn_steps.proofs.Grounds.{arrives_beneath}
 
 -- the parent's base is near, where it is kept in a frame

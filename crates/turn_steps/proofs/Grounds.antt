@@ -17,7 +17,7 @@ use Rattle.body_states.specs.Bodies.{Begins}
 use Rattle.body_states.proofs.Effects.{others_of}
 use Rattle.body_states.proofs.Beneath.{Beneath, beneath_by}
 use Rattle.body_steps.proofs.Viewed.{IsCounted, frame_top}
-use Rattle.turn_steps.proofs.Standing.{ArrivesBelow}
+use Rattle.turn_steps.proofs.FuncletFrames.{ArrivesBelow}
 
 module _ (t : Functions) (fs : List Funclet) (program : LinearProgram) (p : Plan) (q : Sites) (image : IsProgramImage t fs program p q) where
   module _ (s : State) (c : Configuration) (b : Begins t fs program p q s c) (counted : IsCounted t fs program p q image c) where
@@ -28,7 +28,7 @@ module _ (t : Functions) (fs : List Funclet) (program : LinearProgram) (p : Plan
     pub begins_beneath : Beneath t s top_of (top_of + 8) b.body.back (others_of s.cpu.registers) b.body.is
     begins_beneath =
         let h = frame_top t fs program p q image s c b counted in
-        beneath_by t s top_of b.body.back b.body.is b.sane.count b.body.returns (b.body.below (others_of s.cpu.registers) refl).stands.stack (omega arith) b.memory.data_alone.no_code
+        beneath_by t s top_of b.body.back b.body.is b.sane.count b.body.returns (b.body.below (others_of s.cpu.registers) refl).is_there.stack (omega arith) b.memory.data_alone.no_code
 
   -- that of a funclet
   pub arrives_beneath : (s : State) (k activation first : ℕ) (items : List Item) (acts : List Activation) (a : ArrivesBelow t fs program p s k activation first items acts) → a.at ≤ STACK_END
@@ -36,4 +36,4 @@ module _ (t : Functions) (fs : List Funclet) (program : LinearProgram) (p : Plan
   arrives_beneath s k activation first items acts a high =
       let e = a.stack in
       let on = a.on (others_of s.cpu.registers) refl in
-      beneath_by t s (register s.cpu Rsp) a.back a.is a.sane.count a.returns (subst (λ n. IsStack t s.memory (context_below a.back n (others_of s.cpu.registers)) a.is) (sym e) on.stands.stack) (omega arith) on.data_alone.no_code
+      beneath_by t s (register s.cpu Rsp) a.back a.is a.sane.count a.returns (subst (λ n. IsStack t s.memory (context_below a.back n (others_of s.cpu.registers)) a.is) (sym e) on.is_there.stack) (omega arith) on.data_alone.no_code

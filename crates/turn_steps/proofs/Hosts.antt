@@ -55,7 +55,7 @@ module _ (t : Functions) (fs : List Funclet) (program : LinearProgram) (p : Plan
   asks_host cpu saved m byte c label source at resumed has keeps memory sane sane_saved =
       let u : State = record { cpu = saved; memory = m } in
       let top = body_on_top t fs program p q image u c label at resumed has in
-      let high = in_stack t fs program p m (context_of saved) top.is (Waits c.frame ∷ c.below) at.acts top.on.stands.stack top.on.stands.linked in
+      let high = in_stack t fs program p m (context_of saved) top.is (Waits c.frame ∷ c.below) at.acts top.on.is_there.stack top.on.is_there.linked in
       let space = at.slots.space.space in
       let shallow = at.slots.space.shallow in
       let low : STACK_START + 1592 ≤ rsp (context_of saved) = omega arith in
@@ -65,7 +65,7 @@ module _ (t : Functions) (fs : List Funclet) (program : LinearProgram) (p : Plan
           gives = image.gives;
           sane = sane;
           sane_saved = sane_saved;
-          on = record { stands = kept_by_stores_below t fs program p m byte (context_of saved) top.is (Waits c.frame ∷ c.below) at.acts keeps top.on.stands; data_alone = memory.data_alone };
+          on = record { is_there = kept_by_stores_below t fs program p m byte (context_of saved) top.is (Waits c.frame ∷ c.below) at.acts keeps top.on.is_there; data_alone = memory.data_alone };
           low = omega arith;
           room = record_fits (with_bytes m byte) (rsp (context_of saved)) low high memory.stack;
         };

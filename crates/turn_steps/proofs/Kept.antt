@@ -50,7 +50,7 @@ use Rattle.body_steps.proofs.Homes.{CallerHasFrame}
 use Rattle.body_steps.proofs.Reaching.{Keeps, reaches_keeps, stays_sane}
 use Rattle.body_steps.proofs.Viewed.{IsCounted, is_machine, placed, count, room_here, holds_here, slots_here, locals_here}
 use Rattle.body_steps.proofs.Next.{Leaves, Ran, begins_next}
-use Rattle.body_steps.proofs.Shadowed.{kept_by_rest, stands_here, stands_after, ends_at, RunsKeep, one_piece}
+use Rattle.body_steps.proofs.Shadowed.{kept_by_rest, is_here, is_after, ends_at, RunsKeep, one_piece}
 use Rattle.body_steps.proofs.Running.{code, y, v, frame, slots, template_here, next_address, sp_is, quiet_at, dropped, Surroundings}
 
 -- an instruction of a body begins within it
@@ -108,7 +108,7 @@ module _ (t : Functions) (fs : List Funclet) (program : LinearProgram) (p : Plan
   abbrev pub answered : Frame → List Item → Memory → List Activation → List Event → ℕ → Configuration
   answered w items source acts es v = on_top (again w (w.next + 1) (w.temporaries ++ v ∷ []) w.landed) items source acts es
 
-  -- where what the body called has returned RSP is the body's, the list stands from there on, and RIP is at the code that keeps the result
+  -- where what the body called has returned RSP is the body's, the list is from there on, and RIP is at the code that keeps the result
   module _ (u : State) (w : Frame) (items : List Item) (acts : List Activation) (source : Memory) (es : List Event) (above : Context) (is : List StackItem)
       (on : On t fs program p u.memory above is (Waits w ∷ items) acts) (sp : register u.cpu Rsp ≡ rsp above) (sane : IsSane u) (memory : IsMachineMemory t fs program p q u.memory source)
       (o : LinearBody) (there : body_of program w.body ≡ Some o) (i : Instruction) (first : ℕ) (done : List Instr) (calls : slice_get o.code w.next ≡ Some i) (goes : IsReturn i → ⊥)
@@ -236,7 +236,7 @@ module _ (t : Functions) (fs : List Funclet) (program : LinearProgram) (p : Plan
           let room = room_here t fs program p q image earlier caller waits counted in
           one_piece t fs program p q image earlier caller waits counted i calls_here goes done (keep layout (Temporary first)) u parts
           (keep_flow layout (counts_of body) (register u.cpu Rsp) (placed t fs program p q image earlier caller waits counted).base room (Temporary first) room_slots)
-          (record { rip = back; registers = refl; stands = stands_here t fs program p q image earlier caller waits counted })
+          (record { rip = back; registers = refl; is_there = is_here t fs program p q image earlier caller waits counted })
 
       -- in one turn, which keeps the shadow, the next instruction begins
       pub resumes : Resumes t fs program p q u (answered w items source acts es result)
@@ -254,7 +254,7 @@ module _ (t : Functions) (fs : List Funclet) (program : LinearProgram) (p : Plan
           let small : rip < 2 ^ 64 = let n = next_small in omega (arith, next_place) in
           let begins = begins_next t fs program p q image earlier caller waits counted z d values_here ts ran (w.next + 1) w.landed es next_place inside (stays_sane earlier z keeps small waits.sane) (λ code e. absurd (nothing w.landed code free e)) around.caller around.owner in
           let ends = ends_at t fs program p q image earlier caller waits counted z (w.next + 1) next_place inside (kept_by_rest r.after.rest u.cpu.registers r.rest)
-          (stands_after t fs program p q image earlier caller waits counted z d values_here ts ran around.caller around.owner) in
+          (is_after t fs program p q image earlier caller waits counted z d values_here ts ran around.caller around.owner) in
           record {
             state = z;
             reaches = r.comes;

@@ -45,7 +45,7 @@ module _ (program : LinearProgram) where
 
   pub filter_of_some : (h : Handler) (k : ℕ) (items : List Item) → h.filter ≡ Some k → IsHandler program h items → IsFilterOfSome k
   filter_of_some h k [] e i = absurd i
-  filter_of_some h k (Waits f ∷ below) e (inl x) = by_kind f.body x.region.end x.region.kind h.filter h.target k x.stands.kind x.handles e
+  filter_of_some h k (Waits f ∷ below) e (inl x) = by_kind f.body x.region.end x.region.kind h.filter h.target k x.is_there.kind x.handles e
   filter_of_some h k (Waits f ∷ below) e (inr x) = filter_of_some h k below e x
   filter_of_some h k (Searches exception resumption asked rest ∷ below) e i = filter_of_some h k below e i
   filter_of_some h k (Unwinds rest target ∷ below) e i = filter_of_some h k below e i

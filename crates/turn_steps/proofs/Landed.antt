@@ -31,7 +31,7 @@ use Rattle.body_states.proofs.Resumed.{waits_in_body, no_front, all_front}
 use Rattle.body_states.proofs.Inside.{first_in_code}
 use Rattle.turn_steps.specs.FuncletEntries.{entry_turns}
 use Rattle.turn_steps.proofs.DispatchWalks.{landing_walk}
-use Rattle.turn_steps.specs.Outcomes.{Stands, GoesOn}
+use Rattle.turn_steps.specs.Outcomes.{Represents, ContinuesAs}
 
 same_code : (a b : ℕ) → Some a ≡ Some b → a ≡ b
 same_code a b e = cc
@@ -50,13 +50,13 @@ arrives_there body below target None source outer shown next = ap (λ (es : List
 arrives_there body below target (Some code) source outer shown next = refl
 
 module _ (t : Functions) (fs : List Funclet) (program : LinearProgram) (p : Plan) (q : Sites) (image : IsProgramImage t fs program p q) where
-  -- the state of the machine stands for it
+  -- the state of the machine represents it
   lands_in_body : (s : State) (to : Context) (framed : StackFrame) (is : List StackItem) (body : Frame) (below : List Item) (outer : List Activation) (rax address label : ℕ) (code : Option ℕ) (source : Memory) (shown : List Event)
       → On t fs program p s.memory to (Framed framed ∷ is) (Waits body ∷ below) outer → address ≡ p.address body.body label → p.lands body.body label ≡ true → IsSane (at_landing s to rax address)
       → IsMachineMemory t fs program p q s.memory source → rax ≡ landing_value code → (code ≡ None → body.landed ≡ None)
       → Begins t fs program p q (at_landing s to rax address) (arrival body below label code source outer shown)
   lands_in_body s to framed is body below outer rax address label code source shown on at lands sane memory is_code clear =
-      let w = on.stands.linked.0.waits in
+      let w = on.is_there.linked.0.waits in
       let inside = subst (InCode p body.body label) (sym at) (first_in_code t fs program p q image body.body w.code label w.body (image.landings body.body w.code label w.body lands)) in
       by_code code inside is_code clear
     where
@@ -78,7 +78,7 @@ module _ (t : Functions) (fs : List Funclet) (program : LinearProgram) (p : Plan
 
   pub lands_as : (s : State) (at : ℕ) (r : DispatchRecord) (is : List StackItem) (turn : Turn) (w : Unwound) (left : ℕ) → IsUnwinding t fs program p s at r is w → (l : LandsThere t fs program p s r turn w) → IsMachineMemory t fs program p q s.memory w.source
       → turns_left (arrival l.body l.below w.target.label w.target.code w.source l.outer w.shown) ≤ left → (w.target.code ≡ None → l.body.landed ≡ None)
-      → GoesOn t fs program p q turn (λ next. linear.unwind program next w.target w.items w.left w.shown (store_of w.source w.acts)) w.shown left (callers r.walk is)
+      → ContinuesAs t fs program p q turn (λ next. linear.unwind program next w.target w.items w.left w.shown (store_of w.source w.acts)) w.shown left (callers r.walk is)
   lands_as s at r is turn w left u l memory few clear = record {
     state = at_landing s l.to (landing_value w.target.code) r.target;
     events = landing_events w.target.code;
@@ -92,5 +92,5 @@ module _ (t : Functions) (fs : List Funclet) (program : LinearProgram) (p : Plan
     leads = λ known. at_once (lands_in_body s l.to l.framed l.is l.body l.below l.outer (landing_value w.target.code) r.target w.target.label w.target.code w.source w.shown l.on l.at_address l.lands l.sane memory refl clear);
   }
     where
-      at_once : {u : State} {d : Configuration} → Begins t fs program p q u d → LeadsTo t fs entry_turns (Stands t fs program p q) u d
-      at_once {u} {d} h = record { turns = 0; few = omega arith; state = u; comes = (refl, refl); stands = inl h }
+      at_once : {u : State} {d : Configuration} → Begins t fs program p q u d → LeadsTo t fs entry_turns (Represents t fs program p q) u d
+      at_once {u} {d} h = record { turns = 0; few = omega arith; state = u; comes = (refl, refl); is_there = inl h }

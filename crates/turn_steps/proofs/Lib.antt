@@ -14,7 +14,7 @@ pub mod Entries
 pub mod Called
 pub mod CallSteps
 pub mod Making
-pub mod Standing
+pub mod FuncletFrames
 pub mod Known
 pub mod Spaces
 pub mod Entering

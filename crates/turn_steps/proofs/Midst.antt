@@ -47,7 +47,7 @@ use Rattle.body_steps.proofs.Around.{some_is, label_in, counted_here, around_her
 use Rattle.turn_steps.specs.Outcomes.{WorksOn}
 use Rattle.turn_steps.specs.Operations.{ComesTo}
 use Rattle.turn_steps.proofs.Meant.{nothing_landed}
-use Rattle.turn_steps.proofs.Places.{finish_stands}
+use Rattle.turn_steps.proofs.Places.{finish_is_at}
 
 -- ---- the body, with RIP elsewhere in the same instruction
 
@@ -171,7 +171,7 @@ module _ (t : Functions) (fs : List Funclet) (program : LinearProgram) (p : Plan
   pub code_here : HasCode s.memory s.cpu.rip (finish_code y o to)
   code_here =
       subst (λ a. HasCode s.memory a (finish_code y o to)) (sym w.again.here)
-      (finish_stands t fs program p q image s.memory c.frame.body w.body.slots.code c.frame.next to o first second w.memory.code w.body.slots.body there)
+      (finish_is_at t fs program p q image s.memory c.frame.body w.body.slots.code c.frame.next to o first second w.memory.code w.body.slots.body there)
 
   abbrev pub outcome : Outcome
   outcome = performed (is_reserved program.globals) o (register s.cpu Rax) (register s.cpu Rcx) c.store.memory

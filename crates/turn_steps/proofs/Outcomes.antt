@@ -26,7 +26,7 @@ use Rattle.body_states.specs.Sites.{Sites}
 use Rattle.body_states.specs.Bodies.{turns_left, Begins}
 use Rattle.body_steps.specs.Known.{KnownNext}
 use Rattle.turn_steps.specs.FuncletEntries.{entry_turns}
-use Rattle.turn_steps.specs.Outcomes.{with_events, Stands, GoesOn, EntersFunclet, EndsRun, Outcome, KeepsWith}
+use Rattle.turn_steps.specs.Outcomes.{with_events, Represents, ContinuesAs, EntersFunclet, EndsRun, Outcome, KeepsWith}
 
 -- an event that is shown first
 pub arrived_with : (t : Functions) (fs : List Funclet) (e : Event) (x : Turn) → arrived t fs (with_event e x) ≡ with_event e (arrived t fs x)
@@ -46,9 +46,9 @@ with_none (Continues s es) = refl
 with_none (Ends es end) = refl
 
 module _ (t : Functions) (fs : List Funclet) (program : LinearProgram) (p : Plan) (q : Sites) where
-  -- where a funclet's first instruction begins, the state stands for the configuration
-  pub begins_there : (s : State) (c : Configuration) → LeadsTo t fs entry_turns (Begins t fs program p q) s c → LeadsTo t fs entry_turns (Stands t fs program p q) s c
-  begins_there s c l = record { turns = l.turns; few = l.few; state = l.state; comes = l.comes; stands = inl l.stands }
+  -- where a funclet's first instruction begins, the state represents the configuration
+  pub begins_there : (s : State) (c : Configuration) → LeadsTo t fs entry_turns (Begins t fs program p q) s c → LeadsTo t fs entry_turns (Represents t fs program p q) s c
+  begins_there s c l = record { turns = l.turns; few = l.few; state = l.state; comes = l.comes; is_there = inl l.is_there }
 
   pub outcome_same : (x y : Turn) (seen other : Next → Seen) (es : List Event) (left : ℕ) (shadow : List Context) → y ≡ x → ((next : Next) → other next ≡ seen next) → Outcome t fs program p q x seen es left shadow → Outcome t fs program p q y other es left shadow
   outcome_same x y seen other es left shadow e same (inl g) = inl (record {
@@ -107,7 +107,7 @@ module _ (t : Functions) (fs : List Funclet) (program : LinearProgram) (p : Plan
       (quiet : Comes t fs k s [] u) (live : IsLive u) (turns : turn t fs u ≡ with_events before x) (enough : k + 1 + entry_turns + left ≤ pace + turns_left c)
       (known : KnownNext program c i) (shadow : List Context) (keeps : KeepsWith t fs program p q u shadow) where
     abbrev Matched : Type 0
-    Matched = IsMatched t fs program pace turns_left (Stands t fs program p q) s c i
+    Matched = IsMatched t fs program pace turns_left (Represents t fs program p q) s c i
 
     abbrev step : Next → Seen
     step next = act program i next c
@@ -115,7 +115,7 @@ module _ (t : Functions) (fs : List Funclet) (program : LinearProgram) (p : Plan
     reaches : (state : State) (events : List Event) → x ≡ Continues state events → KeepsShadow t fs u state → Comes t fs (k + 1) s (before ++ events) state
     reaches state events e kept = quietly_before t fs k 1 s u state (before ++ events) quiet (comes_one t fs u state (before ++ events) live (turns ∙ ap (with_events before) e) kept)
 
-    matched_on : GoesOn t fs program p q x step (c.events ++ before) left shadow → Matched
+    matched_on : ContinuesAs t fs program p q x step (c.events ++ before) left shadow → Matched
     matched_on g =
         let few = g.few in
         let l = g.leads (known g.configuration g.acts) in
@@ -130,7 +130,7 @@ module _ (t : Functions) (fs : List Funclet) (program : LinearProgram) (p : Plan
           comes = quietly_after t fs (k + 1) l.turns s g.state l.state (before ++ g.events) (reaches g.state g.events g.turns (keeps g.state [] g.quiet g.walk)) l.comes;
           acts = g.acts;
           shown = g.shown ∙ append_assoc c.events before g.events;
-          stands = l.stands;
+          is_there = l.is_there;
         })
 
     matched_in : EntersFunclet t fs program p q x step (c.events ++ before) left shadow → Matched
@@ -165,7 +165,7 @@ module _ (t : Functions) (fs : List Funclet) (program : LinearProgram) (p : Plan
               comes = quietly_after t fs (k + 1) l.turns s g.state l.state (before ++ g.event ∷ []) (reaches g.state (g.event ∷ []) g.turns (keeps g.state (g.event ∷ []) g.arrives g.walk)) l.comes;
               acts = moves;
               shown = g.shown ∙ append_assoc c.events before (g.event ∷ []);
-              stands = l.stands;
+              is_there = l.is_there;
             })
 
     matched_out : EndsRun t fs program p q x step (c.events ++ before) → Matched

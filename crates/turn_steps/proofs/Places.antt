@@ -138,17 +138,17 @@ module _ (t : Functions) (fs : List Funclet) (program : LinearProgram) (p : Plan
   -- ---- code
 
   -- the template of an instruction is at its address
-  pub template_stands : (m : Memory) (name : BodyName) (b : LinearBody) (label : ℕ) (i : Instruction) → HasProgram t fs program p q m → body_of program name ≡ Some b → slice_get b.code label ≡ Some i
+  pub template_is_at : (m : Memory) (name : BodyName) (b : LinearBody) (label : ℕ) (i : Instruction) → HasProgram t fs program p q m → body_of program name ≡ Some b → slice_get b.code label ≡ Some i
       → HasCode m (p.address name label) (template (links_of p q name) (p.layout name) (p.address name label) i)
-  template_stands m name b label i has there is = template_there t fs program p q image name b there m has label i is
+  template_is_at m name b label i has there is = template_there t fs program p q image name b there m has label i is
 
   -- an operation's instructions from the one on that may fault
-  pub finish_stands : (m : Memory) (name : BodyName) (b : LinearBody) (label : ℕ) (to : Slot) (o : Operation) (first second : Slot)
+  pub finish_is_at : (m : Memory) (name : BodyName) (b : LinearBody) (label : ℕ) (to : Slot) (o : Operation) (first second : Slot)
       → HasProgram t fs program p q m → body_of program name ≡ Some b → slice_get b.code label ≡ Some (instructions.Compute to o first second)
       → HasCode m (p.address name label + sizes (operands_code (p.layout name) o first second)) (finish_code (p.layout name) o to)
-  finish_stands m name b label to o first second has there is =
+  finish_is_at m name b label to o first second has there is =
       (code_split m (p.address name label) (operands_code (p.layout name) o first second) (finish_code (p.layout name) o to)
-      (template_stands m name b label (instructions.Compute to o first second) has there is)).1
+      (template_is_at m name b label (instructions.Compute to o first second) has there is)).1
 
   -- ---- a funclet's first instruction makes its frame
 
@@ -159,7 +159,7 @@ module _ (t : Functions) (fs : List Funclet) (program : LinearProgram) (p : Plan
   first_read : (m : Memory) (at : ℕ) (i : Instr) (is : List Instr) → Fine (i ∷ is) → HasCode m at (i ∷ is) → leading (executable m 15 at) ≡ Some (i, length (chosen i))
   unfolding Rattle.template_code.specs.Bytes.size
   first_read m at i is fine code =
-      let parts = bytes_split m at (chosen i) (spelled is) code.stands in
+      let parts = bytes_split m at (chosen i) (spelled is) code.is_there in
       let l = code.placed.low in
       let h = code.placed.high in
       reads (at_place m at) i (chosen i) (spells i fine.0) (longest i) parts.0 (record { low = l; high = omega arith })
@@ -183,7 +183,7 @@ module _ (t : Functions) (fs : List Funclet) (program : LinearProgram) (p : Plan
   quiet_in_midst roomy m name b label to o first second has there is c =
       let y = p.layout name in
       let at = p.address name label + sizes (operands_code y o first second) in
-      let code = finish_stands m name b label to o first second has there is in
+      let code = finish_is_at m name b label to o first second has there is in
       let slots : HasSlots (counts_of b) (instructions.Compute to o first second) = each (HasSlots (counts_of b)) b.code label (instructions.Compute to o first second) (roomy name b there).slots is in
       let somewhere = by_name name b (image.laid_out name b there) in
       let fine = finish_fine y (counts_of b) somewhere.sp somewhere.base o to somewhere.room slots.0 in

@@ -150,7 +150,7 @@ module _ (t : Functions) (fs : List Funclet) (program : LinearProgram) (p : Plan
             few = omega arith;
             state = z.state;
             comes = reaches_quietly t fs program p q image 1 u z.state z.reaches z.keeps memory.code z.quiet;
-            stands = subst (λ xs. Begins t fs program p q z.state (record {
+            is_there = subst (λ xs. Begins t fs program p q z.state (record {
               frame = record c.frame { next = c.frame.next + 1; temporaries = c.frame.temporaries ++ 0 ∷ [] };
               below = c.below;
               store = record { memory = c.store.memory; activations = xs };

@@ -1,4 +1,4 @@
--- Where an instruction stands that makes no frame, no funclet begins.
+-- Where an instruction is that makes no frame, no funclet begins.
 use Rattle.std.proofs.Common.{◌≡◌, ℕ, ◌^◌, ◌<◌, ◌≤◌, Bool, true, false, List, [], ◌∷◌, length, Option, Some, None, refl, sym, ap, subst, ◌∙◌, arith, inl, inr}
 use Rattle.std.specs.Prelude.{slice_get}
 use Rattle.std.proofs.lemmas.Bool.{le-leb}
@@ -39,7 +39,7 @@ use Rattle.body_states.specs.Programs.{HasProgram, IsProgramImage}
 reads_first : (m : Memory) (at : ℕ) (j : Instr) → is_encodable j ≡ true → HasCode m at (j ∷ []) → leading (executable m 15 at) ≡ Some (j, length (chosen j))
 unfolding size
 reads_first m at j fine code =
-    let parts = bytes_split m at (chosen j) [] code.stands in
+    let parts = bytes_split m at (chosen j) [] code.is_there in
     let l = code.placed.low in
     let h = code.placed.high in
     let s : State = record { cpu = record { registers = []; rip = at; flags = no_flags }; memory = m } in

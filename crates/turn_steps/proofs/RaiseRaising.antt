@@ -41,7 +41,7 @@ use Rattle.body_steps.specs.Laws.{pace}
 use Rattle.body_steps.proofs.Around.{counted_here, ready_here}
 use Rattle.body_steps.proofs.Viewed.{slots_here}
 use Rattle.turn_steps.specs.FuncletEntries.{FlagsFit}
-use Rattle.turn_steps.specs.Outcomes.{Stands}
+use Rattle.turn_steps.specs.Outcomes.{Represents}
 use Rattle.turn_steps.proofs.Asked.{raised_as}
 use Rattle.turn_steps.proofs.DispatchWalks.{service_walk}
 use Rattle.turn_steps.proofs.Served.{raise_turns, raise_keeps, matched_when_shown}
@@ -119,7 +119,7 @@ module _ (t : Functions) (fs : List Funclet) (program : LinearProgram) (p : Plan
     goes : (next : Next) → act program i next c ≡ raise program next exception AfterCall (waiting c first)
     goes = raise_acts program c first held
 
-    pub raise_step : HasRule (act program i (exec program zero) c) → KnownNext program c i → IsMatched t fs program pace turns_left (Stands t fs program p q) s c i
+    pub raise_step : HasRule (act program i (exec program zero) c) → KnownNext program c i → IsMatched t fs program pace turns_left (Represents t fs program p q) s c i
     raise_step rule after =
         let asks = asking.asks t fs program p q image made s c b known RaiseException first at in
         let shown = raised_as t fs program p q image fits state (asking.saved t fs program p q image made s c b known RaiseException first at) asks.is b.body.acts (waiting c first) asks.asks
@@ -133,7 +133,7 @@ module _ (t : Functions) (fs : List Funclet) (program : LinearProgram) (p : Plan
         let there = asking.sp_there t fs program p q image made s c b known RaiseException first at in
         let walk =
         service_walk t fs program p q image state (address_of services.RaiseException) back asks.is refl (omega arith) (omega arith) (λ e. absurd (omega arith)) (λ e. absurd (omega arith))
-        (asking.returns t fs program p q image made s c b known RaiseException first at) sane.count (omega arith) asks.asks.on.stands.stack in
+        (asking.returns t fs program p q image made s c b known RaiseException first at) sane.count (omega arith) asks.asks.on.is_there.stack in
         matched_when_shown t fs program p q 16 7 (turns_left (waiting c first)) s state c i
         (arrived t fs (raised t state code (register state.cpu Rdx % 2) None (asking.saved t fs program p q image made s c b known RaiseException first at))) (raise_event exception ∷ [])
         (λ next. raise program next exception AfterCall (waiting c first)) shadow

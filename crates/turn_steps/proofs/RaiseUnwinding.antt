@@ -68,7 +68,7 @@ use Rattle.body_steps.proofs.Viewed.{IsCounted, sp_low, frame_top}
 use Rattle.turn_steps.proofs.Grounds.{top_of, begins_beneath}
 use Rattle.turn_steps.proofs.Kept.{offset_most}
 use Rattle.turn_steps.specs.FuncletEntries.{FlagsFit}
-use Rattle.turn_steps.specs.Outcomes.{AreClear, Stands}
+use Rattle.turn_steps.specs.Outcomes.{AreClear, Represents}
 use Rattle.turn_steps.proofs.Apart.{apart_same}
 use Rattle.turn_steps.proofs.Asked.{unwound_to}
 use Rattle.turn_steps.proofs.Hosts.{Asks, asks_host}
@@ -235,7 +235,7 @@ module _ (t : Functions) (fs : List Funclet) (program : LinearProgram) (p : Plan
     resumed = record {
       instruction = instructions.Separator;
       there = separator;
-      goes_on = λ r. absurd r;
+      continues = λ r. absurd r;
       done = [];
       item = instrs.NoOperation;
       left = [];
@@ -345,12 +345,12 @@ module _ (t : Functions) (fs : List Funclet) (program : LinearProgram) (p : Plan
     aims = record { at_depth = refl; at_frame = sym sp_saved; at_address = refl; lands = image.lands c.frame.body body label b.body.slots.body (stays c.frame.body body b.body.slots.body c.frame.next label here) }
 
     aimed : Aimed t fs program p (length c.below) label sp target (context_of saved) asks.is (Waits c.frame ∷ c.below)
-    aimed = aimed_first t fs program p state.memory (context_of saved) asks.is c.frame c.below b.body.acts label sp target asks.asks.on.stands.linked framed aims
+    aimed = aimed_first t fs program p state.memory (context_of saved) asks.is c.frame c.below b.body.acts label sp target asks.asks.on.is_there.linked framed aims
 
     clear : AreClear (Waits c.frame ∷ c.below)
     clear = (free, clear_below program c.below known.stacked.below)
 
-    pub unwind_step : HasRule (act program i (exec program zero) c) → KnownNext program c i → IsMatched t fs program pace turns_left (Stands t fs program p q) s c i
+    pub unwind_step : HasRule (act program i (exec program zero) c) → KnownNext program c i → IsMatched t fs program pace turns_left (Represents t fs program p q) s c i
     unwind_step rule after =
         let n = label_near label in
         let n1 = n.1 in
@@ -358,7 +358,7 @@ module _ (t : Functions) (fs : List Funclet) (program : LinearProgram) (p : Plan
         let l = low_enough in
         let there = pushing.sp_there given sp back low_enough high_enough b.memory.data_alone b.memory.stack service s.cpu.flags back_small many in
         let walk =
-        service_walk t fs program p q image state service back asks.is refl (omega arith) (omega arith) (λ e. absurd (omega arith)) (λ e. absurd (omega arith)) returns sane.count (omega arith) asks.asks.on.stands.stack in
+        service_walk t fs program p q image state service back asks.is refl (omega arith) (omega arith) (λ e. absurd (omega arith)) (λ e. absurd (omega arith)) returns sane.count (omega arith) asks.asks.on.is_there.stack in
         let shown = unwound_to t fs program p q image fits state saved asks.is b.body.acts c asks.asks memory b.body.store sp target label (omega arith) (omega arith) aimed rule clear in
         matched_when_shown t fs program p q 16 4 (turns_left c) s state c i
         (arrived t fs (unwound_locally t state sp target saved)) [] (λ next. local_unwind program next label c) (callers (context_of saved) asks.is)

@@ -46,7 +46,7 @@ unfolding template_size
 call_template y f first count = passing_call_size y first count 0 0
 
 module _ (t : Functions) (fs : List Funclet) (program : LinearProgram) (p : Plan) (q : Sites) (image : IsProgramImage t fs program p q) (roomy : HaveRoom program) where
-  -- after the callee's return RSP is the caller's, and the list stands from there on
+  -- after the callee's return RSP is the caller's, and the list is from there on
   module _ (u : State) (w : Frame) (items : List Item) (acts : List Activation) (source : Memory) (es : List Event) (above : Context) (is : List StackItem)
       (on : On t fs program p u.memory above is (Waits w ∷ items) acts) (sp : register u.cpu Rsp ≡ rsp above) (sane : IsSane u) (memory : IsMachineMemory t fs program p q u.memory source)
       (o : LinearBody) (there : body_of program w.body ≡ Some o) (f first arguments : ℕ) (calls : slice_get o.code w.next ≡ Some (instructions.Call f first arguments)) (within : w.next + 1 < length o.code)

@@ -194,5 +194,5 @@ module _ (t : Functions) (fs : List Funclet) (program : LinearProgram) (p : Plan
             comes = reaches_quietly t fs program p q image (n + 1) s z.state (reaches_then n 1 s after z.state reaches z.reaches) (keep_then t fs n 1 s after reaches keeps z.keeps) b.memory.code z.quiet;
             acts = goes;
             shown = sym (append-nil c.events);
-            stands = z.begins;
+            is_there = z.begins;
           }

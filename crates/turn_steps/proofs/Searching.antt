@@ -58,7 +58,7 @@ module _ (t : Functions) (fs : List Funclet) (program : LinearProgram) (p : Plan
         let w = from_body (target_of f exception.code c.frame.held) c.frame c.below acts c.store.memory c.events in
         let record' = accepting r frame address in
         let room : HasRoom s.memory at record' (rsp (context_of r.saved)) = record { fits = a.unwinding.room.fits; below = h.room.below; small = h.room.small; room = h.room.room } in
-        let top = in_stack t fs program p s.memory (context_of r.saved) is (Waits c.frame ∷ c.below) acts h.on.stands.stack h.on.stands.linked in
+        let top = in_stack t fs program p s.memory (context_of r.saved) is (Waits c.frame ∷ c.below) acts h.on.is_there.stack h.on.is_there.linked in
         let untouched = placing s.memory at record' (rsp (context_of r.saved)) h.on.data_alone room top in
         let memory' = memory_untouched t fs program p q s.memory (placed s.memory at record') c.store.memory untouched memory a.unwinding.on.data_alone in
         let same = λ (next : Next). ap (λ (x : Store). unwind program next (target_of f exception.code c.frame.held) (Waits c.frame ∷ c.below) None c.events x) (sym same_store) in

@@ -36,7 +36,7 @@ use Rattle.body_states.specs.Sites.{Sites}
 use Rattle.body_states.specs.Bodies.{turns_left}
 use Rattle.body_steps.specs.Known.{KnownNext}
 use Rattle.turn_steps.specs.FuncletEntries.{entry_turns}
-use Rattle.turn_steps.specs.Outcomes.{Stands, Shows, KeepsWith}
+use Rattle.turn_steps.specs.Outcomes.{Represents, Shows, KeepsWith}
 use Rattle.turn_steps.proofs.Outcomes.{outcome_same, matched_by_turn}
 
 module _ (t : Functions) (fs : List Funclet) where
@@ -102,7 +102,7 @@ module _ (t : Functions) (fs : List Funclet) where
     pub matched_when_shown : (pace k left : ℕ) (s u : State) (c : Configuration) (i : Instruction) (x : Turn) (before : List Event) (seen : Next → Seen) (shadow : List Context)
         → Comes t fs k s [] u → IsLive u → turn t fs u ≡ x → KeepsWith t fs program p q u shadow → Shows t fs program p q x before seen c.events left shadow → ((next : Next) → act program i next c ≡ seen next) → k + 1 + entry_turns + left ≤ pace + turns_left c
         → KnownNext program c i
-        → IsMatched t fs program pace turns_left (Stands t fs program p q) s c i
+        → IsMatched t fs program pace turns_left (Represents t fs program p q) s c i
     matched_when_shown pace k left s u c i x before seen shadow quiet live e keeps shows acts enough known =
         matched_by_turn t fs program p q pace k left s u c i before shows.further quiet live (e ∙ shows.turns) enough known shadow keeps
         (outcome_same t fs program p q shows.further shows.further seen (λ next. act program i next c) (c.events ++ before) left shadow refl acts shows.outcome)

@@ -35,7 +35,7 @@ use Rattle.body_states.specs.Sites.{Sites}
 use Rattle.body_states.specs.Bodies.{Begins}
 use Rattle.body_steps.proofs.Words.{word_is, may_read_written}
 use Rattle.turn_steps.specs.Static.{IsFilterBody}
-use Rattle.turn_steps.proofs.Fields.{recorded_field, field_stands, field_is, field_fits, field_small}
+use Rattle.turn_steps.proofs.Fields.{recorded_field, field_is_at, field_is, field_fits, field_small}
 
 -- below a filter its search is the first
 pub record IsAsked (exception : Exception) (items : List Item) : Type 0 where
@@ -106,8 +106,8 @@ module _ (t : Functions) (fs : List Funclet) (program : LinearProgram) (p : Plan
         let a = asked_here f in
         let on = b.body.below (replicate 8 0) refl in
         subst (HasRecord s.memory above) (sym a.same)
-        (record_on_top s.memory above b.body.is (activations_below c.frame.body b.body.acts) a.searched a.resumption a.asked a.rest a.below on.stands.stack
-        (subst (λ items. Linked t fs program p s.memory above b.body.is items (activations_below c.frame.body b.body.acts)) a.items_are on.stands.linked))
+        (record_on_top s.memory above b.body.is (activations_below c.frame.body b.body.acts) a.searched a.resumption a.asked a.rest a.below on.is_there.stack
+        (subst (λ items. Linked t fs program p s.memory above b.body.is items (activations_below c.frame.body b.body.acts)) a.items_are on.is_there.linked))
 
     pub pointers_here : (f : IsFilterBody program c.frame.body) → linked.KeepsPointers t fs program p s.memory (p.layout c.frame.body) sp size
     pointers_here f = let a = asked_here f in subst (HasPointers t fs program p s.memory (p.layout c.frame.body) sp size) a.items_are b.body.pointers
@@ -146,7 +146,7 @@ module _ (t : Functions) (fs : List Funclet) (program : LinearProgram) (p : Plan
             exception = at + 96;
             keeps = reads (sp + (p.layout c.frame.body).pointers) 8 (at + 80) (omega arith) (omega arith) (word_is s.memory (sp + (p.layout c.frame.body).pointers) (sp + size + 88) k.kept ∙ sym to);
             leads = reads (at + 80) 8 (at + 96) (omega arith) (omega arith) (word_is s.memory (at + 80) (at + 96) r.pointers);
-            holds = reads (at + 96 + field_at field) (bytes_of (field_width field)) (field_of field c.frame.exception) (omega arith) (omega arith) (field_stands s.memory at r.found field (omega arith) is r.fetches ∙ same);
+            holds = reads (at + 96 + field_at field) (bytes_of (field_width field)) (field_of field c.frame.exception) (omega arith) (omega arith) (field_is_at s.memory at r.found field (omega arith) is r.fetches ∙ same);
           };
           fits = subst (λ x. field_number field x ≡ x) same (field_fits r.found field is r.fits r.carries.one_flag);
           small = subst (λ x. x < 2 ^ 64) same (field_small r.found field is r.fits);

@@ -53,7 +53,7 @@ use Rattle.body_steps.proofs.Activated.{same_activations}
 use Rattle.body_steps.proofs.Viewed.{IsCounted, placed, room_here, holds_here, locals_here}
 use Rattle.body_steps.proofs.Reaching.{Keeps, keeps_then, reaches_keeps, stays_sane}
 use Rattle.body_steps.proofs.Next.{Ran, begins_next}
-use Rattle.body_steps.proofs.Shadowed.{kept_by_rest, caller_here, beyond_here, stands_here, stands_after, ends_at, ends_gives, IsPast, one_piece, past_ends}
+use Rattle.body_steps.proofs.Shadowed.{kept_by_rest, caller_here, beyond_here, is_here, is_after, ends_at, ends_gives, IsPast, one_piece, past_ends}
 use Rattle.body_steps.proofs.Running.{frame, slots, has_slots, quiet_at, dropped, Surroundings}
 use Rattle.body_steps.proofs.Written.{one_more}
 use Rattle.body_steps.proofs.Plain.{label_small}
@@ -62,7 +62,7 @@ use Rattle.turn_steps.proofs.Asking.{clear_size}
 use Rattle.turn_steps.proofs.Pushed.{keeps_above, sp_there as returned_sp, sp_saved}
 use Rattle.turn_steps.proofs.Elsewhere.{elsewhere, source_elsewhere, begins_elsewhere, same_activations as same_acts, same_code}
 use Rattle.turn_steps.proofs.Reached.{sp, given, back, at_service, flags_there, low, top, many, next_is, back_small, reaches, comes_there, live_there, returns, code_after}
-use Rattle.turn_steps.proofs.ServiceShadow.{stands_elsewhere, service_keeps, set_back}
+use Rattle.turn_steps.proofs.ServiceShadow.{is_elsewhere, service_keeps, set_back}
 
 -- numbers of 64 bits, with another of 64 bits among them
 small_set : (xs : List ℕ) (i v : ℕ) → AreSmall xs → v < 2 ^ 64 → AreSmall (set xs i v)
@@ -286,7 +286,7 @@ module _ (t : Functions) (fs : List Funclet) (program : LinearProgram) (p : Plan
           omega (arith, b.rip, sizes_append (arguments_code (p.layout c.frame.body) first) (call back (q.thunk f) ∷ []))
 
       pub past_call : IsPast t fs program p q image earlier calling begins counted (instructions.CallBuiltIn f first) at_earlier (λ h. h) call_code u
-      past_call = record { rip = back_is; registers = kept_back; stands = stands_here t fs program p q image earlier calling begins counted }
+      past_call = record { rip = back_is; registers = kept_back; is_there = is_here t fs program p q image earlier calling begins counted }
 
       -- the code that keeps the result keeps the shadow
       keeps_shadow : AllKeep t fs 1 u
@@ -296,7 +296,7 @@ module _ (t : Functions) (fs : List Funclet) (program : LinearProgram) (p : Plan
           let room = room_here t fs program p q image earlier calling begins counted in
           let kept = ap (λ (rest : List ℕ). kept_of (0 ∷ 0 ∷ 0 ∷ rest)) run.rest ∙ kept_back in
           let ends = ends_at t fs program p q image earlier calling begins counted after (c.frame.next + 1) rip_is inside kept
-          (stands_after t fs program p q image earlier calling begins counted after d values ts ran around_earlier.caller around_earlier.owner) in
+          (is_after t fs program p q image earlier calling begins counted after d values ts ran around_earlier.caller around_earlier.owner) in
           one_piece t fs program p q image earlier calling begins counted i at_earlier (λ h. h) call_code after_code u refl
           (keep_flow (p.layout c.frame.body) (counts_of body) (register earlier.cpu Rsp) (placed t fs program p q image earlier calling begins counted).base room (Temporary first) (omega arith))
           past_call after run.comes ends
@@ -319,7 +319,7 @@ module _ (t : Functions) (fs : List Funclet) (program : LinearProgram) (p : Plan
           let x : State = record { cpu = u.cpu; memory = n } in
           ends_gives t fs program p q image s c b counted x
           (past_ends t fs program p q image s c b counted (instructions.CallBuiltIn f first) at (λ h. h) call_code after_code x refl (omega arith)
-          (record { rip = back_is; registers = kept_back; stands = stands_elsewhere t fs program p q image s c b counted n same has }))
+          (record { rip = back_is; registers = kept_back; is_there = is_elsewhere t fs program p q image s c b counted n same has }))
 
       sp_there : register there.cpu Rsp ≡ called_from - 8
       sp_there =
@@ -355,5 +355,5 @@ module _ (t : Functions) (fs : List Funclet) (program : LinearProgram) (p : Plan
             comes = comes_then t fs 7 (1 + 1) s there after [] (shown ++ []) (comes_there t fs program p q image roomy s c b counted f first at) (comes_then t fs 1 1 there u after shown [] one comes_after);
             acts = acts;
             shown = all ∙ ap (λ es. c.events ++ es) (sym (append-nil shown));
-            stands = begins_after;
+            is_there = begins_after;
           }

@@ -63,8 +63,8 @@ service_found RaiseException = (omega arith, omega arith, λ e. absurd (omega ar
 
 module _ (t : Functions) (fs : List Funclet) (program : LinearProgram) (p : Plan) (q : Sites) (image : IsProgramImage t fs program p q) where
   -- in another memory with the stack as it was from RSP up
-  pub stands_elsewhere : (s : State) (c : Configuration) (b : Begins t fs program p q s c) (counted : IsCounted t fs program p q image c) (m : Memory) → KeepsStack s.memory m (register s.cpu Rsp) → HasProgram t fs program p q m → Below t fs program p q image s c b counted m
-  stands_elsewhere s c b counted m keeps has =
+  pub is_elsewhere : (s : State) (c : Configuration) (b : Begins t fs program p q s c) (counted : IsCounted t fs program p q image c) (m : Memory) → KeepsStack s.memory m (register s.cpu Rsp) → HasProgram t fs program p q m → Below t fs program p q image s c b counted m
+  is_elsewhere s c b counted m keeps has =
       let sp = register s.cpu Rsp in
       let frame = (p.layout c.frame.body).frame in
       let low = sp_low t fs program p q image s c b counted in
@@ -72,7 +72,7 @@ module _ (t : Functions) (fs : List Funclet) (program : LinearProgram) (p : Plan
       let reads = reads_other s.memory m sp 0x70800000 (record { bytes = keeps.bytes; protection = keeps.protection; code = keeps.code; no_more_code = keeps.no_more_code }) (omega arith) (omega arith) in
       let kept = kept_here t fs program p q image s c b counted in
       let caller = caller_here t fs program p q image s c b counted in
-      let list = kept_by_other_memories t fs program p s.memory m caller b.body.is c.below (activations_below c.frame.body b.body.acts) (higher_stack s.memory m sp (sp + frame + 8) (omega arith) keeps) (omega arith) (b.body.below (drop 1 kept) refl).stands in
+      let list = kept_by_other_memories t fs program p s.memory m caller b.body.is c.below (activations_below c.frame.body b.body.acts) (higher_stack s.memory m sp (sp + frame + 8) (omega arith) keeps) (omega arith) (b.body.below (drop 1 kept) refl).is_there in
       record { program_there = has; returns = reads.words (sp + frame) b.body.back (omega arith) (omega arith) b.body.returns; beyond = on_stack t m caller 0 b.body.is list.stack }
 
   -- where the return address of the call is at RSP, and the walk gives the same callers after the return

@@ -12,7 +12,7 @@ use Rattle.body_states.specs.Programs.{IsProgramImage}
 use Rattle.body_steps.proofs.Activations.{locals_count}
 use Rattle.turn_steps.specs.FuncletEntries.{FlagsFit, BlocksBegin}
 use Rattle.turn_steps.proofs.Spaces.{shallow_is, unwind_space}
-use Rattle.turn_steps.proofs.Standing.{arrives_below}
+use Rattle.turn_steps.proofs.FuncletFrames.{arrives_below}
 use Rattle.turn_steps.proofs.Blocks.{block_leads}
 
 pub blocks_begin : (t : Functions) (fs : List Funclet) (program : LinearProgram) (p : Plan) (q : Sites) → IsProgramImage t fs program p q → FlagsFit program → BlocksBegin t fs program p q
@@ -21,5 +21,5 @@ blocks_begin t fs program p q image fits s k flag rest target c acts a flagged m
     let n : length acts + target.held + 2 ≤ 1000 = (let z = shallow_is (length c.store.activations + target.held + 2) shallow in omega (arith, ap length stored, locals_count acts)) in
     block_leads t fs program p q image s k flag c.frame.activation target.held true items c.store (c.events ++ events.Finally (k + 1) true ∷ []) acts
     (arrives_below t fs program p s k c.frame.activation 1 items acts a tt) c.frame.body typed.stacked.above.funclet flagged fits memory stored
-    (unwind_space t fs program p s.memory (context_below a.back a.at []) a.is rest target (Waits c.frame ∷ c.below) acts (a.on []).stands.linked).space n
+    (unwind_space t fs program p s.memory (context_below a.back a.at []) a.is rest target (Waits c.frame ∷ c.below) acts (a.on []).is_there.linked).space n
     (λ m sp size. tt) (λ g kind. (flag, kind)) typed

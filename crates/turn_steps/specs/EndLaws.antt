@@ -18,7 +18,7 @@ use Rattle.body_states.specs.Bodies.{turns_left, Begins}
 use Rattle.body_steps.specs.Known.{IsWellMade, IsKnown, KnownNext}
 use Rattle.body_steps.specs.Laws.{pace}
 use Rattle.turn_steps.specs.FuncletEntries.{FlagsFit}
-use Rattle.turn_steps.specs.Outcomes.{Stands}
+use Rattle.turn_steps.specs.Outcomes.{Represents}
 use Rattle.turn_steps.specs.TurnEntries.{Continuations}
 
 -- a filter or a `__finally` block returns: the step is matched, whatever waits below
@@ -32,5 +32,5 @@ FuncletReturnsAreMatched =
     → instruction_at program c ≡ Some (instructions.Return from)
     → HasRule (act program (instructions.Return from) (exec program zero) c)
     → KnownNext program c (instructions.Return from)
-    → IsMatched t fs program pace turns_left (Stands t fs program p q) s c
+    → IsMatched t fs program pace turns_left (Represents t fs program p q) s c
     (instructions.Return from)

@@ -31,7 +31,7 @@ use Rattle.body_states.specs.Bodies.{turns_left, Begins}
 use Rattle.body_steps.specs.Known.{IsWellMade, IsKnown, KnownNext}
 use Rattle.body_steps.specs.Laws.{pace}
 use Rattle.turn_steps.specs.FuncletEntries.{entry_turns, FlagsFit}
-use Rattle.turn_steps.specs.Outcomes.{WorksOn, Stands}
+use Rattle.turn_steps.specs.Outcomes.{WorksOn, Represents}
 use Rattle.turn_steps.specs.Operations.{ComesTo}
 
 -- the most turns from where an operation begins to where its operands are in their registers
@@ -67,7 +67,7 @@ RetriesAreMatched =
     → (s : State) (c : Configuration) (i : Instruction)
     → WorksOn t fs program p q s c → IsKnown program c → instruction_at program c ≡ Some i
     → HasRule (act program i (exec program zero) c) → KnownNext program c i
-    → IsMatched t fs program pace turns_left (Stands t fs program p q) s c i
+    → IsMatched t fs program pace turns_left (Represents t fs program p q) s c i
 
 -- where a fault is continued, the machine is there at once, in the saved state
 abbrev pub ContinuationsAtOperations : Type 0
@@ -81,7 +81,7 @@ ContinuationsAtOperations =
     → IsMachineMemory t fs program p q s.memory c.store.memory
     → c.store.activations ≡ locals_of acts
     → (arrivals saved (distance t.base saved.rip) 1 fs ≡ [])
-    × LeadsTo t fs entry_turns (Stands t fs program p q) (record { cpu = saved; memory = s.memory })
+    × LeadsTo t fs entry_turns (Represents t fs program p q) (record { cpu = saved; memory = s.memory })
     (resumed SameOperation c)
 
 -- each operation is matched, where its instruction begins and in its midst
@@ -90,9 +90,9 @@ OperationsAreMatched =
     (t : Functions) (fs : List Funclet) (program : LinearProgram) (p : Plan) (q : Sites)
     → IsProgramImage t fs program p q → IsWellMade program p → FlagsFit program
     → (s : State) (c : Configuration) (to : Slot) (o : Operation) (first second : Slot)
-    → Stands t fs program p q s c → IsKnown program c
+    → Represents t fs program p q s c → IsKnown program c
     → instruction_at program c ≡ Some (instructions.Compute to o first second)
     → HasRule (act program (instructions.Compute to o first second) (exec program zero) c)
     → KnownNext program c (instructions.Compute to o first second)
-    → IsMatched t fs program pace turns_left (Stands t fs program p q) s c
+    → IsMatched t fs program pace turns_left (Represents t fs program p q) s c
     (instructions.Compute to o first second)

@@ -45,17 +45,17 @@ module _ (t : Functions) (fs : List Funclet) (program : LinearProgram) (p : Plan
     pub memory : IsMachineMemory t fs program p q s.memory c.store.memory
     pub body : InBody t fs program p q s c
 
-  -- a state of the machine stands for a configuration of linear code
-  abbrev pub Stands : State → Configuration → Type 0
-  Stands s c = Begins t fs program p q s c ⊎ WorksOn s c
+  -- a state of the machine represents a configuration of linear code
+  abbrev pub Represents : State → Configuration → Type 0
+  Represents s c = Begins t fs program p q s c ⊎ WorksOn s c
 
   -- what the walk gives after it, of the callers before it
-  abbrev pub WalkGoesOn : List Context → State → List Event → Type 0
-  WalkGoesOn shadow u es = WalkGives t u (drop_below (register u.cpu Rsp) (started u es shadow))
+  abbrev pub WalkContinues : List Context → State → List Event → Type 0
+  WalkContinues shadow u es = WalkGives t u (drop_below (register u.cpu Rsp) (started u es shadow))
 
   -- after these events it comes to a body that continues, in a configuration with no more than so
   -- many turns left
-  pub record GoesOn (turn : Turn) (seen : Next → Seen) (es : List Event) (left : ℕ)
+  pub record ContinuesAs (turn : Turn) (seen : Next → Seen) (es : List Event) (left : ℕ)
       (shadow : List Context) : Type 0 where
     pub state : State
     pub events : List Event
@@ -65,8 +65,8 @@ module _ (t : Functions) (fs : List Funclet) (program : LinearProgram) (p : Plan
     pub acts : (next : Next) → seen next ≡ next configuration
     pub shown : configuration.events ≡ es ++ events
     pub quiet : arrivals state.cpu (distance t.base state.cpu.rip) 1 fs ≡ []
-    pub walk : WalkGoesOn shadow state []
-    pub leads : IsKnown program configuration → LeadsTo t fs entry_turns Stands state configuration
+    pub walk : WalkContinues shadow state []
+    pub leads : IsKnown program configuration → LeadsTo t fs entry_turns Represents state configuration
 
   -- or to a funclet, which begins unless the depth would be too great
   pub record EntersFunclet (turn : Turn) (seen : Next → Seen) (es : List Event) (left : ℕ)
@@ -83,9 +83,9 @@ module _ (t : Functions) (fs : List Funclet) (program : LinearProgram) (p : Plan
     pub acts : (next : Next) → seen next ≡ deeper more held store es (next configuration)
     pub shown : configuration.events ≡ es ++ event ∷ []
     pub arrives : arrivals state.cpu (distance t.base state.cpu.rip) 1 fs ≡ event ∷ []
-    pub walk : WalkGoesOn shadow state (event ∷ [])
+    pub walk : WalkContinues shadow state (event ∷ [])
     pub leads : nat_lt DEEPEST (length store.activations + held + more) ≡ false
-        → IsKnown program configuration → LeadsTo t fs entry_turns Stands state configuration
+        → IsKnown program configuration → LeadsTo t fs entry_turns Represents state configuration
 
   -- or nobody handles the exception
   pub record EndsRun (turn : Turn) (seen : Next → Seen) (es : List Event) : Type 0 where
@@ -96,7 +96,7 @@ module _ (t : Functions) (fs : List Funclet) (program : LinearProgram) (p : Plan
   -- a turn of the dispatcher continues a body, enters a funclet or ends the run
   abbrev pub Outcome : Turn → (Next → Seen) → List Event → ℕ → List Context → Type 0
   Outcome turn seen es left shadow =
-      GoesOn turn seen es left shadow ⊎ (EntersFunclet turn seen es left shadow
+      ContinuesAs turn seen es left shadow ⊎ (EntersFunclet turn seen es left shadow
       ⊎ EndsRun turn seen es)
 
   -- a turn shows some events before those of its outcome
@@ -110,4 +110,4 @@ module _ (t : Functions) (fs : List Funclet) (program : LinearProgram) (p : Plan
   abbrev pub KeepsWith : State → List Context → Type 0
   KeepsWith s shadow =
       (u : State) (es : List Event) → arrivals u.cpu (distance t.base u.cpu.rip) 1 fs ≡ es
-      → WalkGoesOn shadow u es → KeepsShadow t fs s u
+      → WalkContinues shadow u es → KeepsShadow t fs s u

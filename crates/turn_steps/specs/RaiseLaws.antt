@@ -27,7 +27,7 @@ use Rattle.body_states.specs.Bodies.{turns_left, Begins}
 use Rattle.body_steps.specs.Known.{IsWellMade, IsKnown, KnownNext}
 use Rattle.body_steps.specs.Laws.{pace}
 use Rattle.turn_steps.specs.FuncletEntries.{entry_turns, FlagsFit}
-use Rattle.turn_steps.specs.Outcomes.{Stands}
+use Rattle.turn_steps.specs.Outcomes.{Represents}
 use Rattle.turn_steps.specs.TurnEntries.{Continuations}
 use Rattle.turn_steps.specs.Places.{AreFollowed, StayInside}
 
@@ -42,7 +42,7 @@ RaisesAreMatched =
     → instruction_at program c ≡ Some (instructions.CallBuiltIn RaiseException first)
     → HasRule (act program (instructions.CallBuiltIn RaiseException first) (exec program zero) c)
     → KnownNext program c (instructions.CallBuiltIn RaiseException first)
-    → IsMatched t fs program pace turns_left (Stands t fs program p q) s c
+    → IsMatched t fs program pace turns_left (Represents t fs program p q) s c
     (instructions.CallBuiltIn RaiseException first)
 
 -- a local unwind: its first `__finally` block begins, or the label's instruction
@@ -56,7 +56,7 @@ LocalUnwindsAreMatched =
     → instruction_at program c ≡ Some (instructions.LocalUnwind label)
     → HasRule (act program (instructions.LocalUnwind label) (exec program zero) c)
     → KnownNext program c (instructions.LocalUnwind label)
-    → IsMatched t fs program pace turns_left (Stands t fs program p q) s c
+    → IsMatched t fs program pace turns_left (Represents t fs program p q) s c
     (instructions.LocalUnwind label)
 
 -- where the exception of a call is continued, the body continues from the saved state
@@ -75,7 +75,7 @@ ContinuationsAfterCalls =
     (record { cpu = saved; memory = s.memory }) (resumed AfterCall c))
 
 -- and wherever one is continued, after a call or at the same operation
-abbrev pub BodiesGoOn : Type 0
-BodiesGoOn =
+abbrev pub BodiesContinue : Type 0
+BodiesContinue =
     (t : Functions) (fs : List Funclet) (program : LinearProgram) (p : Plan) (q : Sites)
     → IsProgramImage t fs program p q → IsWellMade program p → Continuations t fs program p q

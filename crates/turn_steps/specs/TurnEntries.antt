@@ -19,7 +19,7 @@ use Rattle.body_states.specs.Sites.{Sites}
 use Rattle.body_states.specs.Programs.{IsMachineMemory}
 use Rattle.body_steps.specs.Known.{IsKnown}
 use Rattle.turn_steps.specs.FuncletEntries.{entry_turns}
-use Rattle.turn_steps.specs.Outcomes.{Stands}
+use Rattle.turn_steps.specs.Outcomes.{Represents}
 
 module _ (t : Functions) (fs : List Funclet) (program : LinearProgram) (p : Plan) (q : Sites) where
   -- where an exception is continued, the body continues from the saved state: after its call, whose
@@ -35,5 +35,5 @@ module _ (t : Functions) (fs : List Funclet) (program : LinearProgram) (p : Plan
       → c.store.activations ≡ locals_of acts
       → (arrivals saved (distance t.base saved.rip) 1 fs ≡ [])
       × (IsKnown program (resumed resumption c) → c.frame.landed ≡ None
-      → LeadsTo t fs entry_turns (Stands t fs program p q)
+      → LeadsTo t fs entry_turns (Represents t fs program p q)
       (record { cpu = saved; memory = s.memory }) (resumed resumption c))

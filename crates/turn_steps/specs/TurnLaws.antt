@@ -35,7 +35,7 @@ use Rattle.body_states.specs.Programs.{IsMachineMemory, IsProgramImage}
 use Rattle.body_states.specs.Bodies.{turns_left}
 use Rattle.body_steps.specs.Known.{KnownNext}
 use Rattle.turn_steps.specs.FuncletEntries.{FlagsFit}
-use Rattle.turn_steps.specs.Outcomes.{AreClear, Stands, Shows}
+use Rattle.turn_steps.specs.Outcomes.{AreClear, Represents, Shows}
 use Rattle.turn_steps.specs.TurnEntries.{Continuations}
 
 -- the body that waits below a funclet, with what the funclet leaves in the store
@@ -60,7 +60,7 @@ FilterAnswersAreMatched =
     → c.store.activations ≡ locals_of acts
     → ((next : Next) → act program i next c ≡ linear_answer program u exception resumption asked
     rest (waiting_below c w below) next) → HasRule (act program i (exec program zero) c)
-    → KnownNext program c i → IsMatched t fs program 16 turns_left (Stands t fs program p q) s c i
+    → KnownNext program c i → IsMatched t fs program 16 turns_left (Represents t fs program p q) s c i
 
 -- and where they lead to that of `__finally` blocks, the step that ends the block
 abbrev pub FinallyReturnsAreMatched : Type 0
@@ -78,7 +78,7 @@ FinallyReturnsAreMatched =
     → c.store.activations ≡ locals_of acts
     → ((next : Next) → act program i next c ≡ end_finally program next c.below c.events c.store)
     → HasRule (act program i (exec program zero) c)
-    → KnownNext program c i → IsMatched t fs program 16 turns_left (Stands t fs program p q) s c i
+    → KnownNext program c i → IsMatched t fs program 16 turns_left (Represents t fs program p q) s c i
 
 -- where a body asks the host, a raise shows its event, and then does what linear code does
 abbrev pub RaisesAreShown : Type 0

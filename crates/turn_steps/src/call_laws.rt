@@ -2,7 +2,7 @@
 
 ghost use Rattle.turn_steps.specs.CallLaws.{ReturnsAreMatched, CallsBegin};
 
-/// Where the machine stands for a configuration of linear code, a function's return comes to the
+/// Where the machine represents a configuration of linear code, a function's return comes to the
 /// next instruction of the body that waits for it, or ends the run; and a call to the first one of
 /// the function.
 pub fn laws()

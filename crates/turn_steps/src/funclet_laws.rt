@@ -3,7 +3,7 @@
 ghost use Rattle.turn_steps.specs.FuncletLaws.{CalledFiltersBegin, CalledBlocksBegin, ReturnsOfBlocksAreMatched};
 
 /// From a funclet's first byte the machine comes in at most six turns to the first instruction of
-/// its body, in a state that stands for linear code's configuration; the return of a `__finally`
+/// its body, in a state that represents linear code's configuration; the return of a `__finally`
 /// block that a body has called continues in the body.
 pub fn laws()
     ensures filters { CalledFiltersBegin }

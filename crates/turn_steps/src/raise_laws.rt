@@ -1,6 +1,6 @@
 //! Laws of raises and of local unwinds.
 
-ghost use Rattle.turn_steps.specs.RaiseLaws.{RaisesAreMatched, LocalUnwindsAreMatched, ContinuationsAfterCalls, BodiesGoOn};
+ghost use Rattle.turn_steps.specs.RaiseLaws.{RaisesAreMatched, LocalUnwindsAreMatched, ContinuationsAfterCalls, BodiesContinue};
 
 /// Where a body calls RaiseException, or jumps out of a body with `__finally` blocks, the machine
 /// comes in at most eight turns to what linear code comes to; where the exception of a call is
@@ -10,5 +10,5 @@ pub fn laws()
     ensures raises { RaisesAreMatched }
     ensures unwinds { LocalUnwindsAreMatched }
     ensures continuations { ContinuationsAfterCalls }
-    ensures all_continuations { BodiesGoOn }
+    ensures all_continuations { BodiesContinue }
 {}

@@ -2,7 +2,7 @@
 
 ghost use Rattle.turn_steps.specs.ServiceLaws.{InformationIsMatched, PutsAreMatched, ProtectsAreMatched};
 
-/// Where the machine stands for a configuration of linear code, a filter reads what linear code
+/// Where the machine represents a configuration of linear code, a filter reads what linear code
 /// reads of its exception; `put` shows what linear code shows, and `protect` sets the same rights.
 pub fn laws()
     ensures information { InformationIsMatched }

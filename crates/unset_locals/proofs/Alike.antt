@@ -1,4 +1,4 @@
--- Configurations that are alike go on alike.
+-- Configurations that are alike continue alike.
 use Rattle.std.proofs.Common.{◌≡◌, ℕ, zero, suc, ◌-◌, List, [], ◌∷◌, ◌++◌, length, refl, sym, ap, subst, ◌∙◌}
 use Rattle.std.proofs.lemmas.List.{length-replicate}
 use Rattle.std.specs.Prelude.{replicate}
@@ -13,7 +13,7 @@ use Rattle.ir_typed.proofs.Same.{alike_is_same}
 use Rattle.unset_locals.specs.Marks.{Marks, next_marks}
 use Rattle.unset_locals.specs.Alike.{AreActivationsAlike, AreAlike, GoTo, GoAlike}
 use Rattle.unset_locals.specs.Reads.{ReadsSet, ComesMarked}
-use Rattle.unset_locals.specs.Laws.{StepsAreAlike, CallsAreAlike, called, called_with, StartsAreAlike, MarkedIsReached, MarkedGoesOn}
+use Rattle.unset_locals.specs.Laws.{StepsAreAlike, CallsAreAlike, called, called_with, StartsAreAlike, MarkedIsReached, MarkedContinues}
 use Rattle.unset_locals.proofs.Lists.{as_long, begun_alike}
 use Rattle.unset_locals.proofs.Both.{over_store, over, Both, Halt, Move, ends_or_moves}
 use Rattle.unset_locals.proofs.Steps.{Led, called_alike, act_both}
@@ -117,5 +117,5 @@ module _ (program : LinearProgram) where
 pub marked_is_reached : MarkedIsReached
 marked_is_reached program c marks r = record { argument = r.argument; main = r.main; is_main = r.is_main; turns = r.turns; comes = without_marks program r.turns _ _ c marks r.comes }
 
-pub marked_goes_on : MarkedGoesOn
-marked_goes_on program c d marks r t = record { argument = r.argument; main = r.main; is_main = r.is_main; turns = suc r.turns; comes = one_more_turn program r.turns _ _ c d marks r.comes t }
+pub marked_continues : MarkedContinues
+marked_continues program c d marks r t = record { argument = r.argument; main = r.main; is_main = r.is_main; turns = suc r.turns; comes = one_more_turn program r.turns _ _ c d marks r.comes t }

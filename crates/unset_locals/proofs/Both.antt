@@ -42,6 +42,6 @@ module _ (R : Configuration → List (List ℕ) → Type 0) where
 differ : Running [] ≡ Stuck [] → ⊥
 differ e = cc
 
--- what ends doesn't go on
+-- what ends doesn't continue
 pub ends_or_moves : (f : Next → Seen) (s : Seen) (c : Configuration) → ((next : Next) → f next ≡ s) → ((next : Next) → f next ≡ next c) → ⊥
 ends_or_moves f s c e h = differ (sym (h (λ c. Running [])) ∙ e (λ c. Running []) ∙ sym (e (λ c. Stuck [])) ∙ h (λ c. Stuck []))

@@ -1,4 +1,4 @@
--- A configuration and its twin go on together.
+-- A configuration and its twin continue together.
 use Rattle.std.proofs.Common.{◌≡◌, ℕ, zero, suc, ◌+◌, ◌-◌, List, [], ◌∷◌, ◌++◌, length, refl, sym, ap, subst, ◌∙◌}
 use Rattle.std.specs.List.{AllByRecursion}
 use Rattle.std.specs.Prelude.{Bool, true, false, nat_lt, slice_get, replicate, Option, Some, None}
@@ -17,9 +17,9 @@ use Rattle.unset_locals.specs.Marks.{Marks, next_marks}
 use Rattle.unset_locals.specs.Alike.{AreAlike, GoTo, GoAlike}
 use Rattle.unset_locals.specs.Reads.{IsMarked, start_marks}
 use Rattle.unset_locals.specs.Laws.{called, called_with, started_with}
-use Rattle.unset_locals.specs.Twins.{AreTwins, GoesAsTwin, GoAsTwins, TwinsGoOn, TwinsCall, TwinsStart, TwinsAreSmall}
+use Rattle.unset_locals.specs.Twins.{AreTwins, GoesAsTwin, GoAsTwins, TwinsContinue, TwinsCall, TwinsStart, TwinsAreSmall}
 use Rattle.unset_locals.proofs.Lists.{as_long}
-use Rattle.unset_locals.proofs.Alike.{is_over, steps_are_alike, calls_are_alike, starts_are_alike, marked_is_reached, marked_goes_on}
+use Rattle.unset_locals.proofs.Alike.{is_over, steps_are_alike, calls_are_alike, starts_are_alike, marked_is_reached, marked_continues}
 
 -- ---- numbers of 64 bits
 
@@ -50,8 +50,8 @@ twins_are_small program c d t = alike_small t.marks c d t.alike t.small (reached
 same_place : (program : LinearProgram) (c d : Configuration) → d.frame ≡ c.frame → instruction_at program d ≡ instruction_at program c
 same_place program c d e = ap (λ (f : Frame). instruction_in (body_of program f.body) f.next) e
 
-pub twins_go_on : TwinsGoOn
-twins_go_on program reads c d t i at =
+pub twins_continue : TwinsContinue
+twins_continue program reads c d t i at =
     let here : instruction_at program c ≡ Some i = sym (same_place program c d t.alike.frame) ∙ at in
     let both : GoAlike program i t.marks c d = steps_are_alike program i t.marks c d t.alike (reads c t.marks i t.marked here) in
     record {
@@ -63,7 +63,7 @@ twins_go_on program reads c d t i at =
             goes = r.1.one;
             twins = record {
               marks = next_marks program i c r.0 t.marks;
-              marked = marked_goes_on program c r.0 t.marks t.marked (record { instruction = i; at = here; goes = r.1.one });
+              marked = marked_continues program c r.0 t.marks t.marked (record { instruction = i; at = here; goes = r.1.one });
               alike = r.1.alike;
               small = (stays_small program d d' (record { instruction = i; at = at; goes = g }) (twins_are_small program c d t)).locals;
             };
@@ -101,7 +101,7 @@ twins_call program c d f first count function arguments values t at e g n long s
       goes = goes;
       twins = record {
         marks = next_marks program i c on t.marks;
-        marked = marked_goes_on program c on t.marks t.marked (record { instruction = i; at = here; goes = goes });
+        marked = marked_continues program c on t.marks t.marked (record { instruction = i; at = here; goes = goes });
         alike = calls_are_alike program t.marks c d f first count function arguments values t.alike own g long;
         small = other_small d.store.activations arguments zeros values small s;
       };

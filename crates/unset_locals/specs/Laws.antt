@@ -9,7 +9,7 @@ use Rattle.linear_machine.specs.Frames.{Waits, Configuration, last_temporaries}
 use Rattle.linear_machine.specs.Instructions.{begin_function, waiting}
 use Rattle.linear_machine.specs.Run.{start, main_arguments}
 use Rattle.ir_typed.specs.Turns.{IsTurn, IsReached}
-use Rattle.ir_typed.specs.Ready.{CanGoOn}
+use Rattle.ir_typed.specs.Ready.{CanContinue}
 use Rattle.ir_typed.specs.Waiting.{IsStacked}
 use Rattle.ir_typed.specs.Activations.{HasActivations}
 use Rattle.ir_typed.specs.Small.{AreSmall, HasSmallNumbers}
@@ -70,18 +70,18 @@ MarkedIsReached =
     (program : LinearProgram) (c : Configuration) (marks : Marks) → IsMarked program c marks
     → IsReached program c
 
-abbrev pub MarkedGoesOn : Type 0
-MarkedGoesOn =
+abbrev pub MarkedContinues : Type 0
+MarkedContinues =
     (program : LinearProgram) (c d : Configuration) (marks : Marks) → IsMarked program c marks
     → (turn : IsTurn program c d)
     → IsMarked program d (next_marks program turn.instruction c d marks)
 
 -- ---- what holds of one holds of the other
 
-abbrev pub AlikeGoesOn : Type 0
-AlikeGoesOn =
+abbrev pub AlikeContinues : Type 0
+AlikeContinues =
     (program : LinearProgram) (marks : Marks) (c d : Configuration) → AreAlike marks c d
-    → CanGoOn program c → CanGoOn program d
+    → CanContinue program c → CanContinue program d
 
 abbrev pub AlikeIsStacked : Type 0
 AlikeIsStacked =

@@ -38,8 +38,8 @@ module _ (program : LinearProgram) where
         → act program i next c ≡ seen
     pub seen : act program i (exec program 0) d ≡ act program i (exec program 0) c
 
-abbrev pub TwinsGoOn : Type 0
-TwinsGoOn =
+abbrev pub TwinsContinue : Type 0
+TwinsContinue =
     (program : LinearProgram) → ReadsNoUnset program → (c d : Configuration) → AreTwins program c d
     → (i : Instruction) → instruction_at program d ≡ Some i → GoAsTwins program i c d
 

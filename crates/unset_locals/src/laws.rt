@@ -1,6 +1,6 @@
 //! Laws of configurations that differ in locals alone that haven't been set.
 
-ghost use Rattle.unset_locals.specs.Laws.{StepsAreAlike, CallsAreAlike, StartsAreAlike, MarkedIsReached, MarkedGoesOn, AlikeGoesOn, AlikeIsStacked, AlikeHasActivations, AlikeHasDepths, AlikeIsSmall};
+ghost use Rattle.unset_locals.specs.Laws.{StepsAreAlike, CallsAreAlike, StartsAreAlike, MarkedIsReached, MarkedContinues, AlikeContinues, AlikeIsStacked, AlikeHasActivations, AlikeHasDepths, AlikeIsSmall};
 
 /// Each goes where the other goes, and ends where it ends.
 pub fn steps_are_alike()
@@ -23,13 +23,13 @@ pub fn marked_is_reached()
 {}
 
 /// Marks go along with each turn.
-pub fn marked_goes_on()
-    ensures marked { MarkedGoesOn }
+pub fn marked_continues()
+    ensures marked { MarkedContinues }
 {}
 
 /// What an instruction needs is there in both.
-pub fn alike_goes_on()
-    ensures goes_on { AlikeGoesOn }
+pub fn alike_continues()
+    ensures continues { AlikeContinues }
 {}
 
 /// The same waits in both.

@@ -1,10 +1,10 @@
 //! Laws of the configuration that linear code is in, and of its twin, which a machine shows.
 
-ghost use Rattle.unset_locals.specs.Twins.{TwinsGoOn, TwinsCall, TwinsStart, TwinsAreSmall};
+ghost use Rattle.unset_locals.specs.Twins.{TwinsContinue, TwinsCall, TwinsStart, TwinsAreSmall};
 
 /// What the twin does, linear code does, where no run reads a local that hasn't been set.
-pub fn twins_go_on()
-    ensures twins { TwinsGoOn }
+pub fn twins_continue()
+    ensures twins { TwinsContinue }
 {}
 
 /// The twin of a call may have any numbers of 64 bits in the locals after the arguments.

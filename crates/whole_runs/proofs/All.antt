@@ -106,7 +106,7 @@ module _ (t : Functions) (fs : List Funclet) (program : LinearProgram) (pace : �
       more = let e = mul-suc pace n in omega arith
 
       matched : (i : Instruction) → HasRule (act program i (exec program n) c) → Rest → IsMatched t fs program pace credit (Follows t fs program pace credit n) s c i → ShowsAll (shown (act program i (exec program n) c)) (run t fs turns (host s) c.events)
-      matched i quiet rest (inl v) = moves n turns s c i more v (λ left enough. rest left v.state v.configuration v.stands (subst HasRule (v.acts (exec program n)) quiet) enough)
+      matched i quiet rest (inl v) = moves n turns s c i more v (λ left enough. rest left v.state v.configuration v.is_there (subst HasRule (v.acts (exec program n)) quiet) enough)
       matched i quiet rest (inr (inl v)) = exits n turns s c i more v
       matched i quiet rest (inr (inr (inl v))) = dies n turns s c i more v
       matched i quiet rest (inr (inr (inr v))) = fails n turns s c i more v

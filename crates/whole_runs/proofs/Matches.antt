@@ -42,16 +42,16 @@ module _ (t : Functions) (fs : List Funclet) (program : LinearProgram) (credit :
   }
 
   -- a step that continues unless the depth would be too great
-  pub matched_by_depth : (pace : ℕ) (Stands : State → Configuration → Type 0) (s : State) (c : Configuration) (i : Instruction)
+  pub matched_by_depth : (pace : ℕ) (Represents : State → Configuration → Type 0) (s : State) (c : Configuration) (i : Instruction)
       → (n held : ℕ) (store : Store) (before after : List Event) (d : Configuration) (turns : ℕ) (u : State)
       → ((next : Next) → act program i next c ≡ deeper n held store (c.events ++ before) (next d)) → d.events ≡ c.events ++ (before ++ after)
       → 1 ≤ turns → turns + credit d ≤ pace + credit c → Comes t fs turns s (before ++ after) u
-      → (nat_lt 1000 (length store.activations + held + n) ≡ false → Stands u d)
-      → IsMatched t fs program pace credit Stands s c i
+      → (nat_lt 1000 (length store.activations + held + n) ≡ false → Represents u d)
+      → IsMatched t fs program pace credit Represents s c i
   unfolding pick
-  matched_by_depth pace Stands s c i n held store before after d turns u acts shown some few comes stands = by (nat_lt 1000 (length store.activations + held + n)) refl
+  matched_by_depth pace Represents s c i n held store before after d turns u acts shown some few comes is_there = by (nat_lt 1000 (length store.activations + held + n)) refl
     where
-      by : (b : Bool) → nat_lt 1000 (length store.activations + held + n) ≡ b → IsMatched t fs program pace credit Stands s c i
+      by : (b : Bool) → nat_lt 1000 (length store.activations + held + n) ≡ b → IsMatched t fs program pace credit Represents s c i
       by true deep = inr (inr (inr (record {
         turns = turns;
         few = omega arith;
@@ -74,13 +74,13 @@ module _ (t : Functions) (fs : List Funclet) (program : LinearProgram) (credit :
         comes = comes;
         acts = λ next. acts next ∙ ap (λ (b : Bool). pick b (Finished (Deep 1001) (c.events ++ before)) (next d)) shallow;
         shown = shown;
-        stands = stands shallow;
+        is_there = is_there shallow;
       })
 
   -- turns that show nothing come before a step's
-  pub matched_after : (k pace : ℕ) (Stands : State → Configuration → Type 0) (s u : State) (c : Configuration) (i : Instruction)
-      → Comes t fs k s [] u → IsMatched t fs program pace credit Stands u c i → IsMatched t fs program (k + pace) credit Stands s c i
-  matched_after k pace Stands s u c i p (inl v) =
+  pub matched_after : (k pace : ℕ) (Represents : State → Configuration → Type 0) (s u : State) (c : Configuration) (i : Instruction)
+      → Comes t fs k s [] u → IsMatched t fs program pace credit Represents u c i → IsMatched t fs program (k + pace) credit Represents s c i
+  matched_after k pace Represents s u c i p (inl v) =
       let few = v.few in
       let some = v.some in
       inl (record {
@@ -93,9 +93,9 @@ module _ (t : Functions) (fs : List Funclet) (program : LinearProgram) (credit :
         comes = quietly_before t fs k v.turns s u v.state v.events p v.comes;
         acts = v.acts;
         shown = v.shown;
-        stands = v.stands;
+        is_there = v.is_there;
       })
-  matched_after k pace Stands s u c i p (inr (inl v)) =
+  matched_after k pace Represents s u c i p (inr (inl v)) =
       let few = v.few in
       inr (inl (record {
         turns = k + v.turns;
@@ -108,7 +108,7 @@ module _ (t : Functions) (fs : List Funclet) (program : LinearProgram) (credit :
         answer = v.answer;
         acts = v.acts;
       }))
-  matched_after k pace Stands s u c i p (inr (inr (inl v))) =
+  matched_after k pace Represents s u c i p (inr (inr (inl v))) =
       let few = v.few in
       inr (inr (inl (record {
         turns = k + v.turns;
@@ -122,7 +122,7 @@ module _ (t : Functions) (fs : List Funclet) (program : LinearProgram) (credit :
         ends = v.ends;
         acts = v.acts;
       })))
-  matched_after k pace Stands s u c i p (inr (inr (inr v))) =
+  matched_after k pace Represents s u c i p (inr (inr (inr v))) =
       let few = v.few in
       inr (inr (inr (record {
         turns = k + v.turns;
@@ -138,13 +138,13 @@ module _ (t : Functions) (fs : List Funclet) (program : LinearProgram) (credit :
       })))
 
   -- turns that show nothing come after a step's
-  pub matched_then : (pace most : ℕ) (Middle Stands : State → Configuration → Type 0) (s : State) (c : Configuration) (i : Instruction)
-      → ((u : State) (d : Configuration) → Middle u d → LeadsTo t fs most Stands u d)
-      → IsMatched t fs program pace credit Middle s c i → IsMatched t fs program (most + pace) credit Stands s c i
-  matched_then pace most Middle Stands s c i leads (inl v) =
+  pub matched_then : (pace most : ℕ) (Middle Represents : State → Configuration → Type 0) (s : State) (c : Configuration) (i : Instruction)
+      → ((u : State) (d : Configuration) → Middle u d → LeadsTo t fs most Represents u d)
+      → IsMatched t fs program pace credit Middle s c i → IsMatched t fs program (most + pace) credit Represents s c i
+  matched_then pace most Middle Represents s c i leads (inl v) =
       let few = v.few in
       let some = v.some in
-      let x = leads v.state v.configuration v.stands in
+      let x = leads v.state v.configuration v.is_there in
       let less = x.few in
       inl (record {
         turns = v.turns + x.turns;
@@ -156,22 +156,22 @@ module _ (t : Functions) (fs : List Funclet) (program : LinearProgram) (credit :
         comes = quietly_after t fs v.turns x.turns s v.state x.state v.events v.comes x.comes;
         acts = v.acts;
         shown = v.shown;
-        stands = x.stands;
+        is_there = x.is_there;
       })
-  matched_then pace most Middle Stands s c i leads (inr (inl v)) =
+  matched_then pace most Middle Represents s c i leads (inr (inl v)) =
       let few = v.few in
       inr (inl (record { turns = v.turns; few = omega arith; state = v.state; events = v.events; comes = v.comes; over = v.over; value = v.value; answer = v.answer; acts = v.acts }))
-  matched_then pace most Middle Stands s c i leads (inr (inr (inl v))) =
+  matched_then pace most Middle Represents s c i leads (inr (inr (inl v))) =
       let few = v.few in
       inr (inr (inl (record { turns = v.turns; few = omega arith; state = v.state; events = v.events; comes = v.comes; live = v.live; last = v.last; code = v.code; ends = v.ends; acts = v.acts })))
-  matched_then pace most Middle Stands s c i leads (inr (inr (inr v))) =
+  matched_then pace most Middle Represents s c i leads (inr (inr (inr v))) =
       let few = v.few in
       inr (inr (inr (record { turns = v.turns; few = omega arith; state = v.state; made = v.made; comes = v.comes; events = v.events; front = v.front; end = v.end; wild = v.wild; acts = v.acts })))
 
   -- with more turns allowed
-  pub matched_slower : (pace more : ℕ) (Stands : State → Configuration → Type 0) (s : State) (c : Configuration) (i : Instruction)
-      → pace ≤ more → IsMatched t fs program pace credit Stands s c i → IsMatched t fs program more credit Stands s c i
-  matched_slower pace more Stands s c i le m =
+  pub matched_slower : (pace more : ℕ) (Represents : State → Configuration → Type 0) (s : State) (c : Configuration) (i : Instruction)
+      → pace ≤ more → IsMatched t fs program pace credit Represents s c i → IsMatched t fs program more credit Represents s c i
+  matched_slower pace more Represents s c i le m =
       let e : (more - pace) + pace ≡ more = omega arith in
-      subst (λ n. IsMatched t fs program n credit Stands s c i) e
-      (matched_then pace (more - pace) Stands Stands s c i (λ u d stands. record { turns = 0; few = omega arith; state = u; comes = comes_nowhere t fs u; stands = stands }) m)
+      subst (λ n. IsMatched t fs program n credit Represents s c i) e
+      (matched_then pace (more - pace) Represents Represents s c i (λ u d is_there. record { turns = 0; few = omega arith; state = u; comes = comes_nowhere t fs u; is_there = is_there }) m)

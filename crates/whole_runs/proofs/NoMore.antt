@@ -39,8 +39,8 @@ pub prefix_after : (out a b : List Event) → IsPrefixOf a b → IsPrefixOf (out
 prefix_after out a b p = (p.0, append_assoc out a p.0 ∙ ap (λ (x : List Event). out ++ x) p.1)
 
 -- while a run has no end
-pub goes_on : (meant : Shown Ended) (x : Shown RunEnd) (events : List Event) → x ≡ record { events = events; end = None } → IsPrefixOf events meant.events → ShowsNoMore meant x
-goes_on meant x events same front = record {
+pub continues : (meant : Shown Ended) (x : Shown RunEnd) (events : List Event) → x ≡ record { events = events; end = None } → IsPrefixOf events meant.events → ShowsNoMore meant x
+continues meant x events same front = record {
   shows = subst (λ (es : List Event). IsPrefixOf es meant.events) (sym (ap (λ (y : Shown RunEnd). y.events) same)) front;
   ends = λ e h. absurd (let no : None ≡ Some e = sym (ap (λ (y : Shown RunEnd). y.end) same) ∙ h in cc);
 }
@@ -63,7 +63,7 @@ module _ (t : Functions) (fs : List Funclet) where
   pub in_midst : (meant : Shown Ended) (k m : ℕ) (s u : State) (out events : List Event) → Comes t fs k s events u → m < k → IsPrefixOf (out ++ events) meant.events → ShowsNoMore meant (run t fs m (host s) out)
   in_midst meant k m s u out events comes lt front =
       let x = midst t fs k m s u out events comes lt in
-      goes_on meant (run t fs m (host s) out) (out ++ x.part) x.runs
+      continues meant (run t fs m (host s) out) (out ++ x.part) x.runs
       (prefix_then (out ++ x.part) (out ++ events) meant.events (prefix_after out x.part events (x.others, sym x.whole)) front)
 
 module _ (t : Functions) (fs : List Funclet) (program : LinearProgram) (pace : ℕ) (credit : Configuration → ℕ) where
@@ -98,7 +98,7 @@ module _ (t : Functions) (fs : List Funclet) (program : LinearProgram) (pace : �
 
         from : (k : ℕ) → m ≡ v.turns + k → ShowsNoMore meant (run t fs m (host s) c.events)
         from zero e =
-            goes_on meant (run t fs m (host s) c.events) (c.events ++ v.events)
+            continues meant (run t fs m (host s) c.events) (c.events ++ v.events)
             (ap (λ k. run t fs k (host s) c.events) e ∙ run_comes t fs v.turns zero s v.state c.events v.events v.comes ∙ run_pauses t fs v.state (c.events ++ v.events) v.live) front
         from (suc k) e =
             ended_as meant (run t fs m (host s) c.events) (c.events ++ (v.events ++ v.last)) (ends.Unhandled v.code)
@@ -125,7 +125,7 @@ module _ (t : Functions) (fs : List Funclet) (program : LinearProgram) (pace : �
 
   none_yet : (m : ℕ) (s : State) (c : Configuration) → IsLive s → m ≡ 0 → ShowsNoMore (shown (exec program zero c)) (run t fs m (host s) c.events)
   unfolding exec
-  none_yet m s c live e = goes_on (shown (Running c.events)) (run t fs m (host s) c.events) c.events (ap (λ k. run t fs k (host s) c.events) e ∙ run_pauses t fs s c.events live) (prefix_same c.events c.events refl)
+  none_yet m s c live e = continues (shown (Running c.events)) (run t fs m (host s) c.events) c.events (ap (λ k. run t fs k (host s) c.events) e ∙ run_pauses t fs s c.events live) (prefix_same c.events c.events refl)
 
   pub runs_show_no_more : (n m : ℕ) (s : State) (c : Configuration) → Follows t fs program pace credit n s c → IsCalm (exec program n c) → m ≤ n → ShowsNoMore (shown (exec program n c)) (run t fs m (host s) c.events)
   runs_show_no_more zero m s c follows calm fewer = none_yet m s c follows (omega arith)
@@ -135,7 +135,7 @@ module _ (t : Functions) (fs : List Funclet) (program : LinearProgram) (pace : �
       Rest = (left : ℕ) (u : State) (d : Configuration) → Follows t fs program pace credit n u d → IsCalm (exec program n d) → left ≤ n → ShowsNoMore (shown (exec program n d)) (run t fs left (host u) d.events)
 
       matched : (i : Instruction) → IsCalm (act program i (exec program n) c) → Rest → IsMatched t fs program pace credit (Follows t fs program pace credit n) s c i → ShowsNoMore (shown (act program i (exec program n) c)) (run t fs m (host s) c.events)
-      matched i quiet rest (inl v) = moves n m s c i fewer v (λ left less. rest left v.state v.configuration v.stands (subst IsCalm (v.acts (exec program n)) quiet) less)
+      matched i quiet rest (inl v) = moves n m s c i fewer v (λ left less. rest left v.state v.configuration v.is_there (subst IsCalm (v.acts (exec program n)) quiet) less)
       matched i quiet rest (inr (inl v)) = exits n m s c i fewer v
       matched i quiet rest (inr (inr (inl v))) = dies n m s c i fewer v
       matched i quiet rest (inr (inr (inr v))) = absurd (not_wild v.end (c.events ++ v.events) v.wild (subst IsCalm (v.acts (exec program n)) quiet))

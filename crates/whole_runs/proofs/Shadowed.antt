@@ -124,7 +124,7 @@ module _ (t : Functions) (fs : List Funclet) (program : LinearProgram) (pace : �
       Rest = (left : ℕ) (u : State) (d : Configuration) (ds : List Context) → Follows t fs program pace credit n u d → IsCalm (exec program n d) → left ≤ n → WalkGives t u ds → HasNoEnd (run t fs left (host u) d.events) → WalkGivesShadow t fs left u ds
 
       matched : (i : Instruction) → IsCalm (act program i (exec program n) c) → Rest → IsMatched t fs program pace credit (Follows t fs program pace credit n) s c i → WalkGivesShadow t fs m s cs
-      matched i quiet rest (inl v) = moves n m s c i cs fewer w none v (λ left ds less. rest left v.state v.configuration ds v.stands (subst IsCalm (v.acts (exec program n)) quiet) less)
+      matched i quiet rest (inl v) = moves n m s c i cs fewer w none v (λ left ds less. rest left v.state v.configuration ds v.is_there (subst IsCalm (v.acts (exec program n)) quiet) less)
       matched i quiet rest (inr (inl v)) = exits n m s c i cs fewer w none v
       matched i quiet rest (inr (inr (inl v))) = dies n m s c i cs fewer w none v
       matched i quiet rest (inr (inr (inr v))) = absurd (not_wild v.end (c.events ++ v.events) v.wild (subst IsCalm (v.acts (exec program n)) quiet))

@@ -66,7 +66,7 @@ module _ (t : Functions) (fs : List Funclet) (program : LinearProgram) (pace : â
     comes = v.comes;
     acts = v.acts;
     shown = v.shown;
-    stands = rest v.state v.configuration v.stands;
+    is_there = rest v.state v.configuration v.is_there;
   })
   with_less n s c i rest (inr (inl v)) = inr (inl v)
   with_less n s c i rest (inr (inr v)) = inr (inr v)

@@ -31,11 +31,11 @@ abbrev pub Comes : Functions → List Funclet → ℕ → State → List Event �
 Comes t fs zero s events u = (events ≡ []) × (s ≡ u)
 Comes t fs (suc n) s events u = Turns t fs s events (λ others v. Comes t fs n v others u)
 
--- a state leads, in at most so many turns that show nothing, to one that stands for a configuration
+-- a state leads, in at most so many turns that show nothing, to one that represents a configuration
 pub record LeadsTo (t : Functions) (fs : List Funclet) (most : ℕ)
-    (Stands : State → Configuration → Type 0) (s : State) (c : Configuration) : Type 0 where
+    (Represents : State → Configuration → Type 0) (s : State) (c : Configuration) : Type 0 where
   pub turns : ℕ
   pub few : turns ≤ most
   pub state : State
   pub comes : Comes t fs turns s [] state
-  pub stands : Stands state c
+  pub is_there : Represents state c

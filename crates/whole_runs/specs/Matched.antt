@@ -27,8 +27,8 @@ use Rattle.whole_runs.specs.Ends.{HasRule}
 -- these are
 module _ (t : Functions) (fs : List Funclet) (program : LinearProgram) (pace : ℕ)
     (credit : Configuration → ℕ) where
-  -- linear code continues, and the machine comes to a state that stands for its next configuration
-  pub record Moves (Stands : State → Configuration → Type 0) (s : State) (c : Configuration)
+  -- linear code continues, and the machine comes to a state that represents its next configuration
+  pub record Moves (Represents : State → Configuration → Type 0) (s : State) (c : Configuration)
       (i : Instruction) : Type 0 where
     pub turns : ℕ
     pub some : 1 ≤ turns
@@ -39,7 +39,7 @@ module _ (t : Functions) (fs : List Funclet) (program : LinearProgram) (pace : �
     pub comes : Comes t fs turns s events state
     pub acts : (next : Next) → act program i next c ≡ next configuration
     pub shown : configuration.events ≡ c.events ++ events
-    pub stands : Stands state configuration
+    pub is_there : Represents state configuration
 
   -- the program returns: RIP is 0, and EAX the result
   pub record Exits (s : State) (c : Configuration) (i : Instruction) : Type 0 where
@@ -85,13 +85,13 @@ module _ (t : Functions) (fs : List Funclet) (program : LinearProgram) (pace : �
   -- turns of the machine match an instruction in one of four ways
   abbrev pub IsMatched : (State → Configuration → Type 0) → State → Configuration → Instruction
       → Type 0
-  IsMatched Stands s c i = Moves Stands s c i ⊎ (Exits s c i ⊎ (Dies s c i ⊎ Fails s c i))
+  IsMatched Represents s c i = Moves Represents s c i ⊎ (Exits s c i ⊎ (Dies s c i ⊎ Fails s c i))
 
   -- an instruction that linear code is at, where a rule leads on, is matched
   abbrev pub StepIsMatched : (State → Configuration → Type 0) → State → Configuration → Type 0
-  StepIsMatched Stands s c =
+  StepIsMatched Represents s c =
       (i : Instruction) → instruction_at program c ≡ Some i
-      → HasRule (act program i (exec program zero) c) → IsMatched Stands s c i
+      → HasRule (act program i (exec program zero) c) → IsMatched Represents s c i
 
   -- so many steps are matched, one after another
   abbrev pub Follows : ℕ → State → Configuration → Type 0

@@ -16,7 +16,7 @@ pub enum Stop {
     Illegal {
         rip: u64,
     },
-    /// The access met the stack's guard.
+    /// The access touched the stack's guard.
     Guard {
         address: u64,
     },
@@ -40,7 +40,7 @@ pub enum StepOutcome {
     Illegal {
         rip: u64,
     },
-    /// The access met the stack's guard.
+    /// The access touched the stack's guard.
     Guard {
         address: u64,
     },

@@ -33,19 +33,19 @@ unfolding step size
 decoded s i rest spelling trap h =
     let low = h.placed.low in
     let high = h.placed.high in
-    let parts = bytes_split s.memory s.cpu.rip (chosen i) (spelled rest) h.stands in
+    let parts = bytes_split s.memory s.cpu.rip (chosen i) (spelled rest) h.is_there in
     let r = reads s i (chosen i) (spells i spelling) (longest i) parts.0 (record { low = low; high = omega arith }) in
     let rip : (s.cpu.rip + length (chosen i)) % 2 ^ 64 ≡ s.cpu.rip + length (chosen i) = omega arith in
     record { read = r; does = rw (outside_page s.cpu.rip low, r, trap, rip) refl }
 
--- the code that is left stands after the step
-rest_stands : (s u : State) (i : Instr) (rest : List Instr) → Runs s u → HasCode s.memory s.cpu.rip (i ∷ rest) → HasCode u.memory (s.cpu.rip + size i) rest
+-- the code that is left is after the step
+rest_is_at : (s u : State) (i : Instr) (rest : List Instr) → Runs s u → HasCode s.memory s.cpu.rip (i ∷ rest) → HasCode u.memory (s.cpu.rip + size i) rest
 unfolding size
-rest_stands s u i rest r h =
+rest_is_at s u i rest r h =
     let low = h.placed.low in
     let high = h.placed.high in
-    let parts = bytes_split s.memory s.cpu.rip (chosen i) (spelled rest) h.stands in
-    record { stands = bytes_kept s.memory u.memory (s.cpu.rip + size i) (spelled rest) r.steps.fixed r.steps.protection parts.1; placed = record { low = omega arith; high = omega arith } }
+    let parts = bytes_split s.memory s.cpu.rip (chosen i) (spelled rest) h.is_there in
+    record { is_there = bytes_kept s.memory u.memory (s.cpu.rip + size i) (spelled rest) r.steps.fixed r.steps.protection parts.1; placed = record { low = omega arith; high = omega arith } }
 
 same_state : (u v : State) → ◌≡◌ {A = Answer State} (Ok u) (Ok v) → u ≡ v
 same_state u v e = cc
@@ -70,7 +70,7 @@ stepped i rest s u spelling keep code e =
     record { read = d.read; rip = k.rip; registers = k.registers; memory = k.memory }
 
 next_code : (i : Instr) (rest : List Instr) (s u : State) → Runs s u → u.cpu.rip ≡ s.cpu.rip + size i → HasCode s.memory s.cpu.rip (i ∷ rest) → HasCode u.memory u.cpu.rip rest
-next_code i rest s u r e code = subst (λ a. HasCode u.memory a rest) (sym e) (rest_stands s u i rest r code)
+next_code i rest s u r e code = subst (λ a. HasCode u.memory a rest) (sym e) (rest_is_at s u i rest r code)
 
 -- nothing is stored up to the end
 memory_stays : (is : List Instr) (u w : State) → Encodable is → StoresNothing is → HasCode u.memory u.cpu.rip is → Reaches (length is) u w → u.memory ≡ w.memory
@@ -98,7 +98,7 @@ module _ (Turn : State → State → Type 0) (code : List Instr) (s w : State) (
     registers : kept_of u.cpu.registers ≡ kept_of s.cpu.registers
     spelling : Encodable left
     memory : Memories left u
-    stands : HasCode u.memory u.cpu.rip left
+    is_there : HasCode u.memory u.cpu.rip left
 
   midst : (done : List Instr) (i : Instr) (left : List Instr) (u : State) → At done (i ∷ left) u → IsMidst code s w u
   midst done i left u at = record { done = done; item = i; left = left; parts = at.parts; rip = at.rip; registers = at.registers; memory = either (i ∷ left) u at.memory }
@@ -106,8 +106,8 @@ module _ (Turn : State → State → Type 0) (code : List Instr) (s w : State) (
   after : (done : List Instr) (i j : Instr) (is : List Instr) (u v : State) → keeps_registers i ≡ true → At done (i ∷ j ∷ is) u → Runs u v → Reaches (length (j ∷ is)) v w → At (done ++ (i ∷ [])) (j ∷ is) v
   unfolding Memories
   after done i j is u v keep at r rest =
-      let x = stepped i (j ∷ is) u v at.spelling.0 keep at.stands r.steps.steps in
-      let there = next_code i (j ∷ is) u v r x.rip at.stands in
+      let x = stepped i (j ∷ is) u v at.spelling.0 keep at.is_there r.steps.steps in
+      let there = next_code i (j ∷ is) u v r x.rip at.is_there in
       let a = at.rip in
       let b = x.rip in
       record {
@@ -122,17 +122,17 @@ module _ (Turn : State → State → Type 0) (code : List Instr) (s w : State) (
           ]
           | inr m ↦ inr (x.memory m.1.1 ∙ m.0, m.1.2)
         ];
-        stands = there;
+        is_there = there;
       }
 
   go : (done left : List Instr) (u : State) → Flows left → At done left u → Reaches (length left) u w → AllTurns Turn (length left) u
   go done [] u flow at r = tt
   go done (i ∷ []) u flow at r =
-      let d = decoded u i [] at.spelling.0 flow.1 at.stands in
+      let d = decoded u i [] at.spelling.0 flow.1 at.is_there in
       turns_first Turn 0 u r.0 r.1.steps.steps
       (each u r.0 (record { steps = r.1.steps.steps; instruction = i; read = d.read; no_call = flow.0; from = midst done i [] u at; to = inr r.2 })) tt
   go done (i ∷ j ∷ is) u flow at r =
-      let d = decoded u i (j ∷ is) at.spelling.0 (ends i flow.0).1 at.stands in
+      let d = decoded u i (j ∷ is) at.spelling.0 (ends i flow.0).1 at.is_there in
       let next = after done i j is u r.0 flow.0 at r.1 r.2 in
       turns_first Turn (length (j ∷ is)) u r.0 r.1.steps.steps
       (each u r.0 (record { steps = r.1.steps.steps; instruction = i; read = d.read; no_call = (ends i flow.0).0; from = midst done i (j ∷ is) u at; to = inl (midst (done ++ (i ∷ [])) j is r.0 next) }))
@@ -141,8 +141,8 @@ module _ (Turn : State → State → Type 0) (code : List Instr) (s w : State) (
   -- every step of a run over code that flows, and that stores once at most
   pub all_turns : Encodable code → Flows code → StoresOnce code → HasCode s.memory s.cpu.rip code → Reaches (length code) s w → AllTurns Turn (length code) s
   unfolding Memories
-  all_turns spelling flow once stands r =
-      go [] code s flow (record { parts = refl; rip = omega arith; registers = refl; spelling = spelling; memory = inl (refl, once); stands = stands }) r
+  all_turns spelling flow once is_there r =
+      go [] code s flow (record { parts = refl; rip = omega arith; registers = refl; spelling = spelling; memory = inl (refl, once); is_there = is_there }) r
 
 -- ---- runs one after another
 

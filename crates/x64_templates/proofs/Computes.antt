@@ -47,11 +47,11 @@ spelled_append a b = flat_map-append chosen a b
 
 pub code_split : (m : Memory) (at : ℕ) (a b : List Instr) → HasCode m at (a ++ b) → HasCode m at a × HasCode m (at + sizes a) b
 code_split m at a b h =
-    let p = bytes_split m at (spelled a) (spelled b) (subst (λ x. IsCodeAt m at x) (spelled_append a b) h.stands) in
+    let p = bytes_split m at (spelled a) (spelled b) (subst (λ x. IsCodeAt m at x) (spelled_append a b) h.is_there) in
     let l = h.placed.low in
     let u = h.placed.high in (
-      record { stands = p.0; placed = record { low = l; high = omega (arith, sizes_append a b) } },
-      record { stands = subst (λ k. IsCodeAt m (at + k) (spelled b)) (sizes_spelled a) p.1; placed = record { low = omega arith; high = omega (arith, sizes_append a b) } },
+      record { is_there = p.0; placed = record { low = l; high = omega (arith, sizes_append a b) } },
+      record { is_there = subst (λ k. IsCodeAt m (at + k) (spelled b)) (sizes_spelled a) p.1; placed = record { low = omega arith; high = omega (arith, sizes_append a b) } },
     )
 
 -- ---- an instruction that faults
@@ -67,11 +67,11 @@ no_trap i s code access e = refl
 
 step_faults : (s : State) (i : Instr) (bytes : List ℕ) (code : Code) (access : Option (Bool × ℕ)) → bytes ≡ chosen i → Encodable (i ∷ []) → IsCodeAt s.memory s.cpu.rip bytes → IsPlaced s.cpu.rip (s.cpu.rip + length bytes) → effect (with_rip s (s.cpu.rip + length bytes)) i ≡ Err (stops.Fault code access) → machines.step s ≡ Err (stops.Fault code access)
 unfolding machines.step
-step_faults s i bytes code access same enc stands placed e =
+step_faults s i bytes code access same enc is_there placed e =
     let low = placed.low in
     let high = placed.high in
     let short : length bytes ≤ 15 = subst (λ (x : List ℕ). length x ≤ 15) (sym same) (longest i) in
-    let f = fetches s.memory bytes 15 s.cpu.rip short stands (omega arith) in
+    let f = fetches s.memory bytes 15 s.cpu.rip short is_there (omega arith) in
     let read : leading (executable s.memory 15 s.cpu.rip) ≡ Some (i, length bytes) = ap leading f.1 ∙ leading-again i bytes f.0 (subst (λ (x : List ℕ). IsEncoding i x) (sym same) (spells i enc.0)) in
     let rip : (s.cpu.rip + length bytes) % 2 ^ 64 ≡ s.cpu.rip + length bytes = omega arith in
     rw (outside_page s.cpu.rip low, read, no_trap i (with_rip s (s.cpu.rip + length bytes)) code access e, rip) e
@@ -80,7 +80,7 @@ head_faults : (is : List Instr) (v : MachineView) (rip : ℕ) (f : Flags) (code 
 unfolding size
 head_faults [] v rip f code access fine c h = absurd h
 head_faults (i ∷ is) v rip f code access fine c h =
-    let p = bytes_split v.memory rip (chosen i) (spelled is) c.stands in
+    let p = bytes_split v.memory rip (chosen i) (spelled is) c.is_there in
     let l = c.placed.low in
     let u = c.placed.high in
     step_faults (machine v rip f) i (chosen i) code access refl (fine.0, tt) p.0 (record { low = l; high = omega arith }) (h (rip + length (chosen i)) f)
@@ -98,7 +98,7 @@ pub record Reached (turns : ℕ) (v w : MachineView) (rip at : ℕ) (f : Flags) 
 pub runs_view : (is : List Instr) (v w : MachineView) (rip : ℕ) (f : Flags) → Fine is → HasCode v.memory rip is → Executes is v w → Reached (length is) v w rip (rip + sizes is) f
 runs_view is v w rip f fine code d =
     let r = d rip f in
-    let went = straight_runs is (machine v rip f) (machine w (rip + sizes is) r.0) (encodable_of is fine) (straight_of is fine) (none_taking is fine) code.stands code.placed r.1 in
+    let went = straight_runs is (machine v rip f) (machine w (rip + sizes is) r.0) (encodable_of is fine) (straight_of is fine) (none_taking is fine) code.is_there code.placed r.1 in
     record { left = r.0; comes = went.ran.comes }
 
 -- ---- both operands are brought to their registers
@@ -159,14 +159,14 @@ operands_run p o first second v rip f b room i j at h code =
 
 -- code that leads to a number in RAX, and the slot to which the number goes
 pub leads_kept : (p : Frame) (code : List Instr) (to : Slot) (v : MachineView) (at : ℕ) (f : Flags) (b : BodyState) (x : ℕ) (source : Memory) → Fine code → Roomy p → IsThere p to → sp_of v ≡ p.sp → Holds p v.memory b → HasCode v.memory at (code ++ keep p.layout to) → LeavesResult p.reserved code v x source → ReachesBody p (length (code ++ keep p.layout to)) (machine v at f) (at + sizes (code ++ keep p.layout to)) v.rest (record { slots = with_slot b.slots to x; memory = source })
-leads_kept p code to v at f b x source fine room is sp h stands l =
+leads_kept p code to v at f b x source fine room is sp h is_there l =
     let y = p.layout in
     let mid : MachineView = record { rax = x; rcx = l.yields.rcx; rdx = l.yields.rdx; rest = v.rest; memory = l.after } in
     let body : BodyState = record { slots = b.slots; memory = source } in
     let held = holds_same y p.counts p.reserved p.sp p.base room v.memory l.after source b l.own l.protection l.agrees h in
     let k = keep_does y p.counts p.reserved p.sp p.base room to mid body is sp held l.small in
     let last : MachineView = record { rax = x; rcx = k.rcx; rdx = l.yields.rdx; rest = v.rest; memory = with_bytes l.after (with_number l.after.byte 8 (slot_at y p.sp p.base to) x) } in
-    let r = runs_view (code ++ keep y to) v last at f (fine_both code (keep y to) fine (keep_fine y p.counts p.sp p.base to room is)) stands (executes_then code (keep y to) v mid last l.yields.does k.does) in
+    let r = runs_view (code ++ keep y to) v last at f (fine_both code (keep y to) fine (keep_fine y p.counts p.sp p.base to room is)) is_there (executes_then code (keep y to) v mid last l.yields.does k.does) in
     record {
       after = last;
       flags = r.left;

@@ -179,7 +179,7 @@ pub remainder_implemented : (reserved : ℕ → Bool) (s : Signedness) (z : Size
 remainder_implemented reserved Signed z v source e agrees = signed_remainder reserved z v source (divided_signed (width z) (signed (width z) v.rax) (signed (width z) v.rcx)) (quotients Signed z v e) agrees
 remainder_implemented reserved Unsigned z v source e agrees = unsigned_remainder reserved z v source (divided_unsigned (width z) (low (width z) v.rax) (low (width z) v.rcx)) (fits_unsigned (width z) v.rax v.rcx) (quotients Unsigned z v e) agrees
 
--- ---- what stands before it
+-- ---- what is before it
 
 pub record HalfSet (s : Signedness) (z : Size) (v : MachineView) : Type 0 where
   pub rdx : ℕ

@@ -51,9 +51,9 @@ within_cell v lo hi at x le up high = record {
   bytes = λ h a. digits v.memory.byte 8 at x a (h a);
 }
 
--- code stands where the range may be written
+-- code is where the range may be written
 pub within_keeps_code : (lo hi : ℕ) (m m' : Memory) (at : ℕ) (code : List Instr) → ((a : ℕ) → lo ≤ a → a < hi → may_write m a ≡ true) → Within lo hi m m' → HasCode m at code → HasCode m' at code
-within_keeps_code lo hi m m' at code writable w h = record { stands = bytes_kept m m' at (spelled code) (λ a fixed. w.byte a (off a fixed)) w.protection h.stands; placed = h.placed }
+within_keeps_code lo hi m m' at code writable w h = record { is_there = bytes_kept m m' at (spelled code) (λ a fixed. w.byte a (off a fixed)) w.protection h.is_there; placed = h.placed }
   where
     off : (a : ℕ) → may_write m a ≡ false → (a < lo) ⊎ (hi ≤ a)
     off a fixed = elim (cases_lt a lo) [

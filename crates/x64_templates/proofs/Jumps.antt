@@ -34,14 +34,14 @@ use Rattle.x64_templates.proofs.Computes.{code_split, runs_view}
 
 pub one_reaches : (i : Instr) (v w : MachineView) (rip at : ℕ) (f g : Flags) → is_encodable i ≡ true → takes_frame i ≡ false → HasCode v.memory rip (i ∷ []) → effect (machine v (rip + size i) f) i ≡ Ok (machine w at g) → Reaches 1 (machine v rip f) (machine w at g)
 one_reaches i v w rip at f g enc inside code e =
-    let p = bytes_split v.memory rip (chosen i) [] code.stands in
+    let p = bytes_split v.memory rip (chosen i) [] code.is_there in
     let l = code.placed.low in
     let h = code.placed.high in
     (one_runs i (machine v rip f) (machine w at g) (enc, tt) inside p.0 (record { low = l; high = omega arith }) e).comes
 
 pub one_enters : (i : Instr) (v w : MachineView) (rip at : ℕ) (f g : Flags) → is_encodable i ≡ true → HasCode v.memory rip (i ∷ []) → effect (machine v (rip + size i) f) i ≡ Ok (machine w at g) → Enters 1 (machine v rip f) (machine w at g)
 one_enters i v w rip at f g enc code e =
-    let p = bytes_split v.memory rip (chosen i) [] code.stands in
+    let p = bytes_split v.memory rip (chosen i) [] code.is_there in
     let l = code.placed.low in
     let h = code.placed.high in
     one_enters_frame i (machine v rip f) (machine w at g) (enc, tt) p.0 (record { low = l; high = omega arith }) e

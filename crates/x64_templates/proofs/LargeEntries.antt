@@ -31,7 +31,7 @@ use Rattle.x64_templates.proofs.Calls.{call_reaches}
 use Rattle.x64_templates.proofs.Entries.{beside, pushed_back}
 use Rattle.x64_templates.proofs.Probing.{Touchable, with_eleventh, check_run}
 
--- ---- code stands while a return address is put on the stack
+-- ---- code is while a return address is put on the stack
 
 pub fixed_beside : (v : MachineView) (sp a : ℕ) → HasBelow v.memory sp 8 → may_write v.memory a ≡ false → (a + 8 < sp) ⊎ (sp ≤ a)
 fixed_beside v sp a below fixed = elim (cases_lt (a + 8) sp) [
@@ -44,7 +44,7 @@ fixed_beside v sp a below fixed = elim (cases_lt (a + 8) sp) [
 
 pub pushed_keeps_code : (v : MachineView) (sp back at : ℕ) (code : List Instr) → HasBelow v.memory sp 8 → HasCode v.memory at code → HasCode (pushed v sp back).memory at code
 pushed_keeps_code v sp back at code below h = record {
-  stands = bytes_kept v.memory (pushed v sp back).memory at (spelled code) (λ a fixed. beside v.memory sp back a below.enough below.high (fixed_beside v sp a below fixed)) refl h.stands;
+  is_there = bytes_kept v.memory (pushed v sp back).memory at (spelled code) (λ a fixed. beside v.memory sp back a below.enough below.high (fixed_beside v sp a below fixed)) refl h.is_there;
   placed = h.placed;
 }
 

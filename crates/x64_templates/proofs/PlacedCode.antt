@@ -102,18 +102,18 @@ no_trap i s t e = refl
 
 -- an instruction that is placed at RIP is read
 pub reads : (s : State) (i : Instr) (bytes : List ℕ) → IsEncoding i bytes → length bytes ≤ 15 → IsCodeAt s.memory s.cpu.rip bytes → IsPlaced s.cpu.rip (s.cpu.rip + length bytes) → leading (executable s.memory 15 s.cpu.rip) ≡ Some (i, length bytes)
-reads s i bytes spells short stands placed =
+reads s i bytes spells short is_there placed =
     let high = placed.high in
-    let f = fetches s.memory bytes 15 s.cpu.rip short stands (omega arith) in
+    let f = fetches s.memory bytes 15 s.cpu.rip short is_there (omega arith) in
     ap leading f.1 ∙ leading-again i bytes f.0 spells
 
 -- and run
 pub steps : (s t : State) (i : Instr) (bytes : List ℕ) → IsEncoding i bytes → length bytes ≤ 15 → IsCodeAt s.memory s.cpu.rip bytes → IsPlaced s.cpu.rip (s.cpu.rip + length bytes) → effect (with_rip s (s.cpu.rip + length bytes)) i ≡ Ok t → step s ≡ Ok t
 unfolding step
-steps s t i bytes spells short stands placed e =
+steps s t i bytes spells short is_there placed e =
     let low = placed.low in
     let high = placed.high in
-    let read = reads s i bytes spells short stands placed in
+    let read = reads s i bytes spells short is_there placed in
     let rip : (s.cpu.rip + length bytes) % 2 ^ 64 ≡ s.cpu.rip + length bytes = omega arith in
     rw (outside_page s.cpu.rip low, read, no_trap i (with_rip s (s.cpu.rip + length bytes)) t e, rip) e
 

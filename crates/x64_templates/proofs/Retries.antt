@@ -71,8 +71,8 @@ body_retries p k start body number v f b to first second o x y room l lt is lx l
     let here = start + offset_of p.layout body number in
     let ops = operands_code p.layout o first second in
     let fin = finish_code p.layout o to in
-    let stands = template_placed k p.layout v.memory start body number instructions.Separator l.code lt in
-    let code : HasCode v.memory here (ops ++ fin) = subst (λ instruction. HasCode v.memory here (template k p.layout here instruction)) is stands in
+    let is_there = template_placed k p.layout v.memory start body number instructions.Separator l.code lt in
+    let code : HasCode v.memory here (ops ++ fin) = subst (λ instruction. HasCode v.memory here (template k p.layout here instruction)) is is_there in
     let parts = code_split v.memory here ops fin code in
     let has : HasSlots p.counts (instructions.Compute to o first second) = subst (λ instruction. HasSlots p.counts instruction) is (l.slots number lt) in
     let g = finish_run p o to v (here + sizes ops) f b x y room has.0 lx ly waits at h parts.1 in

@@ -1,4 +1,4 @@
--- Instructions that stand in memory are run one after another.
+-- Instructions that are in memory are run one after another.
 use Rattle.template_code.proofs.Sizes.{sizes_append}
 use Rattle.std.proofs.Common.{◌≡◌, ◌≢◌, ℕ, suc, ◌+◌, ◌≤◌, false, List, [], ◌∷◌, ◌++◌, length, Ok, Err, refl, sym, ap, subst, ◌∙◌, arith}
 use Rattle.flat_memory.specs.declared.protection.Protection.{Protection}
@@ -46,13 +46,13 @@ ran_then m n s t u a b = record { comes = reaches_then m n s t u a.comes b.comes
 -- one instruction, of whatever kind
 pub one_steps : (i : Instr) (s t : State) → Encodable (i ∷ []) → IsCodeAt s.memory s.cpu.rip (chosen i) → IsPlaced s.cpu.rip (s.cpu.rip + size i) → effect (with_rip s (s.cpu.rip + size i)) i ≡ Ok t → Steps s t
 unfolding size
-one_steps i s t enc stands placed e =
+one_steps i s t enc is_there placed e =
     let l = leaves i (with_rip s (s.cpu.rip + length (chosen i))) t e in
     let r = registers_stay i (with_rip s (s.cpu.rip + length (chosen i))) t e in
     record {
       live = live s.cpu.rip (s.cpu.rip + length (chosen i)) placed;
       rip_small = let h = placed.high in omega arith;
-      steps = steps s t i (chosen i) (spells i enc.0) (longest i) stands placed e;
+      steps = steps s t i (chosen i) (spells i enc.0) (longest i) is_there placed e;
       protection = l.left.protection;
       fixed = λ a fix. l.left.byte a fix;
       count = r.count;
@@ -61,12 +61,12 @@ one_steps i s t enc stands placed e =
 
 pub one_runs : (i : Instr) (s t : State) → Encodable (i ∷ []) → takes_frame i ≡ false → IsCodeAt s.memory s.cpu.rip (chosen i) → IsPlaced s.cpu.rip (s.cpu.rip + size i) → effect (with_rip s (s.cpu.rip + size i)) i ≡ Ok t → Ran 1 s t
 unfolding size
-one_runs i s t enc inside stands placed e = record {
+one_runs i s t enc inside is_there placed e = record {
   comes = one_turn s t (record {
-    steps = one_steps i s t enc stands placed e;
+    steps = one_steps i s t enc is_there placed e;
     instruction = i;
     bytes = length (chosen i);
-    read = reads s i (chosen i) (spells i enc.0) (longest i) stands placed;
+    read = reads s i (chosen i) (spells i enc.0) (longest i) is_there placed;
     inside = inside;
   });
   left = let l = leaves i (with_rip s (s.cpu.rip + length (chosen i))) t e in record { protection = l.left.protection; byte = l.left.byte };
@@ -74,7 +74,7 @@ one_runs i s t enc inside stands placed e = record {
 
 -- the same for one that makes a frame
 pub one_enters_frame : (i : Instr) (s t : State) → Encodable (i ∷ []) → IsCodeAt s.memory s.cpu.rip (chosen i) → IsPlaced s.cpu.rip (s.cpu.rip + size i) → effect (with_rip s (s.cpu.rip + size i)) i ≡ Ok t → Enters 1 s t
-one_enters_frame i s t enc stands placed e = (t, one_steps i s t enc stands placed e, refl)
+one_enters_frame i s t enc is_there placed e = (t, one_steps i s t enc is_there placed e, refl)
 
 within : (a n b c : ℕ) → IsPlaced a (a + n) → b + c ≤ n → IsPlaced (a + b) (a + b + c)
 within a n b c p le = let l = p.low in let h = p.high in record { low = omega arith; high = omega arith }
@@ -92,12 +92,12 @@ next_rip a b c n m p q = omega arith
 
 pub straight_runs : (is : List Instr) (s t : State) → Encodable is → AllStraight is → NoneTakesFrame is → IsCodeAt s.memory s.cpu.rip (spelled is) → IsPlaced s.cpu.rip (s.cpu.rip + sizes is) → effects is s ≡ Ok t → Went is s t
 unfolding effects size
-straight_runs [] s t enc str inside stands placed e = went_nowhere s t (let f : s ≡ t = cc in f)
-straight_runs (i ∷ is) s t enc str inside stands placed e =
+straight_runs [] s t enc str inside is_there placed e = went_nowhere s t (let f : s ≡ t = cc in f)
+straight_runs (i ∷ is) s t enc str inside is_there placed e =
     let next = s.cpu.rip + length (chosen i) in
     let b = bound (effect (with_rip s next) i) (effects is) t e in
     let l = leaves i (with_rip s next) b.0 b.1 in
-    let parts = bytes_split s.memory s.cpu.rip (chosen i) (spelled is) stands in
+    let parts = bytes_split s.memory s.cpu.rip (chosen i) (spelled is) is_there in
     let first = one_runs i s b.0 (enc.0, tt) inside.0 parts.0 (let q : IsPlaced (s.cpu.rip + 0) (s.cpu.rip + 0 + length (chosen i)) = within s.cpu.rip (length (chosen i) + sizes is) 0 (length (chosen i)) placed (let le : 0 + length (chosen i) ≤ length (chosen i) + sizes is = omega arith in le) in let z : s.cpu.rip + 0 ≡ s.cpu.rip = omega arith in subst (λ a. IsPlaced a (a + length (chosen i))) z q) b.1 in
     let at : b.0.cpu.rip ≡ next = l.rip str.0 in
     let there = bytes_kept s.memory b.0.memory next (spelled is) (λ a fix. first.left.byte a fix) first.left.protection parts.1 in

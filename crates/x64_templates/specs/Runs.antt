@@ -54,7 +54,7 @@ Enters (suc n) s t = (u : State) × Steps s u × Reaches n u t
 
 -- the code is placed here
 pub record HasCode (m : Memory) (at : ℕ) (code : List Instr) : Type 0 where
-  pub stands : IsCodeAt m at (spelled code)
+  pub is_there : IsCodeAt m at (spelled code)
   pub placed : IsPlaced at (at + sizes code)
 
 -- where a frame is, and what its memory is agreed on

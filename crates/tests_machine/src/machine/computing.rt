@@ -4,7 +4,7 @@
 //!
 //!     CODE | INSTRUCTION | RAX RCX FLAGS | RAX FLAGS
 //!
-//! with what stands there before, and after. All are in hexadecimal, but FLAGS are the letters of
+//! with what is there before, and after. All are in hexadecimal, but FLAGS are the letters of
 //! those that are set, or `-`.
 
 use super::*;

@@ -1,6 +1,6 @@
 use Rattle.std.proofs.Common.{subst, arith}
 use Rattle.c_parse_stmt.specs.Filters.{AreClosing}
-use Rattle.c_parse_stmt.proofs.Departing.{unopened, goes_on_inside, departs_inside, failed_after, departs_after, whole}
+use Rattle.c_parse_stmt.proofs.Departing.{unopened, continues_inside, departs_inside, failed_after, departs_after, whole}
 use Rattle.c_parse_stmt.proofs.filters.departure.Goals as goal
 
 pub returns-then-opened-eq0-clause-none : goal.returns-then-opened-eq0-clause-none
@@ -37,7 +37,7 @@ returns-else-closed-opened-clause-none c = λ h none.
 pub returns-in-None-clause-many : goal.returns-in-None-clause-many
 returns-in-None-clause-many c = λ h none.
     let o = c.past_opening-opened in
-    goes_on_inside o.result.0 c.args.text.now c.args.tokens.now o.result.1.now (omega (arith, c.if-opened-eq0.false)) o.ensures.most o.ensures.opened o.ensures.all c.in-None.ensures.none (c.continues_inside.ensures.some h)
+    continues_inside o.result.0 c.args.text.now c.args.tokens.now o.result.1.now (omega (arith, c.if-opened-eq0.false)) o.ensures.most o.ensures.opened o.ensures.all c.in-None.ensures.none (c.continues_inside.ensures.some h)
 
 pub returns-in-None-clause-none : goal.returns-in-None-clause-none
 returns-in-None-clause-none c = λ h none.

@@ -6,7 +6,7 @@ use Rattle.pe_image.specs.Answer.{onto}
 use Rattle.eh_tables.specs.declared.range.RuntimeFunction.{RuntimeFunction}
 use Rattle.eh_tables.specs.Infos.{Info}
 use Rattle.eh_tables.specs.Tables.{parents}
-use Rattle.eh_tables.proofs.Chains.{chain_ends, chain_stops, chain_goes_on}
+use Rattle.eh_tables.proofs.Chains.{chain_ends, chain_stops, chain_continues}
 use Rattle.eh_tables.proofs.entry.read_parents.Goals as goal
 
 pub returns-in_err-info : goal.returns-in_err-info
@@ -27,7 +27,7 @@ loop-parent-preserved c =
     let room : length xs ≢ 31 = eqb-false (length xs) 31 (sym c.is_full.ensures.value ∙ c.if-is_full.false) in
     let some : c.loop-parent.parent ≡ Some c.in-Some.range = c.in-Some.is in
     let same = sym (ap (λ (p : Option RuntimeFunction). onto xs (parents n c.args.image.now c.args.index p)) some) ∙ c.loop-parent.invariant.same in
-    let on = chain_goes_on n (31 - length c.push.new.self.items) c.args.image.now c.args.index xs c.in-Some.range c.in_ok-info.info (omega arith) (sym c.in_ok-info.ensures) in
+    let on = chain_continues n (31 - length c.push.new.self.items) c.args.image.now c.args.index xs c.in-Some.range c.in_ok-info.info (omega arith) (sym c.in_ok-info.ensures) in
     record {
       room = omega arith;
       same =

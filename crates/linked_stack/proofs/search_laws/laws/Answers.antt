@@ -1,5 +1,5 @@
-use Rattle.linked_stack.proofs.SearchSearched.{search_is_the_lists, search_goes_on}
+use Rattle.linked_stack.proofs.SearchSearched.{search_is_the_lists, search_continues}
 use Rattle.linked_stack.proofs.search_laws.laws.Goals as goal
 
 pub returns : goal.returns
-returns c = record { searched = search_is_the_lists; onward = search_goes_on }
+returns c = record { searched = search_is_the_lists; onward = search_continues }

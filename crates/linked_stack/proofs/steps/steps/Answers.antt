@@ -1,5 +1,5 @@
-use Rattle.linked_stack.proofs.Begun.{raise_searches, local_unwind_unwinds, acceptance_unwinds, answers_go_on, finally_returns_unwind}
+use Rattle.linked_stack.proofs.Begun.{raise_searches, local_unwind_unwinds, acceptance_unwinds, answers_continue, finally_returns_unwind}
 use Rattle.linked_stack.proofs.steps.steps.Goals as goal
 
 pub returns : goal.returns
-returns c = record { raises = raise_searches; local = local_unwind_unwinds; accepts = acceptance_unwinds; answers = answers_go_on; returns = finally_returns_unwind }
+returns c = record { raises = raise_searches; local = local_unwind_unwinds; accepts = acceptance_unwinds; answers = answers_continue; returns = finally_returns_unwind }

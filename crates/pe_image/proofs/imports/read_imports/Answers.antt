@@ -1,7 +1,7 @@
 use Rattle.std.proofs.Common.{◌+◌, ◌-◌, ◌*◌, length, sym, ◌∙◌, arith}
 use Rattle.std.proofs.lemmas.Result.{err_from_is_err_and}
 use Rattle.pe_image.specs.Imports.{max_count}
-use Rattle.pe_image.proofs.Imported.{refused_at, with_directory, no_libraries_left, descriptor_missing, libraries_end, whole_refused, whole_goes_on}
+use Rattle.pe_image.proofs.Imported.{refused_at, with_directory, no_libraries_left, descriptor_missing, libraries_end, whole_refused, whole_continues}
 use Rattle.pe_image.proofs.imports.read_imports.Goals as goal
 
 pub returns-in_default : goal.returns-in_default
@@ -28,7 +28,7 @@ loop-n-preserved c =
     let l = c.loop-n in
     record {
       so_far =
-          whole_goes_on c.args.sections.now c.args.directory l.imports.items (max_count - l.n) (max_count - (l.n + 1)) _ _ c.in-Some.descriptor.now (c.args.directory.rva + 20 * l.n) c.if-directory-eq0.false (omega arith) (sym c.in-Some.ensures) (sym c.is_zero.ensures ∙ c.if-is_zero.false) c.lookups.ensures.value c.u32_at-slots.ensures l.invariant.so_far c.read_library.new.imports.items (c.args.directory.rva + 20 * (l.n + 1)) c.in_ok-read_library.ensures.imports (omega arith);
+          whole_continues c.args.sections.now c.args.directory l.imports.items (max_count - l.n) (max_count - (l.n + 1)) _ _ c.in-Some.descriptor.now (c.args.directory.rva + 20 * l.n) c.if-directory-eq0.false (omega arith) (sym c.in-Some.ensures) (sym c.is_zero.ensures ∙ c.if-is_zero.false) c.lookups.ensures.value c.u32_at-slots.ensures l.invariant.so_far c.read_library.new.imports.items (c.args.directory.rva + 20 * (l.n + 1)) c.in_ok-read_library.ensures.imports (omega arith);
       ends = c.in_ok-read_library.ensures.ends;
     }
 

@@ -1,7 +1,7 @@
 use Rattle.std.proofs.Common.{◌≡◌, ℕ, ◌+◌, ◌*◌, ◌-◌, ◌++◌, ◌∷◌, [], List, length, true, false, sym, ap, ◌∙◌, arith}
 use Rattle.pe_image.specs.Image.{Section}
 use Rattle.pe_image.specs.Reading.{headers_from, section_of, sections_of, is_laid_out}
-use Rattle.pe_image.proofs.Sections.{goes_on, stops, is_done, sections_rise, with_front, sections_from}
+use Rattle.pe_image.proofs.Sections.{continues, stops, is_done, sections_rise, with_front, sections_from}
 use Rattle.pe_image.proofs.table.sections.Goals as goal
 
 pub returns-then-not-is_laid_out-clause-answer : goal.returns-then-not-is_laid_out-clause-answer
@@ -16,7 +16,7 @@ loop-index-preserved c =
     let pushed : c.push.new.self.items ≡ c.loop-index.sections.items ++ section_of c.args.bytes.now c.read-header.result ∷ [] = c.in_ok-push.ensures.items ∙ ap (λ (s : Section). c.loop-index.sections.items ++ s ∷ []) c.view.ensures in
     ap (λ (ss : List Section). with_front ss (sections_from c.args.bytes.now c.args.limit (c.loop-index.index + 1) c.end-end.result next)) pushed
     ∙ ap (λ (end : ℕ). with_front (c.loop-index.sections.items ++ section_of c.args.bytes.now c.read-header.result ∷ []) (sections_from c.args.bytes.now c.args.limit (c.loop-index.index + 1) end next)) c.end-end.ensures
-    ∙ goes_on c.args.bytes.now c.args.limit c.loop-index.index c.loop-index.end c.args.at c.args.count c.read-header.result c.loop-index.sections.items _ c.loop-index-test.true c.read-header.ensures fits c.loop-index.invariant
+    ∙ continues c.args.bytes.now c.args.limit c.loop-index.index c.loop-index.end c.args.at c.args.count c.read-header.result c.loop-index.sections.items _ c.loop-index-test.true c.read-header.ensures fits c.loop-index.invariant
 
 pub returns-clause-ascending : goal.returns-clause-ascending
 returns-clause-ascending c =

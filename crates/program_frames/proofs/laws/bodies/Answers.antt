@@ -1,5 +1,5 @@
-use Rattle.program_frames.proofs.Waiting.{bodies_stand, leaves_stand}
+use Rattle.program_frames.proofs.Waiting.{bodies_have_frames, leaves_are_at}
 use Rattle.program_frames.proofs.laws.bodies.Goals as goal
 
 pub returns : goal.returns
-returns c = record { framed = bodies_stand; leaves = leaves_stand }
+returns c = record { framed = bodies_have_frames; leaves = leaves_are_at }

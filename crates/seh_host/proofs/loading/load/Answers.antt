@@ -5,7 +5,7 @@ use Rattle.virtual_unwind.specs.CallerOf.{Functions}
 use Rattle.host_model.specs.Funclets.{funclets}
 use Rattle.host_model.specs.Loading.{first_cpu, start}
 use Rattle.host_model.specs.HostStep.{Live, host, over}
-use Rattle.seh_host.proofs.Standing.{place_above}
+use Rattle.seh_host.proofs.AsLoaded.{place_above}
 use Rattle.seh_host.proofs.Loaded.{functions_read}
 use Rattle.seh_host.proofs.loading.load.Goals as goal
 

@@ -29,7 +29,7 @@ returns-in_ok-operate-in-Operate c = λ x es.
 pub returns-in-SetLocal : goal.returns-in-SetLocal
 returns-in-SetLocal c = λ x es.
     ap (λ n. model.done (whole.program c.args.program.now) (machine_of c.args.self.now x es) (views.next_of n)) c.in-SetLocal.is
-    ∙ ap (λ m. model.go_on m (frames.Give Normal)) (c.set_local.ensures x es)
+    ∙ ap (λ m. model.with_next m (frames.Give Normal)) (c.set_local.ensures x es)
     ∙ (λ i. machine_of c.set_local.new.self (sym c.quiet-in-SetLocal.ensures.next i) (sym (c.quiet-in-SetLocal.ensures.shown es) i))
 
 pub returns-in_ok-guard-in-Guard : goal.returns-in_ok-guard-in-Guard

@@ -1,4 +1,4 @@
--- In every state that stands for a configuration the walk gives the live frames.
+-- In every state that represents a configuration the walk gives the live frames.
 use Rattle.std.proofs.Common.{◌≡◌, ◌⊎◌, inl, inr, ℕ, ◌+◌, ◌^◌, ◌<◌, ◌≤◌, Bool, true, false, Some, List, [], ◌∷◌, ◌++◌, refl, sym, ap, ◌∙◌, arith}
 use Rattle.std.specs.Prelude.{slice_get}
 use Rattle.x64_instr.specs.declared.register.Reg.TheVariants.{Rsp}
@@ -30,9 +30,9 @@ use Rattle.body_states.specs.Bodies.{InBody, Begins}
 use Rattle.body_states.proofs.Inside.{template_some}
 use Rattle.body_states.proofs.Waiting.{leaf_layout, OnTop, others_of, framed_top, leaf_top, body_on_top}
 use Rattle.body_steps.specs.Known.{IsKnown}
-use Rattle.turn_steps.specs.Outcomes.{WorksOn, Stands}
+use Rattle.turn_steps.specs.Outcomes.{WorksOn, Represents}
 use Rattle.turn_steps.proofs.Places.{some_finish, is_some}
-use Rattle.image_runs.specs.Returns.{IsReturning, StandStill}
+use Rattle.image_runs.specs.Returns.{IsReturning, ReturnsWait}
 use Rattle.image_runs.specs.Live.{WalkGives}
 use Rattle.image_runs.specs.WalkLaws.{WalksGiveTheFrames}
 use Rattle.image_runs.proofs.Walked.{frames, gives}
@@ -62,14 +62,14 @@ module _ (t : Functions) (fs : List Funclet) (program : LinearProgram) (p : Plan
       let m = s.memory in
       let from = context_of s.cpu in
       let top = h.top in
-      let stands = top.on.stands in
-      let n = as_many t fs program p m from top.is (Waits c.frame ∷ c.below) h.acts stands.linked in
+      let is_there = top.on.is_there in
+      let n = as_many t fs program p m from top.is (Waits c.frame ∷ c.below) h.acts is_there.linked in
       record {
         acts = h.acts;
         store = h.store;
         frames = frames from top.is;
-        live = are_frames t fs program p q image m from top.is (Waits c.frame ∷ c.below) h.acts stands.stack stands.linked;
-        walks = λ k le. gives t m from 0 top.is k stands.stack (omega arith);
+        live = are_frames t fs program p q image m from top.is (Waits c.frame ∷ c.below) h.acts is_there.stack is_there.linked;
+        walks = λ k le. gives t m from 0 top.is k is_there.stack (omega arith);
       }
 
   -- an instruction that a configuration is at is in its body's code
@@ -81,7 +81,7 @@ module _ (t : Functions) (fs : List Funclet) (program : LinearProgram) (p : Plan
     is_top top = record { acts = at.acts; store = at.store; top = top }
 
     -- where a return begins
-    module _ (still : StandStill t fs program p q) (has : HasProgram t fs program p q s.memory) (r : IsReturning t fs program p q at.slots.code c.frame.body c.frame.next s.cpu.rip) where
+    module _ (still : ReturnsWait t fs program p q) (has : HasProgram t fs program p q s.memory) (r : IsReturning t fs program p q at.slots.code c.frame.body c.frame.next s.cpu.rip) where
       abbrev sp : ℕ
       sp = register s.cpu Rsp
 
@@ -91,7 +91,7 @@ module _ (t : Functions) (fs : List Funclet) (program : LinearProgram) (p : Plan
       below_end : sp + size + 8 < 2 ^ 64
       below_end =
           let rest = at.below (others_of t fs program p q s) refl in
-          let top = in_stack t fs program p s.memory (context_below at.back (sp + size + 8) (others_of t fs program p q s)) at.is c.below (activations_below c.frame.body at.acts) rest.stands.stack rest.stands.linked in
+          let top = in_stack t fs program p s.memory (context_below at.back (sp + size + 8) (others_of t fs program p q s)) at.is c.below (activations_below c.frame.body at.acts) rest.is_there.stack rest.is_there.linked in
           omega arith
 
       returning_top : (leaf : Bool) → p.leaf c.frame.body ≡ leaf → OnTop t fs program p q s c at.acts
@@ -104,7 +104,7 @@ module _ (t : Functions) (fs : List Funclet) (program : LinearProgram) (p : Plan
           (still.leaves s.memory c.frame.body at.slots.code c.frame.next (context_of s.cpu) at.back at.slots.body e r refl (omega arith) (ap (word s.memory) (sym here) ∙ at.returns))
 
   -- where an instruction begins
-  begun : StandStill t fs program p q → (s : State) (c : Configuration) (i : Instruction) → (b : Begins t fs program p q s c) → instruction_at program c ≡ Some i → IsTop s c
+  begun : ReturnsWait t fs program p q → (s : State) (c : Configuration) (i : Instruction) → (b : Begins t fs program p q s c) → instruction_at program c ≡ Some i → IsTop s c
   begun still s c i b e = by (return_or i)
     where
       code : List Instr
@@ -121,7 +121,7 @@ module _ (t : Functions) (fs : List Funclet) (program : LinearProgram) (p : Plan
           let x = is_some code some in
           let here = b.rip in
           let resumed : IsResumed t fs program p q c.frame.body b.body.slots.code c.frame.next s.cpu.rip =
-          record { instruction = i; there = in_code s c i b.body e; goes_on = goes; done = []; item = x.item; left = x.left; parts = x.parts; here = omega arith } in
+          record { instruction = i; there = in_code s c i b.body e; continues = goes; done = []; item = x.item; left = x.left; parts = x.parts; here = omega arith } in
           is_top s c b.body (body_on_top t fs program p q image s c c.frame.next b.body resumed b.memory.code)
       by (inr r) =
           is_top s c b.body
@@ -146,7 +146,7 @@ module _ (t : Functions) (fs : List Funclet) (program : LinearProgram) (p : Plan
           record {
             instruction = i;
             there = in_code s c i w.body w.again.works;
-            goes_on = λ h. h;
+            continues = λ h. h;
             done = ops;
             item = x.item;
             left = x.left;
@@ -154,10 +154,10 @@ module _ (t : Functions) (fs : List Funclet) (program : LinearProgram) (p : Plan
             here = w.again.here;
           }
 
-  -- on top of what waits below it, in every state that stands for a configuration
-  pub tops : StandStill t fs program p q → (s : State) (c : Configuration) → Stands t fs program p q s c → IsKnown program c → IsTop s c
-  tops still s c (inl b) known = begun still s c known.goes_on.instruction b known.goes_on.at
+  -- on top of what waits below it, in every state that represents a configuration
+  pub tops : ReturnsWait t fs program p q → (s : State) (c : Configuration) → Represents t fs program p q s c → IsKnown program c → IsTop s c
+  tops still s c (inl b) known = begun still s c known.continues.instruction b known.continues.at
   tops still s c (inr w) known = working s c w
 
 pub walks_give_the_frames : WalksGiveTheFrames
-walks_give_the_frames t fs program p q image still s c stands known = from_top t fs program p q image s c (tops t fs program p q image still s c stands known)
+walks_give_the_frames t fs program p q image still s c is_there known = from_top t fs program p q image s c (tops t fs program p q image still s c is_there known)

@@ -104,7 +104,7 @@ module _ (t : Functions) (fs : List Funclet) (program : LinearProgram) (p : Plan
   pub word_within : (at v : ℕ) → lo ≤ at → at + 8 ≤ hi → number_at m'.byte 8 at ≡ v → word m' at ≡ Ok v
   word_within at v l h e = word_of m' at v (omega arith) (λ a x z. may_read_written m' a (stack_writable a (omega arith) (omega arith))) e
 
--- a funclet is called, by the dispatcher or by a body: below its return address the list stands
+-- a funclet is called, by the dispatcher or by a body: below its return address the list is there
 pub record ArrivesBelow (t : Functions) (fs : List Funclet) (program : LinearProgram) (p : Plan) (s : State) (k activation first : ℕ) (items : List Item) (acts : List Activation) : Type 0 where
   pub rip : s.cpu.rip ≡ p.funclet k
   pub name : BodyName
@@ -198,7 +198,7 @@ module _ (t : Functions) (fs : List Funclet) (program : LinearProgram) (p : Plan
         let lo = h.low in
         let on = subst (λ x. On t fs program p s.memory (context_below a.back x others) a.is items acts) at_is (a.on others eight) in
         record {
-          stands = kept_by_other_memories t fs program p s.memory u.memory (context_below a.back (sp + y.frame + 8) others) a.is items acts keeps (omega arith) on.stands;
+          is_there = kept_by_other_memories t fs program p s.memory u.memory (context_below a.back (sp + y.frame + 8) others) a.is items acts keeps (omega arith) on.is_there;
           data_alone = (memory_stays t fs program p q image s.memory u.memory store.memory sp (sp + y.frame) h.within h.low (omega arith) memory).data_alone;
         }
 

@@ -231,9 +231,9 @@ module _ (m : Memory) (at : ℕ) (r : DispatchRecord) (top : at + 1568 ≤ 2 ^ 6
       ∙ ap (of_kind m at) (ap kind_of marked.1 ∙ kind_back r.kind)
       ∙ ap (λ (d : DispatchRecord). Some d) recorded_back
 
-pub standing_is_fetched : RecordIsFetched
-standing_is_fetched m at r top bytes fit stands =
-    fetched_back m at r (omega arith) bytes fit stands.words stands.readable
+pub record_fetched : RecordIsFetched
+record_fetched m at r top bytes fit is_there =
+    fetched_back m at r (omega arith) bytes fit is_there.words is_there.readable
 
 -- there are 192 words
 pub count_words : (r : DispatchRecord) (at : ℕ) → Fits r → length (words at r) ≡ 192

@@ -1,4 +1,4 @@
--- Each part of a program stands beside its sets: its instructions lead to places that tell no more, its regions guard no more, and so it is in its filters and `__finally` blocks.
+-- Each part of a program is beside its sets: its instructions lead to places that tell no more, its regions guard no more, and so it is in its filters and `__finally` blocks.
 use Rattle.std.proofs.Common.{◌≡◌, ℕ, suc, ◌+◌, ◌-◌, ◌<◌, ◌≤◌, List, [], ◌∷◌, ◌++◌, length, refl, sym, ap, subst, ◌∙◌, arith, length-append, append_assoc}
 use Rattle.std.proofs.lemmas.Bool.{leb-true, ltb-true}
 use Rattle.std.proofs.lemmas.List.{length-replicate}
@@ -32,7 +32,7 @@ use Rattle.seh_ir.specs.Funclets.{filter_funclets, finally_funclet, in_funclet, 
 use Rattle.ir_expressions.proofs.Codes.{expression_length}
 use Rattle.seh_ir.proofs.StatementCodes.{statements_length}
 use Rattle.ir_linked.proofs.Numbers.{count_front, count_back, counted, filter_count, statement_count, statements_count}
-use Rattle.ir_linked.proofs.Segments.{StandsAt, front, back, stands_itself}
+use Rattle.ir_linked.proofs.Segments.{IsSegmentAt, front, back, whole_is_at}
 use Rattle.ir_bounds.proofs.PlainExpressions.{all_append}
 use Rattle.ir_typed.specs.Bodies.{function_of, owner_of}
 use Rattle.ir_typed.proofs.Stacked.{same_it, all_map}
@@ -40,7 +40,7 @@ use Rattle.scoped_programs.specs.Scoped.{Seen, with_local, IsPart, after_all_dec
 use Rattle.scoped_programs.proofs.Split.{both_left, both_right, sees_own, sees_before, itself, within, part_with}
 use Rattle.set_locals.specs.Sets.{with_flag, function_locals, owner_locals, locals_at, Begins, Leads, Guards, IsSetBody}
 use Rattle.set_locals.specs.Places.{statement_sets, statements_sets, filter_sets, finally_sets, statement_funclet_sets, statements_funclet_sets, set_in}
-use Rattle.set_locals.proofs.Straight.{is_same, head_told, past_end, even_list, Fine, AllLead, both_lead, lead_at, straight}
+use Rattle.set_locals.proofs.Straight.{is_same, head_recorded, past_end, even_list, Fine, AllLead, both_lead, lead_at, straight}
 use Rattle.set_locals.proofs.Fine.{IsAround, expression_fine}
 use Rattle.set_locals.proofs.Shapes.{statements_long, filter_many, statement_many, statements_many, grows, all_grow, statements_first, begins}
 use Rattle.set_locals.proofs.Pieces.{flag_kept, below_with, around_all_declared, WayIn, LabelIn, jump_leads, leave_leads, discarded_leads, declared_leads}
@@ -53,8 +53,8 @@ module _ (linear : LinearProgram) (lists : BodyName → List Seen) (funclet_list
   abbrev pub sets : BodyName → ℕ → Seen
   sets name label = set_in (lists name) label
 
-  abbrev pub Told : BodyName → ℕ → Seen → Type 0
-  Told name label seen = IsPart (sets name label) seen
+  abbrev pub IsRecordedAt : BodyName → ℕ → Seen → Type 0
+  IsRecordedAt name label seen = IsPart (sets name label) seen
 
   abbrev pub Lead : BodyName → ℕ → List Instruction → Type 0
   Lead name at code = AllLead linear sets name at code
@@ -67,7 +67,7 @@ module _ (linear : LinearProgram) (lists : BodyName → List Seen) (funclet_list
   abbrev pub IsGuarded : BodyName → Region → Type 0
   IsGuarded name r = (label : ℕ) → holds label r ≡ true → Guards linear sets name label r.kind
 
-  -- whose body a part is in, and what is told around it
+  -- whose body a part is in, and what is recorded around it
   pub record IsPlace (name : BodyName) (owner : Owner) (scope : Scope) (before seen : Seen) : Type 0 where
     pub owned : owner_of linear name ≡ Some owner.function
     pub room : function_locals (slice_get linear.functions owner.function) ≡ owner.locals
@@ -79,27 +79,27 @@ module _ (linear : LinearProgram) (lists : BodyName → List Seen) (funclet_list
 
   -- the funclets of a part, with their sets and numbers
   pub record HasFunclets (j : ℕ) (fs : List LinearFunclet) (ls : List (List Seen)) (ns : List ℕ) : Type 0 where
-    pub funclets : StandsAt linear.funclets j fs
-    pub told : StandsAt funclet_lists j ls
+    pub funclets : IsSegmentAt linear.funclets j fs
+    pub recorded : IsSegmentAt funclet_lists j ls
     pub numbers : count_up (j + 1) ns ≡ true
 
   pub has_front : (j : ℕ) (fs gs : List LinearFunclet) (ls ms : List (List Seen)) (ns os : List ℕ) → HasFunclets j (fs ++ gs) (ls ++ ms) (ns ++ os) → HasFunclets j fs ls ns
-  has_front j fs gs ls ms ns os h = record { funclets = front linear.funclets j fs gs h.funclets; told = front funclet_lists j ls ms h.told; numbers = count_front (j + 1) ns os h.numbers }
+  has_front j fs gs ls ms ns os h = record { funclets = front linear.funclets j fs gs h.funclets; recorded = front funclet_lists j ls ms h.recorded; numbers = count_front (j + 1) ns os h.numbers }
 
   pub has_back : (j to : ℕ) (fs gs : List LinearFunclet) (ls ms : List (List Seen)) (ns os : List ℕ) → j + length ns ≡ to → length fs ≡ length ns → length ls ≡ length ns → HasFunclets j (fs ++ gs) (ls ++ ms) (ns ++ os) → HasFunclets to gs ms os
   has_back j to fs gs ls ms ns os e p q h = record {
     funclets = back linear.funclets j to fs gs (omega arith) h.funclets;
-    told = back funclet_lists j to ls ms (omega arith) h.told;
+    recorded = back funclet_lists j to ls ms (omega arith) h.recorded;
     numbers = count_back (j + 1) (to + 1) ns os (omega arith) h.numbers;
   }
 
   -- what is claimed of a part
-  pub record Stands (name : BodyName) (at : ℕ) (code : List Instruction) (rs : List Region) (j to : ℕ) : Type 0 where
+  pub record IsSetAt (name : BodyName) (at : ℕ) (code : List Instruction) (rs : List Region) (j to : ℕ) : Type 0 where
     pub leads : Lead name at code
     pub regions : AllByRecursion (IsGuarded name) rs
     pub funclets : Range IsFine j to
 
-  pub plain : (name : BodyName) (at : ℕ) (code : List Instruction) (j : ℕ) → Lead name at code → Stands name at code [] j (j + 0)
+  pub plain : (name : BodyName) (at : ℕ) (code : List Instruction) (j : ℕ) → Lead name at code → IsSetAt name at code [] j (j + 0)
   plain name at code j h = record { leads = h; regions = tt; funclets = no_part IsFine j (j + 0) (omega arith) }
 
   -- ---- places
@@ -119,13 +119,13 @@ module _ (linear : LinearProgram) (lists : BodyName → List Seen) (funclet_list
     leave = label_more linear lists name seen seen' scope.leave g p.leave;
   }
 
-  pub loop_place : (name : BodyName) (owner : Owner) (scope : Scope) (before seen : Seen) (end next : ℕ) → Told name end seen → Told name next seen → IsPlace name owner scope before seen → IsPlace name owner (in_loop end next scope) before seen
+  pub loop_place : (name : BodyName) (owner : Owner) (scope : Scope) (before seen : Seen) (end next : ℕ) → IsRecordedAt name end seen → IsRecordedAt name next seen → IsPlace name owner scope before seen → IsPlace name owner (in_loop end next scope) before seen
   loop_place name owner scope before seen end next e n p = record { owned = p.owned; room = p.room; around = p.around; exit = p.exit; loop_end = e; loop_next = n; leave = p.leave }
 
-  pub try_place : (name : BodyName) (owner : Owner) (scope : Scope) (before seen : Seen) (end : ℕ) → Told name end seen → IsPlace name owner scope before seen → IsPlace name owner (in_try end scope) before seen
+  pub try_place : (name : BodyName) (owner : Owner) (scope : Scope) (before seen : Seen) (end : ℕ) → IsRecordedAt name end seen → IsPlace name owner scope before seen → IsPlace name owner (in_try end scope) before seen
   try_place name owner scope before seen end e p = record { owned = p.owned; room = p.room; around = p.around; exit = p.exit; loop_end = p.loop_end; loop_next = p.loop_next; leave = e }
 
-  pub guarded_place : (name : BodyName) (owner : Owner) (scope : Scope) (before seen : Seen) (end : ℕ) → Told name end seen → IsPlace name owner scope before seen → IsPlace name owner (in_guarded end scope) before seen
+  pub guarded_place : (name : BodyName) (owner : Owner) (scope : Scope) (before seen : Seen) (end : ℕ) → IsRecordedAt name end seen → IsPlace name owner scope before seen → IsPlace name owner (in_guarded end scope) before seen
   guarded_place name owner scope before seen end e p = record {
     owned = p.owned;
     room = p.room;
@@ -165,13 +165,13 @@ module _ (linear : LinearProgram) (lists : BodyName → List Seen) (funclet_list
   -- ---- filters
 
   -- the first place of a filter, and its body
-  record FilterStands (k : ℕ) (seen : Seen) : Type 0 where
+  record FilterIsSetAt (k : ℕ) (seen : Seen) : Type 0 where
     first : sets (FuncletBody k) 0 ≡ seen
     fine : IsFine k
 
   filter_alone : (owner : Owner) (names : Names) (e : Expression) (before seen : Seen) (k : ℕ) → function_locals (slice_get linear.functions owner.function) ≡ owner.locals → IsAround owner.locals names before seen → expression_within before e ≡ true
-      → slice_get linear.funclets k ≡ Some (funclets_of.filter_funclet owner (filter_names names) e) → slice_get funclet_lists k ≡ Some (replicate (suc (expression_size e)) seen) → FilterStands k seen
-  filter_alone owner names e before seen k room a w there told =
+      → slice_get linear.funclets k ≡ Some (funclets_of.filter_funclet owner (filter_names names) e) → slice_get funclet_lists k ≡ Some (replicate (suc (expression_size e)) seen) → FilterIsSetAt k seen
+  filter_alone owner names e before seen k room a w there recorded =
       let name = FuncletBody k in
       let n = expression_size e in
       let inner = filter_names names in
@@ -179,17 +179,17 @@ module _ (linear : LinearProgram) (lists : BodyName → List Seen) (funclet_list
       let list = replicate (suc n) seen in
       let code = expression_code inner e 0 0 in
       let l = expression_length inner e 0 0 in
-      let is : list ≡ lists name = sym (listed k list told) in
-      let stands : StandsAt (lists name) 0 list = subst (λ (ls : List Seen). StandsAt ls 0 list) is (stands_itself list) in
+      let is : list ≡ lists name = sym (listed k list recorded) in
+      let is_there : IsSegmentAt (lists name) 0 list = subst (λ (ls : List Seen). IsSegmentAt ls 0 list) is (whole_is_at list) in
       let long : length (lists name) ≡ suc n = ap (λ (ls : List Seen). length ls) (sym is) ∙ length-replicate (suc n) seen in
       let none = past_end (lists name) (suc n) (omega arith) in
-      let ended : Told name (suc n) seen = λ x h. absurd (differ (sym (ap (λ (s : Seen). s x) none) ∙ h)) in
-      let even = even_list (lists name) seen (suc n) 0 (suc n) (omega arith) stands ended in
+      let ended : IsRecordedAt name (suc n) seen = λ x h. absurd (differ (sym (ap (λ (s : Seen). s x) none) ∙ h)) in
+      let even = even_list (lists name) seen (suc n) 0 (suc n) (omega arith) is_there ended in
       let owned : owner_of linear name ≡ Some owner.function = ap function_of there in
       let own = ap (owner_locals linear) owned ∙ room in
       let m = length-append code (instructions.Return (Temporary 0) ∷ []) in
       record {
-        first = head_told (lists name) 0 seen (replicate n seen) stands;
+        first = head_recorded (lists name) 0 seen (replicate n seen) is_there;
         fine = record {
           body = fine_body k f there (whole_body name f.body (straight linear sets name owner.locals own seen 0 (suc n) even 0 f.body.code (omega arith) (omega arith) (all_append (Fine owner.locals 0 (suc n) seen) code (instructions.Return (Temporary 0) ∷ [])
               (expression_fine owner.locals inner before seen (around_filter owner.locals names before seen a) 0 (suc n) e 0 0 w (omega arith) (omega arith)) (tt, tt))) tt);
@@ -208,15 +208,15 @@ module _ (linear : LinearProgram) (lists : BodyName → List Seen) (funclet_list
   pub in_region : (begin end label : ℕ) (kind : RegionKind) → holds label (region begin end kind) ≡ true → (begin ≤ label) × (label < end)
   in_region begin end label kind h = (leb-true begin label (both_left _ _ h), ltb-true label end (both_right _ _ h))
 
-  pub filter_stands : (name : BodyName) (owner : Owner) (scope : Scope) (before seen : Seen) → IsPlace name owner scope before seen → (f : Filter) (j at target : ℕ) → filter_within before f ≡ true
-      → HasFunclets j (filter_funclets owner (filter_names scope.names) f) (filter_sets seen f) (filter_funclet f) → ((label : ℕ) → at ≤ label → label < target → IsPart seen (sets name label)) → Told name target seen
+  pub filter_is_set : (name : BodyName) (owner : Owner) (scope : Scope) (before seen : Seen) → IsPlace name owner scope before seen → (f : Filter) (j at target : ℕ) → filter_within before f ≡ true
+      → HasFunclets j (filter_funclets owner (filter_names scope.names) f) (filter_sets seen f) (filter_funclet f) → ((label : ℕ) → at ≤ label → label < target → IsPart seen (sets name label)) → IsRecordedAt name target seen
       → IsGuarded name (region at target (except_kind f target)) × Range IsFine j (j + length (filter_funclet f))
-  filter_stands name owner scope before seen p Always j at target w h above t =
+  filter_is_set name owner scope before seen p Always j at target w h above t =
       ((λ label k. let r = in_region at target label (kinds.Always target) k in within (sets name target) seen (sets name label) t (above label r.0 r.1)), no_part IsFine j (j + 0) (omega arith))
-  filter_stands name owner scope before seen p (Funclet k e) j at target w h above t =
+  filter_is_set name owner scope before seen p (Funclet k e) j at target w h above t =
       let numbered = counted (j + 1) k [] h.numbers in
       let same : k - 1 ≡ j = omega arith in
-      let x = filter_alone owner scope.names e before seen j p.room p.around w h.funclets.0 h.told.0 in
+      let x = filter_alone owner scope.names e before seen j p.room p.around w h.funclets.0 h.recorded.0 in
       let first : IsPart (sets (FuncletBody (k - 1)) 0) seen = subst (λ n. IsPart (sets (FuncletBody n) 0) seen) (sym same) (is_same (sets (FuncletBody j) 0) seen x.first) in (
         (λ label q.
             let r = in_region at target label (kinds.Filter (k - 1) target) q in
@@ -227,16 +227,16 @@ module _ (linear : LinearProgram) (lists : BodyName → List Seen) (funclet_list
 
   -- ---- `__finally` blocks
 
-  pub record FinallyStands (k : ℕ) (owner : Owner) (names : Names) (last : Statements) (before seen : Seen) : Type 0 where
+  pub record FinallyIsSetAt (k : ℕ) (owner : Owner) (names : Names) (last : Statements) (before seen : Seen) : Type 0 where
     pub place : IsPlace (FuncletBody k) (in_funclet k owner) (finally_scope names) before (with_local names.free seen)
-    pub stands : StandsAt (lists (FuncletBody k)) 0 (statements_sets (names.free + 1) (with_local names.free seen) last)
-    pub end : Told (FuncletBody k) (0 + statements_size last) (with_local names.free seen)
+    pub is_there : IsSegmentAt (lists (FuncletBody k)) 0 (statements_sets (names.free + 1) (with_local names.free seen) last)
+    pub end : IsRecordedAt (FuncletBody k) (0 + statements_size last) (with_local names.free seen)
     pub begun : (s : Seen) → IsPart seen s → Begins linear sets k s
     pub fine : Lead (FuncletBody k) 0 (statements_code (finally_scope names) last 0) → AllByRecursion (IsGuarded (FuncletBody k)) (statements_regions last 0) → IsFine k
 
   finally_alone : (owner : Owner) (names : Names) (last : Statements) (before seen : Seen) (k : ℕ) → function_locals (slice_get linear.functions owner.function) ≡ owner.locals → IsAround owner.locals names before seen → names.free < owner.locals
-      → slice_get linear.funclets k ≡ Some (finally_funclet owner names last) → slice_get funclet_lists k ≡ Some (finally_sets names.free seen last) → FinallyStands k owner names last before seen
-  finally_alone owner names last before seen k room a lt there told =
+      → slice_get linear.funclets k ≡ Some (finally_funclet owner names last) → slice_get funclet_lists k ≡ Some (finally_sets names.free seen last) → FinallyIsSetAt k owner names last before seen
+  finally_alone owner names last before seen k room a lt there recorded =
       let home = FuncletBody k in
       let free = names.free in
       let more = with_local free seen in
@@ -248,16 +248,16 @@ module _ (linear : LinearProgram) (lists : BodyName → List Seen) (funclet_list
       let long = statements_long last (free + 1) more in
       let lc = statements_length (finally_scope names) last 0 in
       let same : size ≡ 0 + size = omega arith in
-      let whole : StandsAt (lists home) 0 list = subst (λ (ls : List Seen). StandsAt ls 0 list) (sym (listed k list told)) (stands_itself list) in
-      let here_last : sets home size ≡ more = head_told (lists home) size more [] (back (lists home) 0 size ll (replicate 1 more) (omega arith) whole) in
-      let told_last : Told home size more = is_same (sets home size) more here_last in
-      let stands = front (lists home) 0 ll (replicate 1 more) whole in
-      let start = begins (lists home) 0 size ll more more stands (statements_first last (free + 1) more more (itself more)) (omega arith) told_last in
+      let whole : IsSegmentAt (lists home) 0 list = subst (λ (ls : List Seen). IsSegmentAt ls 0 list) (sym (listed k list recorded)) (whole_is_at list) in
+      let here_last : sets home size ≡ more = head_recorded (lists home) size more [] (back (lists home) 0 size ll (replicate 1 more) (omega arith) whole) in
+      let recorded_last : IsRecordedAt home size more = is_same (sets home size) more here_last in
+      let is_there = front (lists home) 0 ll (replicate 1 more) whole in
+      let start = begins (lists home) 0 size ll more more is_there (statements_first last (free + 1) more more (itself more)) (omega arith) recorded_last in
       let seen_flag : sets home size free ≡ true = ap (λ (s : Seen). s free) here_last ∙ sees_own seen free in
       record {
         place = record { owned = owned; room = room; around = around_finally owner.locals names before seen lt a; exit = tt; loop_end = tt; loop_next = tt; leave = tt };
-        stands = stands;
-        end = subst (λ n. Told home n more) same told_last;
+        is_there = is_there;
+        end = subst (λ n. IsRecordedAt home n more) same recorded_last;
         begun = λ s q. subst (λ o. IsPart (sets home 0) (with_flag o s)) (sym (ap flag_of there)) (within (sets home 0) more (with_local free s) start (part_with seen s free q));
         fine = λ x r. record {
           body = fine_body k f there (whole_body home f.body (both_lead linear sets home 0 size (statements_code (finally_scope names) last 0) (instructions.Return (Local free) ∷ []) (omega arith) x (seen_flag, tt)) r);
@@ -287,7 +287,7 @@ module _ (linear : LinearProgram) (lists : BodyName → List Seen) (funclet_list
       let nb = funclets body in
       let nf = filter_funclet filter in
       let nk = funclets block in
-      let all : HasFunclets j (fb ++ (ff ++ fk)) (sb ++ (sf ++ sk)) (nb ++ (nf ++ nk)) = record { funclets = f.funclets; told = f.told; numbers = subst (λ ns. count_up (j + 1) ns ≡ true) (append_assoc nb nf nk) f.numbers } in
+      let all : HasFunclets j (fb ++ (ff ++ fk)) (sb ++ (sf ++ sk)) (nb ++ (nf ++ nk)) = record { funclets = f.funclets; recorded = f.recorded; numbers = subst (λ ns. count_up (j + 1) ns ≡ true) (append_assoc nb nf nk) f.numbers } in
       let mid = j + length nb in
       let rest = has_back j mid fb (ff ++ fk) sb (sf ++ sk) nb (nf ++ nk) refl (statements_count owner names body) (statements_many body free seen) all in
       record {
@@ -300,7 +300,7 @@ module _ (linear : LinearProgram) (lists : BodyName → List Seen) (funclet_list
     of_body : HasFunclets j (statements_funclets owner names body) (statements_funclet_sets names.free seen body) (funclets body)
     same : k - 1 ≡ j + length (funclets body)
     there : slice_get linear.funclets (k - 1) ≡ Some (finally_funclet owner names last)
-    told : slice_get funclet_lists (k - 1) ≡ Some (finally_sets names.free seen last)
+    recorded : slice_get funclet_lists (k - 1) ≡ Some (finally_sets names.free seen last)
     of_last : HasFunclets (j + length (funclets body) + 1) (statements_funclets (in_funclet (k - 1) owner) (finally_names names) last) (statements_funclet_sets (names.free + 1) (with_local names.free seen) last) (funclets last)
 
   finally_funclets : (j : ℕ) (owner : Owner) (scope : Scope) (seen : Seen) (body : Statements) (k : ℕ) (last : Statements)
@@ -322,8 +322,8 @@ module _ (linear : LinearProgram) (lists : BodyName → List Seen) (funclet_list
         of_body = has_front j fb fl sb sl nb (k ∷ funclets last) f;
         same = same;
         there = ap (slice_get linear.funclets) same ∙ rest.funclets.0;
-        told = ap (slice_get funclet_lists) same ∙ rest.told.0;
-        of_last = record { funclets = rest.funclets.1; told = rest.told.1; numbers = both_right _ _ rest.numbers };
+        recorded = ap (slice_get funclet_lists) same ∙ rest.recorded.0;
+        of_last = record { funclets = rest.funclets.1; recorded = rest.recorded.1; numbers = both_right _ _ rest.numbers };
       }
 
   -- ---- ranges of funclets
@@ -347,20 +347,20 @@ module _ (linear : LinearProgram) (lists : BodyName → List Seen) (funclet_list
       part_of IsFine j last j (j + length (ns ++ k ∷ os)) (omega arith) (omega arith) (both_parts IsFine j mid last x (both_parts IsFine mid (mid + 1) last (one_part IsFine mid f) z))
 
   mutual
-    pub statement_stands : (s : Statement) (name : BodyName) (owner : Owner) (i : Inside) (scope : Scope) (before seen : Seen) (at j : ℕ) → IsPlace name owner scope before seen → length i.scope.sizes ≤ owner.locals
-        → scope.names.free + statement_notes s ≤ owner.locals → statement_sound i s ≡ true → statement_within before s ≡ true → StandsAt (lists name) at (statement_sets scope.names.free seen s) → Told name (at + statement_size s) (after_statement seen s)
-        → HasFunclets j (statement_funclets owner scope.names s) (statement_funclet_sets scope.names.free seen s) (funclets_in s) → Stands name at (statement_code scope s at) (statement_regions s at) j (j + length (funclets_in s))
-    statement_stands (Declare d) name owner i scope before seen at j p fits notes ok w h end f =
+    pub statement_is_set : (s : Statement) (name : BodyName) (owner : Owner) (i : Inside) (scope : Scope) (before seen : Seen) (at j : ℕ) → IsPlace name owner scope before seen → length i.scope.sizes ≤ owner.locals
+        → scope.names.free + statement_notes s ≤ owner.locals → statement_sound i s ≡ true → statement_within before s ≡ true → IsSegmentAt (lists name) at (statement_sets scope.names.free seen s) → IsRecordedAt name (at + statement_size s) (after_statement seen s)
+        → HasFunclets j (statement_funclets owner scope.names s) (statement_funclet_sets scope.names.free seen s) (funclets_in s) → IsSetAt name at (statement_code scope s at) (statement_regions s at) j (j + length (funclets_in s))
+    statement_is_set (Declare d) name owner i scope before seen at j p fits notes ok w h end f =
         plain name at _ j (declared_leads linear lists name owner.locals (locals_are name owner scope before seen p) scope.names i.scope fits d before seen at p.around ok w h end)
-    statement_stands (Block ss) name owner i scope before seen at j p fits notes ok w h end f = statements_stand ss name owner i scope before seen at j p fits notes ok w h end f
-    statement_stands (Evaluate e) name owner i scope before seen at j p fits notes ok w h end f =
+    statement_is_set (Block ss) name owner i scope before seen at j p fits notes ok w h end f = statements_are_set ss name owner i scope before seen at j p fits notes ok w h end f
+    statement_is_set (Evaluate e) name owner i scope before seen at j p fits notes ok w h end f =
         let n = discarded_size e in
         plain name at _ j (discarded_leads linear lists name owner.locals (locals_are name owner scope before seen p) scope.names before seen p.around e at w (even_list (lists name) seen n at (at + n) refl h end))
-    statement_stands (If c s) name owner i scope before seen at j p fits notes ok w h end f =
+    statement_is_set (If c s) name owner i scope before seen at j p fits notes ok w h end f =
         let q = if_parts linear lists name owner.locals (locals_are name owner scope before seen p) scope before seen p.around c s at (both_left _ _ w) h end in
-        let x = statement_stands s name owner i scope before seen (at + expression_size c + 1) j p fits notes (both_right _ _ ok) (both_right _ _ w) q.stands q.end f in
+        let x = statement_is_set s name owner i scope before seen (at + expression_size c + 1) j p fits notes (both_right _ _ ok) (both_right _ _ w) q.is_there q.end f in
         record { leads = q.leads x.leads; regions = x.regions; funclets = x.funclets }
-    statement_stands (IfElse c s t) name owner i scope before seen at j p fits notes ok w h end f =
+    statement_is_set (IfElse c s t) name owner i scope before seen at j p fits notes ok w h end f =
         let free = scope.names.free in
         let then = at + expression_size c + 1 in
         let otherwise = then + statement_size s + 1 in
@@ -372,15 +372,15 @@ module _ (linear : LinearProgram) (lists : BodyName → List Seen) (funclet_list
         let mid = j + length (funclets_in s) in
         let notes_s : free + statement_notes s ≤ owner.locals = omega arith in
         let notes_t : free + statement_notes t ≤ owner.locals = omega arith in
-        let x = statement_stands s name owner i scope before seen then j p fits notes_s (both_right _ _ (both_left _ _ ok)) (both_right _ _ (both_left _ _ w)) q.stands q.end (has_front j fs ft ss st (funclets_in s) (funclets_in t) f) in
-        let y = statement_stands t name owner i scope before seen otherwise mid p fits notes_t (both_right _ _ ok) (both_right _ _ w) q.other_stands q.other_end
+        let x = statement_is_set s name owner i scope before seen then j p fits notes_s (both_right _ _ (both_left _ _ ok)) (both_right _ _ (both_left _ _ w)) q.is_there q.end (has_front j fs ft ss st (funclets_in s) (funclets_in t) f) in
+        let y = statement_is_set t name owner i scope before seen otherwise mid p fits notes_t (both_right _ _ ok) (both_right _ _ w) q.other_is_at q.other_end
         (has_back j mid fs ft ss st (funclets_in s) (funclets_in t) refl (statement_count owner scope.names s) (statement_many s free seen) f) in
         record {
           leads = q.leads x.leads y.leads;
           regions = all_append (IsGuarded name) (statement_regions s then) (statement_regions t otherwise) x.regions y.regions;
           funclets = two_ranges j (funclets_in s) (funclets_in t) x.funclets y.funclets;
         }
-    statement_stands (For ds first c next s) name owner i scope before seen at j p fits notes ok w h end f =
+    statement_is_set (For ds first c next s) name owner i scope before seen at j p fits notes ok w h end f =
         let ok_ds = both_left _ _ (both_left _ _ (both_left _ _ (both_left _ _ ok))) in
         let w1 = both_left _ _ w in
         let w2 = both_left _ _ w1 in
@@ -393,23 +393,23 @@ module _ (linear : LinearProgram) (lists : BodyName → List Seen) (funclet_list
         let again = start + statement_size s in
         let out = again + 1 + discarded_size next + 1 in
         let q = loops.for_parts linear lists name owner.locals (locals_are name owner scope before seen p) scope before seen p.around i.scope ds first c next s at fits ok_ds (both_left _ _ w3) (both_right _ _ w3) (both_right _ _ w2) (both_right _ _ w1) h end in
-        let x = statement_stands s name owner (record i { loop = true }) (in_loop out again scope) outer inner start j (loop_place name owner scope outer inner out again q.leaves q.next more) fits notes (both_right _ _ ok) (both_right _ _ w) q.stands q.end f in
+        let x = statement_is_set s name owner (record i { loop = true }) (in_loop out again scope) outer inner start j (loop_place name owner scope outer inner out again q.leaves q.next more) fits notes (both_right _ _ ok) (both_right _ _ w) q.is_there q.end f in
         record { leads = q.leads x.leads; regions = x.regions; funclets = x.funclets }
-    statement_stands (DoWhile s c) name owner i scope before seen at j p fits notes ok w h end f =
+    statement_is_set (DoWhile s c) name owner i scope before seen at j p fits notes ok w h end f =
         let again = at + statement_size s in
         let out = again + 1 + expression_size c + 2 in
         let q = loops.do_parts linear lists name owner.locals (locals_are name owner scope before seen p) scope before seen p.around s c at (both_left _ _ w) h end in
-        let x = statement_stands s name owner (record i { loop = true }) (in_loop out again scope) before seen at j (loop_place name owner scope before seen out again q.leaves q.next p) fits notes (both_right _ _ ok) (both_right _ _ w) q.stands q.end f in
+        let x = statement_is_set s name owner (record i { loop = true }) (in_loop out again scope) before seen at j (loop_place name owner scope before seen out again q.leaves q.next p) fits notes (both_right _ _ ok) (both_right _ _ w) q.is_there q.end f in
         record { leads = q.leads x.leads; regions = x.regions; funclets = x.funclets }
-    statement_stands (Return e) name owner i scope before seen at j p fits notes ok w h end f =
+    statement_is_set (Return e) name owner i scope before seen at j p fits notes ok w h end f =
         plain name at _ j (returns_lead linear lists name owner.locals (locals_are name owner scope before seen p) scope before seen p.around e at w p.exit h end)
-    statement_stands Break name owner i scope before seen at j p fits notes ok w h end f =
+    statement_is_set Break name owner i scope before seen at j p fits notes ok w h end f =
         plain name at _ j (jump_leads linear lists name scope.loop_end at seen p.loop_end (even_list (lists name) seen 2 at (at + 2) refl h end))
-    statement_stands Continue name owner i scope before seen at j p fits notes ok w h end f =
+    statement_is_set Continue name owner i scope before seen at j p fits notes ok w h end f =
         plain name at _ j (jump_leads linear lists name scope.loop_next at seen p.loop_next (even_list (lists name) seen 2 at (at + 2) refl h end))
-    statement_stands Leave name owner i scope before seen at j p fits notes ok w h end f =
+    statement_is_set Leave name owner i scope before seen at j p fits notes ok w h end f =
         plain name at _ j (leave_leads linear lists name scope.leave at seen p.leave (even_list (lists name) seen 1 at (at + 1) refl h end))
-    statement_stands (TryExcept body filter block) name owner i scope before seen at j p fits notes ok w h end f =
+    statement_is_set (TryExcept body filter block) name owner i scope before seen at j p fits notes ok w h end f =
         let free = scope.names.free in
         let more = with_local free seen in
         let skip = at + statements_size body in
@@ -422,17 +422,17 @@ module _ (linear : LinearProgram) (lists : BodyName → List Seen) (funclet_list
         let fs = except_funclets j owner scope seen body filter block f in
         let nb = length (funclets body) in
         let nf = length (filter_funclet filter) in
-        let x = statements_stand body name owner (record i { body = true }) (in_try out scope) before seen at j (try_place name owner scope before seen out q.leaves p) fits notes_body (both_left _ _ (both_left _ _ ok)) (both_left _ _ (both_left _ _ w))
-        q.stands (is_same (sets name skip) seen q.end) fs.of_body in
-        let y = filter_stands name owner scope before seen p filter (j + nb) at target (both_right _ _ (both_left _ _ w)) fs.of_filter (λ label a b. above_body linear lists name body free seen at label q.stands q.end a b) q.target in
-        let z = statements_stand block name owner (record i { scope = record i.scope { code = true } }) (in_except scope) before more (target + 1) (j + nb + nf) (except_place name owner scope before seen room p) fits notes_block (both_right _ _ ok) (both_right _ _ w)
-        q.block_stands (within (sets name out) seen more q.leaves (sees_before seen free)) fs.of_block in
+        let x = statements_are_set body name owner (record i { body = true }) (in_try out scope) before seen at j (try_place name owner scope before seen out q.leaves p) fits notes_body (both_left _ _ (both_left _ _ ok)) (both_left _ _ (both_left _ _ w))
+        q.is_there (is_same (sets name skip) seen q.end) fs.of_body in
+        let y = filter_is_set name owner scope before seen p filter (j + nb) at target (both_right _ _ (both_left _ _ w)) fs.of_filter (λ label a b. above_body linear lists name body free seen at label q.is_there q.end a b) q.target in
+        let z = statements_are_set block name owner (record i { scope = record i.scope { code = true } }) (in_except scope) before more (target + 1) (j + nb + nf) (except_place name owner scope before seen room p) fits notes_block (both_right _ _ ok) (both_right _ _ w)
+        q.block_is_at (within (sets name out) seen more q.leaves (sees_before seen free)) fs.of_block in
         record {
           leads = q.leads x.leads z.leads;
           regions = all_append (IsGuarded name) (statements_regions body at) (region at target (except_kind filter target) ∷ statements_regions block (target + 1)) x.regions (y.0, z.regions);
           funclets = three_ranges j (funclets body) (filter_funclet filter) (funclets block) x.funclets y.1 z.funclets;
         }
-    statement_stands (TryFinally body k last) name owner i scope before seen at j p fits notes ok w h end f =
+    statement_is_set (TryFinally body k last) name owner i scope before seen at j p fits notes ok w h end f =
         let names = scope.names in
         let free = names.free in
         let more = with_local free seen in
@@ -442,26 +442,26 @@ module _ (linear : LinearProgram) (lists : BodyName → List Seen) (funclet_list
         let notes_last : free + 1 + statements_notes last ≤ owner.locals = omega arith in
         let q = finally_parts linear lists name owner.locals (locals_are name owner scope before seen p) scope before seen p.around body k last at h end in
         let fs = finally_funclets j owner scope seen body k last f in
-        let b = finally_alone owner names last before seen (k - 1) p.room p.around room fs.there fs.told in
+        let b = finally_alone owner names last before seen (k - 1) p.room p.around room fs.there fs.recorded in
         let nb = length (funclets body) in
         let mid = j + nb in
-        let x = statements_stand body name owner (record i { body = true }) (in_guarded ends scope) before seen at j (guarded_place name owner scope before seen ends (is_same (sets name ends) seen q.end) p) fits notes_body (both_left _ _ ok) (both_left _ _ w)
-        q.stands (is_same (sets name ends) seen q.end) fs.of_body in
-        let y = statements_stand last (FuncletBody (k - 1)) (in_funclet (k - 1) owner) (record { scope = record i.scope { abnormal = true }; returns = i.returns; loop = false; body = false; function = false }) (finally_scope names) before more 0 (mid + 1)
-        b.place fits notes_last (both_right _ _ ok) (both_right _ _ w) b.stands b.end fs.of_last in
+        let x = statements_are_set body name owner (record i { body = true }) (in_guarded ends scope) before seen at j (guarded_place name owner scope before seen ends (is_same (sets name ends) seen q.end) p) fits notes_body (both_left _ _ ok) (both_left _ _ w)
+        q.is_there (is_same (sets name ends) seen q.end) fs.of_body in
+        let y = statements_are_set last (FuncletBody (k - 1)) (in_funclet (k - 1) owner) (record { scope = record i.scope { abnormal = true }; returns = i.returns; loop = false; body = false; function = false }) (finally_scope names) before more 0 (mid + 1)
+        b.place fits notes_last (both_right _ _ ok) (both_right _ _ w) b.is_there b.end fs.of_last in
         let fine : IsFine mid = subst IsFine fs.same (b.fine y.leads y.regions) in
         record {
           leads = q.leads b.begun x.leads;
           regions = all_append (IsGuarded name) (statements_regions body at) (region at (ends + 1) (kinds.Finally (k - 1)) ∷ []) x.regions
-              ((λ label r. let g = in_region at (ends + 1) label (kinds.Finally (k - 1)) r in b.begun (sets name label) (above_body linear lists name body free seen at label q.stands q.end g.0 g.1)), tt);
+              ((λ label r. let g = in_region at (ends + 1) label (kinds.Finally (k - 1)) r in b.begun (sets name label) (above_body linear lists name body free seen at label q.is_there q.end g.0 g.1)), tt);
           funclets = block_ranges j (funclets body) k (funclets last) x.funclets fine y.funclets;
         }
 
-    pub statements_stand : (ss : Statements) (name : BodyName) (owner : Owner) (i : Inside) (scope : Scope) (before seen : Seen) (at j : ℕ) → IsPlace name owner scope before seen → length i.scope.sizes ≤ owner.locals
-        → scope.names.free + statements_notes ss ≤ owner.locals → statements_sound i ss ≡ true → statements_within before ss ≡ true → StandsAt (lists name) at (statements_sets scope.names.free seen ss) → Told name (at + statements_size ss) seen
-        → HasFunclets j (statements_funclets owner scope.names ss) (statements_funclet_sets scope.names.free seen ss) (funclets ss) → Stands name at (statements_code scope ss at) (statements_regions ss at) j (j + length (funclets ss))
-    statements_stand Empty name owner i scope before seen at j p fits notes ok w h end f = plain name at [] j tt
-    statements_stand (Then s ss) name owner i scope before seen at j p fits notes ok w h end f =
+    pub statements_are_set : (ss : Statements) (name : BodyName) (owner : Owner) (i : Inside) (scope : Scope) (before seen : Seen) (at j : ℕ) → IsPlace name owner scope before seen → length i.scope.sizes ≤ owner.locals
+        → scope.names.free + statements_notes ss ≤ owner.locals → statements_sound i ss ≡ true → statements_within before ss ≡ true → IsSegmentAt (lists name) at (statements_sets scope.names.free seen ss) → IsRecordedAt name (at + statements_size ss) seen
+        → HasFunclets j (statements_funclets owner scope.names ss) (statements_funclet_sets scope.names.free seen ss) (funclets ss) → IsSetAt name at (statements_code scope ss at) (statements_regions ss at) j (j + length (funclets ss))
+    statements_are_set Empty name owner i scope before seen at j p fits notes ok w h end f = plain name at [] j tt
+    statements_are_set (Then s ss) name owner i scope before seen at j p fits notes ok w h end f =
         let free = scope.names.free in
         let next = at + statement_size s in
         let more = after_statement seen s in
@@ -474,9 +474,9 @@ module _ (linear : LinearProgram) (lists : BodyName → List Seen) (funclet_list
         let mid = j + length (funclets_in s) in
         let notes_s : free + statement_notes s ≤ owner.locals = omega arith in
         let notes_ss : free + statements_notes ss ≤ owner.locals = omega arith in
-        let x = statement_stands s name owner i scope before seen at j p fits notes_s (both_left _ _ ok) (both_left _ _ w) q.stands q.end (has_front j fs fr ts tr (funclets_in s) (funclets ss) f) in
-        let y = statements_stand ss name owner i scope (after_statement before s) more next mid (more_place name owner scope before seen (after_statement before s) more (grows s seen) a p) fits notes_ss (both_right _ _ ok) (both_right _ _ w)
-        q.other_stands q.other_end (has_back j mid fs fr ts tr (funclets_in s) (funclets ss) refl (statement_count owner scope.names s) (statement_many s free seen) f) in
+        let x = statement_is_set s name owner i scope before seen at j p fits notes_s (both_left _ _ ok) (both_left _ _ w) q.is_there q.end (has_front j fs fr ts tr (funclets_in s) (funclets ss) f) in
+        let y = statements_are_set ss name owner i scope (after_statement before s) more next mid (more_place name owner scope before seen (after_statement before s) more (grows s seen) a p) fits notes_ss (both_right _ _ ok) (both_right _ _ w)
+        q.other_is_at q.other_end (has_back j mid fs fr ts tr (funclets_in s) (funclets ss) refl (statement_count owner scope.names s) (statement_many s free seen) f) in
         record {
           leads = q.leads x.leads y.leads;
           regions = all_append (IsGuarded name) (statement_regions s at) (statements_regions ss next) x.regions y.regions;

@@ -19,11 +19,11 @@ use Rattle.unset_locals.specs.Marks.{Marks, marks_of, first_marks, begins_block,
 use Rattle.unset_locals.specs.Alike.{AreActivationsAlike, AreAlike}
 use Rattle.unset_locals.specs.Reads.{IsSet, AreOperandsSet, ReadsSet, ComesMarked, start_marks, IsMarked, ReadsNoUnset}
 use Rattle.unset_locals.specs.Laws.{started_with}
-use Rattle.unset_locals.proofs.Alike.{steps_are_alike, starts_are_alike, marked_is_reached, marked_goes_on}
+use Rattle.unset_locals.proofs.Alike.{steps_are_alike, starts_are_alike, marked_is_reached, marked_continues}
 use Rattle.scoped_programs.specs.Scoped.{Seen}
 use Rattle.scoped_programs.proofs.Split.{is_parameter}
 use Rattle.set_locals.specs.Sets.{function_locals, owner_locals, locals_at, ReadsIn, OperandsIn, Leads, IsSetMap}
-use Rattle.set_locals.specs.Lives.{Marked, AreCovered, IsTold, IsGiven, Before, Written, Flag, Passed, IsStep}
+use Rattle.set_locals.specs.Lives.{Marked, AreCovered, IsRecorded, IsGiven, Before, Written, Flag, Passed, IsStep}
 use Rattle.set_locals.specs.SetLaws.{SetMapReadsNoUnset}
 use Rattle.set_locals.proofs.Marked.{with_keeps, written_marked, with_long, taken_marks, more_keeps, last_marks, first_set, marks_long, own_long, alike_itself}
 use Rattle.set_locals.proofs.Goes as goes
@@ -139,9 +139,9 @@ module _ (program : LinearProgram) where
     covered_next marks next (Searches exception resumption asked rest ∷ below) n h le keeps w = covered_next marks next below n h le keeps w
     covered_next marks next (Unwinds rest target ∷ below) n h le keeps w = covered_next marks next below n h le keeps w
 
-    next_told : (marks : Marks) (i : Instruction) (c d : Configuration) → HasActivations program d → AreActivationsAlike marks c.store.activations c.store.activations
-        → AreActivationsAlike (next_marks program i c d marks) d.store.activations d.store.activations → IsStep program sets marks i c d → IsTold program sets (next_marks program i c d marks) d
-    next_told marks i c d h m n s =
+    next_recorded : (marks : Marks) (i : Instruction) (c d : Configuration) → HasActivations program d → AreActivationsAlike marks c.store.activations c.store.activations
+        → AreActivationsAlike (next_marks program i c d marks) d.store.activations d.store.activations → IsStep program sets marks i c d → IsRecorded program sets (next_marks program i c d marks) d
+    next_recorded marks i c d h m n s =
         let all = owners_of (Waits d.frame ∷ d.below) in
         let count = as_many all d.store.activations h.stored in
         let b = bound d.frame.body d.frame (owners_of d.below) h.working.0 in
@@ -155,15 +155,15 @@ module _ (program : LinearProgram) where
           kept = s.kept;
         }
 
-module _ (program : LinearProgram) (whole : IsWhole program) (sets : BodyName → ℕ → Seen) (told : IsSetMap program sets) where
+module _ (program : LinearProgram) (whole : IsWhole program) (sets : BodyName → ℕ → Seen) (recorded : IsSetMap program sets) where
   -- ---- what is read
 
   slot_set : (marks : Marks) (k : ℕ) (seen : Seen) (slot : Slot) → ((x : ℕ) → seen x ≡ true → Marked marks k x) → ReadsIn seen slot → IsSet marks k slot
   slot_set marks k seen (Local x) w r = w x r
   slot_set marks k seen (Temporary i) w r = tt
 
-  reads_set : (marks : Marks) (c : Configuration) (i : Instruction) → IsTold program sets marks c → instruction_at program c ≡ Some i → ReadsSet marks c i
-  reads_set marks c i w at = of i (goes.leads program sets told marks i c c.frame i at)
+  reads_set : (marks : Marks) (c : Configuration) (i : Instruction) → IsRecorded program sets marks c → instruction_at program c ≡ Some i → ReadsSet marks c i
+  reads_set marks c i w at = of i (goes.leads program sets recorded marks i c c.frame i at)
     where
       seen : Seen
       seen = sets c.frame.body c.frame.next
@@ -187,27 +187,27 @@ module _ (program : LinearProgram) (whole : IsWhole program) (sets : BodyName �
 
   -- ---- runs
 
-  along : (n : ℕ) (c : Configuration) (marks : Marks) (d : Configuration) (ends : Marks) → IsMarked program c marks → IsTold program sets marks c → ComesMarked program n c marks d ends → IsTold program sets ends d
-  along zero c marks d ends m w h = subst (λ ms. IsTold program sets ms d) h.1 (subst (IsTold program sets marks) h.0 w)
+  along : (n : ℕ) (c : Configuration) (marks : Marks) (d : Configuration) (ends : Marks) → IsMarked program c marks → IsRecorded program sets marks c → ComesMarked program n c marks d ends → IsRecorded program sets ends d
+  along zero c marks d ends m w h = subst (λ ms. IsRecorded program sets ms d) h.1 (subst (IsRecorded program sets marks) h.0 w)
   along (suc n) c marks d ends m w h =
       let e = h.0 in
       let turn = h.1 in
       let next = next_marks program turn.instruction c e marks in
-      let m' = marked_goes_on program c e marks m turn in
+      let m' = marked_continues program c e marks m turn in
       let before = reached_both program whole c (marked_is_reached program c marks m) in
       let after = reached_both program whole e (marked_is_reached program e next m') in
       let itself : AreAlike marks c c = record { frame = refl; below = refl; memory = refl; events = refl; activations = w.marked } in
       let both = steps_are_alike program turn.instruction marks c c itself (reads_set marks c turn.instruction w turn.at) in
       let other = both.forth e turn.goes in
       let alike = alike_itself next e.store.activations other.0.store.activations other.1.alike.activations in
-      along n e next d ends m' (next_told program sets marks turn.instruction c e after.1 w.marked alike (step_of program whole sets told marks c e before.0 w turn)) h.2
+      along n e next d ends m' (next_recorded program sets marks turn.instruction c e after.1 w.marked alike (step_of program whole sets recorded marks c e before.0 w turn)) h.2
 
   begun_with : (arg : ℤ) (n : ℕ) → n ≤ 1 → length (main_arguments n arg) ≡ n
   begun_with arg zero h = refl
   begun_with arg (suc zero) h = refl
   begun_with arg (suc (suc n)) h = absurd (omega arith)
 
-  starts : (arg : ℤ) (main : LinearFunction) → slice_get program.functions program.main ≡ Some main → IsTold program sets (start_marks program arg main) (start program arg main)
+  starts : (arg : ℤ) (main : LinearFunction) → slice_get program.functions program.main ≡ Some main → IsRecorded program sets (start_marks program arg main) (start program arg main)
   starts arg main e =
       let rest = main.body.locals - main.parameters in
       let a = starts_are_alike program arg main (replicate rest 0) (length-replicate rest 0) in
@@ -215,7 +215,7 @@ module _ (program : LinearProgram) (whole : IsWhole program) (sets : BodyName �
       let n = begun_with arg main.parameters (whole.few main e) in
       record {
         marked = alike_itself (start_marks program arg main) first.store.activations (started_with program arg main (replicate rest 0)).store.activations a.activations;
-        running = λ x q. let lt = is_parameter main.parameters x (told.begins program.main main e x q) in first_set (length (main_arguments main.parameters arg)) (replicate rest false) x (omega arith);
+        running = λ x q. let lt = is_parameter main.parameters x (recorded.begins program.main main e x q) in first_set (length (main_arguments main.parameters arg)) (replicate rest false) x (omega arith);
         waiting = tt;
         kept = tt;
       }
@@ -226,4 +226,4 @@ module _ (program : LinearProgram) (whole : IsWhole program) (sets : BodyName �
       reads_set marks c i (along m.turns (start program m.argument m.main) (start_marks program m.argument m.main) c marks first (starts m.argument m.main m.is_main) m.comes) at
 
 pub set_map_reads_no_unset : SetMapReadsNoUnset
-set_map_reads_no_unset program whole sets told = reads_no_unset program whole sets told
+set_map_reads_no_unset program whole sets recorded = reads_no_unset program whole sets recorded

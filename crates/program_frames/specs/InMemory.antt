@@ -20,7 +20,7 @@ image_base = IMAGE_BASE
 
 -- the text is in memory, to be executed
 abbrev pub HasText : Memory → LinearProgram → Type 0
-HasText m p = code.Stands m (image_base + text_begin p.globals) (linked p).text
+HasText m p = code.IsExecutableAt m (image_base + text_begin p.globals) (linked p).text
 
 -- ---- addresses of a routine's body, relative to the image's base as all addresses of tables
 
@@ -42,7 +42,7 @@ pub record IsInBody (p : LinearProgram) (x : Placed) (rva : ℕ) : Type 0 where
   pub number : ℕ
   pub instruction : Instruction
   pub there : slice_get x.routine.body.code number ≡ Some instruction
-  pub goes_on : IsReturn instruction → ⊥
+  pub continues : IsReturn instruction → ⊥
   pub done : List Instr
   pub item : Instr
   pub left : List Instr

@@ -1,4 +1,4 @@
--- The code of each routine is where the text stands.
+-- The code of each routine is where the text is.
 use Rattle.std.proofs.Common.{◌≡◌, ℕ, zero, suc, ◌+◌, ◌-◌, ◌*◌, ◌^◌, ◌<◌, ◌≤◌, true, List, [], ◌∷◌, ◌++◌, length, take, Option, Some, None, refl, sym, ap, subst, ◌∙◌, arith, append_assoc, length-append}
 use Rattle.std.specs.Prelude.{slice_get}
 use Rattle.std.specs.List.{AllByRecursion}
@@ -6,7 +6,7 @@ use Rattle.std.proofs.lemmas.Grind.{flat_map-append}
 use Rattle.flat_memory.specs.Memory.{Memory}
 use Rattle.x64_instr.specs.declared.instruction.Instr.{Instr}
 use Rattle.x64_encode.specs.Chosen.{chosen, modrm}
-use Rattle.frame_rules.specs.Bytes.{Stands}
+use Rattle.frame_rules.specs.Bytes.{IsExecutableAt}
 use Rattle.linear_code.specs.declared.instruction.Instruction.{Instruction}
 use Rattle.linear_code.specs.Program.{LinearProgram}
 use Rattle.template_code.specs.declared.layout.Layout.{Layout}
@@ -26,22 +26,22 @@ use Rattle.program_link.proofs.Images.{has_places}
 use Rattle.program_link.proofs.Nearness.{routines_near}
 use Rattle.program_tables.specs.Placed.{Placed, placed_from, site_of, infos_begin, placed}
 use Rattle.program_tables.proofs.Lookups.{some_same, none_some}
-use Rattle.program_frames.specs.Standing.{image_base, HasText}
+use Rattle.program_frames.specs.InMemory.{image_base, HasText}
 
 -- ---- bytes
 
-pub stands_split : (m : Memory) (at : ℕ) (a b : List ℕ) → Stands m at (a ++ b) → Stands m at a × Stands m (at + length a) b
-stands_split m at [] b h = (tt, let e : at ≡ at + 0 = omega arith in subst (λ x. Stands m x b) e h)
-stands_split m at (x ∷ a) b h =
-    let r = stands_split m (at + 1) a b h.2 in
+pub executable_split : (m : Memory) (at : ℕ) (a b : List ℕ) → IsExecutableAt m at (a ++ b) → IsExecutableAt m at a × IsExecutableAt m (at + length a) b
+executable_split m at [] b h = (tt, let e : at ≡ at + 0 = omega arith in subst (λ x. IsExecutableAt m x b) e h)
+executable_split m at (x ∷ a) b h =
+    let r = executable_split m (at + 1) a b h.2 in
     let e : at + 1 + length a ≡ at + length (x ∷ a) = omega arith in
-    ((h.0, h.1, r.0), subst (λ y. Stands m y b) e r.1)
+    ((h.0, h.1, r.0), subst (λ y. IsExecutableAt m y b) e r.1)
 
 -- of instructions
-pub code_split : (m : Memory) (at : ℕ) (is js : List Instr) → Stands m at (spelled (is ++ js)) → Stands m at (spelled is) × Stands m (at + sizes is) (spelled js)
+pub code_split : (m : Memory) (at : ℕ) (is js : List Instr) → IsExecutableAt m at (spelled (is ++ js)) → IsExecutableAt m at (spelled is) × IsExecutableAt m (at + sizes is) (spelled js)
 code_split m at is js h =
-    let r = stands_split m at (spelled is) (spelled js) (subst (Stands m at) (flat_map-append chosen is js) h) in
-    (r.0, subst (λ (n : ℕ). Stands m (at + n) (spelled js)) (sizes_spelled is) r.1)
+    let r = executable_split m at (spelled is) (spelled js) (subst (IsExecutableAt m at) (flat_map-append chosen is js) h) in
+    (r.0, subst (λ (n : ℕ). IsExecutableAt m (at + n) (spelled js)) (sizes_spelled is) r.1)
 
 -- ---- a routine
 
@@ -94,16 +94,16 @@ there p index x fits e =
     there_from s (linked p).text (text_begin p.globals) (infos_begin p) (first p.globals) (routines p) (spelled (front_code s.text s.rdata)) index x e near (omega arith) refl (omega (arith, sizes_spelled (front_code s.text s.rdata)))
 
 -- its instructions are at its address
-pub routine_stands : (p : LinearProgram) (m : Memory) (x : Placed) → HasText m p → IsThere (site_of p) (linked p).text (text_begin p.globals) x → Stands m (image_base + x.begin) (spelled (routine_code (site_of p) x.begin x.routine))
+pub routine_is_at : (p : LinearProgram) (m : Memory) (x : Placed) → HasText m p → IsThere (site_of p) (linked p).text (text_begin p.globals) x → IsExecutableAt m (image_base + x.begin) (spelled (routine_code (site_of p) x.begin x.routine))
 unfolding routine_bytes
-routine_stands p m x text h =
+routine_is_at p m x text h =
     let s = site_of p in
     let begin = image_base + text_begin p.globals in
     let bytes = routine_bytes s x.begin x.routine in
     let here = h.here in
     let at : begin + length h.before ≡ image_base + x.begin = omega arith in
-    let r = stands_split m begin h.before (bytes ++ h.after) (subst (Stands m begin) h.bytes text) in
-    (stands_split m (image_base + x.begin) bytes h.after (subst (λ (n : ℕ). Stands m n (bytes ++ h.after)) at r.1)).0
+    let r = executable_split m begin h.before (bytes ++ h.after) (subst (IsExecutableAt m begin) h.bytes text) in
+    (executable_split m (image_base + x.begin) bytes h.after (subst (λ (n : ℕ). IsExecutableAt m n (bytes ++ h.after)) at r.1)).0
 
 -- ---- an instruction of a body
 
