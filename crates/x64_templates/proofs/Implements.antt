@@ -22,7 +22,7 @@ use Rattle.x64_templates.specs.Straight.{MachineView}
 use Rattle.x64_templates.specs.Frames.{Agrees}
 use Rattle.template_code.specs.Operations.{work}
 use Rattle.x64_templates.specs.Implements.{IsReady, Implements}
-use Rattle.x64_templates.proofs.Compares.{low_below, wrapped_below}
+use Rattle.x64_machine.proofs.Numbers.{low_below, wrapped_below}
 use Rattle.x64_templates.proofs.Pures.{pure_gives}
 use Rattle.x64_templates.proofs.Divisions.{quotient_implemented, remainder_implemented}
 use Rattle.x64_templates.proofs.Accesses.{load_implemented, store_implemented}
