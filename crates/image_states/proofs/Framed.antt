@@ -44,7 +44,7 @@ use Rattle.image_states.proofs.Shifts.{template_moved}
 
 pub stands_of : (m : Memory) (at : ℕ) (bytes : List ℕ) → IsCodeAt m at bytes → Stands m at bytes
 stands_of m at [] h = tt
-stands_of m at (b ∷ bytes) h = (h.0, h.1, stands_of m (at + 1) bytes h.3)
+stands_of m at (b ∷ bytes) h = (h.0.byte, h.0.executes, stands_of m (at + 1) bytes h.1)
 
 returns : (i : Instruction) → IsReturn i → quiet.IsReturn i
 returns (instructions.Return from) h = tt

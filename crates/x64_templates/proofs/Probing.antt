@@ -26,7 +26,7 @@ use Rattle.x64_templates.proofs.Jumps.{one_reaches}
 use Rattle.x64_templates.proofs.Returns.{return_effect}
 use Rattle.x64_templates.proofs.Information.{load_any}
 
--- R11 stands ninth of the registers from RBX on
+-- R11 is ninth of the registers from RBX on
 abbrev pub with_eleventh : MachineView → ℕ → MachineView
 with_eleventh v x = record { rax = v.rax; rcx = v.rcx; rdx = v.rdx; rest = set v.rest 8 x; memory = v.memory }
 
@@ -64,7 +64,7 @@ lowered v top n is rax le lt = executes_one lower_eleventh v (with_eleventh v (t
   ap (λ (x : ℕ). Ok (machine (with_eleventh v x) rip (subtracted W64 (low W64 (get_or v.rest 8 0)) (low W64 v.rax)).1)) (let q : low W64 (low W64 (low W64 (get_or v.rest 8 0) + (2 ^ 64 - low W64 v.rax))) ≡ top - n = omega arith in q),
 ))
 
--- ---- the leaf, from RSP where its return address stands
+-- ---- the leaf, from RSP where its return address is
 
 pub record Touchable (m : Memory) (sp n : ℕ) : Type 0 where
   pub enough : n ≤ sp

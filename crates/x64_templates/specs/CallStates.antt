@@ -10,7 +10,7 @@ sp_of v = get_or v.rest 1 0
 abbrev pub with_sp : List ℕ → ℕ → List ℕ
 with_sp rest sp = set rest 1 sp
 
--- R8 and R9 stand sixth and seventh of the registers from RBX on
+-- R8 and R9 are sixth and seventh of the registers from RBX on
 abbrev pub with_four : MachineView → ℕ → ℕ → ℕ → ℕ → MachineView
 with_four v a b c d =
     record { rax = v.rax; rcx = a; rdx = b; rest = set (set v.rest 5 c) 6 d; memory = v.memory }

@@ -29,7 +29,7 @@ pub record InRegisters (v : MachineView) (arguments : ℕ → ℕ) : Type 0 wher
   pub third : get_or v.rest 5 0 ≡ arguments 2
   pub fourth : get_or v.rest 6 0 ≡ arguments 3
 
--- the further ones stand above the frame, where no slot is
+-- the further ones are above the frame, where no slot is
 pub record OnStack (p : Frame) (m : Memory) (count : ℕ) (arguments : ℕ → ℕ) : Type 0 where
   pub number : (i : ℕ) → 4 ≤ i → i < count
       → number_at m.byte 8 (p.sp + stack_parameter p.layout i) ≡ arguments i

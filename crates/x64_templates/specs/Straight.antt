@@ -29,7 +29,7 @@ abbrev pub AllStraight : List Instr → Type 0
 AllStraight [] = Unit {0}
 AllStraight (i ∷ is) = (is_straight i ≡ true) × AllStraight is
 
--- what could stand in an epilogue (Microsoft x64 ABI, "Prolog and epilog"): a change of RSP by
+-- what could be in an epilogue (Microsoft x64 ABI, "Prolog and epilog"): a change of RSP by
 -- arithmetic or LEA, a POP, a return, a jump through memory or a register
 abbrev pub is_rsp : Reg → Bool
 is_rsp r = nat_eq (number r) 4
