@@ -1,8 +1,7 @@
 -- Code that runs below its routine's return address, and what a walk gives there.
 use Rattle.std.proofs.Common.{◌≡◌, ℕ, zero, suc, ◌+◌, ◌%◌, ◌^◌, ◌<◌, ◌≤◌, Bool, true, false, List, [], ◌∷◌, ◌++◌, length, Option, Some, None, Ok, refl, sym, ap, subst, ◌∙◌, arith, inl, inr}
 use Rattle.std.specs.Prelude.{◌⊎◌, slice_index}
-use Rattle.std.proofs.lemmas.Bool.{le-leb, le-ltb, cases_lt}
-use Rattle.host_layout.specs.Services.{in_host_page}
+use Rattle.std.proofs.lemmas.Bool.{cases_lt}
 use Rattle.flat_memory.specs.declared.protection.Protection.{Protection}
 use Rattle.flat_memory.specs.Protections.{is_readable, is_writable}
 use Rattle.flat_memory.specs.Memory.{Memory, executable, may_read, may_write, first_refused, number_at, with_bytes, access}
@@ -14,7 +13,7 @@ use Rattle.x64_encode.specs.Chosen.{chosen, is_encodable}
 use Rattle.x64_encode.proofs.Lengths.{longest}
 use Rattle.x64_machine.specs.declared.context.Context.{Context}
 use Rattle.x64_machine.specs.Contexts.{context_of}
-use Rattle.x64_machine.specs.Effect.{State, register, with_rip, is_trap, effect, step}
+use Rattle.x64_machine.specs.Effect.{State, register, with_rip, effect, step}
 use Rattle.virtual_unwind.specs.Contexts.{rsp}
 use Rattle.virtual_unwind.specs.CallerOf.{Functions}
 use Rattle.virtual_unwind.specs.Undone.{word, readable}
@@ -23,7 +22,7 @@ use Rattle.linear_code.specs.Program.{LinearProgram}
 use Rattle.template_code.specs.Bytes.{spelled, size, sizes}
 use Rattle.template_code.specs.Calls.{keep_register}
 use Rattle.x64_templates.specs.Runs.{Steps, Reaches, Enters, HasCode}
-use Rattle.x64_templates.proofs.PlacedCode.{same_number, bytes_kept, bytes_split, spells, reads}
+use Rattle.x64_templates.proofs.PlacedCode.{same_number, bytes_kept, outside_page, bytes_split, spells, reads}
 use Rattle.linked_stack.specs.Stack.{StackItem, IsStack, Owned, Agree}
 use Rattle.linked_stack.specs.WalkLaws.{context_below}
 use Rattle.linked_stack.specs.PlainWalks.{state}
@@ -35,13 +34,10 @@ use Rattle.body_states.specs.Sites.{Sites}
 use Rattle.body_states.specs.Programs.{HasProgram}
 use Rattle.body_states.specs.Callers.{caller_above, HasCaller, FindsReturn}
 use Rattle.body_states.proofs.StackWalks.{callers, on_stack}
-use Rattle.body_states.proofs.Effects.{others_of, is_idle, idle_leaves, idle_continues, store_leaves}
+use Rattle.body_states.proofs.Effects.{others_of, is_idle, idle_leaves, idle_calls_nothing, store_leaves}
 use Rattle.body_states.proofs.QuietTurns.{program_kept}
 
 -- ---- the instruction at RIP is run
-
-outside_page : (a : ℕ) → 0x100000000 ≤ a → in_host_page a ≡ false
-outside_page a h = rw (le-leb 0x7FF00000 a (omega arith), le-ltb a 0x7FF01000 (omega arith)) refl
 
 module _ (s u : State) (i : Instr) (more : List Instr) (enc : is_encodable i ≡ true) (code : HasCode s.memory s.cpu.rip (i ∷ more)) where
   pub read_here : leading (executable s.memory 15 s.cpu.rip) ≡ Some (i, length (chosen i))
@@ -51,13 +47,13 @@ module _ (s u : State) (i : Instr) (more : List Instr) (enc : is_encodable i ≡
       let h = code.placed.high in
       reads s i (chosen i) (spells i enc) (longest i) (bytes_split s.memory s.cpu.rip (chosen i) (spelled more) code.is_there).0 (record { low = l; high = omega arith })
 
-  pub effect_here : is_trap i ≡ false → step s ≡ Ok u → effect (with_rip s (s.cpu.rip + size i)) i ≡ Ok u
+  pub effect_here : step s ≡ Ok u → effect (with_rip s (s.cpu.rip + size i)) i ≡ Ok u
   unfolding step size
-  effect_here trap e =
+  effect_here e =
       let l = code.placed.low in
       let h = code.placed.high in
       let next : (s.cpu.rip + length (chosen i)) % 2 ^ 64 ≡ s.cpu.rip + length (chosen i) = omega arith in
-      let stepped : step s ≡ effect (with_rip s (s.cpu.rip + length (chosen i))) i = rw (outside_page s.cpu.rip l, read_here, trap, next) refl in
+      let stepped : step s ≡ effect (with_rip s (s.cpu.rip + length (chosen i))) i = rw (outside_page s.cpu.rip l, read_here, next) refl in
       sym stepped ∙ e
 
   -- what follows it is still there
@@ -196,9 +192,9 @@ abbrev pub AllPlain : ℕ → ℕ → List Instr → Type 0
 AllPlain d e [] = Unit {0}
 AllPlain d e (i ∷ is) = IsPlain d e i × AllPlain d e is
 
-plain_continues : (d e : ℕ) (i : Instr) → (is_idle i ≡ true) ⊎ IsKept d e i → (is_trap i ≡ false) × (calls i ≡ false)
-plain_continues d e i (inl q) = idle_continues i q
-plain_continues d e i (inr k) = (ap is_trap k.is, ap calls k.is)
+plain_calls_nothing : (d e : ℕ) (i : Instr) → (is_idle i ≡ true) ⊎ IsKept d e i → calls i ≡ false
+plain_calls_nothing d e i (inl q) = idle_calls_nothing i q
+plain_calls_nothing d e i (inr k) = ap calls k.is
 
 module _ (t : Functions) (fs : List Funclet) (program : LinearProgram) (p : Plan) (q : Sites) where
   module _ (top from back : ℕ) (others : List ℕ) (is : List StackItem) where
@@ -211,8 +207,7 @@ module _ (t : Functions) (fs : List Funclet) (program : LinearProgram) (p : Plan
     pub plain_step : (s u : State) (d e : ℕ) (i : Instr) (more : List Instr) → IsPlain d e i → HasCode s.memory s.cpu.rip (i ∷ more) → Steps s u → Beneath t s top from back others is → register s.cpu Rsp + d ≡ top → from ≡ top + e → Moved s u i
     plain_step s u d e i more plain code st b at up =
         let high = b.limit in
-        let go = (plain_continues d e i plain.1).0 in
-        let effect' = effect_here s u i more plain.0 code go st.steps in
+        let effect' = effect_here s u i more plain.0 code st.steps in
         by plain.1 effect'
       where
         a : State
@@ -263,7 +258,7 @@ module _ (t : Functions) (fs : List Funclet) (program : LinearProgram) (p : Plan
         let next : s.cpu.rip + (size i + 0) ≡ u.cpu.rip = omega (arith, first.rip) in
         let before = gives_above t s top from back others is d b (subst (λ a. FindsReturn t s.memory a d) z (finds [] (i ∷ code) refl s.memory has)) at in
         let after = gives_above t u top from back others is d first.beneath (subst (λ a. FindsReturn t u.memory a d) next (finds (i ∷ []) code refl u.memory has')) at' in
-        let quiet = ap is_call (read_here s u i code plain.0.0 code') ∙ (plain_continues d e i plain.0.1).1 in
+        let quiet = ap is_call (read_here s u i code plain.0.0 code') ∙ plain_calls_nothing d e i plain.0.1 in
         let keep = straight t fs s u (callers_above t top back others is) st.steps quiet before after (let h : register u.cpu Rsp + 8 ≤ top + 8 = omega arith in h) in
         let finds' : Finds u.cpu.rip code d = λ done left parts m h.
         (let same : s.cpu.rip + (size i + sizes done) ≡ u.cpu.rip + sizes done = omega (arith, first.rip) in

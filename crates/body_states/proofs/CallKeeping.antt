@@ -200,7 +200,7 @@ module _ (t : Functions) (fs : List Funclet) (program : LinearProgram) (p : Plan
         let i = thunk there.away in
         let enc = thunk_encodable there.away n in
         let code = subst (λ a. HasCode s.memory a (i ∷ [])) (sym here) there.code in
-        let j = jumps (with_rip s (s.cpu.rip + size i)) v (Indirect (places.Memory (record { base = bases.Rip; index = None; displacement = there.away }))) (effect_here s v i [] enc code refl st.steps) in
+        let j = jumps (with_rip s (s.cpu.rip + size i)) v (Indirect (places.Memory (record { base = bases.Rip; index = None; displacement = there.away }))) (effect_here s v i [] enc code st.steps) in
         let b = beneath_stays t s v top from back others list st (ap others_of j.registers) (λ x o. ap (λ (m : Memory). m.byte x) j.memory) beneath in
         let rip : service ≡ v.cpu.rip = sym to ∙ ap (λ (x : State). x.cpu.rip) (sym run.2) in
         let sp : register v.cpu Rsp ≡ top = ap (λ (r : List ℕ). slice_index r 4) j.registers ∙ at_top in

@@ -23,7 +23,7 @@ use Rattle.whole_runs.specs.Shadow.{is_call, caller_at, GivesCallers, WalkGives,
 use Rattle.whole_runs.proofs.Shadows.{past_frame, HeadAbove, straight, call_keeps, return_keeps}
 use Rattle.body_states.specs.Callers.{caller_above, HasCaller, FindsReturn}
 use Rattle.body_states.proofs.StackWalks.{callers, on_stack, stack_rises}
-use Rattle.body_states.proofs.Effects.{others_of, is_probing, probing_is_idle, idle_leaves, idle_continues, rax_stays, Sets, Calls, calls, Returns, returns, word_loads}
+use Rattle.body_states.proofs.Effects.{others_of, is_probing, probing_is_idle, idle_leaves, idle_calls_nothing, rax_stays, Sets, Calls, calls, Returns, returns, word_loads}
 use Rattle.body_states.proofs.Beneath.{read_here, effect_here, word_number, Beneath, beneath_stays, callers_above}
 
 module _ (t : Functions) (fs : List Funclet) where
@@ -96,7 +96,7 @@ module _ (t : Functions) (fs : List Funclet) where
             let high = b.high in
             returns (with_rip s (s.cpu.rip + size instrs.Return)) u (top + 8) back b.count (ap (λ x. x + 8) at) (omega arith)
             (word_loads s.memory (register s.cpu Rsp) back (ap (word s.memory) at ∙ b.returns))
-            (effect_here s u instrs.Return more refl code refl st.steps)
+            (effect_here s u instrs.Return more refl code st.steps)
 
         pub returned_context : context_of u.cpu ≡ above
         returned_context = context_is u back (top + 8) others returned.rip returned.stack (returned.others ∙ b.others_are)
@@ -123,7 +123,7 @@ module _ (t : Functions) (fs : List Funclet) where
             let small = near.0 in
             let same : s.cpu.rip + size (call next to) ≡ next = omega (arith, call_size next to) in
             calls (with_rip s next) u (distance next to) sp to b.count (omega arith) below (omega arith) (arrives next to near)
-            (subst (λ a. effect (with_rip s a) (call next to) ≡ Ok u) same (effect_here s u (call next to) more (short next to near) code refl st.steps))
+            (subst (λ a. effect (with_rip s a) (call next to) ≡ Ok u) same (effect_here s u (call next to) more (short next to near) code st.steps))
 
         pub beneath_called : Beneath t u top from back others is
         beneath_called = let past = b.past in beneath_stays t s u top from back others is st called.others (λ x o. called.beside x (elim o [ inl w ↦ (let w0 = w.0 in inr (omega arith)) | inr w ↦ inr (omega arith) ])) b
@@ -194,9 +194,8 @@ module _ (t : Functions) (fs : List Funclet) where
       pub probes : (i : Instr) (more : List Instr) → is_probing i ≡ true → is_encodable i ≡ true → HasCode s.memory s.cpu.rip (i ∷ more) → FindsReturn t u.memory (s.cpu.rip + size i) 0 → Probed (s.cpu.rip + size i)
       probes i more probing enc code after =
           let idle = probing_is_idle i probing in
-          let go = idle_continues i idle in
           let to = with_rip s (s.cpu.rip + size i) in
-          let ef = effect_here s u i more enc code go.0 st.steps in
+          let ef = effect_here s u i more enc code st.steps in
           let l = idle_leaves to u i idle ef in
           let b = beneath_stays t s u top from back others is st l.others (λ x o. ap (λ (m : Memory). m.byte x) l.memory) h.beneath in
           let then : Probing u next n = record {
@@ -205,7 +204,7 @@ module _ (t : Functions) (fs : List Funclet) where
             pushed = ap (λ (m : Memory). word m (register u.cpu Rsp)) l.memory ∙ ap (word s.memory) l.stack ∙ h.pushed;
             rax = rax_stays to u i probing ef ∙ h.rax;
           } in
-          let quiet = ap is_call (read_here s u i more enc code) ∙ go.1 in
+          let quiet = ap is_call (read_here s u i more enc code) ∙ idle_calls_nothing i idle in
           let z = then.stack in
           record {
             keeps = straight t fs s u (in_prologue next ∷ mine) st.steps quiet (gives_probing s next n h here (finds s.memory))
@@ -226,7 +225,7 @@ module _ (t : Functions) (fs : List Funclet) where
           let b = h.beneath in
           let high = b.high in
           let to = with_rip s (s.cpu.rip + size instrs.Return) in
-          let r = returns to u top next b.count h.stack (omega arith) (word_loads s.memory (register s.cpu Rsp) next h.pushed) (effect_here s u instrs.Return more refl code refl st.steps) in
+          let r = returns to u top next b.count h.stack (omega arith) (word_loads s.memory (register s.cpu Rsp) next h.pushed) (effect_here s u instrs.Return more refl code st.steps) in
           let b' = beneath_stays t s u top from back others is st r.others (λ x o. ap (λ (m : Memory). m.byte x) r.memory) b in
           let z : register u.cpu Rsp + 0 ≡ top = omega (arith, r.stack) in
           let quiet = ap is_call (read_here s u instrs.Return more refl code) in

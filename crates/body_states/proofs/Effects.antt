@@ -25,7 +25,7 @@ use Rattle.x64_instr.specs.Registers.{number}
 use Rattle.x64_machine.specs.Words.{added, subtracted}
 use Rattle.x64_templates.specs.Keeping.{is_volatile}
 use Rattle.virtual_unwind.specs.Undone.{word, readable}
-use Rattle.x64_machine.specs.Effect.{State, Answer, ◌>>=◌, granted, register, with_register, with_flags, with_rip, load, store, read, operand, write, may_change, computed, change, is_trap, target_of, effect}
+use Rattle.x64_machine.specs.Effect.{State, Answer, ◌>>=◌, granted, register, with_register, with_flags, with_rip, load, store, read, operand, write, may_change, computed, change, target_of, effect}
 use Rattle.whole_runs.specs.Shadow.{calls as is_a_call}
 
 -- ---- registers
@@ -305,13 +305,10 @@ rax_stays s t (instrs.Arithmetic operations.Sub W64 (places.Register regs.R11) f
     subst (λ (u : State). register u.cpu Rax ≡ register s.cpu Rax) (the_same b.then) (get_or-set_other s.cpu.registers 11 0 _ 0 (λ z. absurd (omega arith)))
 rax_stays s t i q e = absurd cc
 
--- none of these is a trap, or a call
-pub idle_continues : (i : Instr) → is_idle i ≡ true → (is_trap i ≡ false) × (is_a_call i ≡ false)
-idle_continues (instrs.Move w to from) q = (refl, refl)
-idle_continues (instrs.LoadAddress w to m) q = (refl, refl)
-idle_continues (instrs.Test w first second) q = (refl, refl)
-idle_continues (instrs.Arithmetic o w to from) q = (refl, refl)
-idle_continues i q = absurd cc
+-- none of these is a call
+pub idle_calls_nothing : (i : Instr) → is_idle i ≡ true → is_a_call i ≡ false
+idle_calls_nothing (instrs.Call to) q = absurd cc
+idle_calls_nothing i q = refl
 
 -- ---- a jump
 

@@ -107,7 +107,7 @@ module _ (t : Functions) (fs : List Funclet) (program : LinearProgram) (p : Plan
             let enc = near frame (omega arith) in
             let next = e.cpu.rip + size i in
             let high = beneath.high in
-            let sets = falls (with_rip e next) v frame (top - frame) beneath.count (omega arith) (omega arith) (effect_here e v i [] enc code refl st.steps) in
+            let sets = falls (with_rip e next) v frame (top - frame) beneath.count (omega arith) (omega arith) (effect_here e v i [] enc code st.steps) in
             let whole : next ≡ begin + making_size p q name = let z = ap sizes is_code in omega arith in
             let z : register e.cpu Rsp + 0 ≡ top = omega arith in
             let has' = kept e v st has in
@@ -167,7 +167,7 @@ module _ (t : Functions) (fs : List Funclet) (program : LinearProgram) (p : Plan
               let code = subst (λ a. HasCode v.memory a (third ∷ [])) (sym at) (third_there v.memory has') in
               let high = b'.high in
               let to = v.cpu.rip + size third in
-              let sets = falls_by_rax (with_rip v to) w frame (top - frame) b'.count rax (omega arith) (omega arith) (effect_here v w third [] refl code refl st.steps) in
+              let sets = falls_by_rax (with_rip v to) w frame (top - frame) b'.count rax (omega arith) (omega arith) (effect_here v w third [] refl code st.steps) in
               let a = move_size frame in
               let c = call_size next q.check_stack in
               let whole : to ≡ begin + making_size p q name = let z = ap sizes is_large in omega arith in
@@ -251,7 +251,7 @@ module _ (t : Functions) (fs : List Funclet) (program : LinearProgram) (p : Plan
               let five : e.cpu.rip + 5 ≡ begin + 5 = omega arith in
               let finds : Finds t fs program p q top from back others list e.cpu.rip (first ∷ []) 0 = λ done left parts m h. first_found m done left parts in
               let one = ran t fs program p q top from back others list (first ∷ []) e v1 0 (from - top) (v1, st1, refl) ((first_encodable, inl refl), tt) (code_split e.memory e.cpu.rip (first ∷ []) (second ∷ third ∷ []) code).0 has beneath (omega arith) (omega arith) finds in
-              let rax = puts_rax (with_rip e (e.cpu.rip + size first)) v1 frame beneath.count (omega arith) (effect_here e v1 first (second ∷ third ∷ []) first_encodable code refl st1.steps) in
+              let rax = puts_rax (with_rip e (e.cpu.rip + size first)) v1 frame beneath.count (omega arith) (effect_here e v1 first (second ∷ third ∷ []) first_encodable code st1.steps) in
               let r1 = one.rip in
               let s1 = one.stack in
               let at1 : v1.cpu.rip ≡ begin + 5 = omega arith in

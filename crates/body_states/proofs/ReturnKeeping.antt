@@ -94,7 +94,7 @@ module _ (t : Functions) (fs : List Funclet) (program : LinearProgram) (p : Plan
         let at_top : register u.cpu Rsp + suc n ≡ top = omega arith in
         let below' : register u.cpu Rsp + y.frame ≡ top = omega arith in
         let up : top + 0 ≡ top = omega arith in
-        let sets = rises (with_rip u next) v (suc n) top first.beneath.count at_top (omega arith) (effect_here u v i (instrs.Return ∷ []) enc code refl st.steps) in
+        let sets = rises (with_rip u next) v (suc n) top first.beneath.count at_top (omega arith) (effect_here u v i (instrs.Return ∷ []) enc code st.steps) in
         let has' = program_kept t fs program p q u.memory v.memory (record { protection = st.protection; fixed = st.fixed }) first.has in
         let found : (m : Memory) → HasProgram t fs program p q m → FindsReturn t m next 0 = λ m h.
         (let f = (image.callers name b is).ends m label from n h at e in

@@ -35,10 +35,12 @@ pub code_there : (m m' : Memory) (at : ℕ) (bytes : List ℕ) → SameThere m m
 code_there m m' at [] same h = tt
 code_there m m' at (b ∷ bytes) same h =
     let e = same.protection at (omega arith) (omega arith) in (
-      same.byte at (omega arith) (omega arith) ∙ h.0,
-      ap (λ (x : Protection). x.execute) e ∙ h.1,
-      ap (λ (x : Protection). is_writable x.rights) e ∙ h.2,
-      code_there m m' (at + 1) bytes (record { byte = λ a l u. same.byte a (omega arith) (omega arith); protection = λ a l u. same.protection a (omega arith) (omega arith) }) h.3,
+      record {
+        byte = same.byte at (omega arith) (omega arith) ∙ h.0.byte;
+        executes = ap (λ (x : Protection). x.execute) e ∙ h.0.executes;
+        fixed = ap (λ (x : Protection). is_writable x.rights) e ∙ h.0.fixed;
+      },
+      code_there m m' (at + 1) bytes (record { byte = λ a l u. same.byte a (omega arith) (omega arith); protection = λ a l u. same.protection a (omega arith) (omega arith) }) h.1,
     )
 
 pub has_code_there : (m m' : Memory) (at : ℕ) (code : List Instr) → SameThere m m' at (at + sizes code) → HasCode m at code → HasCode m' at code

@@ -19,10 +19,11 @@ use Rattle.c_syntax.proofs.Failing.{append_append, alike_same}
 use Rattle.c_syntax.proofs.MovesPrograms as programs
 use Rattle.c_syntax.proofs.Firsts as firsts
 use Rattle.c_syntax.proofs.Fronts.{punctuator_same, has_same, front}
-use Rattle.c_syntax.proofs.Files.{literal_class, constant_once, constants, other_punctuator, assign_not, brace_not}
+use Rattle.c_syntax.proofs.Files.{literal_class, constant_once, constants, assign_not, brace_not}
 use Rattle.c_parse_stmt.specs.Parts.{NoPunctuator, APunctuator}
 use Rattle.c_parse.specs.Parts.{NoConstant, HasConstant, NoConstants, HasConstants, IsGiven, NoneGiven, HasGiven, NoInitialiser, HasInitialiser}
-use Rattle.c_parse.proofs.Lists.{Begun, Back, continues}
+use Rattle.c_parse.proofs.Lists as listed
+use Rattle.c_parse.proofs.Lists.{Begun, Back}
 use Rattle.c_parse.proofs.Refusing.{missing, punctuator, digit, has_it, following, Lacks, LacksAt, NoLiteral, continues as refusing_continues}
 
 -- ---- one constant
@@ -87,31 +88,11 @@ begins text ts rest c is =
       back = λ other s. first_back (m.front ++ other) other c (again other);
     }
 
-next_back : (rest b after : List Token) (c : Constant) → HasPunctuator punctuators.Comma rest b → IsConstant c b after → (xs : List Constant) (end : List Token) → AreMoreConstants xs rest end → (ys : List Constant) × (xs ≡ c ∷ ys) × AreMoreConstants ys after end
-next_back rest b after c k is [] end m = let e : punctuators.Comma ≡ punctuators.CloseBrace = other_punctuator punctuators.Comma punctuators.CloseBrace rest rest b end refl k m in absurd cc
-next_back rest b after c k is (x ∷ xs) end m =
-    let p = has_same punctuators.Comma rest rest b m.after_comma refl k m.comma in
-    let u = constant_once c x b m.after_comma after m.after_element p is m.element in (
-      xs,
-      ap (λ (z : Constant). z ∷ xs) (sym u.0),
-      subst (λ (z : List Token). AreMoreConstants xs z end) (sym u.1) m.others,
-    )
-
 pub next : (text : List ℕ) (ts rest b after : List Token) (found : List Constant) (c : Constant) → HasPunctuator punctuators.Comma rest b → IsConstant c b after → Constants ts found rest → Constants ts (found ++ c ∷ []) after
 next text ts rest b after found c k is d =
     let m = programs.constant c text b after is in
-    let again : (other : List Token) → IsConstant c (m.front ++ other) other = λ other. m.again text other (alike_same text b) in
-    let t = token (kinds.Punctuator punctuators.Comma) k.0 k.1.0 in
-    continues AreConstants AreMoreConstants ts rest (t ∷ m.front) after found c (k.1.1 ∙ ap (λ (z : List Token). t ∷ z) m.split)
-    (λ other xs end h. record {
-      after_comma = m.front ++ other;
-      after_element = other;
-      comma = (k.0, (k.1.0, refl));
-      element = again other;
-      others = h;
-    })
-    (λ other s. next_back (t ∷ (m.front ++ other)) (m.front ++ other) other c (k.0, (k.1.0, refl)) (again other))
-    d
+    listed.next IsConstant punctuators.CloseBrace AreConstants constant_once (λ e. cc) ts rest b after m.front found c k m.split
+    (λ other. m.again text other (alike_same text b)) d
 
 pub ends : (ts rest end : List Token) (found : List Constant) → Constants ts found rest → HasPunctuator punctuators.CloseBrace rest end → AreConstants found ts end
 ends ts rest end found d h =
@@ -135,12 +116,6 @@ in_first text ts = record {
   };
 }
 
-no_more : (rest b : List Token) → HasPunctuator punctuators.Comma rest b → NoConstant 0 [] b → (cs : List Constant) (end : List Token) → AreMoreConstants cs rest end → ⊥
-no_more rest b k none [] end m = let e : punctuators.Comma ≡ punctuators.CloseBrace = other_punctuator punctuators.Comma punctuators.CloseBrace rest rest b end refl k m in absurd cc
-no_more rest b k none (c ∷ cs) end m =
-    none c m.after_element (subst (λ (z : List Token). IsConstant c z m.after_element)
-    (has_same punctuators.Comma rest rest m.after_comma b refl m.comma k) m.element)
-
 pub in_next : (text : List ℕ) (ts rest b : List Token) (found : List Constant) → Constants ts found rest → HasPunctuator punctuators.Comma rest b → Wraps NoConstant HasConstant NoConstants HasConstants text b ts
 in_next text ts rest b found d k =
     let t = token (kinds.Punctuator punctuators.Comma) k.0 k.1.0 in record {
@@ -148,7 +123,7 @@ in_next text ts rest b found d k =
       split = d.split ∙ ap (λ (z : List Token). d.front ++ z) k.1.1 ∙ sym (append_append d.front (t ∷ []) b);
       no = λ n text' other a s x. following (λ z. NoConstants n text' z) d.front (t ∷ []) other (λ cs end h.
           let r = d.back (t ∷ other) (subst (λ (z : List Token). SameFirst z (t ∷ other)) (sym k.1.1) (other, refl)) cs end h in
-          no_more (t ∷ other) other (k.0, (k.1.0, refl)) x r.0 end r.2);
+          listed.none_next IsConstant punctuators.CloseBrace (λ e. cc) (t ∷ other) other (k.0, (k.1.0, refl)) x r.0 end r.2);
       has = λ n text' inner a s h. record {
         more = punctuator punctuators.CloseBrace ∷ [];
         has = record {
@@ -169,17 +144,13 @@ in_next text ts rest b found d k =
       };
     }
 
-no_end : (rest : List Token) → Lacks punctuators.Comma rest → Lacks punctuators.CloseBrace rest → (cs : List Constant) (end : List Token) → AreMoreConstants cs rest end → ⊥
-no_end rest k s [] end m = s end m
-no_end rest k s (c ∷ cs) end m = k m.after_comma m.comma
-
 pub in_end : (text : List ℕ) (ts rest : List Token) (found : List Constant) → Constants ts found rest → Lacks punctuators.Comma rest → Wraps (NoPunctuator punctuators.CloseBrace) (APunctuator punctuators.CloseBrace) NoConstants HasConstants text rest ts
 in_end text ts rest found d k = record {
   before = d.front;
   split = d.split;
   no = λ n text' other a s x cs end h.
       let r = d.back other s cs end h in
-      no_end other (firsts.no_punctuator punctuators.Comma rest other s k) x r.0 end r.2;
+      listed.no_end IsConstant punctuators.CloseBrace other (firsts.no_punctuator punctuators.Comma rest other s k) x r.0 end r.2;
   has = λ n text' inner a s h. record {
     more = [];
     has = record {

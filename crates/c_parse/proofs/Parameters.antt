@@ -18,14 +18,15 @@ use Rattle.c_syntax.proofs.Failing.{append_append, alike_same, first_after}
 use Rattle.c_syntax.proofs.Moves as moves
 use Rattle.c_syntax.proofs.MovesPrograms as programs
 use Rattle.c_syntax.proofs.Firsts as firsts
-use Rattle.c_syntax.proofs.Fronts.{has_same, keyword_same, base_front}
+use Rattle.c_syntax.proofs.Fronts.{keyword_same, base_front}
 use Rattle.c_syntax.proofs.Once.{has_front}
 use Rattle.c_syntax.proofs.Blocks.{name_star, name_type}
 use Rattle.c_syntax.proofs.Files.{other_punctuator, parameter_once, parameter_front, void_not}
 use Rattle.c_parse_type.specs.Bases.{NoBase, EndsType}
 use Rattle.c_parse_stmt.specs.Parts.{NoPunctuator, APunctuator}
 use Rattle.c_parse.specs.Parts.{NoParameter, HasParameter, IsVoid, NoListed, HasListed, NoParameters, HasParameters}
-use Rattle.c_parse.proofs.Lists.{Begun, Back, continues}
+use Rattle.c_parse.proofs.Lists as listed
+use Rattle.c_parse.proofs.Lists.{Begun, Back}
 use Rattle.c_parse.proofs.Refusing.{missing, punctuator, named, name, has_it, following, Lacks, NoIdentifier}
 
 -- ---- one parameter
@@ -100,31 +101,11 @@ begins text ts rest x is =
       back = λ other s. first_back (m.front ++ other) other x (again other);
     }
 
-next_back : (rest b after : List Token) (x : Parameter) → HasPunctuator punctuators.Comma rest b → IsParameter x b after → (xs : List Parameter) (end : List Token) → AreMoreParameters xs rest end → (ys : List Parameter) × (xs ≡ x ∷ ys) × AreMoreParameters ys after end
-next_back rest b after x k is [] end m = let e : punctuators.Comma ≡ punctuators.CloseParenthesis = other_punctuator punctuators.Comma punctuators.CloseParenthesis rest rest b end refl k m in absurd cc
-next_back rest b after x k is (p ∷ ps) end m =
-    let q = has_same punctuators.Comma rest rest b m.after_comma refl k m.comma in
-    let u = parameter_once x p b m.after_comma after m.after_element q is m.element in (
-      ps,
-      ap (λ (z : Parameter). z ∷ ps) (sym u.0),
-      subst (λ (z : List Token). AreMoreParameters ps z end) (sym u.1) m.others,
-    )
-
 pub next : (text : List ℕ) (ts rest b after : List Token) (found : List Parameter) (x : Parameter) → HasPunctuator punctuators.Comma rest b → IsParameter x b after → Parameters ts found rest → Parameters ts (found ++ x ∷ []) after
 next text ts rest b after found x k is d =
     let m = programs.parameter x text b after is in
-    let again : (other : List Token) → IsParameter x (m.front ++ other) other = λ other. m.again text other (alike_same text b) in
-    let t = token (kinds.Punctuator punctuators.Comma) k.0 k.1.0 in
-    continues AreParameters AreMoreParameters ts rest (t ∷ m.front) after found x (k.1.1 ∙ ap (λ (z : List Token). t ∷ z) m.split)
-    (λ other ps end h. record {
-      after_comma = m.front ++ other;
-      after_element = other;
-      comma = (k.0, (k.1.0, refl));
-      element = again other;
-      others = h;
-    })
-    (λ other s. next_back (t ∷ (m.front ++ other)) (m.front ++ other) other x (k.0, (k.1.0, refl)) (again other))
-    d
+    listed.next IsParameter punctuators.CloseParenthesis AreParameters parameter_once (λ e. cc) ts rest b after m.front found x k m.split
+    (λ other. m.again text other (alike_same text b)) d
 
 pub counted : (found : List Parameter) (x : Parameter) → length (found ++ x ∷ []) ≡ length found + 1
 counted found x = length-append found (x ∷ [])
@@ -208,12 +189,6 @@ full text left ts rest b found d e z k =
       };
     }
 
-none_next : (n left : ℕ) (rest b : List Token) → HasPunctuator punctuators.Comma rest b → NoParameter 0 [] b → (ps : List Parameter) (end : List Token) → AreMoreParameters ps rest end → ⊥
-none_next n left rest b k none [] end m = let e : punctuators.Comma ≡ punctuators.CloseParenthesis = other_punctuator punctuators.Comma punctuators.CloseParenthesis rest rest b end refl k m in absurd cc
-none_next n left rest b k none (p ∷ ps) end m =
-    none p m.after_element (subst (λ (z : List Token). IsParameter p z m.after_element)
-    (has_same punctuators.Comma rest rest m.after_comma b refl m.comma k) m.element)
-
 pub in_next : (text : List ℕ) (left : ℕ) (ts rest b : List Token) (found : List Parameter) → Parameters ts found rest → left + length found ≡ 8 → (left ≡ 0 → ⊥) → HasPunctuator punctuators.Comma rest b → Wraps NoParameter HasParameter NoListed HasListed text b ts
 in_next text left ts rest b found d e z k =
     let t = token (kinds.Punctuator punctuators.Comma) k.0 k.1.0 in record {
@@ -221,16 +196,12 @@ in_next text left ts rest b found d e z k =
       split = d.split ∙ ap (λ (x : List Token). d.front ++ x) k.1.1 ∙ sym (append_append d.front (t ∷ []) b);
       no = λ n text' other a s x. following (λ y. NoListed n text' y) d.front (t ∷ []) other (λ p ps end h few.
           let r = d.back (t ∷ other) (subst (λ (y : List Token). SameFirst y (t ∷ other)) (sym k.1.1) (other, refl)) (p ∷ ps) end h in
-          none_next n left (t ∷ other) other (k.0, (k.1.0, refl)) x r.0 end r.2);
+          listed.none_next IsParameter punctuators.CloseParenthesis (λ e. cc) (t ∷ other) other (k.0, (k.1.0, refl)) x r.0 end r.2);
       has = λ n text' inner a s h. record {
         more = close ∷ [];
         has = following (λ y. HasListed n text' y) (d.front ++ t ∷ []) inner (close ∷ []) (following (λ y. HasListed n text' y) d.front (t ∷ []) (inner ++ close ∷ []) (one_more n text' ts rest b inner found h.tree d k h.is (λ three. grind arith)));
       };
     }
-
-no_end : (rest : List Token) → Lacks punctuators.Comma rest → Lacks punctuators.CloseParenthesis rest → (ps : List Parameter) (end : List Token) → AreMoreParameters ps rest end → ⊥
-no_end rest k s [] end m = s end m
-no_end rest k s (p ∷ ps) end m = k m.after_comma m.comma
 
 pub in_end : (text : List ℕ) (left : ℕ) (ts rest : List Token) (found : List Parameter) → Parameters ts found rest → left + length found ≡ 8 → left ≤ 7 → Lacks punctuators.Comma rest → Wraps (NoPunctuator punctuators.CloseParenthesis) (APunctuator punctuators.CloseParenthesis) NoListed HasListed text rest ts
 in_end text left ts rest found d e low k = record {
@@ -238,7 +209,7 @@ in_end text left ts rest found d e low k = record {
   split = d.split;
   no = λ n text' other a s x p ps end h few.
       let r = d.back other s (p ∷ ps) end h in
-      no_end other (firsts.no_punctuator punctuators.Comma rest other s k) x r.0 end r.2;
+      listed.no_end IsParameter punctuators.CloseParenthesis other (firsts.no_punctuator punctuators.Comma rest other s k) x r.0 end r.2;
   has = λ n text' inner a s h. record {
     more = [];
     has = listed_of n text' (d.front ++ inner ++ []) (found ++ []) (subst (λ (z : List Parameter). 1 ≤ length z) (sym (append-nil found)) (omega arith))

@@ -188,8 +188,8 @@ stops n at text ts rest begin [] found counts d k e f p q h =
     let none : NoExternalDeclaration counts n text (f.front ++ []) = f.against text [] (alike_same text rest) (subst (λ (z : List Token). SameFirst z []) q refl) in
     stuck n text text ts rest f.front found counts h.0 d same (λ z. e (r ∙ z)) (subst (λ (z : List Token). NoExternalDeclaration counts n text z) (append-nil f.front) none) (subst (λ (z : List Token). IsProgram text h.0 z) p h.1) h.2
 stops n at text ts rest begin (t ∷ us) found counts d k e f p q h =
-    let text' = text ++ h.0 in
-    let a = beyond.continues text h.0 ts k in
+    let text' = text ++ h.beyond in
+    let a = beyond.continues text h.beyond ts k in
     let o : (begin ++ t ∷ []) ++ h.more ≡ d.front ++ (f.front ++ t ∷ h.more) = append_append begin (t ∷ []) h.more ∙ ap (λ (z : List Token). z ++ t ∷ h.more) p ∙ append_append d.front f.front (t ∷ h.more) in
     stuck n text text' ts rest (f.front ++ t ∷ h.more) found counts h.program d a (not_empty f.front t h.more) (f.against text' (t ∷ h.more) (alike_inner text text' d.front rest ts d.split a) (subst (λ (z : List Token). SameFirst z (t ∷ h.more)) q (h.more, refl))) (subst (λ (z : List Token). IsProgram text' h.program z) o h.derives) h.within
 

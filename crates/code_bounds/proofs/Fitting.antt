@@ -27,7 +27,7 @@ use Rattle.seh_ir.specs.Funclets.{filter_funclets, finally_funclet, in_funclet, 
 use Rattle.seh_ir.specs.Lowered.{scope_of, all_locals, lowered_function, lowered_funclets, all_funclets, lowered}
 use Rattle.ir_linked.proofs.SoundExpressions.{both_left, both_right}
 use Rattle.ir_bounds.specs.Slots as small
-use Rattle.ir_bounds.specs.Slots.{IsAmong, IsField, IsPlain, IsSmallBody, HasFlag, IsSmallFunclet, IsSmallFunction, IsSmall}
+use Rattle.ir_bounds.specs.Slots.{IsAmong, IsField, IsPlain, IsSmallBody, HasFlag, IsSmallFunclet, IsSmallFunction}
 use Rattle.ir_bounds.proofs.PlainExpressions.{all_append}
 use Rattle.frame_bounds.proofs.Frames.{accepted_is_small}
 use Rattle.x64_code.specs.Near.{IsFieldNear}
@@ -35,7 +35,7 @@ use Rattle.program_link.specs.Routines as links
 use Rattle.program_link.specs.Fits.{FitsSlot, FitsInstruction, FitsBody, FitsFunction, FitsKind, FitsFunclet, tables_room, function_bodies, funclet_bodies, text_room, program_tables_room}
 use Rattle.code_bounds.proofs.Programs.{lowered_is_bounded}
 use Rattle.code_bounds.specs.BoundLaws.{AcceptedFits, TextsFit}
-use Rattle.code_bounds.proofs.BoundStatements.{code_is_bounded}
+use Rattle.code_bounds.proofs.CodeIsBounded.{code_is_bounded}
 
 -- ---- bodies have the temporaries that their code uses
 

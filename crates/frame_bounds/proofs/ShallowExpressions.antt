@@ -79,10 +79,9 @@ abbrev AreShallow : ℕ → Option nodes.Arguments → Type 0
 AreShallow n None = Unit {0}
 AreShallow n (Some es) = (arguments_nesting es ≤ n) × (arguments_read es ≤ 15)
 
--- each argument has a nesting of its own, below a common one
-abbrev ArgumentsShallow : List Argument → ℕ → Type 0
-ArgumentsShallow [] n = Unit {0}
-ArgumentsShallow (a ∷ more) n = (m : ℕ) × ShallowIf m a.resolved.found × (1 + m ≤ n) × ArgumentsShallow more n
+-- whatever is wanted of arguments, those that are passed are nested no deeper
+abbrev ArgumentsShallow : ℕ → List Argument → Type 0
+ArgumentsShallow n args = (ws : List Wanted) → AreShallow n (pass_all ws args).found
 
 before_shallow : (m n : ℕ) (fs : List FaultAt) (e : nodes.Expression) (o : Option nodes.Arguments) (gs : List FaultAt) → 1 + expression_nesting e ≤ n → expression_reads e ≤ 15 → AreShallow n o → AreShallow n (before fs e (record { found = o; faults = gs })).found
 before_shallow m n fs e None gs le r h = tt
@@ -109,31 +108,25 @@ pass_shallow w at m n fs (Some a) rest h le l =
     let q = h.1 in
     fit_shallow n (fits w a) (before fs (passed w a) rest) (spoiled _ rest) (before_shallow m n fs (passed w a) rest.found rest.faults (omega arith) (omega arith) l) refl
 
-pass_all_shallow : (ws : List Wanted) (args : List Argument) (n : ℕ) → ArgumentsShallow args n → AreShallow n (pass_all ws args).found
-pass_all_shallow (w ∷ ws) (a ∷ more) n h = pass_shallow w a.at h.0 n a.resolved.faults a.resolved.found (pass_all ws more) h.1 h.2 (pass_all_shallow ws more n h.3)
-pass_all_shallow [] [] n h = (omega arith, omega arith)
-pass_all_shallow [] (a ∷ more) n h = (omega arith, omega arith)
-pass_all_shallow (w ∷ ws) [] n h = (omega arith, omega arith)
-
 called_shallow : (n : ℕ) (t : CType) (make : nodes.Arguments → Node) (o : Option nodes.Arguments) (fs : List FaultAt) → AreShallow n o
     → ((es : nodes.Arguments) → (node_nesting (make es) ≤ arguments_nesting es) × (node_reads (make es) ≤ arguments_read es)) → ShallowIf n (called t make (record { found = o; faults = fs })).found
 called_shallow n t make None fs h go = tt
 called_shallow n t make (Some es) fs h go = let g = (go es).0 in let k = (go es).1 in let p = h.0 in let q = h.1 in (omega arith, omega arith)
 
-with_shallow : (n at : ℕ) (ws : List Wanted) (t : CType) (make : nodes.Arguments → Node) (args : List Argument) → ArgumentsShallow args n
+with_shallow : (n at : ℕ) (ws : List Wanted) (t : CType) (make : nodes.Arguments → Node) (args : List Argument) → ArgumentsShallow n args
     → ((es : nodes.Arguments) → (node_nesting (make es) ≤ arguments_nesting es) × (node_reads (make es) ≤ arguments_read es)) → ShallowIf n (call_with at ws t make args).found
-with_shallow n at ws t make args h go = given_that_shallow n (nat_eq (length ws) (length args)) at _ _ _ (called_shallow n t make (pass_all ws args).found (pass_all ws args).faults (pass_all_shallow ws args n h) go)
+with_shallow n at ws t make args h go = given_that_shallow n (nat_eq (length ws) (length args)) at _ _ _ (called_shallow n t make (pass_all ws args).found (pass_all ws args).faults (h ws) go)
 
-call_shallow : (s : Names) (n at : ℕ) (e : Option Entity) (args : List Argument) → ArgumentsShallow args n → ShallowIf n (call s at e args).found
+call_shallow : (s : Names) (n at : ℕ) (e : Option Entity) (args : List Argument) → ArgumentsShallow n args → ShallowIf n (call s at e args).found
 call_shallow s n at (Some (UserFunction f t ps)) args h = with_shallow n at (map OfType ps) t (nodes.Call f) args h (λ es. (omega arith, omega arith))
 call_shallow s n at (Some (BuiltInFunction k)) args h = with_shallow n at (built_in_wants k) _ (nodes.CallBuiltIn k) args h (λ es. (omega arith, omega arith))
 call_shallow s n at (Some CodeFunction) args h = only_where_shallow n s.code at _ _ (with_shallow n at [] _ (λ es. nodes.ExceptionCode) args h (λ es. (omega arith, omega arith)))
 call_shallow s n at (Some AbnormalFunction) args h = only_where_shallow n s.abnormal at _ _ (with_shallow n at [] _ (λ es. nodes.AbnormalTermination) args h (λ es. (omega arith, omega arith)))
 call_shallow s n at other args h = tt
 
-wider : (args : List Argument) (m n : ℕ) → m ≤ n → ArgumentsShallow args m → ArgumentsShallow args n
-wider [] m n le h = tt
-wider (a ∷ more) m n le h = let p = h.2 in (h.0, h.1, omega arith, wider more m n le h.3)
+all_deeper : (m n : ℕ) (o : Option nodes.Arguments) → m ≤ n → AreShallow m o → AreShallow n o
+all_deeper m n None le h = tt
+all_deeper m n (Some es) le h = let p = h.0 in (omega arith, h.1)
 
 -- ---- expressions
 
@@ -188,6 +181,11 @@ mutual
       rule_2_shallow k m (1 + max k m) at comma_of _ (resolve_expression s a).found (resolve_expression s b).found (resolved_shallow s a) (resolved_shallow s b)
       (λ x y p q. let u = p.0 in let v = q.0 in comma_shallow (1 + max k m) x y (omega arith) (omega arith) p.1 q.1)
 
-  arguments_shallow : (s : Names) (es : trees.Arguments) → ArgumentsShallow (resolve_arguments s es) (heights es)
-  arguments_shallow s trees.Done = tt
-  arguments_shallow s (trees.Next e es) = (height e, resolved_shallow s e, omega arith, wider (resolve_arguments s es) (heights es) (max (1 + height e) (heights es)) (omega arith) (arguments_shallow s es))
+  arguments_shallow : (s : Names) (es : trees.Arguments) → ArgumentsShallow (heights es) (resolve_arguments s es)
+  arguments_shallow s trees.Done [] = (omega arith, omega arith)
+  arguments_shallow s trees.Done (w ∷ ws) = (omega arith, omega arith)
+  arguments_shallow s (trees.Next e es) [] = (omega arith, omega arith)
+  arguments_shallow s (trees.Next e es) (w ∷ ws) =
+      let n = max (1 + height e) (heights es) in
+      pass_shallow w (start e) (height e) n (resolve_expression s e).faults (resolve_expression s e).found (pass_all ws (resolve_arguments s es)) (resolved_shallow s e) (omega arith)
+      (all_deeper (heights es) n (pass_all ws (resolve_arguments s es)).found (omega arith) (arguments_shallow s es ws))

@@ -86,7 +86,7 @@ abbrev pub turned : Functions → State → Answer State → Turn
 turned t s (Ok u) = Continues u []
 turned t s (Err (stops.Fault code access)) = raised t s code 0 access s.cpu
 turned t s (Err (stops.Host a)) = served t s (service_at a)
-turned t s (Err (stops.Illegal a)) = stopped (stop_cause reasons.Illegal a)
+turned t s (Err stops.Illegal) = illegal s
 turned t s (Err (stops.Guard a)) = Ends [] (ends.StackLimit a)
 
 -- with the event of the funclet at whose first byte RIP arrives

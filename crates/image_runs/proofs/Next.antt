@@ -1,7 +1,6 @@
 -- After a quiet machine instruction a state is still in the midst of its instruction.
 use Rattle.std.proofs.Common.{◌≡◌, ℕ, ◌+◌, ◌%◌, ◌^◌, ◌≤◌, true, false, eqb, ◌||◌, Ok, List, [], ◌∷◌, ◌++◌, length, refl, sym, ap, subst, ◌∙◌, arith, append_assoc}
-use Rattle.std.proofs.lemmas.Bool.{ne_eqb, le-leb, le-ltb}
-use Rattle.host_layout.specs.Services.{in_host_page}
+use Rattle.std.proofs.lemmas.Bool.{ne_eqb}
 use Rattle.flat_memory.specs.Memory.{Memory}
 use Rattle.x64_instr.specs.declared.register.Reg.{Reg}
 use Rattle.x64_instr.specs.declared.register.Reg.TheVariants.{Rax, Rcx, Rdx, Rsp}
@@ -14,7 +13,7 @@ use Rattle.x64_instr.specs.Registers.{number}
 use Rattle.x64_encode.specs.Chosen.{chosen, is_encodable}
 use Rattle.x64_encode.proofs.Lengths.{longest}
 use Rattle.x64_machine.specs.Contexts.{kept_of}
-use Rattle.x64_machine.specs.Effect.{State, register, with_rip, is_trap, effect, step}
+use Rattle.x64_machine.specs.Effect.{State, register, with_rip, effect, step}
 use Rattle.frame_rules.specs.Body.{written, written_place, has, is_a_call}
 use Rattle.frame_rules.proofs.Writing.{writes_no_other}
 use Rattle.virtual_unwind.specs.CallerOf.{Functions}
@@ -26,7 +25,7 @@ use Rattle.template_code.specs.Bytes.{size, sizes, spelled}
 use Rattle.template_code.specs.Template.{template, template_size}
 use Rattle.template_code.proofs.Sizes.{sizes_append, template_sizes}
 use Rattle.x64_templates.specs.Runs.{HasCode}
-use Rattle.x64_templates.proofs.PlacedCode.{bytes_split, spells, reads}
+use Rattle.x64_templates.proofs.PlacedCode.{outside_page, bytes_split, spells, reads}
 use Rattle.x64_templates.proofs.Computes.{code_split}
 use Rattle.linked_stack.specs.ImagePlan.{Plan, InCode}
 use Rattle.linked_stack.specs.ListLaws.{KeepsStack}
@@ -77,11 +76,6 @@ not_written (instrs.Unary o w to) r le q = place_alone to r le q
 not_written (instrs.Shift d w to by) r le q = place_alone to r le q
 not_written i r le q = absurd cc
 
-no_trap : (i : Instr) → is_quiet i ≡ true → is_trap i ≡ false
-no_trap instrs.Breakpoint q = absurd cc
-no_trap instrs.Undefined q = absurd cc
-no_trap i q = refl
-
 no_call : (i : Instr) → is_quiet i ≡ true → is_a_call i ≡ false
 no_call (instrs.Call to) q = absurd cc
 no_call i q = refl
@@ -93,9 +87,6 @@ kept_same s t i q e =
 
 -- ---- one step
 
-outside_page : (a : ℕ) → 0x100000000 ≤ a → in_host_page a ≡ false
-outside_page a h = rw (le-leb 0x7FF00000 a (omega arith), le-ltb a 0x7FF01000 (omega arith)) refl
-
 -- what a step does where an instruction is
 stepped : (u : State) (i : Instr) (rest : List Instr) → is_quiet i ≡ true → HasCode u.memory u.cpu.rip (i ∷ rest) → is_encodable i ≡ true → step u ≡ effect (with_rip u (u.cpu.rip + size i)) i
 unfolding step size
@@ -105,7 +96,7 @@ stepped u i rest q h spelling =
     let parts = bytes_split u.memory u.cpu.rip (chosen i) (spelled rest) h.is_there in
     let read = reads u i (chosen i) (spells i spelling) (longest i) parts.0 (record { low = low; high = omega arith }) in
     let rip : (u.cpu.rip + length (chosen i)) % 2 ^ 64 ≡ u.cpu.rip + length (chosen i) = omega arith in
-    rw (outside_page u.cpu.rip low, read, no_trap i q, rip) refl
+    rw (outside_page u.cpu.rip low, read, rip) refl
 
 module _ (t : Functions) (fs : List Funclet) (program : LinearProgram) (p : Plan) (q : Sites) (image : IsProgramImage t fs program p q) (s u v : State) (c : Configuration)
     (w : IsWithin t fs program p q s u c) (quiet : IsQuietHere t fs program p q s u c w) (e : step u ≡ Ok v) where

@@ -57,18 +57,16 @@ code_at : (m : Memory) (at : ℕ) (bytes : List ℕ) → IsExecutableAt m at byt
 code_at m at [] s fixed = tt
 code_at m at (b ∷ bytes) s fixed =
     let z : at ≡ at + 0 = omega arith in (
-      s.0,
-      s.1,
-      ap (may_write m) z ∙ fixed 0 (omega arith),
+      record { byte = s.0; executes = s.1; fixed = ap (may_write m) z ∙ fixed 0 (omega arith) },
       code_at m (at + 1) bytes s.2 (λ k lt. (let e : at + 1 + k ≡ at + suc k = omega arith in ap (may_write m) e ∙ fixed (suc k) (omega arith))),
     )
 
 pub code_split : (m : Memory) (at : ℕ) (a b : List ℕ) → IsCodeAt m at (a ++ b) → IsCodeAt m at a × IsCodeAt m (at + length a) b
 code_split m at [] b h = (tt, let e : at ≡ at + 0 = omega arith in subst (λ x. IsCodeAt m x b) e h)
 code_split m at (x ∷ a) b h =
-    let r = code_split m (at + 1) a b h.3 in
+    let r = code_split m (at + 1) a b h.1 in
     let e : at + 1 + length a ≡ at + length (x ∷ a) = omega arith in
-    ((h.0, h.1, h.2, r.0), subst (λ y. IsCodeAt m y b) e r.1)
+    ((h.0, r.0), subst (λ y. IsCodeAt m y b) e r.1)
 
 check_stack_size : sizes check_stack ≡ 21
 unfolding size modrm

@@ -44,7 +44,7 @@ use Rattle.image_states.proofs.Shifts.{template_moved}
 
 pub executable_of : (m : Memory) (at : ℕ) (bytes : List ℕ) → IsCodeAt m at bytes → IsExecutableAt m at bytes
 executable_of m at [] h = tt
-executable_of m at (b ∷ bytes) h = (h.0, h.1, executable_of m (at + 1) bytes h.3)
+executable_of m at (b ∷ bytes) h = (h.0.byte, h.0.executes, executable_of m (at + 1) bytes h.1)
 
 returns : (i : Instruction) → IsReturn i → quiet.IsReturn i
 returns (instructions.Return from) h = tt

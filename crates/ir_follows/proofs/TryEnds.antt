@@ -21,7 +21,7 @@ use Rattle.linear_machine.specs.Run.{exec}
 use Rattle.linear_runs.proofs.Stretch.{Part, at, Site, conf, Picked, Kept, Price, price, found, Reaches, unwound, Arrives, Claim}
 use Rattle.linear_runs.proofs.Joining.{after, reaches_after, reaches_more, arrives_more, finishes_more, stops_more}
 use Rattle.linear_runs.proofs.SingleTurns.{onto, stepped, first, fetch, prefix_self, sooner}
-use Rattle.linear_runs.proofs.Walks.{Around, Inside, Outward, Reaches, finds_own, picked_less, picked_inside, skips, lands}
+use Rattle.linear_runs.proofs.Walks.{Around, Inside, Outward, FindsRegions, finds_own, picked_less, picked_inside, skips, lands}
 use Rattle.ir_expressions.specs.declared.scope.Names.{Names}
 use Rattle.ir_expressions.specs.declared.scope.Scope.{Scope}
 use Rattle.ir_expressions.specs.declared.scope.Way.TheVariants.{Nowhere, Jumps, Unwinds}
@@ -136,7 +136,7 @@ module _ (program : Program) (linear : LinearProgram) (pace body : ℕ) where
             let low = p.reaches.low in
             let e : level ≡ length context.handlers = sym q.0 ∙ same in
             let own : machine.Target = target_of f exc.code st.held in
-            let finds_handlers : Reaches f.target (R ∷ site.regions) = subst (λ t. Reaches t (R ∷ site.regions)) (sym q.2) (finds_own R target site.regions (is_except filter target)) in
+            let finds_handlers : FindsRegions f.target (R ∷ site.regions) = subst (λ t. FindsRegions t (R ∷ site.regions)) (sym q.2) (finds_own R target site.regions (is_except filter target)) in
             let come : Reaches linear pace s (at (landed_at exc st p.store)) from st 0 0 x =
             onto linear pace s (unwound linear pace inner inside own p.temps st p.store p.pc) (at (landed_at exc st p.store)) from st 0 0 x
             (λ j. lands linear (exec linear j) own (λ store. unwind linear (exec linear j) (target_past site.body own) site.below None st.events store) (R ∷ site.regions) (conf context site p.pc p.temps st p.store) q.1 finds_handlers ∙ ap (λ t. exec linear j (at_target t)) q.2) p.reaches in

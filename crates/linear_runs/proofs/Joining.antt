@@ -10,7 +10,7 @@ use Rattle.linear_machine.specs.Frames.{Store, Seen, Finished}
 use Rattle.linear_machine.specs.Searching.{target_of}
 use Rattle.linear_machine.specs.Run.{exec}
 use Rattle.linear_runs.proofs.Longer.{events_of}
-use Rattle.linear_runs.proofs.Stretch.{Part, Site, Way, Never, To, Out, Ways, Kept, value_ways, normal_ways, first_ways, Prefix, Before, Price, price, Join, Dearer, Reaches, Finishes, Stops, unwound, Arrival, Arrives, Targets, Reaches, Claim}
+use Rattle.linear_runs.proofs.Stretch.{Part, Site, Way, Never, To, Out, Ways, Kept, value_ways, normal_ways, first_ways, Prefix, Before, Price, price, Join, Dearer, Reaches, Finishes, Stops, unwound, Arrival, Arrives, Targets, Attains, Claim}
 
 module _ (linear : LinearProgram) (pace : ℕ) where
   prefix_more : (a b c : List Event) → Prefix a b → Prefix b c → Prefix a c
@@ -62,7 +62,7 @@ module _ (linear : LinearProgram) (pace : ℕ) where
   Joined r1 e1 d1 q r = (r1 + q.turns ≤ r.turns) × (r.extra + d1 + q.slack ≤ e1 + q.extra + r.slack) × (r.extra + d1 + q.out ≤ e1 + q.extra + r.out)
 
   pub finds_after : (s t : Part) (st mid end : State) (r1 e1 d1 : ℕ) (q r : Price) (w : Ways) (x : Result) → Joined r1 e1 d1 q r
-      → Reaches linear pace s t st mid r1 e1 d1 → Reaches linear pace t mid q w end x → Reaches linear pace s st r w end x
+      → Reaches linear pace s t st mid r1 e1 d1 → Attains linear pace t mid q w end x → Attains linear pace s st r w end x
   finds_after s t st mid end r1 e1 d1 q r w (Value x) j a b = arrives_after s t st mid end r1 e1 d1 q r w.kept w.held (w.value x) j.0 j.1 a b
   finds_after s t st mid end r1 e1 d1 q r w Normal j a b = arrives_after s t st mid end r1 e1 d1 q r w.kept w.held w.normal j.0 j.1 a b
   finds_after s t st mid end r1 e1 d1 q r w (Returned v) j a b = arrives_after s t st mid end r1 e1 d1 q r w.kept w.held (w.returned v) j.0 j.1 a b

@@ -157,16 +157,16 @@ module _ (linear : LinearProgram) (pace : ℕ) where
     pub fits : kept st' store
     pub reaches : Reaches s (unwound context site (target_of handler exc.code st'.held) temps st' store pc) st st' p.turns p.extra p.out
 
-  abbrev pub Reaches : Part → State → Price → Ways → State → Result → Type 0
-  Reaches s st p w st' (Value x) = Arrives s st p w.kept w.held st' (w.value x)
-  Reaches s st p w st' Normal = Arrives s st p w.kept w.held st' w.normal
-  Reaches s st p w st' (Returned v) = Arrives s st p w.kept w.held st' (w.returned v)
-  Reaches s st p w st' Broke = Arrives s st p w.kept w.held st' w.broke
-  Reaches s st p w st' Continued = Arrives s st p w.kept w.held st' w.again
-  Reaches s st p w st' LeftTry = Arrives s st p w.kept w.held st' w.left
-  Reaches s st p w st' (Target level exc) = Targets s st p w.kept w.context w.site level exc st'
-  Reaches s st p w st' (End (Some e)) = Finishes s st st' p.turns (Finished e st'.events)
-  Reaches s st p w st' (End None) = Stops s st st' p.turns p.extra p.out
+  abbrev pub Attains : Part → State → Price → Ways → State → Result → Type 0
+  Attains s st p w st' (Value x) = Arrives s st p w.kept w.held st' (w.value x)
+  Attains s st p w st' Normal = Arrives s st p w.kept w.held st' w.normal
+  Attains s st p w st' (Returned v) = Arrives s st p w.kept w.held st' (w.returned v)
+  Attains s st p w st' Broke = Arrives s st p w.kept w.held st' w.broke
+  Attains s st p w st' Continued = Arrives s st p w.kept w.held st' w.again
+  Attains s st p w st' LeftTry = Arrives s st p w.kept w.held st' w.left
+  Attains s st p w st' (Target level exc) = Targets s st p w.kept w.context w.site level exc st'
+  Attains s st p w st' (End (Some e)) = Finishes s st st' p.turns (Finished e st'.events)
+  Attains s st p w st' (End None) = Stops s st st' p.turns p.extra p.out
 
   abbrev pub Claim : Part → State → Price → Ways → Outcome → Type 0
-  Claim s st p w (Gives r st') = Reaches s st p w st' r
+  Claim s st p w (Gives r st') = Attains s st p w st' r

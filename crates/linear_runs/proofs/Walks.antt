@@ -124,11 +124,11 @@ further target r depth block le (inr p) =
     (or_from (holds target.label r) (leads_to r.kind target.label) (holds_not r target.label p) (leads_not r.kind r.begin r.end target.label block le p))
 
 -- the first of these regions, if there is one, stops an unwinding to this place of their frame
-abbrev pub Reaches : ℕ → List Region → Type 0
-Reaches label [] = Unit {0}
-Reaches label (r ∷ regions) = (holds label r || leads_to r.kind label) ≡ true
+abbrev pub FindsRegions : ℕ → List Region → Type 0
+FindsRegions label [] = Unit {0}
+FindsRegions label (r ∷ regions) = (holds label r || leads_to r.kind label) ≡ true
 
-pub finds_around : (regions : List Region) (lo hi label : ℕ) → Around regions lo hi → lo ≤ label → label ≤ hi → Reaches label regions
+pub finds_around : (regions : List Region) (lo hi label : ℕ) → Around regions lo hi → lo ≤ label → label ≤ hi → FindsRegions label regions
 finds_around [] lo hi label h a b = tt
 finds_around (r ∷ regions) lo hi label h a b =
     let x = h.0 in let y = h.1 in
@@ -146,7 +146,7 @@ except_leads (kinds.Filter k label) target e = eq-eqb label target e
 except_leads (kinds.Always label) target e = eq-eqb label target e
 
 -- it stops what goes to its block
-pub finds_own : (r : Region) (target : ℕ) (regions : List Region) → IsExcept r.kind target → Reaches target (r ∷ regions)
+pub finds_own : (r : Region) (target : ℕ) (regions : List Region) → IsExcept r.kind target → FindsRegions target (r ∷ regions)
 finds_own r target regions e = or_right (holds target r) (leads_to r.kind target) (except_leads r.kind target e)
 
 pub except_left : (linear : LinearProgram) (next : Next) (target : Target) (kind : RegionKind) (label : ℕ) (regions : List Region) (seen : Seen) (c : Configuration) → IsExcept kind label → leave_region linear next target kind regions seen c ≡ seen
@@ -155,7 +155,7 @@ except_left linear next target (kinds.Filter k l) label regions seen c e = refl
 except_left linear next target (kinds.Always l) label regions seen c e = refl
 
 module _ (linear : LinearProgram) where
-  pub lands : (next : Next) (target : Target) (out : Store → Seen) (regions : List Region) (c : Configuration) → target.depth ≡ length c.below → Reaches target.label regions
+  pub lands : (next : Next) (target : Target) (out : Store → Seen) (regions : List Region) (c : Configuration) → target.depth ≡ length c.below → FindsRegions target.label regions
       → unwind_body linear next target out regions c ≡ arrive target target.code next c
   unfolding pick
   lands next target out [] c d e =

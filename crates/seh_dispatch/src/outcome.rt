@@ -16,14 +16,18 @@ pub enum Outcome {
 /// What is shown first, and what follows.
 #[derive(Clone, Copy, Debug, PartialEq, Eq)]
 pub struct Led {
+    /// The exception that is raised, where one is.
     pub first: Option<Event>,
+    /// What the part of the turn comes to.
     pub outcome: Outcome,
 }
 
 /// A turn: what is shown first, and what follows.
 #[derive(Clone, Copy, Debug, PartialEq, Eq)]
 pub struct Made {
+    /// The answer of a filter, where one has returned.
     pub first: Option<Event>,
+    /// What follows it.
     pub rest: Led,
 }
 

@@ -187,6 +187,7 @@ pub fn make<S: AddressSpace>(tables: &Tables, cpu: &mut Cpu, space: &mut S) -> M
     ensures { made_turn cpu.new (S.memory space.new) result ≡ spec.turned (functions_of tables.now)
         (state cpu.old (S.memory space.old)) (step (state cpu.old (S.memory space.old))) }
 {
+    let rip = cpu.rip;
     match step(cpu, space) {
         StepOutcome::Next => all_quiet(Outcome::Continues(None)),
         StepOutcome::Fault { code, access } => {
@@ -195,7 +196,7 @@ pub fn make<S: AddressSpace>(tables: &Tables, cpu: &mut Cpu, space: &mut S) -> M
             Made { first: None, rest }
         }
         StepOutcome::Host { address } => serve(tables, cpu, space, Service::at(address)),
-        StepOutcome::Illegal { rip } => all_quiet(stopped(StopCause {
+        StepOutcome::Illegal => all_quiet(stopped(StopCause {
             reason: Reason::Illegal,
             address: rip,
         })),

@@ -275,7 +275,8 @@ call s to = do
   after ← push s s.cpu.rip
   Ok (with_rip after target)
 
--- the effect of an instruction on a state whose RIP is that of the next instruction
+-- the effect of an instruction on a state whose RIP is that of the next instruction; INT3 and UD2
+-- can't be run
 abbrev pub effect : State → Instr → Answer State
 effect s (instrs.Move w to from) = do
   v ← operand s w from
@@ -304,27 +305,19 @@ effect s instrs.Return = do
   x ← pop s
   Ok (with_rip x.1 x.0)
 effect s instrs.NoOperation = Ok s
-effect s instrs.Breakpoint = Err (stops.Illegal s.cpu.rip)
-effect s instrs.Undefined = Err (stops.Illegal s.cpu.rip)
+effect s instrs.Breakpoint = Err stops.Illegal
+effect s instrs.Undefined = Err stops.Illegal
 
 -- ---- one step
 
--- INT3 and UD2 have no effect: nothing can be run at their address
-abbrev pub is_trap : Instr → Bool
-is_trap instrs.Breakpoint = true
-is_trap instrs.Undefined = true
-is_trap i = false
-
 abbrev pub execute : State → Option (Instr × ℕ) → Answer State
-execute s None = Err (stops.Illegal s.cpu.rip)
-execute s (Some x) =
-    if is_trap x.0 then Err (stops.Illegal s.cpu.rip)
-    else effect (with_rip s ((s.cpu.rip + x.1) % 2 ^ 64)) x.0
+execute s None = Err stops.Illegal
+execute s (Some x) = effect (with_rip s ((s.cpu.rip + x.1) % 2 ^ 64)) x.0
 
 -- in the host's page its services alone can be reached, but the language handler isn't run as code
 abbrev pub hosted : ℕ → Option Service → Stop
-hosted a None = stops.Illegal a
-hosted a (Some services.CSpecificHandler) = stops.Illegal a
+hosted a None = stops.Illegal
+hosted a (Some services.CSpecificHandler) = stops.Illegal
 hosted a (Some service) = stops.Host a
 
 unfoldable pub step : State → Answer State
@@ -360,7 +353,7 @@ popped (Err e) = Err e
 abbrev pub step_of : Stop → StepOutcome
 step_of (stops.Fault c a) = steps.Fault c a
 step_of (stops.Host a) = steps.Host a
-step_of (stops.Illegal a) = steps.Illegal a
+step_of stops.Illegal = steps.Illegal
 step_of (stops.Guard a) = steps.Guard a
 
 abbrev pub step_answer : Answer State → StepOutcome

@@ -7,6 +7,7 @@ use crate::cpu::Cpu;
 /// other nonvolatile registers.
 #[derive(Clone, Copy, Debug, PartialEq, Eq)]
 pub struct Context {
+    /// The address of the next instruction.
     pub rip: u64,
     /// RSP, RBX, RBP, RSI, RDI and R12 to R15.
     pub kept: [u64; 9],

@@ -1,16 +1,16 @@
 //! The stack, jumps, calls and conditions (Intel manual, volume 1, "Control Transfer
 //! Instructions").
 
-ghost use Rattle.std.specs.Prelude.{◌≡◌, ◌<◌, ℕ, IfOk};
-ghost use Rattle.seh_num.specs.Widths.{limit};
+ghost use Rattle.std.specs.Prelude.{◌≡◌};
+ghost use Rattle.x64_instr.specs.Families.{IsTransfer};
 ghost use Rattle.x64_machine.specs.Effect as spec;
-ghost use Rattle.x64_machine.specs.Effect.{Answers, LeavesMemory, State};
+ghost use Rattle.x64_machine.specs.Effect.{Answers, LeavesMemory};
 
 use crate::cpu::{Cpu, Flags};
 use crate::operands::{load, read, store};
 use crate::outcome::Stop;
 use seh_num::width::Width;
-use x64_instr::instruction::{Condition, Target};
+use x64_instr::instruction::{Condition, Instr, Target};
 use x64_instr::register::Reg;
 use x64_memory::space::AddressSpace;
 
@@ -81,4 +81,40 @@ pub(crate) fn call<S: AddressSpace>(cpu: Cpu, space: &mut S, to: &Target) -> Res
     let mut after = push(cpu, space, cpu.rip)?;
     after.rip = target;
     Ok(after)
+}
+
+/// What an instruction does that jumps, or takes the stack's top.
+pub(crate) fn transfer_effect<S: AddressSpace>(
+    cpu: Cpu,
+    space: &mut S,
+    instr: &Instr,
+) -> Result<Cpu, Stop>
+    requires { IsTransfer instr.now }
+    ensures answer { Answers result (spec.effect (spec.state cpu (S.memory space.old)) instr.now) }
+    ensures memory { LeavesMemory (S.memory space.old) (S.memory space.new)
+        (spec.effect (spec.state cpu (S.memory space.old)) instr.now) }
+{
+    match instr {
+        Instr::JumpIf {
+            condition,
+            displacement,
+        } => Ok(jump_if(cpu, *condition, *displacement)),
+        Instr::Jump(to) => jump(cpu, space, to),
+        Instr::Call(to) => call(cpu, space, to),
+        Instr::Push(from) => {
+            let value = cpu.register(*from);
+            push(cpu, space, value)
+        }
+        Instr::Pop(to) => {
+            let (value, mut after) = pop(cpu, space)?;
+            after.set_register(Width::W64, *to, value);
+            Ok(after)
+        }
+        Instr::Return => {
+            let (value, mut after) = pop(cpu, space)?;
+            after.rip = value;
+            Ok(after)
+        }
+        _ => unreachable!(),
+    }
 }

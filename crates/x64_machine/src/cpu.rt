@@ -11,10 +11,13 @@ pub struct Flags {
     pub overflow: bool,
 }
 
-/// The registers, by their numbers, with the instruction pointer and the flags.
+/// The registers, by their numbers, with RIP and the flags.
 #[derive(Clone, Copy, Debug, PartialEq, Eq)]
 pub struct Cpu {
+    /// RAX, RCX, RDX, RBX, RSP, RBP, RSI, RDI and R8 to R15.
     pub registers: [u64; 16],
+    /// The instruction pointer: the address of the next instruction.
     pub rip: u64,
+    /// CF, ZF, SF and OF.
     pub flags: Flags,
 }

@@ -5,12 +5,15 @@
 //! instruction is refused. Laws in the manual's words are in the crate x64_laws.
 #![tactic(auto)]
 
+mod computing;
 pub mod conditions;
 pub mod context;
 pub mod control;
 pub mod cpu;
 mod dividing;
 mod effect;
+mod moving;
+mod multiplying;
 mod operands;
 pub mod outcome;
 pub mod running;

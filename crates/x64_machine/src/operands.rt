@@ -3,7 +3,7 @@
 ghost use Rattle.std.specs.Prelude.{◌≡◌, ◌<◌, ℕ, IfOk};
 ghost use Rattle.seh_num.specs.Widths.{limit};
 ghost use Rattle.x64_machine.specs.Effect as spec;
-ghost use Rattle.x64_machine.specs.Effect.{Answers, LeavesMemory, State};
+ghost use Rattle.x64_machine.specs.Effect.{Answers, LeavesMemory};
 
 use crate::cpu::Cpu;
 use crate::outcome::Stop;

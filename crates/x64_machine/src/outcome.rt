@@ -12,10 +12,8 @@ pub enum Stop {
     Host {
         address: u64,
     },
-    /// No instruction can be run at RIP.
-    Illegal {
-        rip: u64,
-    },
+    /// No instruction can be run at RIP, which is left as it was.
+    Illegal,
     /// The access touched the stack's guard.
     Guard {
         address: u64,
@@ -36,10 +34,8 @@ pub enum StepOutcome {
     Host {
         address: u64,
     },
-    /// No instruction can be run at RIP.
-    Illegal {
-        rip: u64,
-    },
+    /// No instruction can be run at RIP, which is left as it was.
+    Illegal,
     /// The access touched the stack's guard.
     Guard {
         address: u64,

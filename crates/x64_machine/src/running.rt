@@ -19,7 +19,7 @@ fn refused(stop: Stop) -> StepOutcome
     match stop {
         Stop::Fault { code, access } => StepOutcome::Fault { code, access },
         Stop::Host { address } => StepOutcome::Host { address },
-        Stop::Illegal { rip } => StepOutcome::Illegal { rip },
+        Stop::Illegal => StepOutcome::Illegal,
         Stop::Guard { address } => StepOutcome::Guard { address },
     }
 }
@@ -28,23 +28,13 @@ fn hosted(address: u64) -> Stop
     ensures { result ≡ spec.hosted address (service_at address) }
 {
     match Service::at(address) {
-        None | Some(Service::CSpecificHandler) => Stop::Illegal { rip: address },
+        None | Some(Service::CSpecificHandler) => Stop::Illegal,
         Some(_) => Stop::Host { address },
     }
 }
 
-/// Whether the instruction is one that can't be run.
-fn is_trap(instr: &Instr) -> bool
-    ensures { result ≡ spec.is_trap instr.now }
-{
-    match instr {
-        Instr::Breakpoint | Instr::Undefined => true,
-        _ => false,
-    }
-}
-
-/// What an instruction of so many bytes does at RIP. INT3 and UD2 do nothing but to stop at their
-/// own address. After a stop the memory is as before.
+/// What an instruction of so many bytes does at RIP. INT3 and UD2 can't be run. After a stop the
+/// memory is as before.
 pub fn execute<S: AddressSpace>(
     cpu: Cpu,
     space: &mut S,
@@ -56,9 +46,6 @@ pub fn execute<S: AddressSpace>(
     ensures memory { LeavesMemory (S.memory space.old) (S.memory space.new)
         (spec.execute (spec.state cpu (S.memory space.old)) (Some (instr.now, len))) }
 {
-    if is_trap(instr) {
-        return Err(Stop::Illegal { rip: cpu.rip });
-    }
     let mut next = cpu;
     next.rip = cpu.rip.wrapping_add(len as u64);
     effect(next, space, instr)
@@ -82,7 +69,7 @@ pub fn step<S: AddressSpace>(cpu: &mut Cpu, space: &mut S) -> StepOutcome
     let mut bytes = [0; LONGEST_INSTRUCTION];
     let count = space.fetch(cpu.rip, &mut bytes);
     let Some((instr, len)) = decode(&bytes[..count]) else {
-        return StepOutcome::Illegal { rip: cpu.rip };
+        return StepOutcome::Illegal;
     };
     match execute(*cpu, space, &instr, len) {
         Ok(after) => {

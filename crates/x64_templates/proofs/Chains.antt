@@ -1,44 +1,39 @@
 -- A run over code that is placed at RIP passes its instructions one after another.
-use Rattle.std.proofs.Common.{◌≡◌, ℕ, zero, suc, ◌+◌, ◌%◌, ◌^◌, ◌≤◌, true, false, List, [], ◌∷◌, ◌++◌, length, Some, Ok, refl, ap, sym, subst, ◌∙◌, arith, append_assoc, inl, inr}
+use Rattle.std.proofs.Common.{◌≡◌, ℕ, zero, suc, ◌+◌, ◌%◌, ◌^◌, ◌≤◌, true, List, [], ◌∷◌, ◌++◌, length, Some, Ok, refl, ap, sym, subst, ◌∙◌, arith, append_assoc, inl, inr}
 use Rattle.std.specs.Prelude.{◌⊎◌}
-use Rattle.std.proofs.lemmas.Bool.{le-leb, le-ltb}
-use Rattle.host_layout.specs.Services.{in_host_page}
 use Rattle.flat_memory.specs.Memory.{executable}
 use Rattle.x64_instr.specs.declared.instruction.Instr.{Instr}
 use Rattle.x64_instr.specs.Spelling.{leading}
 use Rattle.x64_encode.specs.Chosen.{chosen, is_encodable}
 use Rattle.x64_encode.proofs.Lengths.{longest}
 use Rattle.x64_machine.specs.Contexts.{kept_of}
-use Rattle.x64_machine.specs.Effect.{State, Answer, with_rip, is_trap, effect, step}
+use Rattle.x64_machine.specs.Effect.{State, Answer, with_rip, effect, step}
 use Rattle.template_code.specs.Bytes.{size, sizes, spelled}
 use Rattle.x64_templates.specs.Runs.{Runs, Reaches, HasCode}
 use Rattle.x64_templates.specs.Keeping.{keeps_registers, stores_nothing, StoresNothing, Flows, StoresOnce}
 use Rattle.x64_templates.specs.Chains.{AllTurns, IsMidst, IsTurnOf}
-use Rattle.x64_templates.proofs.PlacedCode.{Encodable, bytes_split, bytes_kept, spells, reads}
-use Rattle.x64_templates.proofs.Keeping.{keeps, ends}
+use Rattle.x64_templates.proofs.PlacedCode.{Encodable, outside_page, bytes_split, bytes_kept, spells, reads}
+use Rattle.x64_templates.proofs.Keeping.{keeps, calls_nothing}
 use Rattle.template_code.proofs.Sizes.{sizes_append}
 
 -- ---- one step
-
-outside_page : (a : ℕ) → 0x100000000 ≤ a → in_host_page a ≡ false
-outside_page a h = rw (le-leb 0x7FF00000 a (omega arith), le-ltb a 0x7FF01000 (omega arith)) refl
 
 -- an instruction that is placed at RIP is read, and its effect is the step
 pub record Decoded (s : State) (i : Instr) : Type 0 where
   pub read : leading (executable s.memory 15 s.cpu.rip) ≡ Some (i, size i)
   pub does : step s ≡ effect (with_rip s (s.cpu.rip + size i)) i
 
-pub decoded : (s : State) (i : Instr) (rest : List Instr) → is_encodable i ≡ true → is_trap i ≡ false → HasCode s.memory s.cpu.rip (i ∷ rest) → Decoded s i
+pub decoded : (s : State) (i : Instr) (rest : List Instr) → is_encodable i ≡ true → HasCode s.memory s.cpu.rip (i ∷ rest) → Decoded s i
 unfolding step size
-decoded s i rest spelling trap h =
+decoded s i rest spelling h =
     let low = h.placed.low in
     let high = h.placed.high in
     let parts = bytes_split s.memory s.cpu.rip (chosen i) (spelled rest) h.is_there in
     let r = reads s i (chosen i) (spells i spelling) (longest i) parts.0 (record { low = low; high = omega arith }) in
     let rip : (s.cpu.rip + length (chosen i)) % 2 ^ 64 ≡ s.cpu.rip + length (chosen i) = omega arith in
-    record { read = r; does = rw (outside_page s.cpu.rip low, r, trap, rip) refl }
+    record { read = r; does = rw (outside_page s.cpu.rip low, r, rip) refl }
 
--- the code that is left is after the step
+-- the code that is left is there after the step
 rest_is_at : (s u : State) (i : Instr) (rest : List Instr) → Runs s u → HasCode s.memory s.cpu.rip (i ∷ rest) → HasCode u.memory (s.cpu.rip + size i) rest
 unfolding size
 rest_is_at s u i rest r h =
@@ -65,7 +60,7 @@ record Stepped (i : Instr) (s u : State) : Type 0 where
 
 stepped : (i : Instr) (rest : List Instr) (s u : State) → is_encodable i ≡ true → keeps_registers i ≡ true → HasCode s.memory s.cpu.rip (i ∷ rest) → step s ≡ Ok u → Stepped i s u
 stepped i rest s u spelling keep code e =
-    let d = decoded s i rest spelling (ends i keep).1 code in
+    let d = decoded s i rest spelling code in
     let k = keeps i (with_rip s (s.cpu.rip + size i)) u keep (sym d.does ∙ e) in
     record { read = d.read; rip = k.rip; registers = k.registers; memory = k.memory }
 
@@ -128,14 +123,14 @@ module _ (Turn : State → State → Type 0) (code : List Instr) (s w : State) (
   go : (done left : List Instr) (u : State) → Flows left → At done left u → Reaches (length left) u w → AllTurns Turn (length left) u
   go done [] u flow at r = tt
   go done (i ∷ []) u flow at r =
-      let d = decoded u i [] at.spelling.0 flow.1 at.is_there in
+      let d = decoded u i [] at.spelling.0 at.is_there in
       turns_first Turn 0 u r.0 r.1.steps.steps
-      (each u r.0 (record { steps = r.1.steps.steps; instruction = i; read = d.read; no_call = flow.0; from = midst done i [] u at; to = inr r.2 })) tt
+      (each u r.0 (record { steps = r.1.steps.steps; instruction = i; read = d.read; no_call = flow; from = midst done i [] u at; to = inr r.2 })) tt
   go done (i ∷ j ∷ is) u flow at r =
-      let d = decoded u i (j ∷ is) at.spelling.0 (ends i flow.0).1 at.is_there in
+      let d = decoded u i (j ∷ is) at.spelling.0 at.is_there in
       let next = after done i j is u r.0 flow.0 at r.1 r.2 in
       turns_first Turn (length (j ∷ is)) u r.0 r.1.steps.steps
-      (each u r.0 (record { steps = r.1.steps.steps; instruction = i; read = d.read; no_call = (ends i flow.0).0; from = midst done i (j ∷ is) u at; to = inl (midst (done ++ (i ∷ [])) j is r.0 next) }))
+      (each u r.0 (record { steps = r.1.steps.steps; instruction = i; read = d.read; no_call = calls_nothing i flow.0; from = midst done i (j ∷ is) u at; to = inl (midst (done ++ (i ∷ [])) j is r.0 next) }))
       (go (done ++ (i ∷ [])) (j ∷ is) r.0 flow.1 next r.2)
 
   -- every step of a run over code that flows, and that stores once at most

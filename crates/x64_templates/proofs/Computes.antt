@@ -1,23 +1,20 @@
 -- The code of an operation does what the operation means.
 use Rattle.std.proofs.Common.{◌≡◌, ℕ, ◌+◌, ◌%◌, ◌^◌, ◌<◌, ◌≤◌, Bool, true, false, List, [], ◌∷◌, ◌++◌, length, get_or, Option, Some, Err, refl, sym, ap, subst, ◌∙◌, arith, length-append}
-use Rattle.std.proofs.lemmas.Bool.{le-leb, le-ltb}
 use Rattle.std.proofs.lemmas.Grind.{flat_map-append}
 use Rattle.seh_num.specs.declared.event.Code.{Code}
 use Rattle.flat_memory.specs.Memory.{Memory, executable, with_number, with_bytes}
 use Rattle.x64_instr.specs.declared.register.Reg.TheVariants.{Rax, Rcx}
 use Rattle.x64_instr.specs.declared.instruction.Instr.{Instr}
-use Rattle.x64_instr.specs.declared.instruction.Instr.TheVariants as instrs
 use Rattle.x64_instr.specs.Spelling.{IsEncoding, leading}
 use Rattle.x64_encode.specs.Chosen.{chosen}
 use Rattle.x64_encode.proofs.Lengths.{longest}
-use Rattle.host_layout.specs.Services.{in_host_page}
 use Rattle.x64_machine.specs.declared.cpu.Flags.{Flags}
 use Rattle.x64_machine.specs.declared.outcome.Stop.TheVariants as stops
-use Rattle.x64_machine.specs.Effect.{State, Answer, with_rip, is_trap, effect}
+use Rattle.x64_machine.specs.Effect.{State, with_rip, effect}
 use Rattle.x64_machine.specs.Effect as machines
 use Rattle.x64_templates.specs.Placed.{IsCodeAt, IsPlaced}
 use Rattle.template_code.specs.Bytes.{spelled}
-use Rattle.x64_templates.proofs.PlacedCode.{fetches, Encodable, bytes_split, spells, leading-again, reaches_then}
+use Rattle.x64_templates.proofs.PlacedCode.{fetches, Encodable, outside_page, bytes_split, spells, leading-again, reaches_then}
 use Rattle.linear_code.specs.declared.slot.Slot.{Slot}
 use Rattle.c_operations.specs.declared.operation.Operation.{Operation}
 use Rattle.c_operations.specs.declared.operation.Operation.TheVariants as operations
@@ -56,15 +53,6 @@ code_split m at a b h =
 
 -- ---- an instruction that faults
 
-outside_page : (a : ℕ) → 0x100000000 ≤ a → in_host_page a ≡ false
-outside_page a h = rw (le-leb 0x7FF00000 a (omega arith), le-ltb a 0x7FF01000 (omega arith)) refl
-
--- a trap doesn't fault
-no_trap : (i : Instr) (s : State) (code : Code) (access : Option (Bool × ℕ)) → effect s i ≡ Err (stops.Fault code access) → is_trap i ≡ false
-no_trap instrs.Breakpoint s code access e = absurd cc
-no_trap instrs.Undefined s code access e = absurd cc
-no_trap i s code access e = refl
-
 step_faults : (s : State) (i : Instr) (bytes : List ℕ) (code : Code) (access : Option (Bool × ℕ)) → bytes ≡ chosen i → Encodable (i ∷ []) → IsCodeAt s.memory s.cpu.rip bytes → IsPlaced s.cpu.rip (s.cpu.rip + length bytes) → effect (with_rip s (s.cpu.rip + length bytes)) i ≡ Err (stops.Fault code access) → machines.step s ≡ Err (stops.Fault code access)
 unfolding machines.step
 step_faults s i bytes code access same enc is_there placed e =
@@ -74,7 +62,7 @@ step_faults s i bytes code access same enc is_there placed e =
     let f = fetches s.memory bytes 15 s.cpu.rip short is_there (omega arith) in
     let read : leading (executable s.memory 15 s.cpu.rip) ≡ Some (i, length bytes) = ap leading f.1 ∙ leading-again i bytes f.0 (subst (λ (x : List ℕ). IsEncoding i x) (sym same) (spells i enc.0)) in
     let rip : (s.cpu.rip + length bytes) % 2 ^ 64 ≡ s.cpu.rip + length bytes = omega arith in
-    rw (outside_page s.cpu.rip low, read, no_trap i (with_rip s (s.cpu.rip + length bytes)) code access e, rip) e
+    rw (outside_page s.cpu.rip low, read, rip) e
 
 head_faults : (is : List Instr) (v : MachineView) (rip : ℕ) (f : Flags) (code : Code) (access : Option (Bool × ℕ)) → Fine is → HasCode v.memory rip is → HeadFaults is v code access → machines.step (machine v rip f) ≡ Err (stops.Fault code access)
 unfolding size

@@ -30,53 +30,52 @@ use Rattle.template_code.specs.Operations.{move, division, high_half}
 use Rattle.x64_templates.specs.Implements.{high_of, LeavesResult, Implements}
 use Rattle.x64_templates.proofs.Straight.{executes_one, executes_then}
 use Rattle.c_operations.proofs.SmallResults.{of_size}
-use Rattle.x64_templates.proofs.Compares.{low_is, low_below, twice, signed_low, signed_high, signed_twice, wrapped_below}
+use Rattle.x64_machine.proofs.Numbers.{low_is, low_below, twice, signed_low, signed_high, signed_twice, wrapped_below}
 
 -- ---- the numbers
 
-double_int : (a h : ℕ) → a < 2 ^ 32 → h ≡ cond (ltb a (half W32)) 0 (limit W32 - 1) → signed_double W32 (joined W32 h a) ≡ signed W32 a
-double_int a h lt e = elim (cases_lt a (half W32)) [
-  | inl l ↦
-      let t : ltb a (half W32) ≡ true = lt-ltb a (half W32) l in
-      let z : h ≡ 0 = e ∙ ap (λ (b : Bool). cond b 0 (limit W32 - 1)) t in
-      let n : joined W32 h a ≡ a = omega arith in
-      let s : ltb a (limit W32 * half W32) ≡ true = lt-ltb a (limit W32 * half W32) (omega arith) in
-      ap (signed_double W32) n ∙ ap (λ (b : Bool). cond b (pos a) (pos a -ℤ pos (limit W32 * limit W32))) s ∙ sym (signed_low W32 a l)
-  | inr g ↦
-      let t : ltb a (half W32) ≡ false = le-ltb a (half W32) g in
-      let z : h ≡ limit W32 - 1 = e ∙ ap (λ (b : Bool). cond b 0 (limit W32 - 1)) t in
-      let m : ℕ = (limit W32 - 1) * limit W32 + a in
-      let n : joined W32 h a ≡ m = ap (λ (x : ℕ). x * limit W32 + a) z in
-      let s : ltb m (limit W32 * half W32) ≡ false = le-ltb m (limit W32 * half W32) (omega arith) in
-      let d : pos m -ℤ pos (limit W32 * limit W32) ≡ negsuc (limit W32 - 1 - a) = omega (arith, ints) in
-      ap (signed_double W32) n ∙ ap (λ (b : Bool). cond b (pos m) (pos m -ℤ pos (limit W32 * limit W32))) s ∙ d ∙ sym (signed_high W32 a g lt)
-]
+joined_is : (w : Width) (x h : ℕ) → h ≡ 0 → joined w h x ≡ x
+joined_is w x h e = ap (λ (y : ℕ). y * limit w + x) e ∙ (let z : 0 * limit w + x ≡ x = omega arith in z)
 
-double_long : (a h : ℕ) → a < 2 ^ 64 → h ≡ cond (ltb a (half W64)) 0 (limit W64 - 1) → signed_double W64 (joined W64 h a) ≡ signed W64 a
-double_long a h lt e = elim (cases_lt a (half W64)) [
+below_double : (w : Width) (a : ℕ) → a < half w → a < limit w * half w
+below_double W8 a lt = omega arith
+below_double W16 a lt = omega arith
+below_double W32 a lt = omega arith
+below_double W64 a lt = omega arith
+
+above_double : (w : Width) (a : ℕ) → half w ≤ a → limit w * half w ≤ (limit w - 1) * limit w + a
+above_double W8 a le = omega arith
+above_double W16 a le = omega arith
+above_double W32 a le = omega arith
+above_double W64 a le = omega arith
+
+less_double : (w : Width) (a : ℕ) → a < limit w → pos ((limit w - 1) * limit w + a) -ℤ pos (limit w * limit w) ≡ negsuc (limit w - 1 - a)
+less_double W8 a lt = omega (arith, ints)
+less_double W16 a lt = omega (arith, ints)
+less_double W32 a lt = omega (arith, ints)
+less_double W64 a lt = omega (arith, ints)
+
+-- a number below its copies of the top bit
+double : (w : Width) (a h : ℕ) → a < limit w → h ≡ cond (ltb a (half w)) 0 (limit w - 1) → signed_double w (joined w h a) ≡ signed w a
+double w a h lt e = elim (cases_lt a (half w)) [
   | inl l ↦
-      let t : ltb a (half W64) ≡ true = lt-ltb a (half W64) l in
-      let z : h ≡ 0 = e ∙ ap (λ (b : Bool). cond b 0 (limit W64 - 1)) t in
-      let n : joined W64 h a ≡ a = omega arith in
-      let s : ltb a (limit W64 * half W64) ≡ true = lt-ltb a (limit W64 * half W64) (omega arith) in
-      ap (signed_double W64) n ∙ ap (λ (b : Bool). cond b (pos a) (pos a -ℤ pos (limit W64 * limit W64))) s ∙ sym (signed_low W64 a l)
+      let t : ltb a (half w) ≡ true = lt-ltb a (half w) l in
+      let z : h ≡ 0 = e ∙ ap (λ (b : Bool). cond b 0 (limit w - 1)) t in
+      let s : ltb a (limit w * half w) ≡ true = lt-ltb a (limit w * half w) (below_double w a l) in
+      ap (signed_double w) (joined_is w a h z) ∙ ap (λ (b : Bool). cond b (pos a) (pos a -ℤ pos (limit w * limit w))) s ∙ sym (signed_low w a l)
   | inr g ↦
-      let t : ltb a (half W64) ≡ false = le-ltb a (half W64) g in
-      let z : h ≡ limit W64 - 1 = e ∙ ap (λ (b : Bool). cond b 0 (limit W64 - 1)) t in
-      let m : ℕ = (limit W64 - 1) * limit W64 + a in
-      let n : joined W64 h a ≡ m = ap (λ (x : ℕ). x * limit W64 + a) z in
-      let s : ltb m (limit W64 * half W64) ≡ false = le-ltb m (limit W64 * half W64) (omega arith) in
-      let d : pos m -ℤ pos (limit W64 * limit W64) ≡ negsuc (limit W64 - 1 - a) = omega (arith, ints) in
-      ap (signed_double W64) n ∙ ap (λ (b : Bool). cond b (pos m) (pos m -ℤ pos (limit W64 * limit W64))) s ∙ d ∙ sym (signed_high W64 a g lt)
+      let t : ltb a (half w) ≡ false = le-ltb a (half w) g in
+      let z : h ≡ limit w - 1 = e ∙ ap (λ (b : Bool). cond b 0 (limit w - 1)) t in
+      let m : ℕ = (limit w - 1) * limit w + a in
+      let n : joined w h a ≡ m = ap (λ (x : ℕ). x * limit w + a) z in
+      let s : ltb m (limit w * half w) ≡ false = le-ltb m (limit w * half w) (above_double w a g) in
+      ap (signed_double w) n ∙ ap (λ (b : Bool). cond b (pos m) (pos m -ℤ pos (limit w * limit w))) s ∙ less_double w a lt ∙ sym (signed_high w a g lt)
 ]
 
 -- what the sign of RAX makes of the two halves
 double_is : (z : Size) (x h : ℕ) → h ≡ high_of Signed (width z) x → signed_double (width z) (joined (width z) h (low (width z) x)) ≡ signed (width z) x
-double_is Int x h e = double_int (low W32 x) h (low_below W32 x) e ∙ signed_twice W32 x
-double_is Long x h e = double_long (low W64 x) h (low_below W64 x) e ∙ signed_twice W64 x
-
-joined_is : (w : Width) (x h : ℕ) → h ≡ 0 → joined w h x ≡ x
-joined_is w x h e = ap (λ (y : ℕ). y * limit w + x) e ∙ (let z : 0 * limit w + x ≡ x = omega arith in z)
+double_is Int x h e = double W32 (low W32 x) h (low_below W32 x) e ∙ signed_twice W32 x
+double_is Long x h e = double W64 (low W64 x) h (low_below W64 x) e ∙ signed_twice W64 x
 
 -- ---- the instruction
 

@@ -1,4 +1,4 @@
--- Each instruction of an operation has a spelling, continues to the next, and begins no epilogue.
+-- Each instruction of an operation has a spelling, is followed by the next, and begins no epilogue.
 use Rattle.std.proofs.Common.{◌≡◌, ℕ, ◌^◌, ◌<◌, Bool, true, false, ltb, List, [], ◌∷◌, ◌++◌, Option, Some, None, refl, arith}
 use Rattle.std.proofs.lemmas.Bool.{lt-ltb}
 use Rattle.seh_num.specs.declared.width.Width.{Width}
@@ -33,7 +33,7 @@ use Rattle.template_code.specs.Slots.{fetched, put_back, temporary_at, local_at,
 use Rattle.x64_templates.specs.Frames.{HasBase, HasRoom}
 use Rattle.x64_templates.proofs.Cells.{reg}
 
--- an instruction that has a spelling, continues to the next, and begins no epilogue
+-- an instruction that has a spelling, is followed by the next, and begins no epilogue
 abbrev pub Fine : List Instr → Type 0
 Fine [] = Unit {0}
 Fine (i ∷ is) = (is_encodable i ≡ true) × (is_straight i ≡ true) × (begins_epilogue i ≡ false) × Fine is

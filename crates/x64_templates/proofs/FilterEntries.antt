@@ -51,7 +51,7 @@ within_cell v lo hi at x le up high = record {
   bytes = λ h a. digits v.memory.byte 8 at x a (h a);
 }
 
--- code is where the range may be written
+-- code is there where the range may be written
 pub within_keeps_code : (lo hi : ℕ) (m m' : Memory) (at : ℕ) (code : List Instr) → ((a : ℕ) → lo ≤ a → a < hi → may_write m a ≡ true) → Within lo hi m m' → HasCode m at code → HasCode m' at code
 within_keeps_code lo hi m m' at code writable w h = record { is_there = bytes_kept m m' at (spelled code) (λ a fixed. w.byte a (off a fixed)) w.protection h.is_there; placed = h.placed }
   where

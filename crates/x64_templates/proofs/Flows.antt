@@ -157,10 +157,10 @@ pub work_flow : (o : Operation) → IsFlow (work o)
 work_flow o = record { spelling = encodable_of (work o) (work_fine o); flow = flows (work o) (work_keeps o); once = work_once o }
 
 pub separator_flow : IsFlow separator_code
-separator_flow = record { spelling = (refl, tt); flow = (refl, refl); once = inr tt }
+separator_flow = record { spelling = (refl, tt); flow = refl; once = inr tt }
 
 pub jump_flow : (at to : ℕ) → IsNear (at + 5) to → IsFlow (jump_code at to)
-jump_flow at to near_by = record { spelling = (short (at + 5) to near_by, tt); flow = (refl, refl); once = inr tt }
+jump_flow at to near_by = record { spelling = (short (at + 5) to near_by, tt); flow = refl; once = inr tt }
 
 module _ (y : Layout) (n : Counts) (sp base : ℕ) (room : HasRoom y n sp base) where
   pub keep_flow : (to : Slot) → IsSlot n to → IsFlow (keep y to)
@@ -186,7 +186,7 @@ module _ (y : Layout) (n : Counts) (sp base : ℕ) (room : HasRoom y n sp base) 
       let branch = jump_equal (at + sizes (test_code y slot) + 6) to in
       record {
         spelling = spelled_then first (compare_zero ∷ branch ∷ []) (encodable_of first (fetch_fine y n sp base true slot room is)) (refl, (short (at + sizes (test_code y slot) + 6) to near_by, tt));
-        flow = flows_to first compare_zero (branch ∷ []) (nothing_keeps first (fetch_nothing y true slot)) (refl, (refl, refl));
+        flow = flows_to first compare_zero (branch ∷ []) (nothing_keeps first (fetch_nothing y true slot)) (refl, refl);
         once = once_after first (compare_zero ∷ branch ∷ []) (fetch_nothing y true slot) (inl (refl, inr tt));
       }
     where

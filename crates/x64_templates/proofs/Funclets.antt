@@ -63,7 +63,7 @@ parents_base_kept v sp b base parent_sp parent at is keeps high lt c =
     )))
     (keeps_register Rax w b (sp + b) base refl (let q : (sp_of v + 0 + b) % 2 ^ 64 ≡ sp + b = omega arith in q) (cell_may v.memory (sp + b) c) lt)
 
--- ---- from the function's body to the block's: its locals, and the temporaries that are in the block's own frame
+-- ---- from the function's body to the block's: its locals, and the temporaries in the block's own frame
 
 pub shares : (y y' : Layout) (n n' : Counts) (reserved : ℕ → Bool) (sp sp' base : ℕ) (m : Memory) (b : BodyState) → y'.locals ≡ y.locals → n'.locals ≡ n.locals → IsBytes m → HoldsBody y n reserved sp base m b → KeepsBase y'.base sp' base m → KeepsReserved y'.base sp' reserved → ((a : ℕ) → InTemporaries y' n' sp' a → may_write m a ≡ true) → ((a : ℕ) → InTemporaries y' n' sp' a → reserved a ≡ true) → HoldsBody y' n' reserved sp' base m (record { slots = joined b.slots (body_in_memory y' sp' base m b.memory).slots; memory = b.memory })
 shares y y' n n' reserved sp sp' base m b ly ln bytes h keeps kept_own writable own = record {

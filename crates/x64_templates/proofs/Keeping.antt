@@ -23,7 +23,7 @@ use Rattle.x64_machine.specs.Contexts.{kept_of}
 use Rattle.x64_machine.specs.Words.{merged, multiplied}
 use Rattle.x64_machine.specs.Shifts.{count_of, shifted, shift_flags}
 use Rattle.x64_machine.specs.Dividing.{divided, joined}
-use Rattle.x64_machine.specs.Effect.{State, Answer, ◌>>=◌, granted, register, with_register, with_flags, address_of, store, read, operand, write, may_change, computed, compare, change, is_compare, unary, unary_of, amount, shift_by, multiply, multiply_by, with_quotient, sign_of_rax, widened, condition_byte, is_trap, effect}
+use Rattle.x64_machine.specs.Effect.{State, Answer, ◌>>=◌, granted, register, with_register, with_flags, address_of, store, read, operand, write, may_change, computed, compare, change, is_compare, unary, unary_of, amount, shift_by, multiply, multiply_by, with_quotient, sign_of_rax, widened, condition_byte, effect}
 use Rattle.x64_templates.specs.Keeping.{is_volatile, is_volatile_or_memory, is_register, keeps_registers, stores_nothing, is_call, KeepsRegisters, StoresNothing, Flows, StoresOnce}
 
 -- ---- registers
@@ -168,12 +168,10 @@ keeps (instrs.Set c to) s t q e = write_keeps s W8 to (condition_byte s.cpu.flag
 keeps instrs.NoOperation s t q e = same true s s.cpu t refl refl e
 keeps i s t q e = absurd cc
 
--- it is no call, and no trap
-pub ends : (i : Instr) → keeps_registers i ≡ true → (is_call i ≡ false) × (is_trap i ≡ false)
-ends (instrs.Call to) q = absurd cc
-ends instrs.Breakpoint q = absurd cc
-ends instrs.Undefined q = absurd cc
-ends i q = (refl, refl)
+-- what keeps registers is no call
+pub calls_nothing : (i : Instr) → keeps_registers i ≡ true → is_call i ≡ false
+calls_nothing (instrs.Call to) q = absurd cc
+calls_nothing i q = refl
 
 -- ---- lists
 
@@ -192,7 +190,7 @@ nothing_keeps (i ∷ a) p = (p.0, nothing_keeps a p.2)
 -- what keeps registers flows, and to whatever flows
 pub flows : (a : List Instr) → KeepsRegisters a → Flows a
 flows [] p = tt
-flows (i ∷ []) p = ends i p.0
+flows (i ∷ []) p = calls_nothing i p.0
 flows (i ∷ j ∷ a) p = (p.0, flows (j ∷ a) p.1)
 
 pub flows_to : (a : List Instr) (j : Instr) (b : List Instr) → KeepsRegisters a → Flows (j ∷ b) → Flows (a ++ (j ∷ b))

@@ -31,7 +31,7 @@ use Rattle.x64_templates.proofs.Calls.{call_reaches}
 use Rattle.x64_templates.proofs.Entries.{beside, pushed_back}
 use Rattle.x64_templates.proofs.Probing.{Touchable, with_eleventh, check_run}
 
--- ---- code is while a return address is put on the stack
+-- ---- code stays while a return address is put on the stack
 
 pub fixed_beside : (v : MachineView) (sp a : ℕ) → HasBelow v.memory sp 8 → may_write v.memory a ≡ false → (a + 8 < sp) ⊎ (sp ≤ a)
 fixed_beside v sp a below fixed = elim (cases_lt (a + 8) sp) [

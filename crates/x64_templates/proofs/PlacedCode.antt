@@ -7,13 +7,12 @@ use Rattle.flat_memory.specs.declared.protection.Protection.{Protection}
 use Rattle.flat_memory.specs.Protections.{is_writable}
 use Rattle.flat_memory.specs.Memory.{Memory, next, executable, may_read, may_write, first_refused, number_at, with_number, with_bytes, access, unless_refused}
 use Rattle.x64_instr.specs.declared.instruction.Instr.{Instr}
-use Rattle.x64_instr.specs.declared.instruction.Instr.TheVariants as instrs
 use Rattle.x64_instr.specs.Spelling.{IsEncoding, leading, instr}
 use Rattle.x64_instr.proofs.Table as tables
 use Rattle.x64_encode.specs.Chosen.{chosen, is_encodable}
 use Rattle.x64_encode.proofs.Written as written
 use Rattle.host_layout.specs.Services.{in_host_page}
-use Rattle.x64_machine.specs.Effect.{State, ◌>>=◌, granted, with_rip, load, store, effect, is_trap, step}
+use Rattle.x64_machine.specs.Effect.{State, ◌>>=◌, granted, with_rip, load, store, effect, step}
 use Rattle.x64_templates.specs.Placed.{IsCodeAt, IsPlaced}
 use Rattle.template_code.specs.Bytes.{thunk}
 use Rattle.x64_templates.specs.Runs.{Runs, Reaches, Enters}
@@ -53,22 +52,29 @@ fetches m [] n at le h lt = (executable m n at, refl)
 fetches m (b ∷ bytes) zero at le h lt = absurd (omega arith)
 fetches m (b ∷ bytes) (suc n) at le h lt =
     let e : next at ≡ at + 1 = omega arith in
-    let rest = fetches m bytes n (at + 1) (omega arith) h.3 (omega arith) in
-    (rest.0, ap (λ (c : Bool). cond c (m.byte at ∷ executable m n (next at)) []) h.1 ∙ ap (λ (x : ℕ). x ∷ executable m n (next at)) h.0 ∙ ap (λ (a : ℕ). b ∷ executable m n a) e ∙ ap (λ (t : List ℕ). b ∷ t) rest.1)
+    let rest = fetches m bytes n (at + 1) (omega arith) h.1 (omega arith) in
+    (rest.0, ap (λ (c : Bool). cond c (m.byte at ∷ executable m n (next at)) []) h.0.executes ∙ ap (λ (x : ℕ). x ∷ executable m n (next at)) h.0.byte ∙ ap (λ (a : ℕ). b ∷ executable m n a) e ∙ ap (λ (t : List ℕ). b ∷ t) rest.1)
 
 -- code is where it was, where bytes that may not be written are what they were
 pub bytes_kept : (m m' : Memory) (at : ℕ) (bytes : List ℕ) → ((a : ℕ) → may_write m a ≡ false → m'.byte a ≡ m.byte a) → m'.protection ≡ m.protection → IsCodeAt m at bytes → IsCodeAt m' at bytes
 bytes_kept m m' at [] kept same h = tt
 bytes_kept m m' at (b ∷ bytes) kept same h =
-    (kept at h.2 ∙ h.0, ap (λ (f : ℕ → Protection). (f at).execute) same ∙ h.1, ap (λ (f : ℕ → Protection). is_writable (f at).rights) same ∙ h.2, bytes_kept m m' (at + 1) bytes kept same h.3)
+    let k = h.0 in (
+      record {
+        byte = kept at k.fixed ∙ k.byte;
+        executes = ap (λ (f : ℕ → Protection). (f at).execute) same ∙ k.executes;
+        fixed = ap (λ (f : ℕ → Protection). is_writable (f at).rights) same ∙ k.fixed;
+      },
+      bytes_kept m m' (at + 1) bytes kept same h.1,
+    )
 
 -- the parts of code
 pub bytes_split : (m : Memory) (at : ℕ) (a b : List ℕ) → IsCodeAt m at (a ++ b) → IsCodeAt m at a × IsCodeAt m (at + length a) b
 bytes_split m at [] b h = (tt, let e : at ≡ at + 0 = omega arith in subst (λ x. IsCodeAt m x b) e h)
 bytes_split m at (x ∷ a) b h =
-    let r = bytes_split m (at + 1) a b h.3 in
+    let r = bytes_split m (at + 1) a b h.1 in
     let e : at + 1 + length a ≡ at + length (x ∷ a) = omega arith in
-    ((h.0, h.1, h.2, r.0), subst (λ y. IsCodeAt m y b) e r.1)
+    ((h.0, r.0), subst (λ y. IsCodeAt m y b) e r.1)
 
 -- ---- spelled instructions
 
@@ -91,14 +97,9 @@ thunk_encodable away lt = let e : ltb away (2 ^ 31) ≡ true = lt-ltb _ _ lt in 
 
 -- ---- turns
 
-outside_page : (a : ℕ) → 0x100000000 ≤ a → in_host_page a ≡ false
+-- code is placed above the host's page
+pub outside_page : (a : ℕ) → 0x100000000 ≤ a → in_host_page a ≡ false
 outside_page a h = rw (le-leb 0x7FF00000 a (omega arith), le-ltb a 0x7FF01000 (omega arith)) refl
-
--- a trap has no effect
-no_trap : (i : Instr) (s t : State) → effect s i ≡ Ok t → is_trap i ≡ false
-no_trap instrs.Breakpoint s t e = absurd cc
-no_trap instrs.Undefined s t e = absurd cc
-no_trap i s t e = refl
 
 -- an instruction that is placed at RIP is read
 pub reads : (s : State) (i : Instr) (bytes : List ℕ) → IsEncoding i bytes → length bytes ≤ 15 → IsCodeAt s.memory s.cpu.rip bytes → IsPlaced s.cpu.rip (s.cpu.rip + length bytes) → leading (executable s.memory 15 s.cpu.rip) ≡ Some (i, length bytes)
@@ -115,7 +116,7 @@ steps s t i bytes spells short is_there placed e =
     let high = placed.high in
     let read = reads s i bytes spells short is_there placed in
     let rip : (s.cpu.rip + length bytes) % 2 ^ 64 ≡ s.cpu.rip + length bytes = omega arith in
-    rw (outside_page s.cpu.rip low, read, no_trap i (with_rip s (s.cpu.rip + length bytes)) t e, rip) e
+    rw (outside_page s.cpu.rip low, read, rip) e
 
 -- ---- runs
 

@@ -1,4 +1,4 @@
--- Instructions that are in memory are run one after another.
+-- Instructions in memory are run one after another.
 use Rattle.template_code.proofs.Sizes.{sizes_append}
 use Rattle.std.proofs.Common.{◌≡◌, ◌≢◌, ℕ, suc, ◌+◌, ◌≤◌, false, List, [], ◌∷◌, ◌++◌, length, Ok, Err, refl, sym, ap, subst, ◌∙◌, arith}
 use Rattle.flat_memory.specs.declared.protection.Protection.{Protection}

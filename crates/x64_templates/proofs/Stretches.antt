@@ -32,11 +32,13 @@ use Rattle.x64_templates.proofs.InstructionRuns.{body_instruction_run}
 bytes_stay : (p : Frame) (m m' : Memory) (b : BodyState) (at : ℕ) (bytes : List ℕ) → ChangesOwn p m m' → Holds p m b → ((a : ℕ) → at ≤ a → a < at + length bytes → p.reserved a ≡ true) → IsCodeAt m at bytes → IsCodeAt m' at bytes
 bytes_stay p m m' b at [] c h own s = tt
 bytes_stay p m m' b at (x ∷ bytes) c h own s =
-    let off = λ (is : InTemporaries p.layout p.counts p.sp at ⊎ InLocals p.layout p.counts p.base at). let q : true ≡ false = sym (h.writable at is) ∙ s.2 in let z : ⊥ = absurd cc in z in (
-      c.byte at (own at (omega arith) (omega arith)) off ∙ s.0,
-      ap (λ (f : ℕ → Protection). (f at).execute) c.protection ∙ s.1,
-      ap (λ (f : ℕ → Protection). is_writable (f at).rights) c.protection ∙ s.2,
-      bytes_stay p m m' b (at + 1) bytes c h (λ a l u. own a (omega arith) (omega arith)) s.3,
+    let off = λ (is : InTemporaries p.layout p.counts p.sp at ⊎ InLocals p.layout p.counts p.base at). let q : true ≡ false = sym (h.writable at is) ∙ s.0.fixed in let z : ⊥ = absurd cc in z in (
+      record {
+        byte = c.byte at (own at (omega arith) (omega arith)) off ∙ s.0.byte;
+        executes = ap (λ (f : ℕ → Protection). (f at).execute) c.protection ∙ s.0.executes;
+        fixed = ap (λ (f : ℕ → Protection). is_writable (f at).rights) c.protection ∙ s.0.fixed;
+      },
+      bytes_stay p m m' b (at + 1) bytes c h (λ a l u. own a (omega arith) (omega arith)) s.1,
     )
 
 pub code_stays : (p : Frame) (m m' : Memory) (b : BodyState) (at : ℕ) (code : List Instr) → ChangesOwn p m m' → Holds p m b → ((a : ℕ) → at ≤ a → a < at + sizes code → p.reserved a ≡ true) → HasCode m at code → HasCode m' at code

@@ -1,4 +1,4 @@
--- Where the slots of a body and the source's memory are in the machine's memory.
+-- How the slots of a body and the source's memory are in the machine's memory.
 use Rattle.std.specs.Prelude.{◌≡◌, ℕ, ◌+◌, ◌*◌, ◌^◌, ◌<◌, ◌≤◌, Bool, true, false, ◌⊎◌, Option, Some, None}
 use Rattle.flat_memory.specs.Memory.{Memory, number_at, may_write}
 use Rattle.host_layout.specs.Ranges.{in_guard}

@@ -7,7 +7,6 @@ use Rattle.x64_instr.specs.declared.operand.RegisterOrMemory.{RegisterOrMemory}
 use Rattle.x64_instr.specs.declared.operand.RegisterOrMemory.TheVariants as places
 use Rattle.x64_instr.specs.declared.instruction.Instr.{Instr}
 use Rattle.x64_instr.specs.declared.instruction.Instr.TheVariants as instrs
-use Rattle.x64_machine.specs.Effect.{is_trap}
 
 -- registers that a routine need not preserve (Microsoft x64 ABI, "Caller/callee saved registers")
 abbrev pub is_volatile : Reg → Bool
@@ -78,7 +77,7 @@ StoresNothing (i ∷ is) = (keeps_registers i ≡ true) × (stores_nothing i ≡
 -- of code that keeps registers the last instruction may go elsewhere, but calls nothing
 abbrev pub Flows : List Instr → Type 0
 Flows [] = Unit {0}
-Flows (i ∷ []) = (is_call i ≡ false) × (is_trap i ≡ false)
+Flows (i ∷ []) = is_call i ≡ false
 Flows (i ∷ j ∷ is) = (keeps_registers i ≡ true) × Flows (j ∷ is)
 
 -- at most one instruction stores

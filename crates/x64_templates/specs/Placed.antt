@@ -3,12 +3,16 @@ use Rattle.std.specs.Prelude.{◌≡◌, ℕ, ◌+◌, ◌^◌, ◌<◌, ◌≤�
 use Rattle.host_layout.specs.declared.limit.TheConstants.{LEAST_BASE}
 use Rattle.flat_memory.specs.Memory.{Memory, may_write}
 
--- the bytes are placed at this address, to be executed and not to be written
+-- the byte at the address, which may be executed and not written
+pub record IsCodeByte (m : Memory) (at b : ℕ) : Type 0 where
+  pub byte : m.byte at ≡ b
+  pub executes : (m.protection at).execute ≡ true
+  pub fixed : may_write m at ≡ false
+
+-- the bytes are placed at this address
 abbrev pub IsCodeAt : Memory → ℕ → List ℕ → Type 0
 IsCodeAt m at [] = Unit {0}
-IsCodeAt m at (b ∷ bytes) =
-    (m.byte at ≡ b) × ((m.protection at).execute ≡ true) × (may_write m at ≡ false)
-    × IsCodeAt m (at + 1) bytes
+IsCodeAt m at (b ∷ bytes) = IsCodeByte m at b × IsCodeAt m (at + 1) bytes
 
 -- from this address to that one lies above 4 GiB and below 2 to the 48, away from the stack and the
 -- host's page

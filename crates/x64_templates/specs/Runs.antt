@@ -110,7 +110,10 @@ pub record ReachesFault (turns : ℕ) (v : MachineView) (rip : ℕ) (flags : Fla
   pub memory : stopped.memory ≡ v.memory
   pub fault : machines.step (machine stopped at left) ≡ Err (stops.Fault code access)
 
--- ---- the second half: with its operands in their registers an operation is made, or refused; it is made so when it is made again too, whatever the memory is by then
+-- ---- the second half
+
+-- with its operands in their registers an operation is made, or refused; it is made so when it is
+-- made again too, whatever the memory is by then
 
 abbrev pub Finished : Frame → Operation → Slot → MachineView → ℕ → Flags → BodyState → Outcome
     → Type 0

@@ -1,4 +1,4 @@
-use Rattle.code_bounds.proofs.BoundStatements as bounds
+use Rattle.code_bounds.proofs.CodeIsBounded as bounds
 use Rattle.code_bounds.proofs.Fitting as lemma
 use Rattle.code_bounds.proofs.bound_laws.laws.Goals as goal
 

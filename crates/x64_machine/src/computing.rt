@@ -1,0 +1,221 @@
+//! What an instruction does that computes with the value of a place (Intel manual, volume 2).
+
+ghost use Rattle.std.specs.Prelude.{◌≡◌, ◌<◌};
+ghost use Rattle.seh_num.specs.Widths.{limit};
+ghost use Rattle.x64_instr.specs.Families.{IsComputation};
+ghost use Rattle.x64_machine.specs.Effect as spec;
+ghost use Rattle.x64_machine.specs.Effect.{Answers, LeavesMemory};
+
+use crate::cpu::{Cpu, Flags};
+use crate::multiplying::multiply_or_divide;
+use crate::operands::{may_change, operand, read, write};
+use crate::outcome::Stop;
+use crate::shifts::{count_of, shift, shift_flags};
+use crate::words::{add, invert, logical, subtract};
+use seh_num::extension::zero_extend;
+use seh_num::width::Width;
+use x64_instr::instruction::{Count, Direction, Instr, Operation, Unary};
+use x64_instr::operand::{Operand, RegisterOrMemory};
+use x64_instr::register::Reg;
+use x64_memory::space::AddressSpace;
+
+fn computed(operation: Operation, width: Width, first: u64, second: u64) -> (u64, Flags)
+    requires { second < limit width }
+    ensures { result ≡ spec.computed operation width first second }
+{
+    match operation {
+        Operation::Add => add(width, first, second),
+        Operation::Or => logical(width, first | second),
+        Operation::And => logical(width, first & second),
+        Operation::Sub | Operation::Compare => subtract(width, first, second),
+        Operation::Xor => logical(width, first ^ second),
+    }
+}
+
+fn change<S: AddressSpace>(
+    mut cpu: Cpu,
+    space: &mut S,
+    operation: Operation,
+    width: Width,
+    to: &RegisterOrMemory,
+    from: &Operand,
+) -> Result<Cpu, Stop>
+    ensures answer { Answers result
+        (spec.change (spec.state cpu (S.memory space.old)) operation width to.now from.now) }
+    ensures memory { LeavesMemory (S.memory space.old) (S.memory space.new)
+        (spec.change (spec.state cpu (S.memory space.old)) operation width to.now from.now) }
+{
+    let second = operand(&cpu, space, width, from)?;
+    may_change(&cpu, space, width, to)?;
+    let first = read(&cpu, space, width, to)?;
+    let (value, flags) = computed(operation, width, first, second);
+    cpu.flags = flags;
+    write(cpu, space, width, to, value)
+}
+
+/// The flags alone.
+fn compare<S: AddressSpace>(
+    mut cpu: Cpu,
+    space: &S,
+    operation: Operation,
+    width: Width,
+    first: &RegisterOrMemory,
+    second: &Operand,
+) -> Result<Cpu, Stop>
+    ensures answer { Answers result
+        (spec.compare (spec.state cpu (S.memory space.now)) operation width first.now second.now) }
+    ensures memory { LeavesMemory (S.memory space.now) (S.memory space.now)
+        (spec.compare (spec.state cpu (S.memory space.now)) operation width first.now second.now) }
+{
+    let second = operand(&cpu, space, width, second)?;
+    let first = read(&cpu, space, width, first)?;
+    let (_, flags) = computed(operation, width, first, second);
+    cpu.flags = flags;
+    Ok(cpu)
+}
+
+fn is_compare(operation: Operation) -> bool
+    ensures { result ≡ spec.is_compare operation }
+{
+    match operation {
+        Operation::Compare => true,
+        _ => false,
+    }
+}
+
+fn arithmetic<S: AddressSpace>(
+    cpu: Cpu,
+    space: &mut S,
+    operation: Operation,
+    width: Width,
+    to: &RegisterOrMemory,
+    from: &Operand,
+) -> Result<Cpu, Stop>
+    ensures answer { Answers result
+        (spec.arithmetic (spec.state cpu (S.memory space.old)) operation width to.now from.now) }
+    ensures memory { LeavesMemory (S.memory space.old) (S.memory space.new)
+        (spec.arithmetic (spec.state cpu (S.memory space.old)) operation width to.now from.now) }
+{
+    if is_compare(operation) {
+        compare(cpu, space, operation, width, to, from)
+    } else {
+        change(cpu, space, operation, width, to, from)
+    }
+}
+
+fn unary_of(operation: Unary, width: Width, value: u64, flags: Flags) -> (u64, Flags)
+    requires { value < limit width }
+    ensures { result ≡ spec.unary_of operation width value flags }
+{
+    match operation {
+        Unary::Not => (invert(width, value), flags),
+        Unary::Negate => subtract(width, 0, value),
+    }
+}
+
+fn unary<S: AddressSpace>(
+    mut cpu: Cpu,
+    space: &mut S,
+    operation: Unary,
+    width: Width,
+    to: &RegisterOrMemory,
+) -> Result<Cpu, Stop>
+    ensures answer { Answers result
+        (spec.unary (spec.state cpu (S.memory space.old)) operation width to.now) }
+    ensures memory { LeavesMemory (S.memory space.old) (S.memory space.new)
+        (spec.unary (spec.state cpu (S.memory space.old)) operation width to.now) }
+{
+    may_change(&cpu, space, width, to)?;
+    let old = read(&cpu, space, width, to)?;
+    let (value, flags) = unary_of(operation, width, old, cpu.flags);
+    cpu.flags = flags;
+    write(cpu, space, width, to, value)
+}
+
+fn amount(cpu: &Cpu, count: Count) -> u64
+    ensures { result ≡ spec.amount cpu.now count }
+{
+    match count {
+        Count::Immediate(number) => number,
+        Count::Cl => zero_extend(Width::W8, cpu.register(Reg::Rcx)),
+    }
+}
+
+fn shift_by<S: AddressSpace>(
+    mut cpu: Cpu,
+    space: &mut S,
+    direction: Direction,
+    width: Width,
+    to: &RegisterOrMemory,
+    count: u64,
+) -> Result<Cpu, Stop>
+    requires { count < 64 }
+    ensures answer { Answers result
+        (spec.shift_by (spec.state cpu (S.memory space.old)) direction width to.now count) }
+    ensures memory { LeavesMemory (S.memory space.old) (S.memory space.new)
+        (spec.shift_by (spec.state cpu (S.memory space.old)) direction width to.now count) }
+{
+    may_change(&cpu, space, width, to)?;
+    let old = read(&cpu, space, width, to)?;
+    let value = shift(direction, width, old, count);
+    cpu.flags = shift_flags(direction, width, old, count, cpu.flags);
+    write(cpu, space, width, to, value)
+}
+
+fn shift_by_count<S: AddressSpace>(
+    cpu: Cpu,
+    space: &mut S,
+    direction: Direction,
+    width: Width,
+    to: &RegisterOrMemory,
+    by: Count,
+) -> Result<Cpu, Stop>
+    ensures answer { Answers result
+        (spec.shift (spec.state cpu (S.memory space.old)) direction width to.now by) }
+    ensures memory { LeavesMemory (S.memory space.old) (S.memory space.new)
+        (spec.shift (spec.state cpu (S.memory space.old)) direction width to.now by) }
+{
+    let count = count_of(width, amount(&cpu, by));
+    shift_by(cpu, space, direction, width, to, count)
+}
+
+/// What an instruction does that computes with the value of a place.
+pub(crate) fn computation_effect<S: AddressSpace>(
+    cpu: Cpu,
+    space: &mut S,
+    instr: &Instr,
+) -> Result<Cpu, Stop>
+    requires { IsComputation instr.now }
+    ensures answer { Answers result (spec.effect (spec.state cpu (S.memory space.old)) instr.now) }
+    ensures memory { LeavesMemory (S.memory space.old) (S.memory space.new)
+        (spec.effect (spec.state cpu (S.memory space.old)) instr.now) }
+{
+    match instr {
+        Instr::Arithmetic {
+            operation,
+            width,
+            to,
+            from,
+        } => arithmetic(cpu, space, *operation, *width, to, from),
+        Instr::Test {
+            width,
+            first,
+            second,
+        } => compare(cpu, space, Operation::And, *width, first, second),
+        Instr::Unary {
+            operation,
+            width,
+            to,
+        } => unary(cpu, space, *operation, *width, to),
+        Instr::Shift {
+            direction,
+            width,
+            to,
+            by,
+        } => shift_by_count(cpu, space, *direction, *width, to, *by),
+        Instr::Multiply { .. } | Instr::MultiplyBy { .. } | Instr::Divide { .. } => {
+            multiply_or_divide(cpu, space, instr)
+        }
+        _ => unreachable!(),
+    }
+}

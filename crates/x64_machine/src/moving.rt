@@ -1,0 +1,82 @@
+//! What an instruction does that puts a value into a place (Intel manual, volume 2).
+
+ghost use Rattle.std.specs.Prelude.{◌≡◌};
+ghost use Rattle.x64_instr.specs.Families.{IsMove};
+ghost use Rattle.x64_machine.specs.Effect as spec;
+ghost use Rattle.x64_machine.specs.Effect.{Answers, LeavesMemory};
+
+use crate::control::condition_byte;
+use crate::cpu::Cpu;
+use crate::operands::{operand, read, write};
+use crate::outcome::Stop;
+use seh_num::extension::{sign_extend, wrap, zero_extend};
+use seh_num::width::Width;
+use x64_instr::instruction::{Extension, Instr};
+use x64_instr::register::Reg;
+use x64_memory::space::AddressSpace;
+
+/// Copies of the top bit of RAX.
+fn sign_of_rax(width: Width, cpu: &Cpu) -> u64
+    ensures { result ≡ spec.sign_of_rax width cpu.now }
+{
+    let low = zero_extend(width, cpu.register(Reg::Rax));
+    if u128::from(low) < width.limit() / 2 {
+        0
+    } else {
+        (width.limit() - 1) as u64
+    }
+}
+
+fn widened(extension: Extension, width: Width, narrow: Width, value: u64) -> u64
+    ensures { result ≡ spec.widened extension width narrow value }
+{
+    match extension {
+        Extension::Sign => wrap(width, i128::from(sign_extend(narrow, value))),
+        Extension::Zero => zero_extend(narrow, value),
+    }
+}
+
+/// What an instruction does that puts a value into a place.
+pub(crate) fn move_effect<S: AddressSpace>(
+    mut cpu: Cpu,
+    space: &mut S,
+    instr: &Instr,
+) -> Result<Cpu, Stop>
+    requires { IsMove instr.now }
+    ensures answer { Answers result (spec.effect (spec.state cpu (S.memory space.old)) instr.now) }
+    ensures memory { LeavesMemory (S.memory space.old) (S.memory space.new)
+        (spec.effect (spec.state cpu (S.memory space.old)) instr.now) }
+{
+    match instr {
+        Instr::Move { width, to, from } => {
+            let value = operand(&cpu, space, *width, from)?;
+            write(cpu, space, *width, to, value)
+        }
+        Instr::Extend {
+            extension,
+            width,
+            to,
+            narrow,
+            from,
+        } => {
+            let value = read(&cpu, space, *narrow, from)?;
+            cpu.set_register(*width, *to, widened(*extension, *width, *narrow, value));
+            Ok(cpu)
+        }
+        Instr::LoadAddress { width, to, from } => {
+            let address = cpu.address(from);
+            cpu.set_register(*width, *to, address);
+            Ok(cpu)
+        }
+        Instr::ExtendRax { width } => {
+            let sign = sign_of_rax(*width, &cpu);
+            cpu.set_register(*width, Reg::Rdx, sign);
+            Ok(cpu)
+        }
+        Instr::Set { condition, to } => {
+            let value = condition_byte(cpu.flags, *condition);
+            write(cpu, space, Width::W8, to, value)
+        }
+        _ => unreachable!(),
+    }
+}
