@@ -47,9 +47,9 @@ four_is n lt = omega arith
 pub range_again : (r : RuntimeFunction) (rest : List ℕ) → IsRange r → range_at (range_bytes r ++ rest) 0 ≡ r
 unfolding u32
 range_again r rest is =
-    let begin = four_is r.begin is.0 in
-    let end = four_is r.end is.1 in
-    let info = four_is r.unwind_info is.2 in
+    let begin = four_is r.begin is.begin in
+    let end = four_is r.end is.end in
+    let info = four_is r.unwind_info is.info in
     λ i. record { begin = begin i; end = end i; unwind_info = info i }
 
 after_range : (r : RuntimeFunction) (rest : List ℕ) → drop 12 (range_bytes r ++ rest) ≡ rest
@@ -105,10 +105,10 @@ reads_ranges image rs are aligned size is_there =
 row_again : (r : ScopeRecord) (rest : List ℕ) → IsScopeRecord r → scope_record (scope_record_bytes r ++ rest) ≡ r
 unfolding u32
 row_again r rest is =
-    let begin = four_is r.begin is.0 in
-    let end = four_is r.end is.1 in
-    let handler = four_is r.handler_address is.2 in
-    let jump = four_is r.jump_target is.3 in
+    let begin = four_is r.begin is.begin in
+    let end = four_is r.end is.end in
+    let handler = four_is r.handler_address is.handler in
+    let jump = four_is r.jump_target is.jump in
     λ i. record { begin = begin i; end = end i; handler_address = handler i; jump_target = jump i }
 
 after_row : (r : ScopeRecord) (rest : List ℕ) → drop 16 (scope_record_bytes r ++ rest) ≡ rest

@@ -1,46 +1,47 @@
 -- A function table that is written, read again as a whole.
-use Rattle.std.proofs.Common.{◌≡◌, ℕ, ◌+◌, ◌<◌, ◌≤◌, Bool, true, false, None, Ok, List, [], ◌∷◌, map, Option, refl, sym, ap, ◌∙◌}
-use Rattle.std.specs.Prelude.{nat_le}
+use Rattle.std.proofs.Common.{◌≡◌, ℕ, zero, suc, ◌+◌, ◌<◌, ◌≤◌, Bool, true, false, Ok, List, [], ◌∷◌, length, map, Option, refl, sym, ap, ◌∙◌, arith}
 use Rattle.std.specs.List.{AllByRecursion}
-use Rattle.std.proofs.lemmas.Bool.{lt-ltb, le-leb}
 use Rattle.pe_image.specs.Image.{Image}
+use Rattle.eh_tables.specs.declared.layout.TheConstants.{MOST_PARENTS}
 use Rattle.eh_tables.specs.declared.range.RuntimeFunction.{RuntimeFunction}
 use Rattle.eh_tables.specs.declared.scope.ScopeRecord.{ScopeRecord}
-use Rattle.eh_tables.specs.declared.refusal.TableErr.TheVariants as refusals
-use Rattle.pe_image.specs.Answer.{◌>>=◌, unless, prepend}
+use Rattle.pe_image.specs.Answer.{◌>>=◌, prepend}
 use Rattle.eh_tables.specs.Answer.{Table}
 use Rattle.eh_tables.specs.Infos.{Info, info}
 use Rattle.eh_tables.specs.Tables.{Entry, entry, entries, parents}
-use Rattle.eh_tables.specs.ReadAgain.{WrittenEntry, HasScopes, IsWritten, AreInOrder, as_read, ranges_of, has_c_handler, parent_of, info_written, TableIsReadAgain}
+use Rattle.eh_tables.specs.ReadAgain.{WrittenInfo, WrittenEntry, HasScopes, IsInfoWritten, IsChainedTo, IsWritten, AreInOrder, info_read, as_read, ranges_of, has_c_handler, parent_of, info_written, TableIsReadAgain}
+use Rattle.eh_tables.proofs.Chains.{entry_is}
 use Rattle.eh_tables.proofs.InfosAgain.{reads_info, reads_scopes}
 use Rattle.eh_tables.proofs.TablesAgain.{reads_ranges}
 
 -- by whether there is the C handler
-info_by : (image : Image) (index : ℕ) (w : WrittenEntry) → IsWritten image w → (b : Bool) → has_c_handler image w.info ≡ b → HasScopes image w b
-    → info image index w.range.unwind_info ≡ Ok (info_written w.info b w.scopes)
-info_by image index w h false e has =
-    reads_info image index w.range.unwind_info w.info h.info h.can h.aligned e has.1
-    ∙ ap (λ (rs : List ScopeRecord). Ok (info_written w.info false rs)) (sym has.0)
-info_by image index w h true e has =
-    reads_scopes image index w.range.unwind_info w.info w.scopes h.info h.can has.0 has.1 h.aligned e has.3
-    ∙ ap (λ (t : Table Unit). t >>= λ _. Ok (info_written w.info true w.scopes)) (has.2 index)
+info_by : (image : Image) (index rva : ℕ) (w : WrittenInfo) → IsInfoWritten image rva w → (b : Bool) → has_c_handler image w.info ≡ b → HasScopes image rva w b
+    → info image index rva ≡ Ok (info_written w.info b w.scopes)
+info_by image index rva w h false e has =
+    reads_info image index rva w.info h.info h.can h.aligned e has.stored
+    ∙ ap (λ (rs : List ScopeRecord). Ok (info_written w.info false rs)) (sym has.none)
+info_by image index rva w h true e has =
+    reads_scopes image index rva w.info w.scopes h.info h.can has.records has.count h.aligned e has.stored
+    ∙ ap (λ (t : Table Unit). t >>= λ _. Ok (info_written w.info true w.scopes)) (has.of_code index)
 
-info_again : (image : Image) (index : ℕ) (w : WrittenEntry) → IsWritten image w → info image index w.range.unwind_info ≡ Ok (info_written w.info (has_c_handler image w.info) w.scopes)
-info_again image index w h = info_by image index w h (has_c_handler image w.info) refl h.stored
+info_again : (image : Image) (index rva : ℕ) (w : WrittenInfo) → IsInfoWritten image rva w → info image index rva ≡ Ok (info_read image w)
+info_again image index rva w h = info_by image index rva w h (has_c_handler image w.info) refl h.stored
 
-no_parents : (image : Image) (index : ℕ) (o : Option RuntimeFunction) → o ≡ None → parents 31 image index o ≡ Ok []
-no_parents image index o e = ap (parents 31 image index) e
+-- a chain, info by info
+chain_again : (n : ℕ) (image : Image) (index : ℕ) (named : Option RuntimeFunction) (ws : List WrittenInfo) → IsChainedTo image named ws → length ws ≤ n → parents n image index named ≡ Ok (map (info_read image) ws)
+chain_again zero image index named [] h le = ap (parents zero image index) h
+chain_again (suc n) image index named [] h le = ap (parents (suc n) image index) h
+chain_again zero image index named (w ∷ ws) h le = absurd (omega arith)
+chain_again (suc n) image index named (w ∷ ws) h le =
+    ap (parents (suc n) image index) h.0.is
+    ∙ ap (λ (t : Table Info). t >>= λ i. prepend i (parents n image index i.parent)) (info_again image index h.0.range.unwind_info w h.0.written)
+    ∙ ap (prepend (info_read image w)) (chain_again n image index (parent_of w.info.trailer) ws h.1 (omega arith))
 
 entry_again : (image : Image) (index last : ℕ) (w : WrittenEntry) → IsWritten image w → last ≤ w.range.begin → w.range.begin < w.range.end → entry image index last w.range ≡ Ok (as_read image w)
-unfolding entry
 entry_again image index last w h le lt =
-    let r = w.range in
-    let i = info_written w.info (has_c_handler image w.info) w.scopes in
-    let rest = λ (x : Info). parents 31 image index x.parent >>= λ above. Ok (record { range = r; info = x; parents = above }) in
-    ap (λ (b : Bool). unless b (refusals.EmptyRange index) >>= λ _. unless (nat_le last r.begin) (refusals.Unsorted index) >>= λ _. info image index r.unwind_info >>= rest) (lt-ltb r.begin r.end lt)
-    ∙ ap (λ (b : Bool). unless b (refusals.Unsorted index) >>= λ _. info image index r.unwind_info >>= rest) (le-leb last r.begin le)
-    ∙ ap (λ (t : Table Info). t >>= rest) (info_again image index w h)
-    ∙ ap (λ (t : Table (List Info)). t >>= λ above. Ok (record { range = r; info = i; parents = above })) (no_parents image index (parent_of w.info.trailer) h.alone)
+    entry_is image index last w.range (info_read image w.own) (map (info_read image) w.parents) lt le
+    (info_again image index w.range.unwind_info w.own h.own)
+    (chain_again MOST_PARENTS image index (parent_of w.own.info.trailer) w.parents h.chain h.count)
 
 entries_again : (image : Image) (index last : ℕ) (ws : List WrittenEntry) → AllByRecursion (IsWritten image) ws → AreInOrder last ws → entries image index last (ranges_of ws) ≡ Ok (map (as_read image) ws)
 entries_again image index last [] h o = refl

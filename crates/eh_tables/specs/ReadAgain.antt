@@ -4,6 +4,7 @@ use Rattle.std.specs.List.{AllByRecursion}
 use Rattle.pe_image.specs.Image.{Image, stored}
 use Rattle.eh_tables.specs.declared.code.UnwindOperation.{UnwindOperation}
 use Rattle.eh_tables.specs.declared.code.UnwindOperation.TheVariants.{Push, Allocate, SetFrame, Save, SaveVector, MachineFrame}
+use Rattle.eh_tables.specs.declared.layout.TheConstants.{MOST_PARENTS}
 use Rattle.eh_tables.specs.declared.range.RuntimeFunction.{RuntimeFunction}
 use Rattle.eh_tables.specs.declared.scope.ScopeRecord.{ScopeRecord}
 use Rattle.eh_tables.specs.declared.unwind_info.Trailer.{Trailer}
@@ -30,12 +31,16 @@ IsOperation (Save r n) = n < 2 ^ 32
 IsOperation (SaveVector r n) = n < 2 ^ 32
 IsOperation (MachineFrame i) = Unit {0}
 
-abbrev pub IsRange : RuntimeFunction → Type 0
-IsRange r = (r.begin < 2 ^ 32) × (r.end < 2 ^ 32) × (r.unwind_info < 2 ^ 32)
+pub record IsRange (r : RuntimeFunction) : Type 0 where
+  pub begin : r.begin < 2 ^ 32
+  pub end : r.end < 2 ^ 32
+  pub info : r.unwind_info < 2 ^ 32
 
-abbrev pub IsScopeRecord : ScopeRecord → Type 0
-IsScopeRecord r =
-    (r.begin < 2 ^ 32) × (r.end < 2 ^ 32) × (r.handler_address < 2 ^ 32) × (r.jump_target < 2 ^ 32)
+pub record IsScopeRecord (r : ScopeRecord) : Type 0 where
+  pub begin : r.begin < 2 ^ 32
+  pub end : r.end < 2 ^ 32
+  pub handler : r.handler_address < 2 ^ 32
+  pub jump : r.jump_target < 2 ^ 32
 
 abbrev pub HasTrailer : Trailer → Type 0
 HasTrailer Nothing = Unit {0}
@@ -110,28 +115,59 @@ RangesAreReadAgain =
 
 -- ---- whole function tables
 
--- an entry as it is written: its range, its unwind info, and the records of its scope table
-pub record WrittenEntry : Type 0 where
-  pub range : RuntimeFunction
+-- an unwind info as it is written, and the records of its scope table
+pub record WrittenInfo : Type 0 where
   pub info : UnwindInfo
   pub scopes : List ScopeRecord
 
--- without the C handler there is no scope table; with it the records are of code in the image
-abbrev pub HasScopes : Image → WrittenEntry → Bool → Type 0
-HasScopes image w false =
-    (w.scopes ≡ []) × IsStoredAt image w.range.unwind_info (unwind_bytes w.info)
-HasScopes image w true =
-    AllByRecursion IsScopeRecord w.scopes × (length w.scopes < 2 ^ 32)
-    × ((index : ℕ) → scopes.checked index image.size 0 w.scopes ≡ Ok tt)
-    × IsStoredAt image w.range.unwind_info (unwind_bytes w.info ++ scope_bytes w.scopes)
+-- an entry as it is written: its range, its own unwind info, and those that this is chained to, one
+-- after another
+pub record WrittenEntry : Type 0 where
+  pub range : RuntimeFunction
+  pub own : WrittenInfo
+  pub parents : List WrittenInfo
 
--- the unwind info is stored where the range says, and is chained to no other
-pub record IsWritten (image : Image) (w : WrittenEntry) : Type 0 where
+-- with the C handler: the records are of code in the image, and follow the info
+pub record HasScopeTable (image : Image) (rva : ℕ) (w : WrittenInfo) : Type 0 where
+  pub records : AllByRecursion IsScopeRecord w.scopes
+  pub count : length w.scopes < 2 ^ 32
+  pub of_code : (index : ℕ) → scopes.checked index image.size 0 w.scopes ≡ Ok tt
+  pub stored : IsStoredAt image rva (unwind_bytes w.info ++ scope_bytes w.scopes)
+
+-- without it there is no scope table
+pub record HasNoScopeTable (image : Image) (rva : ℕ) (w : WrittenInfo) : Type 0 where
+  pub none : w.scopes ≡ []
+  pub stored : IsStoredAt image rva (unwind_bytes w.info)
+
+abbrev pub HasScopes : Image → ℕ → WrittenInfo → Bool → Type 0
+HasScopes image rva w false = HasNoScopeTable image rva w
+HasScopes image rva w true = HasScopeTable image rva w
+
+-- the unwind info is stored at an address
+pub record IsInfoWritten (image : Image) (rva : ℕ) (w : WrittenInfo) : Type 0 where
   pub info : IsUnwindInfo w.info
   pub can : CanBeWritten w.info
-  pub aligned : w.range.unwind_info % 4 ≡ 0
-  pub alone : parent_of w.info.trailer ≡ None
-  pub stored : HasScopes image w (has_c_handler image w.info)
+  pub aligned : rva % 4 ≡ 0
+  pub stored : HasScopes image rva w (has_c_handler image w.info)
+
+-- it is stored where the entry says that follows the codes of the info before
+pub record IsParent (image : Image) (named : Option RuntimeFunction) (w : WrittenInfo) : Type 0
+  where
+    pub range : RuntimeFunction
+    pub is : named ≡ Some range
+    pub written : IsInfoWritten image range.unwind_info w
+
+-- each info is chained to the next one, and the last to none
+abbrev pub IsChainedTo : Image → Option RuntimeFunction → List WrittenInfo → Type 0
+IsChainedTo image named [] = named ≡ None
+IsChainedTo image named (w ∷ ws) =
+    IsParent image named w × IsChainedTo image (parent_of w.info.trailer) ws
+
+-- the own unwind info is stored where the range says, and its chain isn't too long
+pub record IsWritten (image : Image) (w : WrittenEntry) : Type 0 where
+  pub own : IsInfoWritten image w.range.unwind_info w.own
+  pub chain : IsChainedTo image (parent_of w.own.info.trailer) w.parents
+  pub count : length w.parents ≤ MOST_PARENTS
 
 -- no range is empty, or begins below the end of the one before
 abbrev pub AreInOrder : ℕ → List WrittenEntry → Type 0
@@ -140,17 +176,20 @@ AreInOrder last (w ∷ ws) =
     (last ≤ w.range.begin) × (w.range.begin < w.range.end) × AreInOrder w.range.end ws
 
 -- what is read of it
+abbrev pub info_read : Image → WrittenInfo → Info
+info_read image w = info_written w.info (has_c_handler image w.info) w.scopes
+
 abbrev pub as_read : Image → WrittenEntry → Entry
 as_read image w = record {
   range = w.range;
-  info = info_written w.info (has_c_handler image w.info) w.scopes;
-  parents = [];
+  info = info_read image w.own;
+  parents = map (info_read image) w.parents;
 }
 
 abbrev pub ranges_of : List WrittenEntry → List RuntimeFunction
 ranges_of ws = map (λ w. w.range) ws
 
--- a whole function table, wherever it and its unwind infos are stored
+-- a whole function table, wherever it, its unwind infos and those of their chains are stored
 abbrev pub TableIsReadAgain : Type 0
 TableIsReadAgain =
     (image : Image) (ws : List WrittenEntry) → AllByRecursion IsRange (ranges_of ws)

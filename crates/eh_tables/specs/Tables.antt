@@ -4,6 +4,7 @@ use Rattle.std.specs.Result.{result_ok}
 use Rattle.arrayvec.specs.ArrayVec.{ArrayVec}
 use Rattle.pe_image.specs.declared.directory.DataDirectory.{DataDirectory}
 use Rattle.pe_image.specs.Image.{Image, stored}
+use Rattle.eh_tables.specs.declared.layout.TheConstants.{MOST_PARENTS, RUNTIME_FUNCTION_SIZE}
 use Rattle.eh_tables.specs.declared.range.RuntimeFunction.{RuntimeFunction}
 use Rattle.eh_tables.specs.declared.refusal.TableErr.{TableErr}
 use Rattle.eh_tables.specs.declared.refusal.TableErr.TheVariants as refusals
@@ -33,24 +34,24 @@ abbrev pub listed : {A : Type 0} → Result (ArrayVec A) TableErr → Table (Lis
 listed (Ok v) = Ok v.items
 listed (Err e) = Err e
 
--- after an entry that ends there; with its own info a chain has at most 32
+-- after an entry that ends there
 unfoldable pub entry : Image → ℕ → ℕ → RuntimeFunction → Table Entry
 entry image index last r = do
   _ ← unless (nat_lt r.begin r.end) (refusals.EmptyRange index)
   _ ← unless (nat_le last r.begin) (refusals.Unsorted index)
   i ← info image index r.unwind_info
-  above ← parents 31 image index i.parent
+  above ← parents MOST_PARENTS image index i.parent
   Ok (record { range = r; info = i; parents = above })
 
 -- ---- the directory
 
--- so many entries, of 12 bytes each
+-- so many entries
 abbrev pub ranges : ℕ → List ℕ → List RuntimeFunction
 ranges zero bytes = []
-ranges (suc n) bytes = range_at bytes 0 ∷ ranges n (drop 12 bytes)
+ranges (suc n) bytes = range_at bytes 0 ∷ ranges n (drop RUNTIME_FUNCTION_SIZE bytes)
 
 abbrev pub ranges_in : List ℕ → List RuntimeFunction
-ranges_in bytes = ranges (length bytes / 12) bytes
+ranges_in bytes = ranges (length bytes / RUNTIME_FUNCTION_SIZE) bytes
 
 -- a directory of size 0 is none
 abbrev pub unless_none : Table (List RuntimeFunction) → Bool → Table (List RuntimeFunction)
@@ -61,7 +62,7 @@ abbrev pub stored_ranges : Image → DataDirectory → Table (List RuntimeFuncti
 stored_ranges image d = do
   _ ← unless (d.rva % 4 == 0) (refusals.Misaligned d.rva)
   bytes ← or_refused (stored image.sections d.rva d.size) (refusals.Truncated d.rva)
-  _ ← unless (d.size % 12 == 0) (refusals.Truncated d.rva)
+  _ ← unless (d.size % RUNTIME_FUNCTION_SIZE == 0) (refusals.Truncated d.rva)
   Ok (ranges_in bytes)
 
 unfoldable pub directory : Image → Table (List RuntimeFunction)

@@ -25,6 +25,8 @@ pub enum UnwindOperation {
 /// prologue.
 #[derive(Clone, Copy, Debug, Default, PartialEq, Eq)]
 pub struct UnwindCode {
+    /// The offset of the instruction's end, in bytes.
     pub offset: u8,
+    /// What the instruction did.
     pub operation: UnwindOperation,
 }

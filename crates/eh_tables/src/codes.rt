@@ -5,12 +5,12 @@ ghost use Rattle.eh_tables.specs.declared.code.UnwindOperation.TheVariants.{Allo
 ghost use Rattle.eh_tables.specs.Codes as spec;
 
 use crate::code::{UnwindCode, UnwindOperation};
-use crate::fields::u32_at;
 use crate::layout::{
     UWOP_ALLOC_LARGE, UWOP_ALLOC_SMALL, UWOP_PUSH_MACHFRAME, UWOP_PUSH_NONVOL, UWOP_SAVE_NONVOL,
     UWOP_SAVE_NONVOL_FAR, UWOP_SAVE_XMM128, UWOP_SAVE_XMM128_FAR, UWOP_SET_FPREG,
 };
 use crate::refusal::TableErr;
+use pe_image::fields::u32_at;
 use std::marker::Model;
 
 /// The codes of an unwind info, in their order, which is from the prologue's end to its begin. A

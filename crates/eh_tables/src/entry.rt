@@ -6,6 +6,7 @@ ghost use Rattle.eh_tables.specs.Tables as spec;
 
 use crate::codes::Codes;
 use crate::info::{Info, read_info};
+use crate::layout::MOST_PARENTS;
 use crate::range::RuntimeFunction;
 use crate::refusal::TableErr;
 use crate::scope::Scopes;
@@ -18,7 +19,7 @@ use std::marker::Model;
 pub struct Entry<'a> {
     range: RuntimeFunction,
     info: Info<'a>,
-    parents: ArrayVec<Info<'a>, 31>,
+    parents: ArrayVec<Info<'a>, MOST_PARENTS>,
 }
 
 impl<'a> Model for Entry<'a> {
@@ -71,8 +72,8 @@ fn read_parents<'a>(
     image: &ImageView<'a>,
     index: u64,
     first: Option<RuntimeFunction>,
-) -> Result<ArrayVec<Info<'a>, 31>, TableErr>
-    ensures { spec.listed result ≡ spec.parents 31 image.now index first }
+) -> Result<ArrayVec<Info<'a>, MOST_PARENTS>, TableErr>
+    ensures { spec.listed result ≡ spec.parents MOST_PARENTS image.now index first }
 {
     let mut parents = ArrayVec::new();
     let mut parent = first;

@@ -3,9 +3,10 @@
 ghost use Rattle.std.specs.Prelude.{◌≡◌, ◌≤◌, ◌+◌, ◌<◌, ◌^◌, length};
 ghost use Rattle.eh_tables.specs.Handler as spec;
 
-use crate::fields::u32_at;
+use crate::layout::{DISPLACEMENT, JUMP_SIZE, MODRM_JUMP_BY_RIP, OPCODE_GROUP_5, REX};
 use host_layout::name::C_SPECIFIC_HANDLER;
 use pe_image::ImageView;
+use pe_image::fields::u32_at;
 
 /// A number of 32 bits, extended by its sign to 64.
 fn extended(d: u32) -> u64
@@ -20,14 +21,14 @@ fn extended(d: u32) -> u64
 
 /// The slot that a jump without a prefix reads.
 fn plain_slot(rva: u64, bytes: &[u8]) -> Option<u64>
-    requires rva { rva + 6 < 2 ^ 64 }
-    requires whole { 6 ≤ length bytes.now }
+    requires rva { rva + JUMP_SIZE < 2 ^ 64 }
+    requires whole { JUMP_SIZE ≤ length bytes.now }
     ensures { result ≡ spec.plain_slot rva bytes.now }
 {
-    if bytes[0] != 0xFF || bytes[1] != 0x25 {
+    if bytes[0] != OPCODE_GROUP_5 || bytes[1] != MODRM_JUMP_BY_RIP {
         return None;
     }
-    Some((rva + 6).wrapping_add(extended(u32_at(bytes, 2))))
+    Some((rva + JUMP_SIZE).wrapping_add(extended(u32_at(bytes, DISPLACEMENT))))
 }
 
 /// The slot that a jump `jmp [rip + d]`, with or without a REX prefix, reads.
@@ -35,9 +36,9 @@ fn jump_slot(image: &ImageView<'_>, rva: u32) -> Option<u64>
     ensures { result ≡ spec.jump_slot image.now rva }
 {
     let rva = rva as u64;
-    let bytes = image.bytes(rva, 6)?;
-    if bytes[0] / 16 == 4 {
-        let all = image.bytes(rva, 7)?;
+    let bytes = image.bytes(rva, JUMP_SIZE)?;
+    if bytes[0] / 16 == REX {
+        let all = image.bytes(rva, 1 + JUMP_SIZE)?;
         plain_slot(rva + 1, &all[1..])
     } else {
         plain_slot(rva, bytes)

@@ -5,7 +5,6 @@ ghost use Rattle.eh_tables.specs.declared.layout.TheConstants.{UNW_FLAG_CHAININF
 ghost use Rattle.eh_tables.specs.Infos as spec;
 
 use crate::codes::{Codes, check_codes};
-use crate::fields::u32_at;
 use crate::handler::is_c_handler;
 use crate::layout::{
     COUNT_OF_CODES, FRAME_REGISTER_AND_OFFSET, HANDLER_SIZE, RUNTIME_FUNCTION_SIZE, SIZE_OF_PROLOG,
@@ -15,6 +14,7 @@ use crate::range::{RuntimeFunction, read_range};
 use crate::refusal::TableErr;
 use crate::scope::{Scopes, check_scope_records};
 use pe_image::ImageView;
+use pe_image::fields::u32_at;
 use std::marker::Model;
 
 /// An unwind info, UNWIND_INFO, in an image.

@@ -3,8 +3,8 @@
 ghost use Rattle.eh_tables.specs.ReadAgain.{InfoIsReadAgain, ScopeRecordsAreReadAgain, RangesAreReadAgain, TableIsReadAgain};
 
 /// What `write_unwind`, `write_scopes` and `write_pdata` append is read again as the same values,
-/// wherever it is stored in an image, and a function table whose unwind infos were written so as
-/// the same whole table.
+/// wherever it is stored in an image, and a function table whose unwind infos were written so, and
+/// those that they are chained to, as the same whole table.
 pub fn read_again()
     ensures infos { InfoIsReadAgain }
     ensures scopes { ScopeRecordsAreReadAgain }

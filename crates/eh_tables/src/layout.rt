@@ -59,3 +59,23 @@ pub const UWOP_SAVE_XMM128: u8 = 8;
 pub const UWOP_SAVE_XMM128_FAR: u8 = 9;
 
 pub const UWOP_PUSH_MACHFRAME: u8 = 10;
+
+/// So many unwind infos can be chained to one (own): with it there are 32.
+pub const MOST_PARENTS: usize = 31;
+
+/// The opcode of Intel's group 5 (Intel manual, volume 2, "Opcode Extensions for One- and Two-byte
+/// Opcodes by Group Number").
+pub const OPCODE_GROUP_5: u8 = 0xFF;
+
+/// The ModRM byte of `jmp [rip + d]` in that group: mod 0, the extension 4 in the reg field, and
+/// the r/m field 5, after which comes the displacement from the next instruction.
+pub const MODRM_JUMP_BY_RIP: u8 = 8 * 4 + 5;
+
+/// Where the displacement of that jump is, after opcode and ModRM byte.
+pub const DISPLACEMENT: usize = 2;
+
+/// The size of that jump, without a prefix.
+pub const JUMP_SIZE: u64 = 6;
+
+/// The high four bits of a REX prefix (Intel manual, volume 2, "REX Prefixes").
+pub const REX: u8 = 4;

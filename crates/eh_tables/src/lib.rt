@@ -11,7 +11,6 @@ mod code;
 mod codes;
 mod counted_ranges;
 mod entry;
-mod fields;
 mod handler;
 mod info;
 mod laws;

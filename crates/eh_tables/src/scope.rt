@@ -3,19 +3,22 @@
 ghost use Rattle.std.specs.Prelude.{◌≡◌, ◌≤◌, ◌+◌, ◌/◌, ◌<◌, ◌^◌, length};
 ghost use Rattle.eh_tables.specs.Scopes as spec;
 
-use crate::fields::u32_at;
 use crate::refusal::TableErr;
+use pe_image::fields::u32_at;
 use std::marker::Model;
 
-/// A record of a scope table: a `__try` whose body is the code from `begin` to before `end`. A
-/// `jump_target` of 0 means a `__finally`, whose block is at `handler`; else its `__except` block
-/// is at `jump`, and its filter at `handler`, where 1 means a filter that always accepts. All
+/// A record of a scope table: a `__try` whose body is the code from `begin` to before `end`. All
 /// addresses are relative to the image base.
 #[derive(Clone, Copy, Debug, PartialEq, Eq)]
 pub struct ScopeRecord {
+    /// The first byte of the body.
     pub begin: u32,
+    /// The byte after the body.
     pub end: u32,
+    /// The `__finally` block, where the jump target is 0; else the filter, where 1 means one that
+    /// always accepts.
     pub handler_address: u32,
+    /// The `__except` block, or 0.
     pub jump_target: u32,
 }
 

@@ -12,8 +12,11 @@ pub enum Trailer {
     /// The address of a handler, which is asked in a search for a handler (UNW_FLAG_EHANDLER),
     /// while unwinding (UNW_FLAG_UHANDLER), or in both. Its data follow, as a scope table.
     Handler {
+        /// Whether it is asked in a search.
         searching: bool,
+        /// Whether it is asked while unwinding.
         unwinding: bool,
+        /// Its address, relative to the image base.
         rva: u32,
     },
     /// The entry that it is chained to (UNW_FLAG_CHAININFO).
@@ -31,5 +34,6 @@ pub struct UnwindInfo {
     pub frame_offset: u8,
     /// The codes, from the prologue's end to its begin.
     pub codes: ArrayVec<UnwindCode, 255>,
+    /// What follows them.
     pub trailer: Trailer,
 }

@@ -16,6 +16,7 @@ use crate::range::RuntimeFunction;
 use crate::scope::ScopeRecord;
 use crate::unwind_info::{Trailer, UnwindInfo};
 use arrayvec::ArrayVec;
+use pe_image::fields::{u16_bytes, u32_bytes};
 use std::alloc::AllocError;
 
 /// The bytes of a code, and of an unwind info up to its end.
@@ -34,21 +35,14 @@ fn put_slot(out: &mut CodeBytes, offset: u8, op: u8, info: u8)
     out.push(op + 16 * info);
 }
 
-#[tactic(auto, unfolding(pe_image::specs::Numbers::u16))]
-fn put_u16(out: &mut CodeBytes, value: u16)
-    requires { array_vec_len out.old ≡ 2 }
-    ensures { out.new.items ≡ out.old.items ++ spec.u16 value }
+/// What follows the first slot.
+fn put_operand(out: &mut CodeBytes, operand: &[u8])
+    requires first { array_vec_len out.old ≡ 2 }
+    requires fits { length operand.now ≤ 4 }
+    ensures { out.new.items ≡ out.old.items ++ operand.now }
 {
     // There is room, so that it can't be refused.
-    let _ = out.try_extend_from_slice(&value.to_le_bytes());
-}
-
-#[tactic(auto, unfolding(pe_image::specs::Numbers::u32))]
-fn put_u32(out: &mut CodeBytes, value: u32)
-    requires { array_vec_len out.old ≡ 2 }
-    ensures { out.new.items ≡ out.old.items ++ spec.u32 value }
-{
-    let _ = out.try_extend_from_slice(&value.to_le_bytes());
+    let _ = out.try_extend_from_slice(operand);
 }
 
 fn is_short(unit: u32, n: u32) -> bool
@@ -66,10 +60,10 @@ fn allocation(offset: u8, size: u32) -> CodeBytes
         put_slot(&mut out, offset, UWOP_ALLOC_SMALL, (size / 8 - 1) as u8);
     } else if is_short(8, size) {
         put_slot(&mut out, offset, UWOP_ALLOC_LARGE, 0);
-        put_u16(&mut out, (size / 8) as u16);
+        put_operand(&mut out, &u16_bytes((size / 8) as u16));
     } else {
         put_slot(&mut out, offset, UWOP_ALLOC_LARGE, 1);
-        put_u32(&mut out, size);
+        put_operand(&mut out, &u32_bytes(size));
     }
     out
 }
@@ -85,10 +79,10 @@ fn saving(offset: u8, op: u8, far: u8, unit: u32, register: u8, at: u32) -> Code
     let mut out = CodeBytes::new();
     if is_short(unit, at) {
         put_slot(&mut out, offset, op, register);
-        put_u16(&mut out, (at / unit) as u16);
+        put_operand(&mut out, &u16_bytes((at / unit) as u16));
     } else {
         put_slot(&mut out, offset, far, register);
-        put_u32(&mut out, at);
+        put_operand(&mut out, &u32_bytes(at));
     }
     out
 }
@@ -142,13 +136,12 @@ fn code_bytes(framed: bool, code: &UnwindCode) -> CodeBytes
 /// The bytes of a row of a table.
 type FieldBytes = ArrayVec<u8, 16>;
 
-#[tactic(auto, unfolding(pe_image::specs::Numbers::u32))]
 fn put_field(out: &mut FieldBytes, value: u32)
     requires { array_vec_len out.old + 4 ≤ 16 }
     ensures items { out.new.items ≡ out.old.items ++ spec.u32 value }
     ensures len { array_vec_len out.new ≡ array_vec_len out.old + 4 }
 {
-    let _ = out.try_extend_from_slice(&value.to_le_bytes());
+    let _ = out.try_extend_from_slice(&u32_bytes(value));
 }
 
 fn range_bytes(range: &RuntimeFunction) -> FieldBytes

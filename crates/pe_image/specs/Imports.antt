@@ -1,7 +1,7 @@
 -- What an image imports (PE format, "The .idata Section"): its libraries in their order, and the
 -- names of each in theirs. Each definition answers what it reads, or refuses the import at which it
 -- can't continue, by its index over all libraries.
-use Rattle.std.specs.Prelude.{ℕ, zero, suc, ◌+◌, ◌^◌, Bool, true, false, ◌&&◌, ◌==◌, nat_lt, nat_le, List, [], length, take, drop, position, option_map, option_and_then, Option, Some, None, Result, Ok, Err}
+use Rattle.std.specs.Prelude.{ℕ, zero, suc, ◌+◌, Bool, true, false, ◌&&◌, ◌==◌, nat_lt, nat_le, List, [], length, take, drop, position, option_map, option_and_then, Option, Some, None, Result, Ok, Err}
 use Rattle.byteorder.specs.Endian.{little_number}
 use Rattle.pe_image.specs.declared.layout.TheConstants.{DESCRIPTOR_SIZE, IMPORT_LOOKUP_TABLE, TIME_DATE_STAMP, FORWARDER_CHAIN, LIBRARY_NAME, IMPORT_ADDRESS_TABLE, LOOKUP_ENTRY_SIZE, IMAGE_ORDINAL_FLAG64, HINT_SIZE, ADDRESS_COUNT}
 use Rattle.pe_image.specs.declared.directory.DataDirectory.{DataDirectory}

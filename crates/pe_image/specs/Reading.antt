@@ -1,5 +1,5 @@
 -- How an image is read: fields by their places in the PE format, and the checks in their order.
-use Rattle.std.specs.Prelude.{◌≡◌, ℕ, zero, suc, ◌+◌, ◌*◌, ◌/◌, ◌%◌, ◌≤◌, Bool, ◌&&◌, ◌||◌, ◌==◌, nat_lt, nat_le, if◌then◌else◌, List, [], ◌∷◌, length, take, drop, map, min, Result, Ok, Err}
+use Rattle.std.specs.Prelude.{◌≡◌, ℕ, zero, suc, ◌+◌, ◌*◌, ◌%◌, ◌≤◌, Bool, ◌&&◌, ◌||◌, ◌==◌, nat_lt, nat_le, if◌then◌else◌, List, [], ◌∷◌, length, take, drop, map, min, Result, Ok, Err}
 use Rattle.host_layout.specs.declared.range.TheConstants.{PAGE}
 use Rattle.host_layout.specs.Ranges.{pages}
 use Rattle.pe_image.specs.declared.directory.DataDirectory.{DataDirectory}

@@ -1,9 +1,8 @@
 -- The one form in which an image is written, piece by piece.
-use Rattle.std.specs.Prelude.{◌≡◌, ℕ, ◌+◌, ◌-◌, ◌*◌, ◌/◌, ◌^◌, ◌<◌, ◌≤◌, bit_and, Bool, true, false, not, ◌==◌, List, [], ◌∷◌, ◌++◌, length, take, replicate, sum_by, filter, Ok}
+use Rattle.std.specs.Prelude.{◌≡◌, ℕ, ◌+◌, ◌-◌, ◌*◌, ◌/◌, ◌^◌, ◌<◌, ◌≤◌, bit_and, Bool, true, false, not, ◌==◌, List, [], ◌∷◌, ◌++◌, length, take, sum_by, filter, Ok}
 use Rattle.std.specs.List.{flat_map, AllByRecursion}
 use Rattle.host_layout.specs.declared.range.TheConstants.{IMAGE_BASE, PAGE}
 pub use Rattle.pe_image.specs.Numbers.{u16, u32, u64, zeros}
-use Rattle.byteorder.specs.Endian.{little_bytes}
 pub use Rattle.host_layout.specs.Ranges.{pages}
 use Rattle.pe_image.specs.declared.layout.TheConstants.{DIRECTORY_SIZE, DOS_HEADER_SIZE, IMAGE_DIRECTORY_ENTRY_EXCEPTION, IMAGE_DIRECTORY_ENTRY_IMPORT, IMAGE_DOS_SIGNATURE, IMAGE_FILE_MACHINE_AMD64, IMAGE_NT_OPTIONAL_HDR64_MAGIC, IMAGE_NT_SIGNATURE, IMAGE_NUMBEROF_DIRECTORY_ENTRIES, SECTION_HEADER_SIZE}
 use Rattle.pe_write.specs.declared.header.TheConstants.{DOS_FIELDS_SIZE, FILE_ALIGNMENT, IMAGE_DIRECTORY_ENTRY_IAT, IMAGE_FILE_EXECUTABLE_IMAGE, IMAGE_FILE_LARGE_ADDRESS_AWARE, IMAGE_FILE_RELOCS_STRIPPED, IMAGE_SCN_CNT_CODE, IMAGE_SUBSYSTEM_WINDOWS_CUI, MOST_SECTIONS, OPTIONAL_HEADER_SIZE, RELOCATION_FIELDS_SIZE, SECTION_TABLE_SIZE, SIZE_OF_HEADERS, STACK_FIELDS_SIZE, SYMBOL_FIELDS_SIZE, VERSION_FIELDS_SIZE}

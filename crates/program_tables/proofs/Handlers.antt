@@ -1,5 +1,5 @@
 -- The thunk of `__C_specific_handler` is read as the C handler.
-use Rattle.std.proofs.Common.{◌≡◌, ◌≢◌, ℕ, ◌+◌, ◌-◌, ◌*◌, ◌/◌, ◌%◌, ◌^◌, ◌<◌, ◌≤◌, Bool, true, false, cond, eqb, ltb, List, [], ◌∷◌, ◌++◌, length, Option, Some, None, refl, sym, ap, ◌∙◌, arith}
+use Rattle.std.proofs.Common.{◌≡◌, ℕ, ◌+◌, ◌-◌, ◌%◌, ◌^◌, ◌<◌, ◌≤◌, Bool, true, false, cond, eqb, List, ◌∷◌, Option, Some, refl, ap, ◌∙◌, arith}
 use Rattle.std.specs.Prelude.{option_and_then}
 use Rattle.std.specs.Option.{option_map_or}
 use Rattle.std.proofs.lemmas.Bool.{eq-eqb, ne_eqb, lt-ltb}
@@ -9,12 +9,14 @@ use Rattle.pe_image.specs.Field.{field}
 use Rattle.pe_image.specs.Image.{Image, stored}
 use Rattle.pe_image.specs.Imports.{Import, imports_of}
 use Rattle.pe_image.specs.Bound.{bound_name}
-use Rattle.eh_tables.specs.Handler.{extended, slot_if, plain_slot, after_rex, has_rex, jump_slot, is_c_name, is_c_handler}
+use Rattle.eh_tables.specs.declared.layout.TheConstants.{JUMP_SIZE}
+use Rattle.eh_tables.specs.Handler.{extended, plain_slot, after_rex, has_rex, jump_slot, is_c_name, is_c_handler}
 use Rattle.pe_write.specs.ImportTables.{slots_at, services, name_of, imported}
 use Rattle.host_layout.specs.declared.imported.ImportedService.TheVariants.{CSpecificHandler}
 use Rattle.x64_encode.specs.Chosen.{chosen, modrm, little}
 use Rattle.template_code.specs.Bytes.{thunk}
 use Rattle.template_code.specs.Jumps.{distance}
+use Rattle.program_tables.specs.Laws.{JumpsAreSpelled}
 
 -- ---- the jump
 
@@ -27,6 +29,15 @@ thunk_bytes d = refl
 
 displaced : (d : ℕ) → d < 2 ^ 31 → field 4 (jump_bytes d) 2 ≡ d
 displaced d lt = let z : field 4 (jump_bytes d) 2 ≡ d = omega arith in z
+
+displacement : (d : ℕ) → field 4 (jump_bytes d) 2 ≡ low W32 d
+displacement d = omega arith
+
+pub jumps_are_spelled : JumpsAreSpelled
+jumps_are_spelled rva d fits =
+    ap (plain_slot rva) (thunk_bytes d)
+    ∙ ap (λ (n : ℕ). Some ((rva + JUMP_SIZE + extended n) % 2 ^ 64)) (displacement d)
+    ∙ ap (λ (n : ℕ). Some ((rva + JUMP_SIZE + n) % 2 ^ 64)) fits
 
 extended_is : (d : ℕ) → d < 2 ^ 31 → extended d ≡ d
 extended_is d lt = ap (λ (b : Bool). cond b d (d + (2 ^ 64 - 2 ^ 32))) (lt-ltb d (2 ^ 31) lt)

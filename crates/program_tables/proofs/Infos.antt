@@ -1,9 +1,8 @@
 -- The unwind infos of routines can be written and are aligned.
-use Rattle.std.proofs.Common.{◌≡◌, ℕ, suc, ◌+◌, ◌-◌, ◌*◌, ◌/◌, ◌%◌, ◌^◌, ◌<◌, ◌≤◌, Bool, true, false, not, List, [], ◌∷◌, ◌++◌, length, Option, Some, None, refl, sym, ap, ◌∙◌, arith, inl, inr, length-append}
+use Rattle.std.proofs.Common.{◌≡◌, ℕ, ◌+◌, ◌-◌, ◌*◌, ◌/◌, ◌%◌, ◌^◌, ◌<◌, ◌≤◌, Bool, true, false, not, List, [], ◌∷◌, ◌++◌, length, Option, Some, None, refl, arith, inl, inr, length-append}
 use Rattle.std.specs.Prelude.{◌||◌, if◌then◌else◌}
 use Rattle.std.specs.List.{flat_map}
 use Rattle.std.proofs.lemmas.Bool.{cases_lt}
-use Rattle.std.proofs.lemmas.List.{length-map}
 use Rattle.pe_image.specs.Image.{Image}
 use Rattle.eh_tables.specs.declared.scope.ScopeRecord.{ScopeRecord}
 use Rattle.eh_tables.specs.declared.unwind_info.Trailer.{Trailer}
@@ -11,14 +10,14 @@ use Rattle.eh_tables.specs.declared.unwind_info.Trailer.TheVariants.{Nothing}
 use Rattle.eh_tables.specs.Handler.{is_c_handler}
 use Rattle.eh_tables.specs.ReadAgain.{IsUnwindInfo, HasTrailer, has_c_handler, parent_of}
 use Rattle.pe_image.specs.Numbers.{u16, u32}
-use Rattle.eh_tables.specs.Written.{bit, slot, is_small, is_short, allocation, header, padded, unwind_bytes, trailer_bytes, trailer_flags, scope_record_bytes, scope_bytes, CanBeWritten, IsTrailer}
+use Rattle.eh_tables.specs.Written.{bit, slot, is_small, is_short, allocation, header, padded, unwind_bytes, trailer_bytes, scope_record_bytes, CanBeWritten, IsTrailer}
 use Rattle.linear_code.specs.declared.program.Region.{Region}
 use Rattle.frame_layout.specs.declared.frame.Frame.{Frame}
 use Rattle.frame_layout.specs.Layout.{info_of, taking_size}
 use Rattle.frame_layout.proofs.Sizes.{takes_four, takes_seven, takes_thirteen, can_be_written}
 use Rattle.host_layout.specs.declared.imported.ImportedService.TheVariants.{CSpecificHandler}
 use Rattle.program_link.specs.Routines.{RoutineView}
-use Rattle.program_link.specs.Text.{SiteView, routine_size, own_addresses, thunk_at}
+use Rattle.program_link.specs.Text.{SiteView, own_addresses, thunk_at}
 use Rattle.program_link.specs.Tables.{is_finally, has_except, has_finally, trailer, scope_records, scope_table, info_if, info_bytes}
 use Rattle.program_tables.specs.Entries.{has_rows}
 

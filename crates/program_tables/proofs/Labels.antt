@@ -1,8 +1,6 @@
 -- Where the instructions of a body begin: each takes some bytes.
-use Rattle.std.proofs.Common.{◌≡◌, ℕ, zero, suc, ◌+◌, ◌-◌, ◌<◌, ◌≤◌, List, [], ◌∷◌, ◌++◌, length, get_or, drop, Option, Some, None, refl, sym, ap, ◌∙◌, arith}
-use Rattle.seh_num.specs.declared.width.Width.TheVariants.{W64}
-use Rattle.x64_instr.specs.declared.register.Reg.TheVariants.{Rax, Rcx, Rdx, Rsp}
-use Rattle.x64_instr.specs.declared.instruction.Instr.{Instr}
+use Rattle.std.proofs.Common.{ℕ, zero, suc, ◌+◌, ◌<◌, ◌≤◌, List, [], ◌∷◌, ◌++◌, length, Option, Some, None, arith}
+use Rattle.x64_instr.specs.declared.register.Reg.TheVariants.{Rax, Rcx, Rsp}
 use Rattle.x64_encode.specs.Chosen.{modrm, opcode_register}
 use Rattle.linear_code.specs.declared.slot.Slot.{Slot}
 use Rattle.linear_code.specs.declared.slot.Slot.TheVariants.{Local, Temporary}
@@ -10,12 +8,12 @@ use Rattle.linear_code.specs.declared.instruction.Instruction.{Instruction}
 use Rattle.linear_code.specs.declared.instruction.Instruction.TheVariants as instructions
 use Rattle.template_code.specs.declared.layout.Layout.{Layout}
 use Rattle.template_code.specs.Bytes.{size, sizes}
-use Rattle.template_code.specs.Operations.{before, work}
+use Rattle.template_code.specs.Operations.{before}
 use Rattle.template_code.specs.Slots.{fetched, put_back, temporary_at, local_at, fetch_local, keep_local, fetch, keep, operands_code, finish_code}
 use Rattle.template_code.specs.Jumps.{compare_zero, jump_equal, test_code, separator_code}
-use Rattle.template_code.specs.Calls.{arguments_code, clear_result, call_code, begin_call, passing_code, finally_arguments, epilogue}
+use Rattle.template_code.specs.Calls.{clear_result, finally_arguments, epilogue}
 use Rattle.template_code.specs.Template.{template_size, body_size}
-use Rattle.template_code.proofs.Sizes.{sizes_append, call_size, jump_size, passing_call_size, address_size}
+use Rattle.template_code.proofs.Sizes.{sizes_append, call_size, jump_size, passing_call_size}
 use Rattle.x64_code.specs.Bodies.{label_list}
 use Rattle.x64_code.specs.Linking.{address_or}
 

@@ -1,18 +1,17 @@
 -- Which entry covers an address.
-use Rattle.std.proofs.Common.{◌≡◌, ℕ, zero, suc, ◌+◌, ◌-◌, ◌<◌, ◌≤◌, Bool, true, false, ltb, leb, List, [], ◌∷◌, ◌++◌, length, Option, Some, None, refl, sym, ap, subst, ◌∙◌, arith}
-use Rattle.std.specs.Prelude.{slice_get, ◌&&◌}
+use Rattle.std.proofs.Common.{◌≡◌, ℕ, zero, suc, ◌+◌, ◌-◌, ◌<◌, ◌≤◌, Bool, true, false, ltb, leb, List, [], ◌∷◌, ◌++◌, length, Option, Some, None, refl, ap, subst, ◌∙◌, arith}
+use Rattle.std.specs.Prelude.{slice_get}
 use Rattle.std.specs.List.{AllByRecursion}
 use Rattle.std.proofs.lemmas.Bool.{and_from, and_left, and_right, lt-ltb, le-leb, lt-leb, le-ltb, false≢true}
-use Rattle.eh_tables.specs.Tables.{Entry, covers_address, entry_or, holding}
+use Rattle.eh_tables.specs.Tables.{Entry, entry_or, holding}
 use Rattle.frame_layout.specs.declared.frame.Frame.{Frame}
 use Rattle.program_link.specs.Routines.{RoutineView}
 use Rattle.program_link.specs.Text.{SiteView, routine_size}
 use Rattle.program_link.specs.Tables.{info_bytes}
 use Rattle.program_link.specs.Linked.{first}
-use Rattle.linear_code.specs.Program.{LinearProgram}
 use Rattle.program_link.specs.Routines.{routines}
-use Rattle.program_tables.specs.Placed.{Placed, end_of, placed_from, site_of, infos_begin, placed}
-use Rattle.program_tables.specs.Entries.{entry_of, entry_if, entries_of, entries}
+use Rattle.program_tables.specs.Placed.{Placed, end_of, placed_from, site_of, infos_begin}
+use Rattle.program_tables.specs.Entries.{entry_of, entry_if, entries_of}
 use Rattle.program_tables.specs.Laws.{EntriesAreHeld, LeavesAreHeldByNone, ThunksAreHeldByNone}
 
 abbrev or_else : {A : Type 0} → A → Option A → A

@@ -1,5 +1,5 @@
 -- How many bytes of a routine come before its body.
-use Rattle.std.proofs.Common.{◌≡◌, ℕ, ◌+◌, ◌^◌, ◌<◌, ◌≤◌, Bool, true, false, leb, List, [], ◌∷◌, ◌++◌, length, Option, Some, None, refl, sym, ap, ◌∙◌, arith}
+use Rattle.std.proofs.Common.{◌≡◌, ℕ, ◌+◌, ◌<◌, ◌≤◌, Bool, true, false, leb, List, [], ◌∷◌, length, Option, Some, refl, sym, ap, ◌∙◌, arith}
 use Rattle.x64_instr.specs.declared.instruction.Instr.{Instr}
 use Rattle.x64_encode.specs.Chosen.{chosen}
 use Rattle.frame_rules.specs.Prologue.{bytes}
@@ -11,10 +11,9 @@ use Rattle.frame_layout.proofs.Sizes.{code_is}
 use Rattle.template_code.specs.Bytes.{size, sizes}
 use Rattle.template_code.proofs.Sizes.{sizes_append}
 use Rattle.program_link.specs.Routines.{RoutineView}
-use Rattle.program_link.specs.Near.{IsFrameNear, IsRoutineNear}
-use Rattle.program_link.specs.Text.{frame_code, argument_code, entry_code, entry_size}
+use Rattle.program_link.specs.Near.{IsRoutineNear}
+use Rattle.program_link.specs.Text.{frame_code, argument_code, entry_size}
 use Rattle.program_link.proofs.Entries.{entry_sizes}
-use Rattle.program_tables.proofs.Infos.{taking_few}
 
 -- the sizes of fetched instructions
 pub bytes_sizes : (is : List Instr) → bytes (spelled_by spell is) ≡ sizes is

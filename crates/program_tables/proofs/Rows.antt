@@ -1,5 +1,5 @@
 -- The scope records of a routine are of code in the image.
-use Rattle.std.proofs.Common.{◌≡◌, ℕ, zero, suc, ◌+◌, ◌^◌, ◌<◌, ◌≤◌, Bool, true, ltb, List, [], ◌∷◌, length, get_or, map, Ok, refl, ap, ◌∙◌, arith}
+use Rattle.std.proofs.Common.{◌≡◌, ℕ, zero, suc, ◌+◌, ◌^◌, ◌<◌, ◌≤◌, Bool, true, List, [], ◌∷◌, length, get_or, Ok, refl, ap, ◌∙◌, arith}
 use Rattle.std.specs.List.{AllByRecursion}
 use Rattle.std.proofs.lemmas.Bool.{lt-ltb}
 use Rattle.pe_image.specs.Answer.{◌>>=◌, unless}
@@ -92,4 +92,4 @@ module _ (funclets : List ℕ) (y : Layout) (start : ℕ) (body : List Instructi
       let e = label_below r.end in
       let h = handler_below r.kind in
       let j = target_below r.kind in
-      ((omega arith, omega arith, omega arith, omega arith), rows_small rs le)
+      (record { begin = omega arith; end = omega arith; handler = omega arith; jump = omega arith }, rows_small rs le)

@@ -1,11 +1,11 @@
 -- The function table of a program's image, read whole.
-use Rattle.std.proofs.Common.{◌≡◌, ℕ, zero, suc, ◌+◌, ◌-◌, ◌*◌, ◌/◌, ◌%◌, ◌^◌, ◌<◌, ◌≤◌, ◌==◌, Bool, true, false, not, List, [], ◌∷◌, ◌++◌, length, take, drop, map, Option, Some, None, Result, Ok, refl, sym, ap, subst, ◌∙◌, arith, append_assoc, length-append}
+use Rattle.std.proofs.Common.{◌≡◌, ℕ, zero, suc, ◌+◌, ◌-◌, ◌%◌, ◌^◌, ◌<◌, ◌≤◌, ◌==◌, Bool, true, false, not, List, [], ◌∷◌, ◌++◌, length, drop, map, Option, Some, None, Ok, refl, sym, ap, subst, ◌∙◌, arith, append_assoc, length-append}
 use Rattle.std.specs.Prelude.{◌&&◌}
-use Rattle.std.specs.List.{AllByRecursion, flat_map}
+use Rattle.std.specs.List.{AllByRecursion}
 use Rattle.std.proofs.lemmas.List.{map-append, length-map}
 use Rattle.pe_image.specs.Image.{Image, stored}
 use Rattle.eh_tables.specs.declared.range.RuntimeFunction.{RuntimeFunction}
-use Rattle.eh_tables.specs.ReadAgain.{IsStoredAt, IsRange, WrittenEntry, HasScopes, IsWritten, AreInOrder, as_read, ranges_of, has_c_handler, info_written}
+use Rattle.eh_tables.specs.ReadAgain.{IsStoredAt, IsRange, WrittenEntry, HasScopes, IsWritten, AreInOrder, as_read, ranges_of, info_written}
 use Rattle.eh_tables.specs.Handler.{is_c_handler}
 use Rattle.eh_tables.specs.Answer.{Table}
 use Rattle.eh_tables.specs.Tables.{Entry, Tables, directory, all_entries, or_none, tables}
@@ -16,10 +16,10 @@ use Rattle.eh_tables.proofs.TablesAgain.{reads_ranges}
 use Rattle.eh_tables.proofs.WholeAgain.{reads_table}
 use Rattle.host_layout.specs.declared.imported.ImportedService.TheVariants.{RaiseException, CSpecificHandler, LocalUnwind, Protect, Put}
 use Rattle.pe_write.specs.Program as images
-use Rattle.pe_write.specs.Program.{Program, IsProgram, sizes_of, text_at, rdata_at, xdata_at, pdata_at, end_at}
+use Rattle.pe_write.specs.Program.{Program, IsProgram, sizes_of, text_at, rdata_at, xdata_at}
 use Rattle.pe_write.proofs.Programs.{listed}
 use Rattle.linear_code.specs.declared.program.Region.{Region}
-use Rattle.linear_code.specs.Program.{LinearBody, LinearFunction, LinearFunclet, LinearProgram}
+use Rattle.linear_code.specs.Program.{LinearFunction, LinearFunclet, LinearProgram}
 use Rattle.frame_layout.specs.declared.frame.Frame.{Frame}
 use Rattle.frame_layout.specs.Layout.{info_of}
 use Rattle.template_code.specs.Bytes.{spelled, thunk}
@@ -31,17 +31,16 @@ use Rattle.template_code.specs.Template.{body_size}
 use Rattle.program_link.specs.Fits.{FitsProgram}
 use Rattle.program_link.specs.Routines.{RoutineView, is_leaf, leaf_if, functions_from, funclet, routines}
 use Rattle.program_link.specs.Near.{IsFrameNear, IsRoutineNear}
-use Rattle.program_link.specs.Text.{SiteView, routine_size, entry_size, own_addresses, thunk_at, service_thunk, front_code, routines_bytes, bounds, text_bytes}
-use Rattle.program_link.specs.Tables.{trailer, scope_record, scope_records, scope_table, info_if, info_bytes_of, info_bytes, infos, infos_room, range_if, range_of, ranges}
-use Rattle.program_link.specs.Linked.{data_size, first, total, front_sizes, site, linked}
-use Rattle.program_link.proofs.Bounds.{text_length, total_small, bounds_near, infos_length}
+use Rattle.program_link.specs.Text.{SiteView, routine_size, entry_size, own_addresses, thunk_at, service_thunk, routines_bytes, bounds}
+use Rattle.program_link.specs.Tables.{trailer, scope_record, scope_records, scope_table, info_if, info_bytes_of, info_bytes, infos, infos_room, range_if, ranges}
+use Rattle.program_link.specs.Linked.{first, total, linked}
+use Rattle.program_link.proofs.Bounds.{text_length}
 use Rattle.program_link.proofs.Images.{is_program, tables_fit, rdata_fits, has_places, no_routine}
 use Rattle.program_link.proofs.Infos.{info_small}
 use Rattle.program_link.proofs.Nearness.{routines_near}
-use Rattle.program_link.proofs.Entries.{entry_small, routine_small}
 use Rattle.program_tables.specs.Placed.{Placed, end_of, placed_from, site_of, infos_begin, placed}
 use Rattle.program_tables.specs.Ranges.{IsRange as IsRegionRange, HasRanges, HasRegions}
-use Rattle.program_tables.specs.Entries.{scopes_of, has_rows, unwind_of, entry_of, entry_if, entries_of, entries}
+use Rattle.program_tables.specs.Entries.{scopes_of, has_rows, unwind_of, entry_if, entries_of, entries}
 use Rattle.program_tables.specs.Laws.{TablesAreRead}
 use Rattle.program_tables.proofs.Stored.{text_there, xdata_there, pdata_there}
 use Rattle.program_tables.proofs.Handlers.{handler_is_c, thunk_bytes}
@@ -52,7 +51,7 @@ use Rattle.program_tables.proofs.Prologues.{entry_least}
 -- ---- the entries as they are written
 
 abbrev pub written_of : SiteView → Placed → Frame → WrittenEntry
-written_of s x f = record { range = record { begin = x.begin; end = end_of x; unwind_info = x.info }; info = unwind_of s x f; scopes = scopes_of s x }
+written_of s x f = record { range = record { begin = x.begin; end = end_of x; unwind_info = x.info }; own = record { info = unwind_of s x f; scopes = scopes_of s x }; parents = [] }
 
 abbrev pub written_if : SiteView → Placed → Option Frame → List WrittenEntry
 written_if s x None = []
@@ -100,7 +99,7 @@ in_order s info at last (r ∷ rs) near le =
 
 small_if : (s : SiteView) (x : Placed) (o : Option Frame) (ws : List WrittenEntry) → end_of x < 2 ^ 32 → x.info < 2 ^ 32 → AllByRecursion IsRange (ranges_of ws) → AllByRecursion IsRange (ranges_of (written_if s x o ++ ws))
 small_if s x None ws lt lt' more = more
-small_if s x (Some f) ws lt lt' more = ((omega arith, lt, lt'), more)
+small_if s x (Some f) ws lt lt' more = (record { begin = omega arith; end = lt; info = lt' }, more)
 
 ranges_small : (s : SiteView) (info at : ℕ) (rs : List RoutineView) → at + total rs < 2 ^ 32 → info + infos_room rs < 2 ^ 32 → AllByRecursion IsRange (ranges_of (written_from s (placed_from s info at rs)))
 ranges_small s info at [] lt lt' = tt
@@ -227,13 +226,13 @@ module _ (p : LinearProgram) (fits : FitsProgram p) where
       → AllByRecursion (IsRegionRange (length r.body.code)) regions → length regions ≤ 2 ^ 24 → at + routine_size r ≤ first p.globals + total rs
       → program.xdata ≡ front ++ ((unwind_bytes (info_of f (trailer (thunk_at s.text CSpecificHandler) regions)) ++ scope_table s.funclets (own_addresses at r).labels (own_addresses at r).end regions) ++ more)
       → info ≡ xdata_at (sizes_of program) + length front
-      → HasScopes image (record { range = record { begin = at; end = at + routine_size r; unwind_info = info }; info = info_of f (trailer (thunk_at s.text CSpecificHandler) regions); scopes = scope_records s.funclets (own_addresses at r).labels (own_addresses at r).end regions }) (has_rows regions)
+      → HasScopes image info (record { info = info_of f (trailer (thunk_at s.text CSpecificHandler) regions); scopes = scope_records s.funclets (own_addresses at r).labels (own_addresses at r).end regions }) (has_rows regions)
   scopes_by info at r f [] front more ranges few le e here =
       let h = thunk_at s.text CSpecificHandler in
       let u = unwind_bytes (info_of f (trailer h [])) in
       let some = unwind_some f (trailer h []) in
       let all : program.xdata ≡ front ++ (u ++ more) = e ∙ ap (λ t. front ++ t) (append_assoc u [] more) in
-      (refl, subst (λ (k : ℕ). stored image.sections k (length u) ≡ Some u) (sym here) (xdata_there program is front u more all some))
+      record { none = refl; stored = subst (λ (k : ℕ). stored image.sections k (length u) ≡ Some u) (sym here) (xdata_there program is front u more all some) }
   scopes_by info at r f (q ∷ qs) front more ranges few le e here =
       let h = thunk_at s.text CSpecificHandler in
       let own = own_addresses at r in
@@ -245,12 +244,13 @@ module _ (p : LinearProgram) (fits : FitsProgram p) where
       let small = image_small in
       let funclets = drop_below image.size (length p.functions) (bounds (first p.globals) rs) (bounds_below image.size (first p.globals) rs end_inside) in
       let fit : (at + entry_size r) + body_size r.layout r.body.code ≤ at + routine_size r = omega arith in
-      let within = rows_within s.funclets r.layout (at + entry_size r) r.body.code (at + routine_size r) image.size fit (omega arith) funclets (omega arith) (q ∷ qs) ranges in (
-        rows_small s.funclets r.layout (at + entry_size r) r.body.code (at + routine_size r) image.size fit (omega arith) funclets (omega arith) (q ∷ qs) (omega arith),
-        omega (arith, length-map (q ∷ qs) (scope_record s.funclets own.labels own.end)),
-        (λ index. checked_is index image.size 0 rows within),
-        subst (λ (k : ℕ). stored image.sections k (length bytes) ≡ Some bytes) (sym here) (xdata_there program is front bytes more e (omega (arith, length-append u (scope_bytes rows)))),
-      )
+      let within = rows_within s.funclets r.layout (at + entry_size r) r.body.code (at + routine_size r) image.size fit (omega arith) funclets (omega arith) (q ∷ qs) ranges in
+      record {
+        records = rows_small s.funclets r.layout (at + entry_size r) r.body.code (at + routine_size r) image.size fit (omega arith) funclets (omega arith) (q ∷ qs) (omega arith);
+        count = omega (arith, length-map (q ∷ qs) (scope_record s.funclets own.labels own.end));
+        of_code = λ index. checked_is index image.size 0 rows within;
+        stored = subst (λ (k : ℕ). stored image.sections k (length bytes) ≡ Some bytes) (sym here) (xdata_there program is front bytes more e (omega (arith, length-append u (scope_bytes rows))));
+      }
 
   entry_is : (info at : ℕ) (r : RoutineView) (f : Frame) (front more : List ℕ) → IsRoutineNear r → HasRanges r.body → r.frame ≡ Some f → at + routine_size r ≤ first p.globals + total rs
       → program.xdata ≡ front ++ (info_bytes_of s (own_addresses at r).labels (own_addresses at r).end r f ++ more) → info ≡ xdata_at (sizes_of program) + length front → info % 4 ≡ 0
@@ -264,11 +264,14 @@ module _ (p : LinearProgram) (fits : FitsProgram p) where
       let end = is.end in
       let by = scopes_by info at r f r.body.regions front more ranges close.regions le e here in
       record {
-        info = is_info f (trailer h r.body.regions) (omega arith) (has_trailer h r.body.regions (omega arith));
-        can = can_be f (trailer h r.body.regions) some (omega arith) (is_trailer h r.body.regions);
-        aligned = four;
-        alone = no_parent h r.body.regions;
-        stored = subst (HasScopes image (written_of s (record { routine = r; begin = at; info = info }) f)) (sym (handled image f h r.body.regions c_handler)) by;
+        own = record {
+          info = is_info f (trailer h r.body.regions) (omega arith) (has_trailer h r.body.regions (omega arith));
+          can = can_be f (trailer h r.body.regions) some (omega arith) (is_trailer h r.body.regions);
+          aligned = four;
+          stored = subst (HasScopes image info (written_of s (record { routine = r; begin = at; info = info }) f).own) (sym (handled image f h r.body.regions c_handler)) by;
+        };
+        chain = no_parent h r.body.regions;
+        count = omega arith;
       }
 
   written_if_so : (x : Placed) (o : Option Frame) (ws : List WrittenEntry) → ((f : Frame) → o ≡ Some f → IsWritten image (written_of s x f)) → AllByRecursion (IsWritten image) ws → AllByRecursion (IsWritten image) (written_if s x o ++ ws)

@@ -1,7 +1,13 @@
 -- What is read of the function table of a program's image.
-use Rattle.std.specs.Prelude.{◌≡◌, ℕ, ◌<◌, ◌≤◌, slice_get, Option, Some, None, Ok}
+use Rattle.std.specs.Prelude.{◌≡◌, ℕ, ◌+◌, ◌%◌, ◌^◌, ◌<◌, ◌≤◌, slice_get, Some, None, Ok}
+use Rattle.seh_num.specs.declared.width.Width.TheVariants.{W32}
+use Rattle.seh_num.specs.Widths.{low}
+use Rattle.eh_tables.specs.declared.layout.TheConstants.{JUMP_SIZE}
+use Rattle.eh_tables.specs.Handler.{extended, plain_slot}
 use Rattle.eh_tables.specs.Tables.{tables, holding}
 use Rattle.pe_write.specs.Program.{image_of}
+use Rattle.x64_encode.specs.Chosen.{chosen}
+use Rattle.template_code.specs.Bytes.{thunk}
 use Rattle.linear_code.specs.Program.{LinearProgram}
 use Rattle.frame_layout.specs.declared.frame.Frame.{Frame}
 use Rattle.program_link.specs.Fits.{FitsProgram}
@@ -36,3 +42,10 @@ abbrev pub ThunksAreHeldByNone : Type 0
 ThunksAreHeldByNone =
     (p : LinearProgram) (rva : ℕ) → FitsProgram p → rva < first p.globals
     → holding rva (entries p) ≡ None
+
+-- the jump by which the reader of tables knows a handler is that of the instruction table,
+-- `jmp [rip + d]`, for each displacement that fits its 32 bits
+abbrev pub JumpsAreSpelled : Type 0
+JumpsAreSpelled =
+    (rva d : ℕ) → extended (low W32 d) ≡ d
+    → plain_slot rva (chosen (thunk d)) ≡ Some ((rva + JUMP_SIZE + d) % 2 ^ 64)

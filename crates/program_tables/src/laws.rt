@@ -1,6 +1,6 @@
 //! What is read of the function table of a program's image.
 
-ghost use Rattle.program_tables.specs.Laws.{TablesAreRead, EntriesAreHeld, LeavesAreHeldByNone, ThunksAreHeldByNone};
+ghost use Rattle.program_tables.specs.Laws.{TablesAreRead, EntriesAreHeld, LeavesAreHeldByNone, ThunksAreHeldByNone, JumpsAreSpelled};
 
 /// The function table of a program's image is that of its routines: each that has a frame has an
 /// entry, with its unwind info and its scope records.
@@ -13,4 +13,9 @@ pub fn lookups()
     ensures entries { EntriesAreHeld }
     ensures leaves { LeavesAreHeldByNone }
     ensures thunks { ThunksAreHeldByNone }
+{}
+
+/// The jump to a handler is read as it is spelled.
+pub fn jumps()
+    ensures { JumpsAreSpelled }
 {}

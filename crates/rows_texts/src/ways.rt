@@ -155,23 +155,31 @@ pub fn all_show(rt: &impl Abort, alloc: Global, ways: &[&str], table: &str) -> R
     Ok(())
 }
 
-/// The program that the parts of a program are for `TYPE | EDGES`: `@type@` is the type, `@edges@`
-/// the edges, separated by commas, `@count@` their number, `@low@` and `@high@` the first and the
-/// last of them.
+/// What is put in place of `@PLACE@`: the type, its edges, which are separated by commas, their
+/// number, the first of them (`low`), or the last.
+fn filling<'a>(place: &str, name: &'a str, edges: &'a str, count: &'a str) -> &'a str {
+    match place {
+        "type" => name,
+        "edges" => edges,
+        "count" => count,
+        "low" => edges.split(", ").next().unwrap_or(""),
+        _ => edges.split(", ").last().unwrap_or(""),
+    }
+}
+
+/// The program that the parts of a program are for a row `TYPE | EDGES`.
 fn program_of(alloc: Global, parts: &[&str], row: &str) -> Result<String, AllocError> {
     let (name, edges) = row.split_once(" | ").unwrap_or((row, ""));
     let count = format!(in alloc; "{}", edges.split(", ").count())?;
     let mut text = String::new(alloc);
     for part in parts {
         for (number, piece) in part.split('@').enumerate() {
-            text.push_str(match (number % 2, piece) {
-                (0, _) => piece,
-                (_, "type") => name,
-                (_, "edges") => edges,
-                (_, "count") => &count,
-                (_, "low") => edges.split(", ").next().unwrap_or(""),
-                _ => edges.split(", ").last().unwrap_or(""),
-            })?;
+            if number % 2 == 0 {
+                text.push_str(piece)?;
+            } else {
+                let filled = filling(piece, name, edges, &count);
+                text.push_str(filled)?;
+            }
         }
     }
     Ok(text)

@@ -14,14 +14,14 @@ use Rattle.c_checked.specs.Expression.{Expression, On, Node, Lvalue, Local, Glob
 use Rattle.c_checked.specs.Statement as statements
 use Rattle.c_checked.specs.Statement.{Filter, Always, Funclet, Statement, Statements, Empty, Then as Followed, Declared}
 use Rattle.c_model.specs.Source.{is_reserved}
-use Rattle.c_model.specs.State.{Exception, Result, Value, Normal, Returned, Broke, Continued, LeftTry, Target, End}
+use Rattle.c_model.specs.State.{Exception, Result, Value, Normal, Returned, Continued, LeftTry, Target, End}
 use Rattle.c_model.specs.Tasks as tasks
 use Rattle.c_model.specs.Tasks.{Handler, Task}
 use Rattle.source_machine.specs.Frames as frames
 use Rattle.source_machine.specs.Frames.{Place, Callee, OperandFrame, AssignmentFrame, StatementFrame, SequelFrame, BodyFrame, Frame, Operand, Assignment, InStatement, Sequel, Body, EndsCall, Lands, Finishes, Next, Over, Give, Start, Begin, Plan, Then, Push}
-use Rattle.source_machine.specs.Plans.{chosen, node_plan, expression_plan, find_plan, pass_plan, operand_plan, assignment_plan, evaluated, branch, answer_plan, in_statement_plan, sequel_plan, body_plan, proceed_plan, declare_plan, statement_plan, for_body}
-use Rattle.source_machine.specs.Machine.{Machine, with_next, follow, over, unless_deep, started, begun, fetched, put, operated, entered, built_in, called, declared, asked_by, asked, searched, target_landed, landed, finished, left_call, after_value, after_normal, after_body, resumed, given, outside, done, is_deep, with_local}
-use Rattle.source_machine.specs.Laws.{is_over, operand_worth, assignment_worth, statement_worth, sequel_worth, worth, all_worth, next_worth, distance, Decreases}
+use Rattle.source_machine.specs.Plans.{chosen, node_plan, expression_plan, find_plan, pass_plan, operand_plan, assignment_plan, evaluated, branch, answer_plan, in_statement_plan, sequel_plan, body_plan, proceed_plan, declare_plan, statement_plan}
+use Rattle.source_machine.specs.Machine.{Machine, follow, over, unless_deep, started, begun, fetched, put, operated, entered, built_in, called, declared, asked_by, asked, searched, target_landed, landed, finished, left_call, after_value, after_normal, after_body, resumed, given, outside, done, is_deep, with_local}
+use Rattle.source_machine.specs.Laws.{is_over, operand_worth, assignment_worth, statement_worth, worth, all_worth, next_worth, distance, Decreases}
 
 plan_worth : Plan → ℕ
 plan_worth (Then next) = next_worth next

@@ -1,5 +1,5 @@
 -- Each step shows more or the same.
-use Rattle.std.proofs.Common.{◌≡◌, ℕ, zero, suc, List, [], ◌∷◌, ◌++◌, length, refl, Option, Some, None}
+use Rattle.std.proofs.Common.{ℕ, zero, suc, List, [], ◌∷◌, ◌++◌, length, refl, Option, Some, None}
 use Rattle.std.specs.Prelude.{Bool, true, false, nat_eq, slice_get}
 use Rattle.std.proofs.lemmas.List.{append-nil}
 use Rattle.seh_num.specs.declared.event.Event.{Event}
@@ -12,14 +12,14 @@ use Rattle.c_checked.specs.Program.{Program, Function}
 use Rattle.c_checked.specs.Expression.{Lvalue, Local, Global, Indirection, Element}
 use Rattle.c_checked.specs.Statement.{Filter, Always, Funclet, Statements}
 use Rattle.c_model.specs.Source.{is_reserved}
-use Rattle.c_model.specs.State.{Exception, State, Result, Value, Normal, Returned, Broke, Continued, LeftTry, Target, End}
+use Rattle.c_model.specs.State.{Exception, Result, Value, Normal, Returned, Continued, LeftTry, Target, End}
 use Rattle.c_model.specs.Tasks as tasks
 use Rattle.c_model.specs.Tasks.{Handler, Task}
 use Rattle.c_model.specs.Laws.{IsPrefixOf}
 use Rattle.source_machine.specs.Frames as frames
 use Rattle.source_machine.specs.Frames.{Place, Callee, Frame, Operand, Assignment, InStatement, Sequel, Body, EndsCall, Lands, Finishes, Next, Over, Give, Start, Begin, Plan, Then, Push}
 use Rattle.source_machine.specs.Plans.{operand_plan, assignment_plan, in_statement_plan, sequel_plan, body_plan}
-use Rattle.source_machine.specs.Machine.{Machine, with_next, follow, at_state, over, unless_deep, started, begun, fetched, put, operated, entered, built_in, called, asked_by, asked, searched, target_landed, landed, finished, left_call, after_value, after_normal, after_body, resumed, given, outside, done, is_deep, with_local}
+use Rattle.source_machine.specs.Machine.{Machine, follow, unless_deep, started, begun, fetched, put, operated, entered, built_in, called, asked_by, asked, searched, target_landed, landed, finished, left_call, after_value, after_normal, after_body, resumed, given, outside, done, is_deep, with_local}
 use Rattle.source_machine.specs.Laws.{Extends}
 
 nothing : (es : List Event) → IsPrefixOf es es

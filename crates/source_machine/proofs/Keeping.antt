@@ -1,5 +1,5 @@
 -- What frames do with results keeps what the machine comes to.
-use Rattle.std.proofs.Common.{◌≡◌, ℕ, zero, suc, ◌+◌, List, [], ◌∷◌, ◌++◌, length, take, refl, sym, ap, ◌∙◌, Option, Some, None}
+use Rattle.std.proofs.Common.{◌≡◌, ℕ, List, [], ◌∷◌, length, refl, sym, ap, ◌∙◌, Option, Some, None}
 use Rattle.std.specs.Prelude.{Bool, true, false, nat_eq, nat_lt, ◌^◌, reverse}
 use Rattle.std.proofs.lemmas.List.{length-reverse}
 use Rattle.c_checked.specs.Program.{Program}
@@ -7,20 +7,20 @@ use Rattle.c_checked.specs.Expression.{Expression}
 use Rattle.c_checked.specs.Statement.{Statement, Statements}
 use Rattle.c_model.specs.declared.ended.Ended.{Ended}
 use Rattle.c_model.specs.declared.ended.Ended.TheVariants.{Deep}
-use Rattle.c_model.specs.State.{Exception, State, Result, Value, Normal, Returned, Broke, Continued, LeftTry, Target, End, Outcome, Gives, choose, deeper, with_value, and_then, emit}
+use Rattle.c_model.specs.State.{Exception, State, Result, Value, Normal, Continued, Target, End, Outcome, Gives, choose, with_value, and_then, emit}
 use Rattle.c_model.specs.Tasks as tasks
 use Rattle.c_model.specs.Tasks.{Handler, Does}
-use Rattle.c_model.specs.Expressions.{of_test, ended_call, all}
+use Rattle.c_model.specs.Expressions.{ended_call, all}
 use Rattle.c_model.specs.Statements.{optional, in_loop, landing, finally_after}
-use Rattle.c_model.specs.Raises.{noncontinuable, answered, search}
+use Rattle.c_model.specs.Raises.{noncontinuable, search}
 use Rattle.seh_num.specs.declared.width.Width.TheVariants.{W32}
 use Rattle.seh_num.specs.declared.event.Event.TheVariants as events
 use Rattle.seh_num.specs.Widths.{low}
 use Rattle.source_machine.specs.Frames as frames
-use Rattle.source_machine.specs.Frames.{Place, context_at, ForLoop, OperandFrame, AssignmentFrame, StatementFrame, SequelFrame, BodyFrame, Frame, Operand, Assignment, InStatement, Sequel, Body, EndsCall, Lands, Finishes, Next, Start, Give, Plan, Then, Push}
-use Rattle.source_machine.specs.Plans.{chosen, operand, gives, ends, evaluates, operand_plan, assignment_plan, evaluated, iterate, for_body, branch, answer_plan, in_statement_plan, sequel_plan, body_plan}
-use Rattle.source_machine.specs.Machine.{Machine, with_next, follow, over, after_value, after_normal, after_body, left_call, target_landed, landed, finished, resumed, outside, given, unless_deep}
-use Rattle.source_machine.specs.Waiting.{below, operand_meaning, assignment_meaning, branch_meaning, in_statement_meaning, first_meaning, sequel_meaning, body_meaning, through, through_all, comes_to}
+use Rattle.source_machine.specs.Frames.{Place, context_at, OperandFrame, AssignmentFrame, StatementFrame, SequelFrame, BodyFrame, Frame, Operand, Assignment, InStatement, Sequel, Body, EndsCall, Lands, Finishes, Plan}
+use Rattle.source_machine.specs.Plans.{chosen, operand_plan, assignment_plan, evaluated, branch, answer_plan, in_statement_plan, sequel_plan, body_plan}
+use Rattle.source_machine.specs.Machine.{Machine, follow, over, after_value, after_normal, after_body, left_call, target_landed, landed, finished, resumed, outside, given, unless_deep}
+use Rattle.source_machine.specs.Waiting.{below, operand_meaning, assignment_meaning, branch_meaning, in_statement_meaning, sequel_meaning, body_meaning, through, through_all, comes_to}
 
 module _ (program : Program) (d : Does) where
   abbrev pub comes : Machine → Outcome
@@ -157,48 +157,25 @@ module _ (program : Program) (d : Does) where
       → (how : Result) → comes (after_value m plan how) ≡ from m (with_value (Gives how m.state) go)
   unfolding with_value
   value_keeps m plan go h (Value v) = h v
-  value_keeps m plan go h Normal = refl
-  value_keeps m plan go h (Returned v) = refl
-  value_keeps m plan go h Broke = refl
-  value_keeps m plan go h Continued = refl
-  value_keeps m plan go h LeftTry = refl
-  value_keeps m plan go h (Target to exc) = refl
-  value_keeps m plan go h (End e) = refl
+  value_keeps m plan go h other = refl
 
   normal_keeps : (m : Machine) (plan : Plan) (go : State → Outcome) → comes (follow m plan) ≡ from m (go m.state)
       → (how : Result) → comes (after_normal m plan how) ≡ from m (and_then (Gives how m.state) go)
   unfolding and_then
-  normal_keeps m plan go h (Value v) = refl
   normal_keeps m plan go h Normal = h
-  normal_keeps m plan go h (Returned v) = refl
-  normal_keeps m plan go h Broke = refl
-  normal_keeps m plan go h Continued = refl
-  normal_keeps m plan go h LeftTry = refl
-  normal_keeps m plan go h (Target to exc) = refl
-  normal_keeps m plan go h (End e) = refl
+  normal_keeps m plan go h other = refl
 
   loop_keeps : (m : Machine) (plan : Plan) (go : State → Outcome) → comes (follow m plan) ≡ from m (go m.state)
       → (how : Result) → comes (after_body m plan how) ≡ from m (in_loop (Gives how m.state) go)
   unfolding in_loop
-  loop_keeps m plan go h (Value v) = refl
   loop_keeps m plan go h Normal = h
-  loop_keeps m plan go h (Returned v) = refl
-  loop_keeps m plan go h Broke = refl
   loop_keeps m plan go h Continued = h
-  loop_keeps m plan go h LeftTry = refl
-  loop_keeps m plan go h (Target to exc) = refl
-  loop_keeps m plan go h (End e) = refl
+  loop_keeps m plan go h other = refl
 
   call_keeps : (m : Machine) (n : ℕ) (how : Result) → comes (left_call m n how) ≡ from m (ended_call n (Gives how m.state))
   unfolding ended_call
   call_keeps m n (Value v) = refl
-  call_keeps m n Normal = refl
-  call_keeps m n (Returned v) = refl
-  call_keeps m n Broke = refl
-  call_keeps m n Continued = refl
-  call_keeps m n LeftTry = refl
-  call_keeps m n (Target to exc) = refl
-  call_keeps m n (End e) = refl
+  call_keeps m n other = refl
 
   target_keeps : (b : Bool) (m : Machine) (held : ℕ) (block : Statements) (p : Place) (to : ℕ) (exc : Exception)
       → comes (target_landed m b held block p to exc)
@@ -210,28 +187,16 @@ module _ (program : Program) (d : Does) where
   land_keeps : (m : Machine) (held : ℕ) (block : Statements) (p : Place) (how : Result)
       → comes (landed m held block p how) ≡ from m (through program d m.handlers (Lands held block p) (Gives how m.state))
   unfolding landing
-  land_keeps m held block p (Value v) = refl
-  land_keeps m held block p Normal = refl
-  land_keeps m held block p (Returned v) = refl
-  land_keeps m held block p Broke = refl
-  land_keeps m held block p Continued = refl
-  land_keeps m held block p LeftTry = refl
   land_keeps m held block p (Target to exc) =
       ap (λ n. comes (target_landed m (nat_eq to n) held block p to exc)) (sym (length-reverse m.handlers))
       ∙ target_keeps (nat_eq to (length (reverse m.handlers))) m held block p to exc
-  land_keeps m held block p (End e) = refl
+  land_keeps m held block p other = refl
 
   finish_keeps : (m : Machine) (k : ℕ) (last : Statements) (p : Place) (how : Result)
       → comes (finished m k last p how) ≡ from m (finally_after (Gives how m.state) (λ flag st. d (tasks.RunFinally k last flag) (context_at m.handlers p) st))
   unfolding finally_after and_then
   finish_keeps m k last p (Value v) = refl
-  finish_keeps m k last p Normal = refl
-  finish_keeps m k last p (Returned v) = refl
-  finish_keeps m k last p Broke = refl
-  finish_keeps m k last p Continued = refl
-  finish_keeps m k last p LeftTry = refl
-  finish_keeps m k last p (Target to exc) = refl
-  finish_keeps m k last p (End e) = refl
+  finish_keeps m k last p other = refl
 
   resumed_keeps : (m : Machine) (f : Frame) (how : Result) → comes (resumed m f how) ≡ from m (through program d m.handlers f (Gives how m.state))
   resumed_keeps m (Operand f) how = value_keeps m (operand_plan f) (operand_meaning program d m.handlers f) (operand_keeps m f) how

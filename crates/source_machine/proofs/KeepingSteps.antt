@@ -1,7 +1,7 @@
 -- Each step keeps what the machine comes to.
 use Rattle.std.proofs.Common.{◌≡◌, ℕ, zero, suc, ◌+◌, ◌-◌, List, [], ◌∷◌, ◌++◌, length, take, refl, sym, ap, ◌∙◌, arith, Option, Some, None}
-use Rattle.std.specs.Prelude.{Bool, slice_get, reverse}
-use Rattle.std.proofs.lemmas.List.{append_assoc, append-nil, reverse-append, length-reverse, length-append}
+use Rattle.std.specs.Prelude.{slice_get, reverse}
+use Rattle.std.proofs.lemmas.List.{append_assoc, append-nil, reverse-append, length-append}
 use Rattle.std.proofs.Math.Seq.{take-append_seam}
 use Rattle.c_operations.specs.declared.built_in.BuiltIn.{BuiltIn}
 use Rattle.c_operations.specs.declared.built_in.BuiltIn.TheVariants.{Put, Protect, RaiseException}
@@ -15,13 +15,12 @@ use Rattle.c_checked.specs.Statement as statements
 use Rattle.c_checked.specs.Statement.{Filter, Statements, Empty, Then as Followed, Declared}
 use Rattle.c_model.specs.declared.ended.Ended.TheVariants.{Undefined}
 use Rattle.c_model.specs.Source.{is_reserved}
-use Rattle.c_model.specs.State.{State, Result, Value, End, Outcome, Gives, choose, deeper, with_value, and_then}
+use Rattle.c_model.specs.State.{End, Outcome, Gives, deeper, with_value, and_then}
 use Rattle.c_model.specs.Tasks as tasks
 use Rattle.c_model.specs.Tasks.{Handler, Task, Does, counted}
-use Rattle.c_model.specs.Expressions.{tried, operate, locate, read, write, each, all, ended_call, enter, call_built_in, node}
-use Rattle.c_model.specs.Statements.{declare, declare_each, landing, statement}
+use Rattle.c_model.specs.Expressions.{tried, locate, read, write, each, all, ended_call, enter, call_built_in, node}
+use Rattle.c_model.specs.Statements.{declare, declare_each, statement}
 use Rattle.c_model.specs.Meaning.{perform, does}
-use Rattle.c_model.specs.Laws.{DoesIs}
 use Rattle.c_model.proofs.RemainingSteps.{does_is}
 use Rattle.source_machine.specs.Frames as frames
 use Rattle.source_machine.specs.Frames.{Place, context_at, Callee, Next, Over, Give, Start, Begin}

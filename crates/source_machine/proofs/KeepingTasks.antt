@@ -1,25 +1,23 @@
 -- The beginning of each task keeps what the machine comes to.
-use Rattle.std.proofs.Common.{◌≡◌, ℕ, zero, suc, ◌<◌, ◌≤◌, List, [], ◌∷◌, ◌++◌, length, refl, sym, ap, subst, ◌∙◌, arith, Option, Some, None}
-use Rattle.std.specs.Prelude.{reverse, slice_get}
+use Rattle.std.proofs.Common.{◌≡◌, ℕ, zero, suc, ◌<◌, length, refl, sym, ap, subst, arith, Option, Some, None}
+use Rattle.std.specs.Prelude.{slice_get}
 use Rattle.std.proofs.lemmas.Option.{slice_get_within}
-use Rattle.seh_num.specs.declared.event.Event.TheVariants as events
 use Rattle.c_checked.specs.Program.{Program}
-use Rattle.c_checked.specs.Expression.{Expression, On}
+use Rattle.c_checked.specs.Expression.{On}
 use Rattle.c_checked.specs.Statement as statements
-use Rattle.c_checked.specs.Statement.{Filter, Always, Funclet, Statement, Statements}
+use Rattle.c_checked.specs.Statement.{Filter, Always, Funclet, Statement}
 use Rattle.c_model.specs.declared.ended.Ended.TheVariants.{Unhandled}
-use Rattle.c_model.specs.State.{Exception, State, Result, Value, Normal, End, Outcome, Gives, choose, deeper, with_value, and_then, emit, hold}
+use Rattle.c_model.specs.State.{Exception, choose, deeper, with_value, and_then, emit}
 use Rattle.c_model.specs.Tasks as tasks
 use Rattle.c_model.specs.Tasks.{Handler, Task, Does}
-use Rattle.c_model.specs.Expressions.{all}
-use Rattle.c_model.specs.Statements.{statement, optional, in_loop, landing, finally_after}
-use Rattle.c_model.specs.Raises.{raise_event, search_by, search, run_filter, run_finally}
+use Rattle.c_model.specs.Statements.{statement, in_loop, finally_after}
+use Rattle.c_model.specs.Raises.{raise_event, search_by, search}
 use Rattle.c_model.specs.Meaning.{perform}
 use Rattle.source_machine.specs.Frames as frames
-use Rattle.source_machine.specs.Frames.{Place, context_at, ForLoop, Next, Start}
-use Rattle.source_machine.specs.Plans.{evaluated, for_body, ends, statement_plan}
-use Rattle.source_machine.specs.Machine.{Machine, follow, at_state, begun, asked_by, asked, searched, is_deep}
-use Rattle.source_machine.specs.Waiting.{found, below, in_statement_meaning, through, through_all}
+use Rattle.source_machine.specs.Frames.{Place, context_at}
+use Rattle.source_machine.specs.Plans.{ends, statement_plan}
+use Rattle.source_machine.specs.Machine.{Machine, follow, begun, asked_by, asked, searched, is_deep}
+use Rattle.source_machine.specs.Waiting.{found, below}
 use Rattle.source_machine.proofs.Below.{length-below, all_below}
 use Rattle.source_machine.proofs.Keeping.{comes, from, over_keeps, deep_keeps, evaluated_keeps}
 

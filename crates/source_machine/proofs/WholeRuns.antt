@@ -1,14 +1,13 @@
 -- What was shown is the front of all that is shown.
 use Rattle.std.proofs.Common.{◌≡◌, ℕ, zero, suc, ◌+◌, ◌<◌, List, [], ◌++◌, refl, sym, ap, ◌∙◌, subst, arith, inl, inr}
-use Rattle.std.specs.Prelude.{true, false}
+use Rattle.std.specs.Prelude.{true}
 use Rattle.std.proofs.lemmas.Bool.{cases_Bool}
 use Rattle.std.proofs.lemmas.List.{append_assoc, append-nil}
 use Rattle.seh_num.specs.declared.event.Event.{Event}
 use Rattle.c_checked.specs.Program.{Program}
-use Rattle.c_model.specs.State.{State, state_of}
+use Rattle.c_model.specs.State.{state_of}
 use Rattle.c_model.specs.Meaning.{does}
 use Rattle.c_model.specs.Laws.{IsPrefixOf}
-use Rattle.source_machine.specs.Frames as frames
 use Rattle.source_machine.specs.Frames.{Next, Over}
 use Rattle.source_machine.specs.Machine.{Machine, step}
 use Rattle.source_machine.specs.Runs.{after}

@@ -1,5 +1,5 @@
 -- What the machine does next, and what waits for the result of that.
-use Rattle.std.specs.Prelude.{ℕ, ◌-◌, Bool, List, [], ◌∷◌, length, take, Option, reverse}
+use Rattle.std.specs.Prelude.{ℕ, Bool, List, Option, reverse}
 use Rattle.c_operations.specs.declared.built_in.BuiltIn.{BuiltIn}
 use Rattle.c_operations.specs.declared.operation.Operation.{Operation}
 use Rattle.c_operations.specs.declared.operation.Pure.{Pure}
@@ -8,7 +8,7 @@ use Rattle.c_checked.specs.declared.expression.Conversion.{Conversion}
 use Rattle.c_checked.specs.declared.expression.Fixity.{Fixity}
 use Rattle.c_checked.specs.Expression.{Expression, Node, Lvalue, Arguments}
 use Rattle.c_checked.specs.Statement.{Declared, Filter, Statement, Statements}
-use Rattle.c_model.specs.State.{Exception, State, Result}
+use Rattle.c_model.specs.State.{Exception, Result}
 use Rattle.c_model.specs.Tasks.{Handler, Context, Task}
 
 -- a context without its handlers, which the machine has

@@ -2,7 +2,6 @@
 use Rattle.std.specs.Prelude.{◌≡◌, ℕ, ◌+◌, ◌*◌, ◌<◌, Bool, true, false, List, [], ◌∷◌}
 use Rattle.c_checked.specs.Program.{Program}
 use Rattle.c_model.specs.State.{state_of}
-use Rattle.c_model.specs.Tasks.{Task}
 use Rattle.c_model.specs.Meaning.{does}
 use Rattle.c_model.specs.Laws.{IsPrefixOf}
 use Rattle.source_machine.specs.Frames as frames

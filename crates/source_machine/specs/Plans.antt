@@ -1,5 +1,5 @@
 -- What is done next where nothing but the program's text and a value decides it.
-use Rattle.std.specs.Prelude.{ℕ, ◌++◌, Bool, true, false, not, nat_eq, nat_lt, ◌-◌, ◌^◌, if◌then◌else◌, List, [], ◌∷◌, Option, Some, None}
+use Rattle.std.specs.Prelude.{ℕ, ◌++◌, Bool, true, false, not, nat_eq, nat_lt, ◌^◌, List, [], ◌∷◌, Option, Some, None}
 use Rattle.seh_num.specs.declared.width.Width.TheVariants.{W32}
 use Rattle.seh_num.specs.Widths.{low}
 use Rattle.c_operations.specs.declared.operation.Operation.TheVariants.{Load, Store}
@@ -11,13 +11,13 @@ use Rattle.c_checked.specs.Expression as nodes
 use Rattle.c_checked.specs.Expression.{Expression, On, Node, Lvalue, Local, Global, Indirection, Element, Arguments, Done, Next as Another}
 use Rattle.c_checked.specs.Statement as statements
 use Rattle.c_checked.specs.Statement.{Statement, Statements, Empty, Then as Followed, Declared}
-use Rattle.c_model.specs.State.{Exception, Result, Value, Normal, Returned, Broke, Continued, LeftTry, Target}
+use Rattle.c_model.specs.State.{Exception, Value, Normal, Returned, Broke, Continued, LeftTry, Target}
 use Rattle.c_model.specs.Tasks as tasks
 use Rattle.c_model.specs.Tasks.{Task}
 use Rattle.c_model.specs.Expressions.{of_test, converted, value_of, apart, incremented_value, field_of}
 use Rattle.c_model.specs.Raises.{noncontinuable}
 use Rattle.source_machine.specs.Frames as frames
-use Rattle.source_machine.specs.Frames.{Place, Callee, ForLoop, Compound, Stepped, OperandFrame, AssignmentFrame, StatementFrame, SequelFrame, BodyFrame, Frame, Operand, Assignment, InStatement, Sequel, Body, Next, Give, Start, Plan, Then, Push}
+use Rattle.source_machine.specs.Frames.{Place, Callee, ForLoop, OperandFrame, AssignmentFrame, StatementFrame, SequelFrame, BodyFrame, Operand, Assignment, InStatement, Sequel, Body, Next, Give, Start, Plan, Then, Push}
 
 -- ---- short forms
 

@@ -1,5 +1,5 @@
 -- What the machine comes to: what its next item means, through the frames that wait.
-use Rattle.std.specs.Prelude.{ℕ, zero, suc, ◌++◌, Bool, not, nat_eq, List, [], ◌∷◌, length, slice_get, reverse, Option, Some, None}
+use Rattle.std.specs.Prelude.{ℕ, zero, suc, ◌++◌, not, nat_eq, List, [], ◌∷◌, length, slice_get, Option, Some, None}
 use Rattle.seh_num.specs.declared.width.Width.TheVariants.{W32}
 use Rattle.seh_num.specs.declared.event.Event.TheVariants as events
 use Rattle.seh_num.specs.Widths.{signed}
@@ -10,9 +10,9 @@ use Rattle.c_checked.specs.Program.{Program}
 use Rattle.c_checked.specs.Statement as statements
 use Rattle.c_checked.specs.Statement.{Statement}
 use Rattle.c_checked.specs.Expression.{Expression}
-use Rattle.c_model.specs.State.{Exception, State, Result, Value, Normal, Returned, Outcome, Gives, choose, set_local, emit, let_go, with_value, and_then}
+use Rattle.c_model.specs.State.{State, Value, Normal, Returned, Outcome, Gives, choose, set_local, emit, let_go, with_value, and_then}
 use Rattle.c_model.specs.Tasks as tasks
-use Rattle.c_model.specs.Tasks.{Handler, Does, counted}
+use Rattle.c_model.specs.Tasks.{Handler, Does}
 use Rattle.c_model.specs.Expressions.{of_test, converted, value_of, apart, incremented_value, locate, read, write, operate, each, all, ended_call, enter, call_built_in, node}
 use Rattle.c_model.specs.Statements.{optional, declare, declare_each, in_loop, landing, finally_after, statement}
 use Rattle.c_model.specs.Raises.{answered, search}
