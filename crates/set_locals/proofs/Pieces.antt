@@ -95,45 +95,31 @@ module _ (linear : LinearProgram) (lists : BodyName → List Seen) (name : BodyN
   pub from_here : (at label : ℕ) (seen : Seen) → sets name at ≡ seen → IsRecordedAt label seen → IsPart (sets name label) (sets name at)
   from_here at label seen e t = within (sets name label) seen (sets name at) t (is_same_back (sets name at) seen e)
 
-  pub jump_leads : (w : Way) (at : ℕ) (seen : Seen) → WayIn seen w → Even (sets name) seen at (at + 2) → Lead at (jump_code w)
-  jump_leads w at seen h e = of w h
-    where
-      first : sets name at ≡ seen
-      first = e.inside at (omega arith) (omega arith)
+  -- from one instruction to the next, and from that one to the one after the piece
+  abbrev Onward : ℕ → Type 0
+  Onward at = IsPart (sets name (at + 1)) (sets name at) × IsPart (sets name (at + 1 + 1)) (sets name (at + 1))
 
+  onward : (at : ℕ) (seen : Seen) → Even (sets name) seen at (at + 2) → Onward at
+  onward at seen e = (from_here at (at + 1) seen (e.inside at (omega arith) (omega arith)) (is_same (sets name (at + 1)) seen second), from_here (at + 1) (at + 1 + 1) seen second (subst (λ n. IsRecordedAt n seen) same e.end))
+    where
       second : sets name (at + 1) ≡ seen
       second = e.inside (at + 1) (omega arith) (omega arith)
 
-      next : IsPart (sets name (at + 1)) (sets name at)
-      next = from_here at (at + 1) seen first (is_same (sets name (at + 1)) seen second)
+      same : at + 2 ≡ at + 1 + 1
+      same = omega arith
 
-      last : IsPart (sets name (at + 1 + 1)) (sets name (at + 1))
-      last = let same : at + 2 ≡ at + 1 + 1 = omega arith in from_here (at + 1) (at + 1 + 1) seen second (subst (λ n. IsRecordedAt n seen) same e.end)
+  leads_there : (at label : ℕ) (seen : Seen) → IsRecordedAt label seen → Even (sets name) seen at (at + 2) → IsPart (sets name label) (sets name at)
+  leads_there at label seen h e = from_here at label seen (e.inside at (omega arith) (omega arith)) h
 
-      of : (w : Way) → WayIn seen w → Lead at (jump_code w)
-      of Nowhere h = (next, (last, tt))
-      of (Jumps label) h = (from_here at label seen first h, (last, tt))
-      of (Unwinds label) h = (from_here at label seen first h, (last, tt))
+  pub jump_leads : (w : Way) (at : ℕ) (seen : Seen) → WayIn seen w → Even (sets name) seen at (at + 2) → Lead at (jump_code w)
+  jump_leads Nowhere at seen h e = let o = onward at seen e in (o.0, (o.1, tt))
+  jump_leads (Jumps label) at seen h e = let o = onward at seen e in (leads_there at label seen h e, (o.1, tt))
+  jump_leads (Unwinds label) at seen h e = let o = onward at seen e in (leads_there at label seen h e, (o.1, tt))
 
   pub return_leads : (w : Way) (at : ℕ) (seen : Seen) → WayIn seen w → Even (sets name) seen at (at + 2) → Lead at (return_code w)
-  return_leads w at seen h e = of w h
-    where
-      first : sets name at ≡ seen
-      first = e.inside at (omega arith) (omega arith)
-
-      second : sets name (at + 1) ≡ seen
-      second = e.inside (at + 1) (omega arith) (omega arith)
-
-      next : IsPart (sets name (at + 1)) (sets name at)
-      next = from_here at (at + 1) seen first (is_same (sets name (at + 1)) seen second)
-
-      last : IsPart (sets name (at + 1 + 1)) (sets name (at + 1))
-      last = let same : at + 2 ≡ at + 1 + 1 = omega arith in from_here (at + 1) (at + 1 + 1) seen second (subst (λ n. IsRecordedAt n seen) same e.end)
-
-      of : (w : Way) → WayIn seen w → Lead at (return_code w)
-      of Nowhere h = (next, (last, tt))
-      of (Jumps label) h = (tt, (last, tt))
-      of (Unwinds label) h = (from_here at label seen first h, (last, tt))
+  return_leads Nowhere at seen h e = let o = onward at seen e in (o.0, (o.1, tt))
+  return_leads (Jumps label) at seen h e = let o = onward at seen e in (tt, (o.1, tt))
+  return_leads (Unwinds label) at seen h e = let o = onward at seen e in (leads_there at label seen h e, (o.1, tt))
 
   pub leave_leads : (w : Option ℕ) (at : ℕ) (seen : Seen) → LabelIn seen w → Even (sets name) seen at (at + 1) → Lead at (leave_code w ∷ [])
   leave_leads None at seen h e = (from_here at (at + 1) seen (e.inside at (omega arith) (omega arith)) e.end, tt)

@@ -1,21 +1,21 @@
 -- Configurations that are alike continue alike.
-use Rattle.std.proofs.Common.{◌≡◌, ℕ, zero, suc, ◌-◌, List, [], ◌∷◌, ◌++◌, length, refl, sym, ap, subst, ◌∙◌}
+use Rattle.std.proofs.Common.{◌≡◌, ℕ, zero, suc, ◌-◌, List, ◌∷◌, length, refl, sym, ap, subst, ◌∙◌}
 use Rattle.std.proofs.lemmas.List.{length-replicate}
 use Rattle.std.specs.Prelude.{replicate}
 use Rattle.linear_code.specs.declared.instruction.Instruction.{Instruction}
 use Rattle.linear_code.specs.declared.instruction.Instruction.TheVariants as instructions
 use Rattle.linear_code.specs.Program.{LinearProgram}
-use Rattle.linear_machine.specs.Frames.{Item, Waits, Store, Configuration, Seen, Next}
+use Rattle.linear_machine.specs.Frames.{Waits, Configuration}
 use Rattle.linear_machine.specs.Instructions.{waiting, act}
 use Rattle.linear_machine.specs.Run.{exec, main_arguments}
 use Rattle.ir_typed.specs.Turns.{IsTurn, Comes}
 use Rattle.ir_typed.proofs.Same.{alike_is_same}
 use Rattle.unset_locals.specs.Marks.{Marks, next_marks}
-use Rattle.unset_locals.specs.Alike.{AreActivationsAlike, AreAlike, GoTo, GoAlike}
-use Rattle.unset_locals.specs.Reads.{ReadsSet, ComesMarked}
+use Rattle.unset_locals.specs.Alike.{AreActivationsAlike, AreAlike, GoAlike}
+use Rattle.unset_locals.specs.Reads.{ComesMarked}
 use Rattle.unset_locals.specs.Laws.{StepsAreAlike, CallsAreAlike, called, called_with, StartsAreAlike, MarkedIsReached, MarkedContinues}
 use Rattle.unset_locals.proofs.Lists.{as_long, begun_alike}
-use Rattle.unset_locals.proofs.Both.{over_store, over, Both, Halt, Move, ends_or_moves}
+use Rattle.unset_locals.proofs.Both.{over, Both, Halt, Move, ends_or_moves}
 use Rattle.unset_locals.proofs.Steps.{Led, called_alike, act_both}
 
 -- ---- the one with the other's locals

@@ -1,7 +1,6 @@
 -- What holds of a configuration holds of one that is alike.
-use Rattle.std.proofs.Common.{◌≡◌, ℕ, List, [], ◌∷◌, length, ◌∙◌, subst}
+use Rattle.std.proofs.Common.{ℕ, List, [], ◌∷◌, ◌∙◌, subst}
 use Rattle.linear_code.specs.Program.{LinearProgram}
-use Rattle.linear_machine.specs.Frames.{Configuration}
 use Rattle.ir_typed.specs.Activations.{AreActivations, HasActivations, owners_of}
 use Rattle.linear_machine.specs.Frames.{Waits}
 use Rattle.unset_locals.specs.Marks.{Marks}

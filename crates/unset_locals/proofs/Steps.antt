@@ -6,7 +6,7 @@ use Rattle.seh_num.specs.declared.event.Event.{Event}
 use Rattle.seh_num.specs.declared.event.Event.TheVariants as events
 use Rattle.seh_num.specs.declared.width.Width.TheVariants.{W32, W64}
 use Rattle.seh_num.specs.Widths.{signed}
-use Rattle.flat_memory.specs.Memory.{Memory, protected, rights_asked}
+use Rattle.flat_memory.specs.Memory.{protected, rights_asked}
 use Rattle.c_operations.specs.declared.built_in.BuiltIn.{BuiltIn}
 use Rattle.c_operations.specs.declared.built_in.BuiltIn.TheVariants.{Put, Protect, RaiseException}
 use Rattle.c_operations.specs.declared.operation.Operation.{Operation}
@@ -19,14 +19,14 @@ use Rattle.linear_code.specs.declared.slot.Slot.TheVariants.{Local, Temporary}
 use Rattle.linear_code.specs.declared.instruction.Instruction.{Instruction}
 use Rattle.linear_code.specs.declared.instruction.Instruction.TheVariants as instructions
 use Rattle.linear_code.specs.Program.{LinearProgram, LinearFunction}
-use Rattle.linear_machine.specs.Frames.{FunctionBody, Item, Waits, AfterCall, SameOperation, Store, Configuration, Seen, Finished, Stuck, Next, pick, with_some, deeper, read, write, with_temporary, with_temporaries, last_temporaries, set_local, at_label, forth, with_last}
+use Rattle.linear_machine.specs.Frames.{FunctionBody, Item, Waits, AfterCall, SameOperation, Store, Configuration, Seen, Finished, Stuck, Next, pick, with_some, deeper, read, with_temporary, with_temporaries, last_temporaries, set_local, at_label, forth, with_last}
 use Rattle.linear_machine.specs.Instructions.{is_constant, operand, written, computed, tested, waiting, begin_function, count_of, built_in, end_body, not_landed, act}
 use Rattle.ir_typed.proofs.Stacked.{same_it}
 use Rattle.ir_typed.proofs.Ready.{last_are}
-use Rattle.unset_locals.specs.Marks.{Marks, begins_block, flag_set, with_mark, first_marks, outcome_of, local_in, local_given, local_written, marks_left, next_marks}
+use Rattle.unset_locals.specs.Marks.{Marks, flag_set, with_mark, first_marks, outcome_of, local_in, local_given, marks_left, next_marks}
 use Rattle.unset_locals.specs.Alike.{AreActivationsAlike, AreLocalsAlike}
 use Rattle.unset_locals.specs.Reads.{IsSet, AreOperandsSet, ReadsSet}
-use Rattle.unset_locals.proofs.Lists.{set_in, Alive, same_read, as_long, one_more, begun_alike, whole_alive, set_alive, alive_long}
+use Rattle.unset_locals.proofs.Lists.{set_in, Alive, same_read, as_long, one_more, begun_alike, whole_alive, set_alive}
 use Rattle.unset_locals.proofs.Events.{Adds, adds_none, adds_one, quiet_events}
 use Rattle.unset_locals.proofs.Both.{over_store, over, Both, Halt, Move, pick_both, some_both, deeper_both}
 use Rattle.unset_locals.proofs.Unwinding.{AfterWrite, After, quiet_after, goes, block_both, unwind_both, raise_both, end_both}

@@ -1,23 +1,22 @@
 -- A configuration and its twin continue together.
-use Rattle.std.proofs.Common.{◌≡◌, ℕ, zero, suc, ◌+◌, ◌-◌, List, [], ◌∷◌, ◌++◌, length, refl, sym, ap, subst, ◌∙◌}
+use Rattle.std.proofs.Common.{◌≡◌, ℕ, zero, ◌+◌, ◌-◌, List, [], ◌∷◌, ◌++◌, length, refl, sym, ap, subst, ◌∙◌}
 use Rattle.std.specs.List.{AllByRecursion}
-use Rattle.std.specs.Prelude.{Bool, true, false, nat_lt, slice_get, replicate, Option, Some, None}
+use Rattle.std.specs.Prelude.{false, nat_lt, slice_get, replicate, Option, Some}
 use Rattle.c_model.specs.declared.ended.Ended.TheVariants.{Deep}
-use Rattle.linear_code.specs.declared.instruction.Instruction.{Instruction}
 use Rattle.linear_code.specs.declared.instruction.Instruction.TheVariants as instructions
 use Rattle.linear_code.specs.Program.{LinearProgram, LinearFunction}
 use Rattle.linear_machine.specs.Frames.{Frame, Waits, Configuration, Seen, Finished, Next, pick, with_some, deeper, last_temporaries}
 use Rattle.linear_machine.specs.Instructions.{begin_function, waiting, act}
 use Rattle.linear_machine.specs.Run.{instruction_at, instruction_in, start, main_arguments}
 use Rattle.linear_machine.specs.Frames.{body_of}
-use Rattle.ir_typed.specs.Turns.{IsTurn, IsReached}
+use Rattle.ir_typed.specs.Turns.{IsReached}
 use Rattle.ir_typed.specs.Small.{AreSmall, HasSmallNumbers}
 use Rattle.ir_typed.proofs.Numbers.{stays_small, reached_small}
 use Rattle.unset_locals.specs.Marks.{Marks, next_marks}
-use Rattle.unset_locals.specs.Alike.{AreAlike, GoTo, GoAlike}
-use Rattle.unset_locals.specs.Reads.{IsMarked, start_marks}
-use Rattle.unset_locals.specs.Laws.{called, called_with, started_with}
-use Rattle.unset_locals.specs.Twins.{AreTwins, GoesAsTwin, GoAsTwins, TwinsContinue, TwinsCall, TwinsStart, TwinsAreSmall}
+use Rattle.unset_locals.specs.Alike.{AreAlike, GoAlike}
+use Rattle.unset_locals.specs.Reads.{start_marks}
+use Rattle.unset_locals.specs.Laws.{called}
+use Rattle.unset_locals.specs.Twins.{TwinsContinue, TwinsCall, TwinsStart, TwinsAreSmall}
 use Rattle.unset_locals.proofs.Lists.{as_long}
 use Rattle.unset_locals.proofs.Alike.{is_over, steps_are_alike, calls_are_alike, starts_are_alike, marked_is_reached, marked_continues}
 

@@ -1,6 +1,6 @@
 -- Unwindings and searches over the same that waits go alike, whatever the locals are.
 use Rattle.std.proofs.Common.{◌≡◌, ℕ, ◌+◌, ◌^◌, List, [], ◌∷◌, ◌++◌, length, refl, sym, subst}
-use Rattle.std.specs.Prelude.{Bool, true, false, nat_eq, nat_lt, drop, take, slice_get, Option, Some, None}
+use Rattle.std.specs.Prelude.{Bool, true, nat_eq, nat_lt, drop, take, slice_get, Option, Some, None}
 use Rattle.seh_num.specs.declared.event.Event.{Event}
 use Rattle.seh_num.specs.declared.event.Event.TheVariants as events
 use Rattle.seh_num.specs.declared.width.Width.TheVariants.{W32}
@@ -15,7 +15,7 @@ use Rattle.linear_code.specs.declared.program.RegionKind.TheVariants as kinds
 use Rattle.linear_code.specs.declared.program.FuncletKind.{FuncletKind}
 use Rattle.linear_code.specs.declared.program.FuncletKind.TheVariants as funclets
 use Rattle.linear_code.specs.Program.{LinearProgram}
-use Rattle.linear_machine.specs.Frames.{BodyName, FunctionBody, FuncletBody, Frame, Handler, Target, Resumption, AfterCall, SameOperation, Item, Waits, Searches, Unwinds, Store, Configuration, Seen, Finished, Stuck, Next, pick, deeper, at_label, forth, with_last}
+use Rattle.linear_machine.specs.Frames.{BodyName, FunctionBody, FuncletBody, Handler, Target, Resumption, AfterCall, SameOperation, Item, Waits, Searches, Unwinds, Store, Configuration, Seen, Finished, Stuck, Next, pick, deeper, at_label, forth, with_last}
 use Rattle.linear_machine.specs.Regions.{regions_at, regions_left, handlers, stops}
 use Rattle.linear_machine.specs.Unwinding.{flag_of, begin_finally, run_finally, arrive, target_past, left_store, leave_region, unwind_body, unwind}
 use Rattle.linear_machine.specs.Searching.{target_of, accept, begin_filter, consult, search, raise, resumed, answered, answer}

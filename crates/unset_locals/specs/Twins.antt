@@ -1,6 +1,6 @@
 -- The configuration that linear code is in, and the one that a machine shows that doesn't clear the
 -- locals of a function that begins.
-use Rattle.std.specs.Prelude.{◌≡◌, ℕ, ◌+◌, ◌-◌, nat_lt, false, List, [], ◌∷◌, length, slice_get, ℤ, Some}
+use Rattle.std.specs.Prelude.{◌≡◌, ℕ, ◌+◌, ◌-◌, nat_lt, false, List, length, slice_get, ℤ, Some}
 use Rattle.std.specs.List.{AllByRecursion}
 use Rattle.c_model.specs.declared.depth.TheConstants.{DEEPEST}
 use Rattle.linear_code.specs.declared.instruction.Instruction.{Instruction}
@@ -13,7 +13,7 @@ use Rattle.ir_typed.specs.Small.{AreSmall, HasSmallNumbers}
 use Rattle.unset_locals.specs.Marks.{Marks}
 use Rattle.unset_locals.specs.Alike.{AreAlike}
 use Rattle.unset_locals.specs.Reads.{IsMarked, ReadsNoUnset}
-use Rattle.unset_locals.specs.Laws.{called, called_with, started_with}
+use Rattle.unset_locals.specs.Laws.{called_with, started_with}
 
 module _ (program : LinearProgram) where
   -- linear code comes to the one, and the other is alike; its locals are numbers of 64 bits

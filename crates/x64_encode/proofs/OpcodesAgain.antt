@@ -23,7 +23,8 @@ use Rattle.x64_instr.specs.Reading.{Read, ◌>>=◌, byte, signed, bit}
 use Rattle.x64_instr.specs.Operands.{width_of, sized, immediate_of, register_of_reg_field, register_of_low_bits, modrm_with_register, is_listed, rm_and_register, rm_and_opcode_extension, source}
 use Rattle.x64_instr.specs.Spelling.{rm_r, r_rm, rm_extension, group_1, group_11, group_3, load, move_immediate, plain_row, row, two_byte_row, after_prefixes, after_size, instr}
 use Rattle.x64_encode.specs.Chosen.{wide, has_rex, prefixes, high_bits, place_bytes, modrm_bits, modrm, opcode_register, sized_opcode, opcode_extension, condition_number, is_place}
-use Rattle.x64_encode.proofs.Operands.{read_as, number_small, joined, High, IsRead, read_place, high_small}
+use Rattle.x64_instr.proofs.RegisterNumbers.{number_small}
+use Rattle.x64_encode.proofs.Operands.{read_as, joined, High, IsRead, read_place, high_small}
 
 -- ---- prefixes
 

@@ -7,7 +7,6 @@ use Rattle.seh_num.specs.declared.width.Width.{Width}
 use Rattle.seh_num.specs.declared.width.Width.TheVariants.{W8, W16, W32, W64}
 use Rattle.seh_num.specs.Widths.{bytes_of, limit, half, low}
 use Rattle.x64_instr.specs.declared.register.Reg.{Reg}
-use Rattle.x64_instr.specs.declared.register.Reg.TheVariants.{Rax, Rcx, Rdx, Rbx, Rsp, Rbp, Rsi, Rdi, R8, R9, R10, R11, R12, R13, R14, R15}
 use Rattle.x64_instr.specs.declared.operand.Scale.{Scale}
 use Rattle.x64_instr.specs.declared.operand.Scale.TheVariants.{One, Two, Four, Eight}
 use Rattle.x64_instr.specs.declared.operand.Base.{Base}
@@ -19,6 +18,7 @@ use Rattle.x64_instr.specs.declared.prefixes.Prefixes.{Prefixes}
 use Rattle.x64_instr.specs.Registers as regs
 use Rattle.x64_instr.specs.Reading.{Read, ◌>>=◌, byte, number, signed, extended, bit}
 use Rattle.x64_instr.specs.Operands.{register_of_low_bits, scale, index_of_sib, memory, displaced, sib_operand, memory_operand, place}
+use Rattle.x64_instr.proofs.RegisterNumbers.{register_number, number_small}
 use Rattle.x64_encode.specs.Chosen.{little, is_signed, base_number, index_number, high_bits, mode, displacement, scale_number, sib, at_register, memory_bytes, place_bytes, is_index, is_place}
 
 abbrev pub read_as : {A : Type 0} → A → List ℕ → Read A
@@ -26,17 +26,11 @@ read_as x rest = Some (x, rest)
 
 -- ---- registers and numbers
 
-pub register-number : (r : Reg) → regs.register (regs.number r) ≡ r
-register-number r = elim r as (λ k. regs.register (regs.number k) ≡ k) [ Rax ↦ refl | Rcx ↦ refl | Rdx ↦ refl | Rbx ↦ refl | Rsp ↦ refl | Rbp ↦ refl | Rsi ↦ refl | Rdi ↦ refl | R8 ↦ refl | R9 ↦ refl | R10 ↦ refl | R11 ↦ refl | R12 ↦ refl | R13 ↦ refl | R14 ↦ refl | R15 ↦ refl ]
-
-pub number_small : (r : Reg) → regs.number r < 16
-number_small r = elim r as (λ k. regs.number k < 16) [ Rax ↦ omega arith | Rcx ↦ omega arith | Rdx ↦ omega arith | Rbx ↦ omega arith | Rsp ↦ omega arith | Rbp ↦ omega arith | Rsi ↦ omega arith | Rdi ↦ omega arith | R8 ↦ omega arith | R9 ↦ omega arith | R10 ↦ omega arith | R11 ↦ omega arith | R12 ↦ omega arith | R13 ↦ omega arith | R14 ↦ omega arith | R15 ↦ omega arith ]
-
 -- the register of a field of three bits and the bit that REX adds to it
 pub joined : (r : Reg) (high low : ℕ) → high ≡ regs.number r / 8 → low ≡ regs.number r % 8 → regs.register (8 * high + low) ≡ r
 joined r high low h l =
     let e : 8 * high + low ≡ regs.number r = omega arith in
-    ap regs.register e ∙ register-number r
+    ap regs.register e ∙ register_number r
 
 pub number_little : (n v : ℕ) (more : List ℕ) → v < 256 ^ n → number n (little n v ++ more) ≡ read_as v more
 number_little zero v more h =
@@ -157,7 +151,7 @@ indexed_sib p (Some i) b lt h fine =
     ap (λ k. cond (eqb k 4) none (index k (sib (Some i) b / 64))) whole
     ∙ ap (λ c. cond c none (index (regs.number i.register) (sib (Some i) b / 64))) (ne_eqb _ _ fine)
     ∙ ap (λ t. index (regs.number i.register) t) top
-    ∙ ap (λ (r : Reg). let x : Option Index = Some (record { register = r; scale = scale (scale_number i.scale) }) in x) (register-number i.register)
+    ∙ ap (λ (r : Reg). let x : Option Index = Some (record { register = r; scale = scale (scale_number i.scale) }) in x) (register_number i.register)
     ∙ ap (λ (t : Scale). let x : Option Index = Some (record { register = i.register; scale = t }) in x) (scale-number i.scale)
 
 -- a displacement of a byte where t holds

@@ -32,7 +32,8 @@ use Rattle.x64_instr.specs.Reading.{Read, ◌>>=◌, byte, number, signed, bit}
 use Rattle.x64_instr.specs.Operands.{width_of, sized_narrow, immediate_of, register_of_low_bits, is_listed, rm_and_register}
 use Rattle.x64_instr.specs.Spelling.{r_rm, rm_extension, given, operation, direction, group_1, group_11, group_2_immediate, group_2_cl, group_5, load, extend, address_to, move_immediate, plain_row, row, two_byte_row, after_prefixes, after_size, instr, IsEncoding, leading}
 use Rattle.x64_encode.specs.Chosen.{little, is_signed, wide, has_rex, place_bytes, modrm_bits, modrm, opcode_register, sized_opcode, opcode_extension, division_opcode_extension, direction_opcode_extension, condition_number, extend_width, extend_opcode, immediate_bytes, arithmetic_bytes, move_bytes, count_bytes, chosen, encoded_len, is_place, is_wide, is_immediate, is_widened, is_count, is_encodable, IsEncodable}
-use Rattle.x64_encode.proofs.Operands.{read_as, number_small, number_little, signed_little, high_small}
+use Rattle.x64_instr.proofs.RegisterNumbers.{number_small}
+use Rattle.x64_encode.proofs.Operands.{read_as, number_little, signed_little, high_small}
 use Rattle.x64_encode.proofs.OpcodesAgain.{is_word, read_prefixes, wide_small, width_read, modrm_prefixes, open_one, open_two, width_is, bits_top, digit_read, operands_read, listed, r_rm_read, rm_digit_read, IsOpcode, rm_r_again, r_rm_again, rm_digit_again, register_prefixes, open_register, lowest_read, push_row, pop_row, immediate_row, row_move, row_load, row_test, row_move_number, row_arithmetic_number, third, row_third, row_arithmetic, from_memory, row_arithmetic_load, row_jump_if, row_set}
 
 -- ---- numbers after the operands
@@ -362,37 +363,14 @@ rex_wide bits e (places.Memory m) = refl
 
 again_extend : (e : Extension) (w n : Width) (to : Reg) (from : RegisterOrMemory) (more : List ℕ) → is_widened e w n ≡ true → is_place from ≡ true → instr (modrm (extend_width w n) (extend_opcode e n) (regs.number to) from ++ more) ≡ Some (instrs.Extend e w to n from, more)
 unfolding after_prefixes row plain_row two_byte_row
-again_extend Zero W8 W8 to from more is ok = impossible is
-again_extend Zero W8 W16 to from more is ok = impossible is
-again_extend Zero W8 W32 to from more is ok = impossible is
-again_extend Zero W8 W64 to from more is ok = impossible is
-again_extend Zero W16 W8 to from more is ok = impossible is
-again_extend Zero W16 W16 to from more is ok = impossible is
-again_extend Zero W16 W32 to from more is ok = impossible is
-again_extend Zero W16 W64 to from more is ok = impossible is
 again_extend Zero W32 W8 to from more is ok = extended_again Zero W8 W32 W8 to from more 0xB6 ok (λ b bs. refl) refl (byte_width (modrm_bits W8 (regs.number to) from) (bits_top W8 (regs.number to) from more (number_small to))) (listed W8 (modrm_bits W8 (regs.number to) from) from) refl
 again_extend Zero W64 W8 to from more is ok = extended_again Zero W64 W64 W8 to from more 0xB6 ok (λ b bs. refl) refl (width_is W64 (regs.number to) from more (number_small to) refl) (rex_wide (modrm_bits W64 (regs.number to) from) (bits_top W64 (regs.number to) from more (number_small to)) from) refl
 again_extend Zero W32 W16 to from more is ok = extended_again Zero W32 W32 W16 to from more 0xB7 ok (λ b bs. refl) refl (width_is W32 (regs.number to) from more (number_small to) refl) refl refl
 again_extend Zero W64 W16 to from more is ok = extended_again Zero W64 W64 W16 to from more 0xB7 ok (λ b bs. refl) refl (width_is W64 (regs.number to) from more (number_small to) refl) refl refl
-again_extend Zero W32 W32 to from more is ok = impossible is
-again_extend Zero W32 W64 to from more is ok = impossible is
-again_extend Zero W64 W64 to from more is ok = impossible is
-again_extend Zero W64 W32 to from more is ok = impossible is
-again_extend Sign W8 W8 to from more is ok = impossible is
-again_extend Sign W8 W16 to from more is ok = impossible is
-again_extend Sign W8 W32 to from more is ok = impossible is
-again_extend Sign W8 W64 to from more is ok = impossible is
-again_extend Sign W16 W8 to from more is ok = impossible is
-again_extend Sign W16 W16 to from more is ok = impossible is
-again_extend Sign W16 W32 to from more is ok = impossible is
-again_extend Sign W16 W64 to from more is ok = impossible is
 again_extend Sign W32 W8 to from more is ok = extended_again Sign W8 W32 W8 to from more 0xBE ok (λ b bs. refl) refl (byte_width (modrm_bits W8 (regs.number to) from) (bits_top W8 (regs.number to) from more (number_small to))) (listed W8 (modrm_bits W8 (regs.number to) from) from) refl
 again_extend Sign W64 W8 to from more is ok = extended_again Sign W64 W64 W8 to from more 0xBE ok (λ b bs. refl) refl (width_is W64 (regs.number to) from more (number_small to) refl) (rex_wide (modrm_bits W64 (regs.number to) from) (bits_top W64 (regs.number to) from more (number_small to)) from) refl
 again_extend Sign W32 W16 to from more is ok = extended_again Sign W32 W32 W16 to from more 0xBF ok (λ b bs. refl) refl (width_is W32 (regs.number to) from more (number_small to) refl) refl refl
 again_extend Sign W64 W16 to from more is ok = extended_again Sign W64 W64 W16 to from more 0xBF ok (λ b bs. refl) refl (width_is W64 (regs.number to) from more (number_small to) refl) refl refl
-again_extend Sign W32 W32 to from more is ok = impossible is
-again_extend Sign W32 W64 to from more is ok = impossible is
-again_extend Sign W64 W64 to from more is ok = impossible is
 again_extend Sign W64 W32 to from more is ok =
     let n = number_small to in
     let p = modrm_prefixes W64 (regs.number to) from in
@@ -400,6 +378,10 @@ again_extend Sign W64 W32 to from more is ok =
     open_one W64 (regs.number to) from more n 0x63 (λ e. absurd (omega arith)) (λ e. absurd (omega arith))
     ∙ ap (λ c. cond c (r_rm p W64 W32 (λ t f. instrs.Extend Sign W64 t W32 f) bytes) None) (eq-eqb (bit 3 (modrm_bits W64 (regs.number to) from)) 1 (let h = high_small from in omega arith))
     ∙ ap (λ (o : Read (RegisterOrMemory × Reg)). o >>= λ x. read_as (instrs.Extend Sign W64 x.0.1 W32 x.0.0) x.1) (operands_read W64 W32 W64 to from more ok refl refl)
+again_extend e w W8 to from more is ok = impossible is
+again_extend e w W16 to from more is ok = impossible is
+again_extend e w W32 to from more is ok = impossible is
+again_extend e w W64 to from more is ok = impossible is
 
 -- ---- jumps
 

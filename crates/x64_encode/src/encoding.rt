@@ -18,7 +18,7 @@ use arrayvec::ArrayVec;
 use seh_num::extension::zero_extend;
 use seh_num::size::LONGEST_INSTRUCTION;
 use seh_num::width::Width;
-use x64_instr::instruction::{Count, Division, Extension, Instr, Operation, Target, Unary};
+use x64_instr::instruction::{Count, Division, Instr, Operation, Target, Unary};
 use x64_instr::operand::{Operand, RegisterOrMemory};
 use x64_instr::prefixes::immediate_of;
 use x64_instr::register::Reg;

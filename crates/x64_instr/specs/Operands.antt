@@ -55,7 +55,7 @@ index_of_sib p sib =
 abbrev pub memory : Base → Option Index → ℕ → RegisterOrMemory
 memory b i d = places.Memory (record { base = b; index = i; displacement = d })
 
--- the displacement that mod tells: none, of a byte, of four bytes
+-- the displacement that mod asks for: none, of a byte, of four bytes
 abbrev pub displaced : ℕ → List ℕ → Read ℕ
 displaced mode bytes =
     if mode == 0 then Some (0, bytes)

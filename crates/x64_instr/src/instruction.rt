@@ -90,7 +90,7 @@ pub enum Target {
     Indirect(RegisterOrMemory),
 }
 
-/// An instruction (Intel manual, volume 2). Not each value has a spelling: `is_encodable` tells.
+/// An instruction (Intel manual, volume 2). Not each value has a spelling: `is_encodable` says so.
 #[derive(Clone, Copy, Debug, Default, PartialEq, Eq)]
 pub enum Instr {
     /// MOV.

@@ -25,7 +25,9 @@ pub enum Base {
 /// A register that is scaled and added to an address. RSP can't be one.
 #[derive(Clone, Copy, Debug, PartialEq, Eq)]
 pub struct Index {
+    /// The register.
     pub register: Reg,
+    /// What it is multiplied by.
     pub scale: Scale,
 }
 
@@ -33,7 +35,9 @@ pub struct Index {
 /// volume 1, "Specifying an Offset").
 #[derive(Clone, Copy, Debug, PartialEq, Eq)]
 pub struct MemRef {
+    /// What the address starts from.
     pub base: Base,
+    /// What is added to it, where there is an index.
     pub index: Option<Index>,
     /// A signed number of 32 bits, sign-extended to 64.
     pub displacement: u64,

@@ -191,16 +191,16 @@ module _ (r : Region) (s : Stretch) (ss ss' : List Stretch) (ps ps' : List Page)
   page_after : (k : ℕ) → page_numbered ss' ps' k ≡ cond (has_number s k) (Some (zero_page protection)) (page_numbered ss ps k)
   page_after k = ap (λ xs. page_numbered xs ps' k) pushed ∙ ap (λ ys. page_numbered (ss ++ s ∷ []) ys k) added ∙ page_added s ss ps (zero_page protection) kept grows laid (sym count) ends k
 
-  pub memory_after : paged (page_numbered ss' ps') ≡ with_region (paged (page_numbered ss ps)) r
+  memory_after : paged (page_numbered ss' ps') ≡ with_region (paged (page_numbered ss ps)) r
   memory_after = region_over r s whole.start whole.end first_is end_is (page_numbered ss ps) (page_numbered ss' ps') protection mode page_after
 
-  pub holds_after : (a : ℕ) → has_page (page_numbered ss' ps') a ≡ (covers r a || has_page (page_numbered ss ps) a)
+  holds_after : (a : ℕ) → has_page (page_numbered ss' ps') a ≡ (covers r a || has_page (page_numbered ss ps) a)
   holds_after = holds_over r s whole.start whole.end first_is end_is (page_numbered ss ps) (page_numbered ss' ps') protection mode page_after
 
-  pub laid_after : AreLaid 0 0 ss'
+  laid_after : AreLaid 0 0 ss'
   laid_after = subst (AreLaid 0 0) (sym pushed) (laid_more s 0 0 ss laid ends grows (kept ∙ count))
 
-  pub count_after : length ps' ≡ count_from 0 ss'
+  count_after : length ps' ≡ count_from 0 ss'
   count_after =
       let old = length-append ps (replicate (s.end - s.first) (zero_page protection)) in
       let new = length-replicate (s.end - s.first) (zero_page protection) in
@@ -208,8 +208,19 @@ module _ (r : Region) (s : Stretch) (ss ss' : List Stretch) (ps ps' : List Page)
       let counted : count_from 0 ss' ≡ count_from 0 ss + (s.end - s.first) = ap (count_from 0) pushed ∙ count_more s 0 ss in
       omega arith
 
-  pub end_after : 4096 * end_from 0 ss' ≡ r.end
+  end_after : 4096 * end_from 0 ss' ≡ r.end
   end_after =
       let ended : end_from 0 ss' ≡ s.end = ap (end_from 0) pushed ∙ end_more s 0 ss in
       let e = whole.end in
       omega arith
+
+  pub record IsMapped : Type 0 where
+    pub memory : paged (page_numbered ss' ps') ≡ with_region (paged (page_numbered ss ps)) r
+    pub holds : (a : ℕ) → has_page (page_numbered ss' ps') a ≡ (covers r a || has_page (page_numbered ss ps) a)
+    pub ascending : AreLaid 0 0 ss'
+    pub counted : length ps' ≡ count_from 0 ss'
+    pub end : 4096 * end_from 0 ss' ≡ r.end
+
+  -- the pages are those of the memory with the region over what was there
+  pub is_mapped : IsMapped
+  is_mapped = record { memory = memory_after; holds = holds_after; ascending = laid_after; counted = count_after; end = end_after }
