@@ -30,7 +30,7 @@ use Rattle.frame_rules.specs.Bytes.{spell, IsExecutableAt, code, SpellsAll, Code
 use Rattle.frame_rules.proofs.Planning.{AllEmitted, all_turned, emitted_plan, step_encodable, small_signed, codes_plan}
 use Rattle.frame_rules.proofs.Sizes.{frame_has_its_size}
 use Rattle.frame_rules.proofs.Emitting.{plans_are_right}
-use Rattle.frame_rules.proofs.Every_frame.{frames_are_right}
+use Rattle.frame_rules.proofs.EveryFrame.{frames_are_right}
 
 -- ---- no spelling is empty
 

@@ -25,7 +25,7 @@ use Rattle.frame_rules.specs.Rules.{ops}
 use Rattle.frame_rules.specs.Laws.{BodyBegins, BodyContinues}
 use Rattle.frame_rules.proofs.Prologues.{turn_plain, turn_call, size_plain, subtracts_plain, does_plain}
 use Rattle.frame_rules.proofs.Writing.{writes_no_other}
-use Rattle.frame_rules.proofs.Every_frame.{following_running}
+use Rattle.frame_rules.proofs.EveryFrame.{following_running}
 
 -- ---- words that may be read
 
