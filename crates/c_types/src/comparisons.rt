@@ -8,7 +8,7 @@ ghost use Rattle.c_types.specs.Views.{typed_node, FindsTyped};
 use crate::nodes::binary;
 use crate::operators::{logical_and, logical_or};
 use crate::pointers::arithmetic_of;
-use crate::typed::{TypedNode, as_type, typed};
+use crate::typed::{TypedNode, as_type, refuse_both, typed};
 use crate::types::{
     common, is_integer, is_pointer, is_void_pointer, plain, same_type, size_of, sort_of,
 };
@@ -82,12 +82,12 @@ fn comparison_of(
 {
     if is_pointer(a.of) || is_pointer(b.of) {
         if !are_comparable(&a, &b) {
-            return Ok(None);
+            return Ok(refuse_both(a, b));
         }
         return Ok(Some(compared(alloc, operator, void_pointer(), a, b)?));
     }
     if !(is_integer(a.of) && is_integer(b.of)) {
-        return Ok(None);
+        return Ok(refuse_both(a, b));
     }
     let t = common(a.of, b.of);
     Ok(Some(compared(alloc, operator, t, a, b)?))

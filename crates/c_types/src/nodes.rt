@@ -11,6 +11,16 @@ use c_checked::expression::{Access, Conversion, Expr, Fixity, Lvalue, Node};
 use c_operations::operation::{Operation, Pure};
 use std::alloc::{AllocError, Global};
 
+/// Two operands, each in a box of its own.
+fn boxed(alloc: Global, left: Expr, right: Expr) -> Result<(Box<Expr>, Box<Expr>), AllocError>
+    ensures left { IfOk result (λ boxes. boxes.0.value ≡ left) }
+    ensures right { IfOk result (λ boxes. boxes.1.value ≡ right) }
+{
+    let left = Box::new(alloc, left)?;
+    let right = Box::new(alloc, right)?;
+    Ok((left, right))
+}
+
 /// An operation on two operands.
 pub fn binary(
     alloc: Global,
@@ -21,8 +31,7 @@ pub fn binary(
     ensures { IfOk result (λ n. nodes.node n ≡
         nodes.Binary operation (expression left) (expression right)) }
 {
-    let left = Box::new(alloc, left)?;
-    let right = Box::new(alloc, right)?;
+    let (left, right) = boxed(alloc, left, right)?;
     Ok(Node::Binary {
         operation,
         left,
@@ -40,8 +49,7 @@ pub fn pointer_difference(
     ensures { IfOk result (λ n. nodes.node n ≡
         nodes.PointerDifference size (expression left) (expression right)) }
 {
-    let left = Box::new(alloc, left)?;
-    let right = Box::new(alloc, right)?;
+    let (left, right) = boxed(alloc, left, right)?;
     Ok(Node::PointerDifference { size, left, right })
 }
 
@@ -49,8 +57,7 @@ pub fn pointer_difference(
 pub fn and(alloc: Global, left: Expr, right: Expr) -> Result<Node, AllocError>
     ensures { IfOk result (λ n. nodes.node n ≡ nodes.And (expression left) (expression right)) }
 {
-    let left = Box::new(alloc, left)?;
-    let right = Box::new(alloc, right)?;
+    let (left, right) = boxed(alloc, left, right)?;
     Ok(Node::And(left, right))
 }
 
@@ -58,8 +65,7 @@ pub fn and(alloc: Global, left: Expr, right: Expr) -> Result<Node, AllocError>
 pub fn or(alloc: Global, left: Expr, right: Expr) -> Result<Node, AllocError>
     ensures { IfOk result (λ n. nodes.node n ≡ nodes.Or (expression left) (expression right)) }
 {
-    let left = Box::new(alloc, left)?;
-    let right = Box::new(alloc, right)?;
+    let (left, right) = boxed(alloc, left, right)?;
     Ok(Node::Or(left, right))
 }
 
@@ -67,8 +73,7 @@ pub fn or(alloc: Global, left: Expr, right: Expr) -> Result<Node, AllocError>
 pub fn comma(alloc: Global, left: Expr, right: Expr) -> Result<Node, AllocError>
     ensures { IfOk result (λ n. nodes.node n ≡ nodes.Comma (expression left) (expression right)) }
 {
-    let left = Box::new(alloc, left)?;
-    let right = Box::new(alloc, right)?;
+    let (left, right) = boxed(alloc, left, right)?;
     Ok(Node::Comma(left, right))
 }
 
@@ -93,9 +98,8 @@ pub fn conditional(alloc: Global, condition: Expr, yes: Expr, no: Expr) -> Resul
     ensures { IfOk result (λ n. nodes.node n ≡
         nodes.Conditional (expression condition) (expression yes) (expression no)) }
 {
+    let (yes, no) = boxed(alloc, yes, no)?;
     let condition = Box::new(alloc, condition)?;
-    let yes = Box::new(alloc, yes)?;
-    let no = Box::new(alloc, no)?;
     Ok(Node::Conditional { condition, yes, no })
 }
 
@@ -178,8 +182,7 @@ pub fn element(alloc: Global, access: Access, array: Expr, index: Expr) -> Resul
     ensures { IfOk result (λ n. nodes.node n ≡
         nodes.Read (nodes.Element access (expression array) (expression index))) }
 {
-    let array = Box::new(alloc, array)?;
-    let index = Box::new(alloc, index)?;
+    let (array, index) = boxed(alloc, array, index)?;
     Ok(Node::Read(Lvalue::Element {
         access,
         array,

@@ -9,7 +9,7 @@ ghost use Rattle.c_syntax.specs.declared.operator.BinaryOperator.TheVariants as 
 ghost use Rattle.c_types.specs.Views.{typed_node, FindsTyped};
 
 use crate::nodes::{and, binary, comma, or};
-use crate::typed::{TypedNode, as_is, as_type, typed};
+use crate::typed::{TypedNode, as_is, as_type, refuse_both, typed};
 use crate::types::{common, is_integer, is_scalar, plain, promoted, size_of, sort_of};
 use c_checked::expression::Expr;
 use c_operations::operation::{Operation, Pure, Signedness, Size};
@@ -84,7 +84,7 @@ pub fn on_integers(
     ensures { IfOk result (λ r. FindsTyped r (on_integers operator (typed_node a) (typed_node b))) }
 {
     if !(is_integer(a.of) && is_integer(b.of)) {
-        return Ok(None);
+        return Ok(refuse_both(a, b));
     }
     let t = working_type(operator, a.of, b.of);
     let left = as_type(t, a);
@@ -103,7 +103,7 @@ pub fn logical_and(
         (operators.binary_of binary.LogicalAnd (typed_node a) (typed_node b))) }
 {
     if !(is_scalar(a.of) && is_scalar(b.of)) {
-        return Ok(None);
+        return Ok(refuse_both(a, b));
     }
     let made = and(alloc, as_is(a), as_is(b))?;
     Ok(Some(typed(plain(Base::Int), made)))
@@ -119,7 +119,7 @@ pub fn logical_or(
         (operators.binary_of binary.LogicalOr (typed_node a) (typed_node b))) }
 {
     if !(is_scalar(a.of) && is_scalar(b.of)) {
-        return Ok(None);
+        return Ok(refuse_both(a, b));
     }
     let made = or(alloc, as_is(a), as_is(b))?;
     Ok(Some(typed(plain(Base::Int), made)))

@@ -7,7 +7,7 @@ ghost use Rattle.c_types.specs.Views.{typed_node, FindsTyped};
 
 use crate::nodes::{binary, element, pointer_difference};
 use crate::operators::{on_integers, operation_of};
-use crate::typed::{TypedNode, as_index, as_is, typed};
+use crate::typed::{TypedNode, as_index, as_is, refuse_both, typed};
 use crate::types::{
     access_of, bytes_in, is_integer, is_pointer, is_sized_pointer, plain, pointed, same_type,
 };
@@ -44,13 +44,13 @@ pub fn sum(alloc: Global, a: TypedNode, b: TypedNode) -> Result<Option<TypedNode
 {
     if is_pointer(a.of) {
         if !(is_sized_pointer(a.of) && is_integer(b.of)) {
-            return Ok(None);
+            return Ok(refuse_both(a, b));
         }
         return Ok(Some(moved(alloc, Arithmetic::Add, a, b)?));
     }
     if is_pointer(b.of) {
         if !(is_sized_pointer(b.of) && is_integer(a.of)) {
-            return Ok(None);
+            return Ok(refuse_both(a, b));
         }
         let t = b.of;
         let index = as_index(t, a);
@@ -70,7 +70,7 @@ pub fn difference(
 {
     if is_pointer(a.of) && is_pointer(b.of) {
         if !(is_sized_pointer(a.of) && same_type(a.of, b.of)) {
-            return Ok(None);
+            return Ok(refuse_both(a, b));
         }
         let size = bytes_in(pointed(a.of));
         let made = pointer_difference(alloc, size, as_is(a), as_is(b))?;
@@ -78,7 +78,7 @@ pub fn difference(
     }
     if is_pointer(a.of) {
         if !(is_sized_pointer(a.of) && is_integer(b.of)) {
-            return Ok(None);
+            return Ok(refuse_both(a, b));
         }
         return Ok(Some(moved(alloc, Arithmetic::Subtract, a, b)?));
     }
@@ -111,7 +111,7 @@ pub fn element_of(
     ensures { IfOk result (λ r. FindsTyped r (element_of (typed_node a) (typed_node i))) }
 {
     if !(is_sized_pointer(a.of) && is_integer(i.of)) {
-        return Ok(None);
+        return Ok(refuse_both(a, i));
     }
     let t = pointed(a.of);
     let index = as_index(a.of, i);

@@ -1,6 +1,6 @@
 //! Expressions with their types.
 
-ghost use Rattle.std.specs.Prelude.{◌≡◌};
+ghost use Rattle.std.specs.Prelude.{◌≡◌, None};
 ghost use Rattle.c_checked.specs.Expression as nodes;
 ghost use Rattle.c_checked.specs.Expression.{expression};
 ghost use Rattle.c_resolved.specs.Operators.{typed, as_is, as_type, as_index, can_become};
@@ -15,8 +15,11 @@ use c_syntax::expression::CType;
 /// An expression that breaks no rule: its type, its node, and whether it is a literal 0.
 #[derive(Drop)]
 pub struct TypedNode {
+    /// Its type, before any conversion.
     pub of: CType,
+    /// What computes its value.
     pub node: Node,
+    /// Whether it is a literal 0, which is a null pointer too (C11, 6.3.2.3 p3).
     pub zero: bool,
 }
 
@@ -29,6 +32,22 @@ pub fn typed(of: CType, made: Node) -> TypedNode
         node: made,
         zero: false,
     }
+}
+
+/// Nothing, since the operand breaks its operator's rule.
+pub fn refuse(a: TypedNode) -> Option<TypedNode>
+    ensures { result ≡ None }
+{
+    drop(a);
+    None
+}
+
+/// Nothing, since the operands break their operator's rule.
+pub fn refuse_both(a: TypedNode, b: TypedNode) -> Option<TypedNode>
+    ensures { result ≡ None }
+{
+    drop(a);
+    refuse(b)
 }
 
 /// The value as it is.

@@ -1,6 +1,6 @@
 //! Operators with one operand, and the conditional operator.
 
-ghost use Rattle.std.specs.Prelude.{◌≡◌, IfOk};
+ghost use Rattle.std.specs.Prelude.{◌≡◌, None, IfOk};
 ghost use Rattle.c_checked.specs.Expression.{expression};
 ghost use Rattle.c_checked.specs.Expression as nodes;
 ghost use Rattle.c_resolved.specs.Operators as operators;
@@ -12,7 +12,7 @@ ghost use Rattle.c_types.specs.Views.{typed_node, FindsTyped};
 
 use crate::comparisons::void_pointer;
 use crate::nodes::{address_of, conditional, indirection, lvalue_of, not, unary};
-use crate::typed::{TypedNode, as_is, as_type, typed};
+use crate::typed::{TypedNode, as_is, as_type, refuse, refuse_both, typed};
 use crate::types::{
     access_of, common, is_integer, is_pointer, is_scalar, is_sized_pointer, is_void,
     is_void_pointer, plain, pointed, pointer_to, promoted, same_type, size_of,
@@ -30,7 +30,7 @@ fn on_integer(alloc: Global, operation: Pure, a: TypedNode) -> Result<Option<Typ
         (nodes.Unary operation (operators.as_is (typed_node a)))))) }
 {
     if !is_integer(a.of) {
-        return Ok(None);
+        return Ok(refuse(a));
     }
     let t = promoted(a.of);
     let made = unary(alloc, operation, as_is(a))?;
@@ -41,7 +41,7 @@ fn logical_not(alloc: Global, a: TypedNode) -> Result<Option<TypedNode>, AllocEr
     ensures { IfOk result (λ r. FindsTyped r (unary_of variants.LogicalNot (typed_node a))) }
 {
     if !is_scalar(a.of) {
-        return Ok(None);
+        return Ok(refuse(a));
     }
     let made = not(alloc, as_is(a))?;
     Ok(Some(typed(plain(Base::Int), made)))
@@ -51,7 +51,7 @@ fn indirection_of(alloc: Global, a: TypedNode) -> Result<Option<TypedNode>, Allo
     ensures { IfOk result (λ r. FindsTyped r (unary_of variants.Indirection (typed_node a))) }
 {
     if !is_sized_pointer(a.of) {
-        return Ok(None);
+        return Ok(refuse(a));
     }
     let t = pointed(a.of);
     let made = indirection(alloc, access_of(t), as_is(a))?;
@@ -93,7 +93,7 @@ pub fn cast_of(alloc: Global, t: CType, a: TypedNode) -> Result<Option<TypedNode
     ensures { IfOk result (λ r. FindsTyped r (cast_of t (typed_node a))) }
 {
     if !(is_scalar(t) && is_scalar(a.of)) {
-        return Ok(None);
+        return Ok(refuse(a));
     }
     let made = unary(alloc, Pure::First, as_type(t, a))?;
     Ok(Some(typed(t, made)))
@@ -128,6 +128,14 @@ fn as_branch(t: CType, a: TypedNode) -> Expr
     if is_void(t) { as_is(a) } else { as_type(t, a) }
 }
 
+/// Nothing, since the operands break the operator's rule.
+fn refuse_all(c: TypedNode, a: TypedNode, b: TypedNode) -> Option<TypedNode>
+    ensures { result ≡ None }
+{
+    drop(c);
+    refuse_both(a, b)
+}
+
 /// `c ? a : b`
 pub fn conditional_of(
     alloc: Global,
@@ -139,10 +147,10 @@ pub fn conditional_of(
         (conditional_of (typed_node c) (typed_node a) (typed_node b))) }
 {
     if !is_scalar(c.of) {
-        return Ok(None);
+        return Ok(refuse_all(c, a, b));
     }
     match branch_type(&a, &b) {
-        None => Ok(None),
+        None => Ok(refuse_all(c, a, b)),
         Some(t) => {
             let yes = as_branch(t, a);
             let no = as_branch(t, b);

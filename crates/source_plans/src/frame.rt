@@ -19,21 +19,32 @@ pub enum Callee {
 /// `target operation= value`.
 #[derive(Clone, Copy, Drop)]
 pub struct Compound<'p> {
+    /// The place that is changed.
     pub target: &'p Lvalue,
+    /// The conversion of the old value to the type in which the operation works.
     pub before: Conversion,
+    /// The operation on the converted old value and the right operand.
     pub operation: Operation,
+    /// The right operand, with its conversion.
     pub value: &'p Box<Expr>,
+    /// The conversion of the result to the type of the place.
     pub after: Conversion,
 }
 
 /// `++` and `--`.
 #[derive(Clone, Copy, Drop)]
 pub struct Stepped<'p> {
+    /// Whether the expression's value is the new one, as of `++x`, or the old one.
     pub fixity: Fixity,
+    /// The place that is changed.
     pub target: &'p Lvalue,
+    /// The conversion of the old value to the type in which the operation works.
     pub before: Conversion,
+    /// An addition or a subtraction of the amount.
     pub operation: Operation,
+    /// 1, or of a pointer the size in bytes of what it points to.
     pub amount: u64,
+    /// The conversion of the new value to the type of the place.
     pub after: Conversion,
 }
 
@@ -199,6 +210,8 @@ pub enum Next<'p> {
 /// What is done next, maybe with one more frame on the stack.
 #[derive(Drop)]
 pub struct Plan<'p> {
+    /// The frame that is put on the stack first, or None.
     pub pushed: Option<Frame<'p>>,
+    /// What is done then.
     pub next: Next<'p>,
 }

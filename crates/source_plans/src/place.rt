@@ -6,6 +6,7 @@ use seh_num::code::NONCONTINUABLE_EXCEPTION;
 /// An exception (Windows headers, `winnt.h`, EXCEPTION_RECORD).
 #[derive(Clone, Copy, Debug, PartialEq, Eq)]
 pub struct Exception {
+    /// The code, which GetExceptionCode answers.
     pub code: u32,
     /// Whether it is noncontinuable.
     pub flag: bool,
@@ -19,7 +20,10 @@ pub struct Exception {
 pub struct Place {
     /// The activation's index, the outermost being 0.
     pub activation: usize,
+    /// The exception that a filter is asked about, or that an `__except` block took over; elsewhere
+    /// `NO_EXCEPTION`.
     pub exception: Exception,
+    /// Whether the innermost `__finally` block runs in an unwinding; false outside of any.
     pub abnormal: bool,
 }
 
@@ -27,8 +31,11 @@ pub struct Place {
 /// AbnormalTermination answers there.
 #[derive(Clone, Copy, Drop)]
 pub struct Handler<'p> {
+    /// The filter of its `__except` clause.
     pub filter: &'p Filter,
+    /// The index of the activation of its `__try`, the outermost being 0.
     pub activation: usize,
+    /// What AbnormalTermination answers at its `__try`.
     pub abnormal: bool,
 }
 

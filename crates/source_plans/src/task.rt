@@ -8,8 +8,11 @@ use c_operations::operation::Operation;
 /// `for` and `while`, after their declarations and first expressions.
 #[derive(Clone, Copy, Drop)]
 pub struct ForLoop<'p> {
+    /// What is tested before each iteration; None holds always.
     pub condition: &'p Option<Expr>,
+    /// What is evaluated after each iteration.
     pub next: &'p Option<Expr>,
+    /// What an iteration runs.
     pub body: &'p Box<Stmt>,
 }
 

@@ -23,8 +23,11 @@ use x64_memory::page_map::PageMap;
 /// A machine that runs a program.
 #[derive(Drop)]
 pub struct Machine<'p> {
+    /// How many steps may still begin.
     pub steps_left: u64,
+    /// The globals and the arena, with the protection of each page.
     pub memory: PageMap,
+    /// The locals of the live activations, the outermost first.
     pub activations: Activations,
     /// What is held of the depth beside the live activations: 2 for each filter and `__finally`
     /// block that runs, or that a target has left, and 1 for each activation that one has left,
@@ -39,7 +42,9 @@ pub struct Machine<'p> {
 /// What is done next, and what was shown.
 #[derive(Drop)]
 pub struct Step<'p> {
+    /// What is done next.
     pub next: Next<'p>,
+    /// The event that the step shows, or None.
     pub shown: Option<Event>,
 }
 

@@ -1,5 +1,5 @@
 -- An arithmetic shift to the right rounds down.
-use Rattle.std.proofs.Common.{◌≡◌, ℕ, zero, suc, ◌+◌, ◌-◌, ◌*◌, ◌/◌, ◌%◌, ◌^◌, ◌<◌, ◌≤◌, Bool, cond, ℤ, pos, negsuc, ◌+ℤ◌, ◌*ℤ◌, ◌≤ℤ◌, ◌<ℤ◌, refl, sym, ap, ◌∙◌, arith, inl, inr, subst}
+use Rattle.std.proofs.Common.{◌≡◌, ℕ, zero, suc, ◌+◌, ◌-◌, ◌*◌, ◌/◌, ◌%◌, ◌^◌, ◌<◌, ◌≤◌, Bool, true, false, cond, ltb, ℤ, pos, negsuc, ◌+ℤ◌, ◌*ℤ◌, ◌≤ℤ◌, ◌<ℤ◌, refl, sym, ap, ◌∙◌, arith, inl, inr, subst}
 use Rattle.std.proofs.Math.IntN.{neg_ℤ, pos-*ℤ-pos, negsuc-*ℤ-pos}
 use Rattle.std.proofs.Math.Nat.{mul_comm, mul_assoc, one-mul, mul-add, suc-mul, mod-add-div, mod-lt, div-le_self, pow-succ', mul-add-div, mul-le-mul_left, mul-le-mul_right, div-eq_of_lt}
 use Rattle.std.proofs.lemmas.Bool.{cases_lt, lt-ltb, le-ltb}
@@ -7,8 +7,10 @@ use Rattle.std.proofs.lemmas.Int.{ints}
 use Rattle.seh_num.specs.declared.width.Width.{Width}
 use Rattle.seh_num.specs.declared.width.Width.TheVariants.{W8, W16, W32, W64}
 use Rattle.seh_num.specs.Widths.{bytes_of, limit, half, low, signed}
-use Rattle.x64_laws.specs.Arithmetic.{IsFloor, SarIsFloor}
-use Rattle.x64_laws.proofs.Numbers.{limits, low_is, signed_low, signed_high}
+use Rattle.x64_instr.specs.declared.instruction.Direction.TheVariants.{ArithmeticRight}
+use Rattle.x64_machine.specs.Shifts.{shifted}
+use Rattle.x64_laws.specs.Arithmetic.{IsFloor}
+use Rattle.x64_machine.proofs.Numbers.{limits, low_is, low_below, signed_low, signed_high}
 
 -- a number that isn't below 0
 floor_pos : (a p : ℕ) → 0 < p → IsFloor (pos a) p (pos (a / p))
@@ -172,8 +174,17 @@ low_floor w a p l some =
     subst (λ (z : ℤ). IsFloor z p (signed w (a / p))) (sym (signed_low w a l))
     (subst (λ (z : ℤ). IsFloor (pos a) p z) (sym (signed_low w (a / p) (omega arith))) (floor_pos a p some))
 
-pub sar_is_floor : SarIsFloor
-sar_is_floor w a c lt few = elim (cases_lt a (half w)) [
+-- an arithmetic shift gives the floor of the signed quotient
+pub shifted_floor : (w : Width) (a c : ℕ) → a < limit w → c < 8 * bytes_of w → IsFloor (signed w a) (2 ^ c) (signed w (shifted ArithmeticRight w a c))
+shifted_floor w a c lt few = elim (cases_lt a (half w)) [
   | inl l ↦ subst (λ (b : Bool). IsFloor (signed w a) (2 ^ c) (signed w (cond b (a / 2 ^ c) (low w (a / 2 ^ c + (limit w - limit w / 2 ^ c)))))) (sym (lt-ltb a (half w) l)) (low_floor w a (2 ^ c) l (power_positive c))
   | inr g ↦ subst (λ (b : Bool). IsFloor (signed w a) (2 ^ c) (signed w (cond b (a / 2 ^ c) (low w (a / 2 ^ c + (limit w - limit w / 2 ^ c)))))) (sym (le-ltb a (half w) g)) (high_floor w a c g lt few)
 ]
+
+-- which is a number of the width
+pub shifted_below : (w : Width) (a c : ℕ) → a < limit w → shifted ArithmeticRight w a c < limit w
+shifted_below w a c lt = either (ltb a (half w))
+  where
+    either : (b : Bool) → cond b (a / 2 ^ c) (low w (a / 2 ^ c + (limit w - limit w / 2 ^ c))) < limit w
+    either true = let d = div-le_self a (2 ^ c) in omega arith
+    either false = low_below w (a / 2 ^ c + (limit w - limit w / 2 ^ c))

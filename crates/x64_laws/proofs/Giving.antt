@@ -11,7 +11,8 @@ use Rattle.x64_instr.specs.Spelling.{given}
 use Rattle.x64_instr.proofs.Readers.{pair, bind_some}
 use Rattle.x64_encode.specs.Chosen.{is_signed}
 use Rattle.x64_laws.specs.Spelled.{AreBytes}
-use Rattle.x64_laws.proofs.Numbers.{limits, half_at_most}
+use Rattle.x64_machine.proofs.Numbers.{limits}
+use Rattle.x64_laws.proofs.Numbers.{half_at_most}
 
 -- what was given of these bytes
 pub record Given {A : Type 0} (P : A → Type 0) (most : ℕ) (bytes : List ℕ) (x : A) (rest : List ℕ) : Type 0 where

@@ -2,5 +2,6 @@ pub mod Numbers
 pub mod Results
 pub mod AfterCompare
 pub mod Floors
+pub mod Effects
 pub mod Giving
 pub mod Spelled

@@ -1,50 +1,13 @@
--- Numbers of a width and their signs.
-use Rattle.std.proofs.Common.{◌≡◌, ℕ, zero, suc, ◌+◌, ◌-◌, ◌*◌, ◌<◌, ◌≤◌, Bool, true, false, cond, ltb, ℤ, pos, negsuc, ◌-ℤ◌, refl, sym, ap, ◌∙◌, arith, inl, inr}
+-- Whole numbers modulo the limit of a width.
+use Rattle.std.proofs.Common.{◌≡◌, ℕ, zero, suc, ◌+◌, ◌-◌, ◌*◌, ◌<◌, ◌≤◌, true, ℤ, pos, negsuc, ◌-ℤ◌, sym, ap, ◌∙◌, arith, inl, inr}
 use Rattle.std.proofs.Math.IntN.{neg_ℤ}
-use Rattle.std.proofs.lemmas.Bool.{cases_lt, lt-ltb, le-ltb, ltb-true}
+use Rattle.std.proofs.lemmas.Bool.{cases_lt, lt-ltb, ltb-true}
 use Rattle.std.proofs.lemmas.Int.{ints}
 use Rattle.seh_num.specs.declared.width.Width.{Width}
 use Rattle.seh_num.specs.declared.width.Width.TheVariants.{W8, W16, W32, W64}
 use Rattle.seh_num.specs.Widths.{bytes_of, limit, half, low, signed, wrapped}
 use Rattle.seh_num.specs.Division.{is_signed}
-
-pub limits : (w : Width) → limit w ≡ 2 * half w
-limits W8 = refl
-limits W16 = refl
-limits W32 = refl
-limits W64 = refl
-
-pub low_is : (w : Width) (n : ℕ) → n < limit w → low w n ≡ n
-low_is W8 n lt = omega arith
-low_is W16 n lt = omega arith
-low_is W32 n lt = omega arith
-low_is W64 n lt = omega arith
-
-pub low_over : (w : Width) (n : ℕ) → limit w ≤ n → n < 2 * limit w → low w n ≡ n - limit w
-low_over W8 n le lt = omega arith
-low_over W16 n le lt = omega arith
-low_over W32 n le lt = omega arith
-low_over W64 n le lt = omega arith
-
-pub low_below : (w : Width) (n : ℕ) → low w n < limit w
-low_below W8 n = omega arith
-low_below W16 n = omega arith
-low_below W32 n = omega arith
-low_below W64 n = omega arith
-
-pub signed_low : (w : Width) (a : ℕ) → a < half w → signed w a ≡ pos a
-signed_low w a lt =
-    let two = limits w in
-    let e : low w a ≡ a = low_is w a (omega arith) in
-    let t : ltb a (half w) ≡ true = lt-ltb a (half w) lt in
-    ap (λ (x : ℕ). cond (ltb x (half w)) (pos x) (pos x -ℤ pos (limit w))) e ∙ ap (λ (b : Bool). cond b (pos a) (pos a -ℤ pos (limit w))) t
-
-pub signed_high : (w : Width) (a : ℕ) → half w ≤ a → a < limit w → signed w a ≡ negsuc (limit w - 1 - a)
-signed_high w a le lt =
-    let e : low w a ≡ a = low_is w a lt in
-    let t : ltb a (half w) ≡ false = le-ltb a (half w) le in
-    let z : pos a -ℤ pos (limit w) ≡ negsuc (limit w - 1 - a) = omega (arith, ints) in
-    ap (λ (x : ℕ). cond (ltb x (half w)) (pos x) (pos x -ℤ pos (limit w))) e ∙ ap (λ (b : Bool). cond b (pos a) (pos a -ℤ pos (limit w))) t ∙ z
+use Rattle.x64_machine.proofs.Numbers.{limits, low_is, low_below, signed_low, signed_high, signed_twice}
 
 -- numbers that differ by multiples of the limit have the same low bits
 pub low_same : (w : Width) (x y k m : ℕ) → x + limit w * k ≡ y + limit w * m → low w x ≡ low w y
@@ -115,9 +78,6 @@ half_at_most W64 W8 h = absurd (omega arith)
 half_at_most W64 W16 h = absurd (omega arith)
 half_at_most W64 W32 h = absurd (omega arith)
 half_at_most W64 W64 h = omega arith
-
-pub signed_twice : (w : Width) (a : ℕ) → signed w (low w a) ≡ signed w a
-signed_twice w a = ap (λ (x : ℕ). cond (ltb x (half w)) (pos x) (pos x -ℤ pos (limit w))) (low_is w (low w a) (low_below w a))
 
 pub is_signed_wider : (n w : Width) (v : ℕ) → bytes_of n ≤ bytes_of w → is_signed w (signed n v) ≡ true
 is_signed_wider n w v h =

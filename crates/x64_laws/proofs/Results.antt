@@ -1,16 +1,13 @@
--- Sums, differences, products, negatives and extensions as equations on whole numbers.
-use Rattle.std.proofs.Common.{◌≡◌, ℕ, suc, ◌+◌, ◌-◌, ◌*◌, ◌<◌, ◌≤◌, Bool, true, false, ℤ, pos, negsuc, ◌+ℤ◌, ◌-ℤ◌, ◌*ℤ◌, refl, sym, ap, ◌∙◌, arith, inl, inr}
-use Rattle.std.specs.Prelude.{not}
+-- Sums, differences and products of a width are those of whole numbers modulo its limit.
+use Rattle.std.proofs.Common.{◌≡◌, ℕ, suc, ◌+◌, ◌-◌, ◌*◌, ◌<◌, ◌≤◌, ℤ, pos, negsuc, ◌+ℤ◌, ◌-ℤ◌, ◌*ℤ◌, sym, ap, ◌∙◌, arith, inl, inr}
 use Rattle.std.proofs.Math.IntN.{neg_ℤ, *ℤ_comm, pos-*ℤ-pos, pos-*ℤ-negsuc, negsuc-*ℤ-negsuc}
 use Rattle.std.proofs.Math.Nat.{mul_comm, mul-add, mul-suc}
 use Rattle.std.proofs.lemmas.Bool.{cases_lt}
 use Rattle.std.proofs.lemmas.Int.{ints}
 use Rattle.seh_num.specs.declared.width.Width.{Width}
 use Rattle.seh_num.specs.Widths.{limit, half, low, signed, wrapped}
-use Rattle.seh_num.specs.Division.{is_signed}
-use Rattle.x64_machine.specs.Words.{added, subtracted, multiplied}
-use Rattle.x64_laws.specs.Arithmetic.{AddIsSum, SubIsDifference, ImulIsProduct, ImulIsWhole, ImulSaysWhetherItFits, NegIsNegative, MovsxKeepsSigned, MovzxKeepsUnsigned}
-use Rattle.x64_laws.proofs.Numbers.{limits, half_positive, limit_positive, low_is, low_below, low_same, signed_low, signed_high, wrapped_from, wrapped_neg, signed_wrapped, is_signed_wider, half_at_most}
+use Rattle.x64_machine.proofs.Numbers.{signed_low, signed_high}
+use Rattle.x64_laws.proofs.Numbers.{low_same, wrapped_from, wrapped_neg}
 
 -- a signed number is its bits less a multiple of the limit
 pub record Bits (w : Width) (a : ℕ) : Type 0 where
@@ -30,9 +27,9 @@ sum_of a b m n = omega (arith, ints)
 difference_of : (a b m n l : ℕ) → b ≤ l → (pos a -ℤ pos m) -ℤ (pos b -ℤ pos n) ≡ pos (a + (l - b) + n) -ℤ pos (l + m)
 difference_of a b m n l le = omega (arith, ints)
 
-pub add_is_sum : AddIsSum
-unfolding added
-add_is_sum w a b la lb =
+-- the bits of a sum
+pub sum_bits : (w : Width) (a b : ℕ) → a < limit w → b < limit w → low w (a + b) ≡ wrapped w (signed w a +ℤ signed w b)
+sum_bits w a b la lb =
     let x = bits w a la in
     let y = bits w b lb in
     let m : limit w * x.times + limit w * y.times ≡ limit w * (x.times + y.times) = sym (mul-add (limit w) x.times y.times) in
@@ -40,6 +37,7 @@ add_is_sum w a b la lb =
     (ap (λ (z : ℤ). z +ℤ signed w b) x.is ∙ ap (λ (z : ℤ). (pos a -ℤ pos (limit w * x.times)) +ℤ z) y.is
     ∙ sum_of a b (limit w * x.times) (limit w * y.times) ∙ ap (λ (k : ℕ). pos (a + b) -ℤ pos k) m))
 
+-- the bits of a difference
 pub difference_bits : (w : Width) (a b : ℕ) → a < limit w → b < limit w → low w (a + (limit w - b)) ≡ wrapped w (signed w a -ℤ signed w b)
 difference_bits w a b la lb =
     let x = bits w a la in
@@ -52,10 +50,6 @@ difference_bits w a b la lb =
     ∙ difference_of a b (limit w * x.times) (limit w * y.times) (limit w) (omega arith)
     ∙ ap (λ (k : ℕ). pos (a + (limit w - b) + limit w * y.times) -ℤ pos k) m)
     ∙ same)
-
-pub sub_is_difference : SubIsDifference
-unfolding subtracted
-sub_is_difference w a b la lb = difference_bits w a b la lb
 
 -- ---- products
 
@@ -100,52 +94,9 @@ product_high_high w a b ga la gb lb =
     ∙ ap (λ (k : ℕ). low w (k * suc (limit w - 1 - b))) s ∙ ap (λ (k : ℕ). low w ((limit w - a) * k)) t
     ∙ low_same w ((limit w - a) * (limit w - b)) (a * b) b (limit w - a) e)
 
-pub product_is : (w : Width) (a b : ℕ) → a < limit w → b < limit w → low w (a * b) ≡ wrapped w (signed w a *ℤ signed w b)
-product_is w a b la lb = elim (cases_lt a (half w)) [
+-- the bits of a product
+pub product_bits : (w : Width) (a b : ℕ) → a < limit w → b < limit w → low w (a * b) ≡ wrapped w (signed w a *ℤ signed w b)
+product_bits w a b la lb = elim (cases_lt a (half w)) [
   | inl ha ↦ elim (cases_lt b (half w)) [ inl hb ↦ product_low_low w a b ha hb | inr hb ↦ product_low_high w a b ha hb lb ]
   | inr ha ↦ elim (cases_lt b (half w)) [ inl hb ↦ product_high_low w a b ha la hb | inr hb ↦ product_high_high w a b ha la hb lb ]
 ]
-
-pub imul_is_product : ImulIsProduct
-unfolding multiplied
-imul_is_product w a b f la lb = product_is w a b la lb
-
-not_false : (b : Bool) → not b ≡ false → b ≡ true
-not_false true e = refl
-not_false false e = sym e
-
-pub imul_is_whole : ImulIsWhole
-unfolding multiplied
-imul_is_whole w a b f la lb kept =
-    ap (signed w) (product_is w a b la lb) ∙ signed_wrapped w (signed w a *ℤ signed w b) (not_false (is_signed w (signed w a *ℤ signed w b)) kept)
-
-not_true : (b : Bool) → not b ≡ true → b ≡ false
-not_true true e = sym e
-not_true false e = refl
-
-pub imul_says_whether_it_fits : ImulSaysWhetherItFits
-unfolding multiplied
-imul_says_whether_it_fits w a b f = record {
-  together = refl;
-  clear = λ e. not_false (is_signed w (signed w a *ℤ signed w b)) e;
-  set = λ e. not_true (is_signed w (signed w a *ℤ signed w b)) e;
-}
-
--- ---- negatives and extensions
-
-signed_zero : (w : Width) → signed w 0 ≡ pos 0
-signed_zero w = signed_low w 0 (half_positive w)
-
-pub neg_is_negative : NegIsNegative
-neg_is_negative w a f la = sub_is_difference w 0 a (limit_positive w) la ∙ ap (λ (z : ℤ). wrapped w (z -ℤ signed w a)) (signed_zero w)
-
-pub movsx_keeps_signed : MovsxKeepsSigned
-movsx_keeps_signed w n v h = signed_wrapped w (signed n v) (is_signed_wider n w v h)
-
-pub movzx_keeps_unsigned : MovzxKeepsUnsigned
-movzx_keeps_unsigned w n v h =
-    let le = half_at_most n w h in
-    let two = limits n in
-    let more = limits w in
-    let below = low_below n v in
-    low_is w (low n v) (omega arith)

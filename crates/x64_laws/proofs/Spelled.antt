@@ -1,5 +1,5 @@
 -- What the table spells can be encoded, and is short.
-use Rattle.std.proofs.Common.{◌≡◌, ℕ, zero, suc, ◌+◌, ◌-◌, ◌*◌, ◌/◌, ◌%◌, ◌^◌, ◌<◌, ◌≤◌, Bool, true, false, cond, eqb, ltb, leb, List, [], Option, Some, None, refl, sym, ap, subst, ◌∙◌, arith, inl, inr}
+use Rattle.std.proofs.Common.{◌≡◌, ℕ, ◌+◌, ◌-◌, ◌*◌, ◌/◌, ◌%◌, ◌^◌, ◌<◌, ◌≤◌, Bool, true, false, cond, eqb, ltb, leb, List, [], Option, Some, None, refl, sym, ap, subst, ◌∙◌, arith, inl, inr}
 use Rattle.std.specs.Prelude.{not, ◌&&◌, ◌||◌, ◌⊎◌}
 use Rattle.std.proofs.lemmas.Bool.{cases_eq, eq-eqb, ne_eqb, eqb-true, and_parts, lt-ltb, ltb-true, true≢false}
 use Rattle.seh_num.specs.declared.width.Width.{Width}
@@ -27,9 +27,11 @@ use Rattle.x64_instr.specs.Reading.{Read, ◌>>=◌, byte, signed, bit}
 use Rattle.x64_instr.specs.Reading as reading
 use Rattle.x64_instr.specs.Operands.{width_of, sized, sized_narrow, immediate_of, register_of_reg_field, register_of_low_bits, scale, index_of_sib, memory, displaced, sib_operand, memory_operand, place, modrm_with_register, modrm_with_opcode_extension, is_listed, rm_and_register, rm_and_opcode_extension, source}
 use Rattle.x64_instr.specs.Spelling.{rm_r, r_rm, rm_extension, given, operation, direction, condition, group_1, group_11, test_immediate, group_3, group_2_immediate, group_2_cl, group_5, move_immediate, sign_extend, extend, load, multiply_by, address_to, load_address, jump_if, set_if, jump, call, no_operation, arithmetic_form, arithmetic_row, plain_row, row, extend_row, two_byte_row, after_prefixes, after_size, instr}
+use Rattle.x64_instr.proofs.RegisterNumbers.{number_register}
 use Rattle.x64_encode.specs.Chosen.{is_signed, is_index, is_place, is_wide, is_immediate, is_encodable}
 use Rattle.x64_laws.specs.Spelled.{SpelledIsEncodable, SpelledIsShort}
-use Rattle.x64_laws.proofs.Numbers.{limits, half_at_most}
+use Rattle.x64_machine.proofs.Numbers.{limits}
+use Rattle.x64_laws.proofs.Numbers.{half_at_most}
 use Rattle.x64_laws.proofs.Giving.{Gives, at_most, byte-Gives, done-Gives, fail-Gives, bind-Gives, map-Gives, if-Gives, given-Gives, number-Gives, limit_is, both_true, signed-Gives}
 
 -- ---- what is to be
@@ -47,25 +49,6 @@ abbrev IsCode : Instr → Type 0
 IsCode i = is_encodable i ≡ true
 
 -- ---- operands
-
-number_register : (n : ℕ) → n < 16 → number (register n) ≡ n
-number_register zero lt = refl
-number_register (suc zero) lt = refl
-number_register (suc (suc zero)) lt = refl
-number_register (suc (suc (suc zero))) lt = refl
-number_register (suc (suc (suc (suc zero)))) lt = refl
-number_register (suc (suc (suc (suc (suc zero))))) lt = refl
-number_register (suc (suc (suc (suc (suc (suc zero)))))) lt = refl
-number_register (suc (suc (suc (suc (suc (suc (suc zero))))))) lt = refl
-number_register (suc (suc (suc (suc (suc (suc (suc (suc zero)))))))) lt = refl
-number_register (suc (suc (suc (suc (suc (suc (suc (suc (suc zero))))))))) lt = refl
-number_register (suc (suc (suc (suc (suc (suc (suc (suc (suc (suc zero)))))))))) lt = refl
-number_register (suc (suc (suc (suc (suc (suc (suc (suc (suc (suc (suc zero))))))))))) lt = refl
-number_register (suc (suc (suc (suc (suc (suc (suc (suc (suc (suc (suc (suc zero)))))))))))) lt = refl
-number_register (suc (suc (suc (suc (suc (suc (suc (suc (suc (suc (suc (suc (suc zero))))))))))))) lt = refl
-number_register (suc (suc (suc (suc (suc (suc (suc (suc (suc (suc (suc (suc (suc (suc zero)))))))))))))) lt = refl
-number_register (suc (suc (suc (suc (suc (suc (suc (suc (suc (suc (suc (suc (suc (suc (suc zero))))))))))))))) lt = refl
-number_register (suc (suc (suc (suc (suc (suc (suc (suc (suc (suc (suc (suc (suc (suc (suc (suc n)))))))))))))))) lt = absurd (omega arith)
 
 abbrev index_if : Bool → ℕ → ℕ → Option Index
 index_if b n sib = cond b None (Some (record { register = register n; scale = scale (sib / 64) }))

@@ -1,13 +1,19 @@
 -- What each condition says after CMP of two numbers (Intel manual, volume 2, Jcc: "below" and
 -- "above" of unsigned numbers, "less" and "greater" of signed ones).
-use Rattle.std.specs.Prelude.{◌≡◌, ℕ, ◌<◌, Bool, not, nat_lt, nat_le, nat_eq, int_lt, int_le, pos, ◌-ℤ◌}
+use Rattle.std.specs.Prelude.{◌≡◌, ℕ, Bool, not, nat_lt, nat_le, nat_eq, int_lt, int_le, pos, ◌-ℤ◌, IsOkAnd}
 use Rattle.seh_num.specs.declared.width.Width.{Width}
-use Rattle.seh_num.specs.Widths.{limit, signed, wrapped}
+use Rattle.seh_num.specs.Widths.{signed, wrapped}
 use Rattle.seh_num.specs.Division.{is_signed}
 use Rattle.x64_instr.specs.declared.instruction.Condition.{Condition}
 use Rattle.x64_instr.specs.declared.instruction.Condition.TheVariants as conditions
-use Rattle.x64_machine.specs.Words.{subtracted}
+use Rattle.x64_instr.specs.declared.register.Reg.{Reg}
+use Rattle.x64_instr.specs.declared.operand.RegisterOrMemory.TheVariants as places
+use Rattle.x64_instr.specs.declared.operand.Operand.TheVariants as operands
+use Rattle.x64_instr.specs.declared.instruction.Operation.TheVariants.{Compare}
+use Rattle.x64_instr.specs.declared.instruction.Instr.TheVariants as instrs
 use Rattle.x64_machine.specs.Conditions.{holds}
+use Rattle.x64_machine.specs.Effect.{State, effect}
+use Rattle.x64_laws.specs.Destinations.{unsigned_in}
 
 abbrev pub compares : Condition → Width → ℕ → ℕ → Bool
 compares conditions.Equal w a b = nat_eq a b
@@ -25,7 +31,16 @@ compares conditions.NotOverflow w a b = is_signed w (signed w a -ℤ signed w b)
 compares conditions.Sign w a b = int_lt (signed w (wrapped w (signed w a -ℤ signed w b))) (pos 0)
 compares conditions.NotSign w a b = int_le (pos 0) (signed w (wrapped w (signed w a -ℤ signed w b)))
 
+-- after CMP of two registers each condition is the comparison; all but the flags is as it was
+pub record Compared (s : State) (w : Width) (a b : ℕ) (t : State) : Type 0 where
+  pub each : (c : Condition) → holds t.cpu.flags c ≡ compares c w a b
+  pub registers : t.cpu.registers ≡ s.cpu.registers
+  pub rip : t.cpu.rip ≡ s.cpu.rip
+  pub memory : t.memory ≡ s.memory
+
 abbrev pub CmpDecides : Type 0
 CmpDecides =
-    (w : Width) (a b : ℕ) (c : Condition) → a < limit w → b < limit w
-    → holds (subtracted w a b).1 c ≡ compares c w a b
+    (s : State) (w : Width) (first second : Reg)
+    → IsOkAnd (effect s
+    (instrs.Arithmetic Compare w (places.Register first) (operands.Register second)))
+    (Compared s w (unsigned_in w s first) (unsigned_in w s second))

@@ -1,3 +1,4 @@
+pub mod Destinations
 pub mod Arithmetic
 pub mod Comparing
 pub mod Spelled

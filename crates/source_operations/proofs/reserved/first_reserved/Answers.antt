@@ -1,7 +1,7 @@
 use Rattle.std.proofs.Common.{◌-◌, ap, sym, ◌∙◌, arith}
 use Rattle.std.specs.Prelude.{not}
 use Rattle.source_operations.specs.Reserved.{reserved_below}
-use Rattle.source_operations.proofs.Bytes.{first_refused-more}
+use Rattle.x64_memory.proofs.Steps.{first_refused-more}
 use Rattle.source_operations.proofs.reserved.first_reserved.Goals as goal
 
 pub loop-i-preserved : goal.loop-i-preserved

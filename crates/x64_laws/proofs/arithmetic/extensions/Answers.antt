@@ -1,4 +1,4 @@
-use Rattle.x64_laws.proofs.Results.{movsx_keeps_signed, movzx_keeps_unsigned}
+use Rattle.x64_laws.proofs.Effects.{movsx_keeps_signed, movzx_keeps_unsigned}
 use Rattle.x64_laws.proofs.arithmetic.extensions.Goals as goal
 
 pub returns : goal.returns

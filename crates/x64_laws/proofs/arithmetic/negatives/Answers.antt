@@ -1,4 +1,4 @@
-use Rattle.x64_laws.proofs.Results.{neg_is_negative}
+use Rattle.x64_laws.proofs.Effects.{neg_is_negative}
 use Rattle.x64_laws.proofs.arithmetic.negatives.Goals as goal
 
 pub returns : goal.returns

@@ -1,4 +1,4 @@
-use Rattle.x64_laws.proofs.Results.{add_is_sum, sub_is_difference}
+use Rattle.x64_laws.proofs.Effects.{add_is_sum, sub_is_difference}
 use Rattle.x64_laws.proofs.arithmetic.sums.Goals as goal
 
 pub returns : goal.returns
