@@ -26,7 +26,7 @@ temporary_at y i = y.temporaries + 8 * i
 abbrev pub local_at : Layout → ℕ → ℕ
 local_at y i = y.locals + 8 * i
 
--- a function's locals stand above its RSP; those of a filter or a `__finally` block above the base
+-- a function's locals are above its RSP; those of a filter or a `__finally` block above the base
 -- that it keeps
 abbrev pub fetch_local : Option ℕ → Reg → ℕ → List Instr
 fetch_local None to d = fetched to Rsp d ∷ []
