@@ -16,8 +16,8 @@ use eh_tables::{
     RuntimeFunction, ScopeRecord, Trailer, UnwindInfo, write_pdata, write_scopes, write_unwind,
 };
 use frame_layout::{Frame, unwind_of};
-use linear_code::program::{Region, RegionKind};
 use host_layout::imported::ImportedService;
+use linear_code::program::{Region, RegionKind};
 use std::alloc::{AllocError, Global};
 use x64_code::body::Labels;
 
