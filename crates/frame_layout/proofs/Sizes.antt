@@ -9,10 +9,9 @@ use Rattle.arrayvec.specs.ArrayVec.{ArrayVec}
 use Rattle.eh_tables.specs.declared.code.UnwindCode.{UnwindCode}
 use Rattle.eh_tables.specs.declared.code.UnwindOperation.TheVariants.{Allocate}
 use Rattle.eh_tables.specs.declared.unwind_info.Trailer.TheVariants.{Nothing}
-use Rattle.eh_tables.specs.declared.unwind_info.UnwindInfo.{UnwindInfo}
 use Rattle.pe_image.specs.Numbers.{u16, u32}
 use Rattle.eh_tables.specs.Written.{CanBeWritten, Fits, AreFalling, codes_bytes, slot, is_small, is_short}
-use Rattle.seh_num.specs.declared.width.Width.TheVariants.{W8, W32, W64}
+use Rattle.seh_num.specs.declared.width.Width.TheVariants.{W8, W64}
 use Rattle.x64_instr.specs.declared.instruction.Instr.{Instr}
 use Rattle.x64_encode.specs.Chosen.{is_signed, modrm, opcode_register}
 use Rattle.eh_tables.specs.Infos.{Info}

@@ -17,7 +17,9 @@ pub struct Facts {
     pub passed: u64,
     /// What it keeps of how it was called.
     pub kept: u64,
+    /// The results of its instructions.
     pub temporaries: u64,
+    /// Its parameters and other local variables.
     pub locals: u64,
 }
 
@@ -26,8 +28,11 @@ pub struct Facts {
 /// word more; the return address is above it. Distances are from RSP, in bytes.
 #[derive(Clone, Copy, Debug, PartialEq, Eq)]
 pub struct Frame {
+    /// Where what is kept begins.
     pub kept: u64,
+    /// Where the temporaries begin.
     pub temporaries: u64,
+    /// Where the locals begin.
     pub locals: u64,
     /// The bytes of the fixed allocation.
     pub size: u64,

@@ -1,9 +1,8 @@
 -- The rows and entries of routines one after another.
-use Rattle.std.proofs.Common.{◌≡◌, ◌≢◌, ℕ, zero, suc, ◌+◌, ◌-◌, ◌<◌, ◌≤◌, ◌==◌, Bool, true, false, not, eqb, List, [], ◌∷◌, ◌++◌, length, get_or, drop, map, Option, Some, None, refl, sym, ap, subst, ◌∙◌, arith, append_assoc}
+use Rattle.std.proofs.Common.{◌≡◌, ◌≢◌, ℕ, zero, suc, ◌+◌, ◌-◌, ◌<◌, ◌≤◌, ◌==◌, Bool, true, false, not, List, [], ◌∷◌, ◌++◌, length, get_or, map, Option, Some, None, refl, sym, ap, subst, ◌∙◌, arith, append_assoc}
 use Rattle.std.specs.Prelude.{slice_get, ◌&&◌, nat_le}
 use Rattle.std.specs.List.{AllByRecursion}
 use Rattle.std.proofs.lemmas.Bool.{and_parts, ne_eqb, eqb-true}
-use Rattle.eh_tables.specs.declared.scope.ScopeRecord.{ScopeRecord}
 use Rattle.eh_tables.specs.Tables.{Entry}
 use Rattle.linear_code.specs.declared.program.Region.{Region}
 use Rattle.linear_code.specs.declared.program.RegionKind.{RegionKind}
@@ -19,13 +18,13 @@ use Rattle.program_link.specs.Fits.{function_bodies, funclet_bodies}
 use Rattle.program_link.specs.Routines.{RoutineView, has_call, is_leaf, leaf_if, functions_from, funclet, routines}
 use Rattle.program_link.specs.Near.{IsRoutineNear}
 use Rattle.program_link.specs.Text.{SiteView, routine_size, entry_size, bounds}
-use Rattle.program_link.specs.Tables.{is_finally, handler_address, jump_target, scope_record, scope_records, info_bytes}
+use Rattle.program_link.specs.Tables.{is_finally, handler_address, jump_target, scope_records, info_bytes}
 use Rattle.program_link.proofs.Bounds.{bounds_least}
 use Rattle.program_tables.specs.Placed.{Placed, end_of, placed_from, site_of}
-use Rattle.program_tables.specs.Entries.{scopes_of, entry_of, entry_if, entries_of}
+use Rattle.program_tables.specs.Entries.{scopes_of, entry_if, entries_of}
 use Rattle.program_tables.proofs.Labels.{label_least}
 use Rattle.program_tables.proofs.Table.{framed_room}
-use Rattle.program_shape.specs.Rows.{rows_of, is_finally_row, is_always_row, AreInOrder, regions_in, regions, is_always, IsRow, AreRows}
+use Rattle.program_shape.specs.Rows.{rows_of, AreInOrder, regions_in, regions, is_always, AreRows}
 use Rattle.program_shape.proofs.Rows.{rows_both}
 
 -- ---- the rows of a routine

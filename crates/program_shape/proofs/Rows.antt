@@ -1,6 +1,6 @@
 -- What follows of rows that are regions one by one.
-use Rattle.std.proofs.Common.{◌≡◌, ℕ, zero, suc, ◌+◌, ◌%◌, ◌<◌, ◌≤◌, ◌==◌, Bool, true, false, cond, not, eqb, List, [], ◌∷◌, ◌++◌, length, map, sum_by, refl, sym, ap, ◌∙◌, arith}
-use Rattle.std.specs.Prelude.{if◌then◌else◌, ◌||◌, ◌&&◌, nat_lt}
+use Rattle.std.proofs.Common.{◌≡◌, ℕ, ◌+◌, ◌%◌, ◌==◌, Bool, true, false, cond, List, [], ◌∷◌, ◌++◌, length, map, refl, sym, ap, ◌∙◌, arith}
+use Rattle.std.specs.Prelude.{◌&&◌, nat_lt}
 use Rattle.std.specs.List.{count_by}
 use Rattle.std.proofs.lemmas.List.Sums.{sum_by-cons}
 use Rattle.eh_tables.specs.declared.scope.ScopeRecord.{ScopeRecord}
@@ -9,9 +9,9 @@ use Rattle.linear_code.specs.declared.program.Region.{Region}
 use Rattle.linear_code.specs.declared.program.RegionKind.{RegionKind}
 use Rattle.linear_code.specs.declared.program.RegionKind.TheVariants as kinds
 use Rattle.linear_code.specs.Program.{LinearProgram}
-use Rattle.program_link.specs.Tables.{is_finally, has_except, has_finally, handler_address}
+use Rattle.program_link.specs.Tables.{is_finally, handler_address}
 use Rattle.program_tables.specs.Placed.{site_of}
-use Rattle.program_shape.specs.Rows.{is_finally_row, is_always_row, handlers, is_always, funclet_in, named, funclet_begin, IsRow, AreRows}
+use Rattle.program_shape.specs.Rows.{is_finally_row, is_always_row, handlers, is_always, funclet_in, named, funclet_begin, AreRows}
 
 pub rows_both : (p : LinearProgram) (a b : List ScopeRecord) (rs qs : List Region) → AreRows p a rs → AreRows p b qs → AreRows p (a ++ b) (rs ++ qs)
 rows_both p [] b [] qs h k = k

@@ -1,17 +1,16 @@
 -- The shape of the function table of every program.
-use Rattle.std.proofs.Common.{◌≡◌, ◌≢◌, ℕ, zero, suc, ◌+◌, ◌-◌, ◌%◌, ◌<◌, ◌≤◌, ◌==◌, Bool, true, false, eqb, List, [], ◌∷◌, ◌++◌, length, get_or, drop, map, Option, Some, None, refl, sym, ap, subst, ◌∙◌, arith, inl, inr, length-append, get_or-drop}
-use Rattle.std.specs.Prelude.{slice_get, ◌&&◌, nat_lt}
+use Rattle.std.proofs.Common.{◌≡◌, ◌≢◌, ℕ, zero, suc, ◌+◌, ◌-◌, ◌%◌, ◌<◌, ◌==◌, true, false, List, [], ◌∷◌, ◌++◌, length, get_or, drop, map, Some, None, refl, sym, ap, subst, ◌∙◌, arith, inl, inr, length-append, get_or-drop}
+use Rattle.std.specs.Prelude.{◌&&◌, nat_lt}
 use Rattle.std.specs.List.{AllByRecursion}
-use Rattle.std.proofs.lemmas.Bool.{ne_eqb, eqb-true, eq-eqb, false≢true, cases_lt, cases_eq}
+use Rattle.std.proofs.lemmas.Bool.{ne_eqb, eq-eqb, false≢true, cases_lt}
 use Rattle.std.proofs.lemmas.List.{length-map, get_or-map}
 use Rattle.linear_code.specs.declared.program.Region.{Region}
 use Rattle.linear_code.specs.declared.program.FuncletKind.TheVariants.{Filter}
 use Rattle.linear_code.specs.Program.{LinearFunction, LinearFunclet, LinearProgram}
-use Rattle.frame_layout.specs.declared.frame.Frame.{Frame}
 use Rattle.program_link.specs.Fits.{FitsProgram}
 use Rattle.program_link.specs.Routines.{RoutineView, functions_from, nothing, funclet_frame, funclet, routines}
 use Rattle.program_link.specs.Near.{IsFrameNear, IsRoutineNear}
-use Rattle.program_link.specs.Text.{SiteView, routine_size, bounds, thunk_at}
+use Rattle.program_link.specs.Text.{routine_size, bounds, thunk_at}
 use Rattle.host_layout.specs.declared.imported.ImportedService.TheVariants.{CSpecificHandler}
 use Rattle.eh_tables.specs.Written.{trailer_flags}
 use Rattle.program_link.specs.Tables.{has_except, has_finally, trailer}
@@ -19,14 +18,14 @@ use Rattle.program_link.specs.Linked.{first}
 use Rattle.program_link.proofs.Images.{no_routine}
 use Rattle.program_link.proofs.Nearness.{routines_near}
 use Rattle.x64_code.proofs.Nearby.{all_at}
-use Rattle.program_tables.specs.Placed.{Placed, end_of, site_of, infos_begin, placed}
+use Rattle.program_tables.specs.Placed.{site_of, infos_begin, placed}
 use Rattle.program_tables.specs.Entries.{entry_of, entries}
 use Rattle.program_tables.proofs.Lookups.{placed_has, entries_are_held}
 use Rattle.program_tables.proofs.Table.{framed_room}
-use Rattle.program_shape.specs.Rows.{AreDifferent, rows_of, handlers, regions, named, NamesFunclets, funclet_begin, AreRows}
-use Rattle.program_shape.specs.Laws.{BeginsEntry, HasShape, TablesHaveShape, HandlersDiffer, IsFlagged, EntriesAreFlagged, FramesAreSmall}
+use Rattle.program_shape.specs.Rows.{AreDifferent, rows_of, handlers, regions, named, funclet_begin, AreRows}
+use Rattle.program_shape.specs.Laws.{BeginsEntry, HasShape, TablesHaveShape, HandlersDiffer, EntriesAreFlagged, FramesAreSmall}
 use Rattle.program_shape.proofs.Rows.{as_many, finally_count, always_count, handlers_are, searched_by, unwound_by}
-use Rattle.program_shape.proofs.Placing.{AreFar, routines_bare, bodies, routines_regions, all_rows, in_order, bounds_rise, IsPlaced, is_placed}
+use Rattle.program_shape.proofs.Placing.{AreFar, routines_bare, routines_regions, all_rows, in_order, bounds_rise, is_placed}
 
 -- ---- funclets
 

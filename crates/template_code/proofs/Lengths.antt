@@ -26,7 +26,7 @@ use Rattle.template_code.specs.Bytes.{size, sizes}
 use Rattle.template_code.specs.Operations.{compare, extended, pure_code, before, work}
 use Rattle.template_code.specs.Slots.{local_at, fetch_local, keep_local, fetch, keep, operands_code, finish_code, compute_code}
 use Rattle.template_code.specs.Jumps.{compare_zero, jump_equal, test_code}
-use Rattle.template_code.specs.Calls.{begin_call, call_code, passing_code, epilogue}
+use Rattle.template_code.specs.Calls.{call_code, passing_code, epilogue}
 use Rattle.template_code.specs.Template.{Links, nowhere, template, template_size}
 
 fetch_local_length : (o : Option ℕ) (r : Reg) (d : ℕ) → length (fetch_local o r d) ≤ 2

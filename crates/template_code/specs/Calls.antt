@@ -103,7 +103,9 @@ epilogue (suc n) =
 abbrev pub return_code : Layout → Slot → List Instr
 return_code y from = fetch y Rax from ++ epilogue y.frame
 
--- ---- what a filter reads: through its EXCEPTION_POINTERS the EXCEPTION_RECORD, and there the field
+-- ---- what a filter reads
+
+-- through its EXCEPTION_POINTERS the EXCEPTION_RECORD, and there the field
 
 abbrev pub field_at : Field → ℕ
 field_at ExceptionCode = 0
@@ -119,7 +121,10 @@ field_load f = instrs.Move W32 (places.Register Rax) (operands.Memory (above Rax
 abbrev pub information_code : Layout → Slot → Field → List Instr
 information_code y to f = fetched Rax Rsp y.pointers ∷ fetched Rax Rax 0 ∷ field_load f ∷ keep y to
 
--- ---- parameters: the first four come in registers, each further one above the return address and the home space, and go to the locals of their numbers
+-- ---- parameters
+
+-- the first four come in registers, each further one above the return address and the home space,
+-- and go to the locals of their numbers
 
 abbrev pub parameter_register : ℕ → Reg
 parameter_register i = if i == 0 then Rcx else (if i == 1 then Rdx else (if i == 2 then R8 else R9))
@@ -142,7 +147,10 @@ parameters_code y i (suc n) = parameter_code y i ++ parameters_code y (i + 1) n
 abbrev pub function_entry : Layout → ℕ → List Instr
 function_entry y count = enter_code y.frame ++ parameters_code y 0 count
 
--- ---- a filter or a `__finally` block: RDX, the base, is kept, or where its parent keeps the base in a frame of its own, that base; a filter keeps RCX too
+-- ---- a filter or a `__finally` block
+
+-- RDX, the base, is kept, or where its parent keeps the base in a frame of its own, that base; a
+-- filter keeps RCX too
 
 abbrev pub keep_base : ℕ → List Instr
 keep_base b = keep_register Rdx b ∷ []

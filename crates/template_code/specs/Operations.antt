@@ -62,7 +62,9 @@ abbrev pub right : Signedness → Direction
 right Unsigned = directions.Right
 right Signed = directions.ArithmeticRight
 
--- ---- comparisons: of less and greater-or-equal alone, with the operands the other way round for the others
+-- ---- comparisons
+
+-- of less and greater-or-equal alone, with the operands the other way round for the others
 
 abbrev pub less : Signedness → Condition
 less Unsigned = conditions.Below
@@ -113,7 +115,9 @@ pure_code (pures.ShiftRight s z) =
     instrs.Shift (right s) (width z) (places.Register Rax) counts.Cl ∷ []
 pure_code (pures.Compare r s z) = compare r s (width z)
 
--- ---- operations that can fault: what comes before the instruction that does, that instruction, and what comes after it
+-- ---- operations that can fault
+
+-- what comes before the instruction that does, that instruction, and what comes after it
 
 abbrev pub high_half : Signedness → Width → Instr
 high_half Unsigned w = instrs.Move W32 (places.Register Rdx) (operands.Immediate 0)

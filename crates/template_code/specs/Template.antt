@@ -2,7 +2,6 @@
 use Rattle.std.specs.Prelude.{◌≡◌, ℕ, ◌+◌, List, [], ◌∷◌, ◌++◌, take}
 use Rattle.x64_instr.specs.declared.instruction.Instr.{Instr}
 use Rattle.c_operations.specs.declared.built_in.BuiltIn.{BuiltIn}
-use Rattle.linear_code.specs.declared.slot.Slot.TheVariants.{Temporary}
 use Rattle.linear_code.specs.declared.instruction.Instruction.{Instruction}
 use Rattle.linear_code.specs.declared.instruction.Instruction.TheVariants as instructions
 use Rattle.template_code.specs.declared.layout.Layout.{Layout}

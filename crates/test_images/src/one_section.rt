@@ -13,9 +13,13 @@ pub const TABLE: usize = OPTIONAL + 112;
 /// The fields of [`image`] that vary.
 #[derive(Clone, Copy, Debug)]
 pub struct Fields {
+    /// ImageBase.
     pub base: u64,
+    /// AddressOfEntryPoint.
     pub entry: u32,
+    /// SizeOfImage.
     pub size: u32,
+    /// Characteristics, of the section.
     pub characteristics: u32,
 }
 

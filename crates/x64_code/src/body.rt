@@ -43,7 +43,9 @@ pub fn labels_of(
 /// Where the instructions of a body begin, and where it ends.
 #[derive(Debug, Drop)]
 pub struct Labels {
+    /// The first byte of each, relative to the image base.
     pub starts: Vec<u32>,
+    /// The byte after the last one.
     pub end: u32,
 }
 

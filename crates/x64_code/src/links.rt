@@ -8,12 +8,16 @@ ghost use Rattle.x64_code.specs.Linking as spec;
 use c_operations::built_in::BuiltIn;
 use std::marker::Model;
 
-/// Where the thunks are through which services are called.
+/// Where the thunks are through which services are called, relative to the image base.
 #[derive(Clone, Copy, Debug, PartialEq, Eq)]
 pub struct Thunks {
+    /// The thunk of `put`.
     pub put: u32,
+    /// The thunk of `protect`.
     pub protect: u32,
+    /// The thunk of `RaiseException`.
     pub raise_exception: u32,
+    /// The thunk of `_local_unwind`.
     pub local_unwind: u32,
 }
 

@@ -1,4 +1,4 @@
-use Rattle.std.proofs.Common.{sym, arith}
+use Rattle.std.proofs.Common.{sym}
 use Rattle.frame_layout.proofs.Sizes.{takes_four, takes_seven, takes_thirteen}
 use Rattle.frame_layout.proofs.instructions.prologue_size.Goals as goal
 
