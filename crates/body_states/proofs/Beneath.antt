@@ -117,7 +117,8 @@ word_stays m m' at v lt same bytes e =
 -- ---- below a return address
 
 module _ (t : Functions) where
-  -- RSP and a routine's return address aren't above `top`; from there on the list is there for these nonvolatile registers, and no byte below `from` is owned by it
+  -- RSP and a routine's return address aren't above `top`; from there on is the list for these
+  -- nonvolatile registers, and no byte below `from` is owned by it
   pub record Beneath (s : State) (top from back : ℕ) (others : List ℕ) (is : List StackItem) : Type 0 where
     pub others_are : others_of s.cpu.registers ≡ others
     pub count : length s.cpu.registers ≡ 16
@@ -177,7 +178,8 @@ module _ (t : Functions) where
 
 -- ---- straight code
 
--- a register is kept in a routine's own frame, or in the home space above its return address; d: from RSP up to the return address, e: from there up to the end of what it may write
+-- a register is kept in a routine's own frame, or in the home space above its return address; d:
+-- from RSP up to the return address, e: from there up to the end of what it may write
 pub record IsKept (d e : ℕ) (i : Instr) : Type 0 where
   pub kept : Reg
   pub offset : ℕ

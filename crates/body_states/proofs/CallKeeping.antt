@@ -1,4 +1,5 @@
--- A body calls: the instructions up to the callee's first byte keep the shadow; so does the jump of a thunk to a service.
+-- A body calls: the instructions up to the callee's first byte keep the shadow; so does the jump of
+-- a thunk to a service.
 use Rattle.std.proofs.Common.{◌≡◌, ℕ, ◌+◌, ◌-◌, ◌≤◌, Bool, true, false, Some, None, Ok, List, [], ◌∷◌, ◌++◌, length, refl, sym, ap, subst, ◌∙◌, arith, append_assoc}
 use Rattle.std.specs.Prelude.{slice_get, slice_index}
 use Rattle.std.proofs.lemmas.List.{append-nil}

@@ -30,7 +30,8 @@ use Rattle.whole_runs.specs.Shadow.{calls as is_a_call}
 
 -- ---- registers
 
--- what a called function keeps beside RSP (Microsoft x64 ABI, "Register volatility and preservation")
+-- what a called function keeps beside RSP (Microsoft x64 ABI, "Register volatility and
+-- preservation")
 abbrev pub others_of : List ℕ → List ℕ
 others_of r = slice_index r 3 ∷ slice_index r 5 ∷ slice_index r 6 ∷ slice_index r 7 ∷ slice_index r 12 ∷ slice_index r 13 ∷ slice_index r 14 ∷ slice_index r 15 ∷ []
 

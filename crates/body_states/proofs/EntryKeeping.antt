@@ -1,4 +1,5 @@
--- From a routine's first byte on the shadow is kept, while its frame is made and its arguments are stored.
+-- From a routine's first byte on the shadow is kept, while its frame is made and its arguments are
+-- stored.
 use Rattle.std.proofs.Common.{◌≡◌, ℕ, zero, suc, ◌+◌, ◌*◌, ◌^◌, ◌<◌, ◌≤◌, Bool, true, false, Option, Some, None, List, [], ◌∷◌, ◌++◌, length, refl, sym, ap, subst, ◌∙◌, arith, inl, inr, append_assoc}
 use Rattle.std.specs.Prelude.{◌⊎◌, nat_lt, if◌then◌else◌}
 use Rattle.x64_instr.specs.declared.register.Reg.{Reg}

@@ -1,4 +1,5 @@
--- Code that flows, in a routine whose return address is found by the walk, keeps the shadow at each of its turns.
+-- Code that flows, in a routine whose return address is found by the walk, keeps the shadow at each
+-- of its turns.
 use Rattle.std.proofs.Common.{◌≡◌, ℕ, zero, suc, ◌+◌, ◌^◌, ◌<◌, false, Ok, List, ◌∷◌, ◌++◌, inl, inr, length, get_or, refl, sym, ap, subst, ◌∙◌, arith}
 use Rattle.std.specs.Prelude.{slice_set}
 use Rattle.flat_memory.specs.Memory.{Memory, executable}
@@ -42,7 +43,8 @@ abbrev pub caller_by : List ℕ → ℕ → ℕ → Context
 caller_by kept size back = record { rip = back; kept = slice_set kept 0 (get_or kept 0 0 + size + 8) }
 
 module _ (t : Functions) (fs : List Funclet) (program : LinearProgram) (p : Plan) (q : Sites) where
-  -- in this memory a routine, by RSP and its nonvolatile registers, has its return address so far above RSP, and the walk gives these callers from there
+  -- in this memory a routine, by RSP and its nonvolatile registers, has its return address so far
+  -- above RSP, and the walk gives these callers from there
   pub record IsBelow (m : Memory) (kept : List ℕ) (size back : ℕ) (cs : List Context) : Type 0 where
     pub program_there : HasProgram t fs program p q m
     pub returns : word m (get_or kept 0 0 + size) ≡ Ok back

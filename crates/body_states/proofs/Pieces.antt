@@ -46,7 +46,8 @@ module _ (t : Functions) (fs : List Funclet) (program : LinearProgram) (p : Plan
         let all = subst (HasCode m (p.address name label)) parts (template_there t fs program p q image name b there m has label i at) in
         (code_split m (p.address name label + sizes before) code after (code_split m (p.address name label) before (code ++ after) all).1).0
 
-    -- a run over the piece, with the frame as it was and what lies above it in both memories, and to where a walk finds the return address too
+    -- a run over the piece, with the frame as it was and what lies above it in both memories, and
+    -- to where a walk finds the return address too
     pub piece_keeps : (u w : State) (kept : List ℕ) (back : ℕ) (cs : List Context) → IsFlow code → Reaches (length code) u w
         → u.cpu.rip ≡ p.address name label + sizes before → kept_of u.cpu.registers ≡ kept → kept_of w.cpu.registers ≡ kept → get_or kept 0 0 + (p.layout name).frame + 8 < 2 ^ 64
         → IsBelow t fs program p q u.memory kept (p.layout name).frame back cs → IsBelow t fs program p q w.memory kept (p.layout name).frame back cs

@@ -1,4 +1,5 @@
--- Runs of a body's code are turns of the machine that show nothing, up to where they come: a funclet begins with an instruction that makes its frame.
+-- Runs of a body's code are turns of the machine that show nothing, up to where they come: a
+-- funclet begins with an instruction that makes its frame.
 use Rattle.std.proofs.Common.{◌≡◌, ◌≢◌, ℕ, zero, suc, ◌+◌, ◌^◌, ◌<◌, ◌≤◌, Bool, true, false, List, [], ◌∷◌, ◌++◌, length, Option, Some, None, Ok, refl, sym, ap, subst, ◌∙◌, arith, inl, inr}
 use Rattle.std.specs.Prelude.{slice_get, ◌==◌, nat_le}
 use Rattle.std.proofs.lemmas.Bool.{le-leb, ne_eqb}
@@ -146,7 +147,8 @@ module _ (t : Functions) (fs : List Funclet) (program : LinearProgram) (p : Plan
         subst (λ m. Comes t fs m s (arrivals w.cpu (distance t.base w.cpu.rip) 1 fs) w) k
         (comes_then t fs 1 (suc n) s u w [] (arrivals w.cpu (distance t.base w.cpu.rip) 1 fs) one (from_step n u r.0 w r.1.steps r.2 (keep u st.steps).1 kept))
 
-    -- a run of at least one turn, each of which keeps the shadow, shows what its last state's RIP arrives at
+    -- a run of at least one turn, each of which keeps the shadow, shows what its last state's RIP
+    -- arrives at
     pub enters_comes : (n : ℕ) (s w : State) (events : List Event) → Enters (suc n) s w → AllKeep t fs (suc n) s → HasProgram t fs program p q s.memory → arrivals w.cpu (distance t.base w.cpu.rip) 1 fs ≡ events → Comes t fs (suc n) s events w
     enters_comes n s w events r keep has e = subst (λ (es : List Event). Comes t fs (suc n) s es w) e (from_step n s r.0 w r.1 r.2 keep has)
 

@@ -1,4 +1,5 @@
--- A body returns: its result is fetched, its frame is given back, and the return is made; the shadow is kept.
+-- A body returns: its result is fetched, its frame is given back, and the return is made; the
+-- shadow is kept.
 use Rattle.std.proofs.Common.{◌≡◌, ℕ, zero, suc, ◌+◌, ◌^◌, ◌<◌, Option, Some, None, List, [], ◌∷◌, length, refl, sym, ap, subst, ◌∙◌, arith, inl, length-append}
 use Rattle.std.specs.Prelude.{slice_get}
 use Rattle.std.proofs.lemmas.List.{append-nil}

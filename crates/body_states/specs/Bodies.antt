@@ -45,7 +45,7 @@ turns_left c = 3 * (length c.frame.temporaries + held_below c.below)
 
 module _ (t : Functions) (fs : List Funclet) (program : LinearProgram) (p : Plan) (q : Sites) where
   -- the body's frame is from RSP up: its slots hold what linear code has in them, above them is the
-  -- return address, and from there on the list is there
+  -- return address, and from there on is the list
   pub record InBody (s : State) (c : Configuration) : Type 0 where
     pub acts : List Activation
     pub store : c.store.activations ≡ locals_of acts

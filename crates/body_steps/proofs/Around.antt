@@ -1,4 +1,5 @@
--- What is known of a configuration says what its steps need: its locals are counted, what waits below a leaf has a frame, and so has the function of a funclet.
+-- What is known of a configuration says what its steps need: its locals are counted, what waits
+-- below a leaf has a frame, and so has the function of a funclet.
 use Rattle.std.proofs.Common.{◌≡◌, ℕ, zero, suc, ◌+◌, ◌≤◌, Bool, true, false, Option, Some, None, List, [], ◌∷◌, ◌++◌, length, refl, sym, ap, subst, ◌∙◌, arith, length-append}
 use Rattle.std.specs.Prelude.{slice_get}
 use Rattle.std.proofs.lemmas.Option.{slice_get_within}

@@ -1,4 +1,5 @@
--- The walk from a body that runs gives its caller and those of the list below, also where a template's run has come; so each turn of that run keeps the shadow.
+-- The walk from a body that runs gives its caller and those of the list below, also where a
+-- template's run has come; so each turn of that run keeps the shadow.
 use Rattle.std.proofs.Common.{◌≡◌, ℕ, suc, ◌+◌, ◌^◌, ◌<◌, ◌≤◌, true, Some, List, [], ◌∷◌, ◌++◌, length, drop, get_or, refl, sym, ap, subst, ◌∙◌, arith, append_assoc, length-append}
 use Rattle.std.specs.Prelude.{slice_get, slice_index}
 use Rattle.std.proofs.lemmas.List.{append-nil}

@@ -25,7 +25,8 @@ all_kept : (a b c : Option FaultAt) (main file functions : List FaultAt) → a �
 all_kept a b c main file functions p q r =
     r ∙ ap (λ k. kept k functions) (q ∙ ap (λ k. kept k main) p ∙ sym (kept_after_other None main file)) ∙ sym (kept_append None (main ++ file) functions)
 
--- what is resolved with the names that the code has is what is resolved with those of the definition
+-- what is resolved with the names that the code has is what is resolved with those of the
+-- definition
 pub program_resolved : (text : List ℕ) (xs : List ExternalDeclaration) (file : File') (worst : Least) (main : ℕ) (made : Progress) (p : Resolved')
     → IsFile file (file_of text xs empty_file)
     → main ≡ (main_in xs (block_of file.names.entries)).number

@@ -7,6 +7,9 @@
 //! and `functions` each function with its parameters (`parameters`) and its body. Every function
 //! and global is visible in the whole text, so the names of the file are all known before the first
 //! body is walked.
+//!
+//! Proved: what `check` accepts breaks no rule, is sound, and is the checked program that `resolve`
+//! (crate c_resolved) gives; a refusal is the least fault, or want of memory. Begin with `check`.
 #![tactic(auto)]
 
 pub mod check;

@@ -4,7 +4,7 @@
 //! The checker builds them, the source meaning is defined on them, and the compiler lowers them.
 //! What counts a step in the text is one node here. Parentheses, conversions and the decay of
 //! arrays to pointers count none, and are no nodes. Begin with `expression` and `statement`;
-//! `specs/Sound.antt` says what holds of every accepted program.
+//! `specs/Sound.antt` says what holds of every accepted program: it is the invariant of `Checked`.
 #![tactic(auto)]
 
 pub mod checked;

@@ -23,7 +23,7 @@ pub enum MeanErr {
     Memory,
 }
 
-/// How a program's run ended, in its last line.
+/// How a program's run ended, as its last line says.
 fn ended_line(ended: &Ended) -> Line
     ensures { result ≡ texts.ended_line ended.now }
 {

@@ -7,6 +7,9 @@
 //! `lexing::lex` gives the tokens of a text, in its order, or the first fault; `laws::laws` says
 //! what holds of every text. A token has its kind and its bytes' places: a name's spelling is read
 //! from the text, all else is in the kind.
+//!
+//! Proved: `lex` gives the longest-match list of tokens, or the first place where there is none.
+//! Begin with `specs/Text.antt`, then `specs/Words.antt`.
 #![tactic(auto)]
 
 mod character;

@@ -1,4 +1,5 @@
--- A relation between what two meanings come to, from states that differ in the steps that are left, and how it goes through what is done with an outcome.
+-- A relation between what two meanings come to, from states that differ in the steps that are left,
+-- and how it goes through what is done with an outcome.
 use Rattle.std.proofs.Common.{◌≡◌, ℕ, ◌+◌, List, [], ◌∷◌, ◌++◌, Some, None, refl}
 use Rattle.std.specs.Prelude.{Bool, true, false, nat_lt, nat_eq, take}
 use Rattle.seh_num.specs.declared.event.Event.{Event}
@@ -10,7 +11,9 @@ use Rattle.c_model.specs.Statements.{in_loop, landing, finally_after}
 abbrev pub with_left : ℕ → State → State
 with_left l st = record st { steps_left = l }
 
--- `near` says which numbers of steps two states may have left, and `out` what is known of two outcomes where the second began with these events; the flag says how much is claimed, so that a relation can claim less where the first outcome came to nothing
+-- `near` says which numbers of steps two states may have left, and `out` what is known of two
+-- outcomes where the second began with these events; the flag says how much is claimed, so that a
+-- relation can claim less where the first outcome came to nothing
 pub record Relation : Type 1 where
   pub near : Bool → ℕ → ℕ → Type 0
   pub out : Bool → List Event → Outcome → Outcome → Type 0

@@ -1,4 +1,5 @@
--- A task's meaning in terms of the tasks inside it, with no bound in sight; and no more steps are left after it than before.
+-- A task's meaning in terms of the tasks inside it, with no bound in sight; and no more steps are
+-- left after it than before.
 use Rattle.std.proofs.Common.{◌≡◌, ℕ, zero, suc, ◌≤◌, List, refl, sym, ap, ◌∙◌, subst, arith}
 use Rattle.std.specs.Prelude.{true, Option, None}
 use Rattle.c_checked.specs.Program.{Program, Function}

@@ -1,4 +1,5 @@
--- A text that continues spells the same tokens alike, and can speak the two words by which a record can end.
+-- A text that continues spells the same tokens alike, and can speak the two words by which a record
+-- can end.
 use Rattle.std.proofs.Common.{◌≡◌, ◌≤◌, ◌+◌, ◌-◌, ℕ, List, [], ◌∷◌, ◌++◌, length, take, drop, length-drop, sym, ap, ◌∙◌, arith}
 use Rattle.std.specs.Prelude.{codes, slice_range}
 use Rattle.std.proofs.lemmas.List.{take-append-le, drop-append-le}

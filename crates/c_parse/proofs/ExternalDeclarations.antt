@@ -387,7 +387,8 @@ globals_has counts k text base front inner b h = record {
   fits = record { each = tt; functions = λ four. omega arith; bytes = h.low; funclets = λ six. omega arith };
 }
 
--- What fails as globals fails as an external declaration: it fails after the head, which no parenthesis follows.
+-- What fails as globals fails as an external declaration: it fails after the head, which no
+-- parenthesis follows.
 pub as_globals : (text : List ℕ) (counts : Counts) (base : Base) (n : ℕ) (called : Identifier) (ts d rest : List Token) → counts.bytes ≤ 1048576 → IsHead base n called ts d rest → Lacks punctuators.OpenParenthesis rest
     → (kind at : ℕ) → Failed kind at (NoGlobals base counts.bytes) (HasGlobals base counts.bytes) text d → Failed kind at (NoExternalDeclaration counts) (HasExternalDeclaration counts) text ts
 as_globals text counts base n called ts d rest w h l kind at f =

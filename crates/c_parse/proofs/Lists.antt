@@ -24,7 +24,8 @@ Forward {A} Are More ts found rest = (xs : List A) (end : List Token) → More x
 abbrev pub Back : {A : Type 0} → Listed A → Listed A → List Token → List A → List Token → Type 0
 Back {A} Are More ts found rest = (xs : List A) (end : List Token) → Are xs ts end → (ys : List A) × (xs ≡ found ++ ys) × More ys rest end
 
--- Elements were read up to the rest: whatever is in its place, and back where that begins with the same token.
+-- Elements were read up to the rest: whatever is in its place, and back where that begins with the
+-- same token.
 pub record Begun {A : Type 0} (Are More : Listed A) (ts : List Token) (found : List A) (rest : List Token) : Type 0 where
   pub front : List Token
   pub split : ts ≡ front ++ rest

@@ -13,7 +13,8 @@ nothing_within : (text : List ℕ) → Within text []
 nothing_within text = record { each = tt; functions = λ four. omega arith; bytes = λ five. omega arith; numbered = λ six. omega arith }
 
 module _ (text : List ℕ) (ts : List Token) (faultless : HasNoFault text ts) where
-  -- tokens before a place continue there within the first n limits: if they didn't, then they wouldn't within fewer, and there would be a fault
+  -- tokens before a place continue there within the first n limits: if they didn't, then they
+  -- wouldn't within fewer, and there would be a fault
   continues : (front fault : List Token) → ts ≡ front ++ fault → Viable every_limit text front → (n : ℕ) → (Continues n text front fault → ⊥) → ⊥
   continues front fault split viable zero stops =
       faultless 0 (place text fault) (record { front = front; fault = fault; split = split; located = refl; viable = viable; stops = stops; fewer = λ k e. absurd (omega arith) })

@@ -26,7 +26,9 @@ use Rattle.c_parse.proofs.Refusing.{following}
 
 -- ---- what was read
 
--- What was read, up to the rest, and the counts after it: whatever is in the rest's place, a program of all tokens begins with it, and continues with a program of the rest that fits the counts.
+-- What was read, up to the rest, and the counts after it: whatever is in the rest's place, a
+-- program of all tokens begins with it, and continues with a program of the rest that fits the
+-- counts.
 pub record Read (text : List ℕ) (ts : List Token) (found : List ExternalDeclaration') (rest : List Token) (counts : Counts) : Type 0 where
   pub front : List Token
   pub split : ts ≡ front ++ rest
@@ -171,7 +173,8 @@ not_empty : (xs : List Token) (t : Token) (ys : List Token) → xs ++ t ∷ ys �
 not_empty [] t ys e = cc
 not_empty (x ∷ xs) t ys e = cc
 
--- no program begins with what was read and continues with tokens that aren't empty and begin with no external declaration
+-- no program begins with what was read and continues with tokens that aren't empty and begin with
+-- no external declaration
 stuck : (n : ℕ) (text text' : List ℕ) (ts rest other : List Token) (found : List ExternalDeclaration') (counts : Counts) (xs : List ExternalDeclaration) → (d : Read text ts found rest counts) → Alike text text' ts → (other ≡ [] → ⊥) → NoExternalDeclaration counts n text' other → IsProgram text' xs (d.front ++ other) → WithinFirst n text' xs → ⊥
 stuck n text text' ts rest other found counts xs d a e none h w =
     let r = d.back text' other a xs h in

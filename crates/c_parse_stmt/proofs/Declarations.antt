@@ -26,7 +26,8 @@ use Rattle.c_parse_stmt.proofs.Placing.{Lacks, lacks_first}
 
 -- ---- lists of locals
 
--- What was read of the locals, and what is left: they continue with what is at the rest, and there are none if none are there.
+-- What was read of the locals, and what is left: they continue with what is at the rest, and there
+-- are none if none are there.
 pub record Begun (text : List ℕ) (room whole : ℕ) (ts : List Token) (found : List Local') (rest : List Token) (left : ℕ) : Type 0 where
   pub before : List Token
   pub split : ts ≡ before ++ rest

@@ -82,7 +82,8 @@ cut (x ∷ xs) (y ∷ ys) us vs e =
     let q : xs ++ us ≡ ys ++ vs = cc in
     following x y xs ys us vs p (cut xs ys us vs q)
 
--- A condition fails no sooner than the filters that accept depart; where it goes no further there than they do, it fails there.
+-- A condition fails no sooner than the filters that accept depart; where it goes no further there
+-- than they do, it fails there.
 stay_able : (kind at : ℕ) (text : List ℕ) (ts rest : List Token) (f : Failed kind at NoCondition HasCondition text ts) (d : Departs text ts rest) (text' : List ℕ) → Alike text text' ts → Speaks text' → Cut f.front d.front f.fault rest → Able (HasFilter 0) 6 text' f.front
 stay_able kind at text ts rest f d text' a s (same p) = subst (λ (z : List Token). Able (HasFilter 0) 6 text' z) (sym p) (d.able text' a s)
 stay_able kind at text ts rest f d text' a s (later z zs p q) =

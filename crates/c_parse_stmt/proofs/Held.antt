@@ -128,7 +128,8 @@ all (x ∷ xs) = ap (λ (z : Statements). Then x z) (all xs)
 abbrev Given : List ℕ → ℕ → Left → Left → Statements → List Token → List Token → Type 0
 Given text room left after ss ts end = AreBlockItems text ss ts end × AllTaken text room left after ss
 
--- What was read of a block, and what is left: it continues with what is at the rest, and fails where that fails.
+-- What was read of a block, and what is left: it continues with what is at the rest, and fails
+-- where that fails.
 pub record Held (text : List ℕ) (room : ℕ) (whole : Left) (ts : List Token) (found : List Stmt) (rest : List Token) (left : Left) : Type 0 where
   pub forward : (ss : Statements) (end : List Token) (after : Left) → AreBlockItems text ss rest end → AllTaken text room left after ss → Given text room whole after (before (map statement found) ss) ts end
   pub wraps : Wraps (NoBlockItems room left) (HasBlockItems room left) (NoBlockItems room whole) (HasBlockItems room whole) text rest ts

@@ -1,4 +1,5 @@
--- Phrases one after another: they move together, a failure of the second is one of both, and what completes the second completes both.
+-- Phrases one after another: they move together, a failure of the second is one of both, and what
+-- completes the second completes both.
 use Rattle.std.proofs.Common.{◌≡◌, ℕ, suc, List, [], ◌∷◌, ◌++◌, refl, sym, ap, ◌∙◌, subst}
 use Rattle.std.specs.Prelude.{Result, Ok, Err, IfOk, IfErr}
 use Rattle.c_lex.specs.declared.keyword.Keyword.{Keyword}

@@ -1,4 +1,5 @@
--- A declaration is its base and its locals; what a `for` does first is a declaration or an expression.
+-- A declaration is its base and its locals; what a `for` does first is a declaration or an
+-- expression.
 use Rattle.std.proofs.Common.{◌≡◌, ◌≤◌, ℕ, List, [], ◌∷◌, ◌++◌, Option, Some, None, refl, sym, ap, ◌∙◌, subst, append_assoc, arith, inl, inr}
 use Rattle.std.proofs.lemmas.List.{append_cancel_right}
 use Rattle.c_lex.specs.declared.punctuator.Punctuator.TheVariants as punctuators

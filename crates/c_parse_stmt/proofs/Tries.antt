@@ -1,4 +1,5 @@
--- `__try` statements from their parts: what is read, and that nothing is at the front where a part is missing.
+-- `__try` statements from their parts: what is read, and that nothing is at the front where a part
+-- is missing.
 use Rattle.std.proofs.Common.{◌≡◌, ◌≤◌, ◌+◌, ℕ, Bool, true, false, cond, List, [], ◌∷◌, length, length-append, refl, sym, ap, subst, arith, inl, inr}
 use Rattle.std.specs.Prelude.{◌⊎◌}
 use Rattle.c_lex.specs.declared.keyword.Keyword.TheVariants as keywords

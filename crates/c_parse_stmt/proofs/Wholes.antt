@@ -1,4 +1,5 @@
--- Statements from their parts: what is read, and that nothing is at the front where a part is missing.
+-- Statements from their parts: what is read, and that nothing is at the front where a part is
+-- missing.
 use Rattle.std.proofs.Common.{◌≡◌, ◌≤◌, ◌<◌, ◌+◌, ℕ, Bool, true, false, IsTrue, IsFalse, List, length, length-append, Option, refl, sym, ap, subst, arith, inl, inr}
 use Rattle.std.specs.Prelude.{◌⊎◌}
 use Rattle.c_lex.specs.declared.keyword.Keyword.{Keyword}

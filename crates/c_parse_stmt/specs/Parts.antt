@@ -107,7 +107,7 @@ pub record ADeclaration (room left n : ℕ) (text : List ℕ) (ts : List Token) 
   pub is : (other : List Token) → IsDeclaration text base trees (ts ++ other) other
   pub within : LocalsWithin n room left trees
 
--- something else may be in its place: where no local is left, there is no declaration
+-- something else may take its place: where no local is left, there is no declaration
 abbrev pub HasDeclaration : ℕ → ℕ → ℕ → List ℕ → List Token → Type 0
 HasDeclaration room left n text ts = (ts ≡ []) ⊎ ADeclaration room left n text ts
 

@@ -13,7 +13,8 @@ use Rattle.c_syntax.specs.declared.expression.Base.TheVariants.{Void, Char, Unsi
 use Rattle.c_syntax.specs.declared.expression.CType.{CType}
 use Rattle.c_resolved.specs.Types.{base_width, width_of, sort_of, same_base, same_type, size_of_width, to_width, conversion, index_width, scaled}
 
--- it can be resolve_statement of a number of the one width's size, and gives a number of the other's
+-- it can be resolve_statement of a number of the one width's size, and gives a number of the
+-- other's
 abbrev pub Makes : Conversion → Width → Width → Type 0
 Makes c from to = (can_convert c (Some (size_of_width from)) ≡ true) × (size_after c (Some (size_of_width from)) ≡ Some (size_of_width to))
 

@@ -1,4 +1,5 @@
--- The bytes of the globals are as many as the limits count, and the names of the file mean what fits.
+-- The bytes of the globals are as many as the limits count, and the names of the file mean what
+-- fits.
 use Rattle.std.proofs.Common.{◌≡◌, ◌≤◌, ℕ, ◌+◌, ◌-◌, ◌*◌, ◌/◌, ◌%◌, ◌^◌, ◌⊎◌, inl, inr, refl, ap, sym, subst, ◌∙◌, arith}
 use Rattle.std.proofs.lemmas.Bool.{lt-ltb}
 use Rattle.std.proofs.lemmas.List.{length-append, length-replicate, length-take-le}

@@ -107,7 +107,7 @@ PointerAndZero =
     × (resolve_expression names (is_equal p (number 1))
     ≡ record { found = None; faults = record { at = 20; fault = TypeClash } ∷ [] })
 
--- `i += 300` works on ints and is cut to a char; `p++` moves on by 4 bytes
+-- `i += 300` works on ints and is cut to a char; `p++` adds 4 bytes
 abbrev pub Changes : Type 0
 Changes =
     (resolve_expression names (trees.Assign i 20 (Some arithmetic.Add) (number 300))

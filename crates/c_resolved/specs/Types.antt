@@ -63,7 +63,7 @@ same_base a b = false
 abbrev pub same_type : CType → CType → Bool
 same_type a b = nat_eq a.pointers b.pointers && same_base a.base b.base
 
--- ---- how values are kept in memory and in the machine
+-- ---- how values are in memory and in the machine
 
 abbrev pub base_width : Base → Width
 base_width Void = W8

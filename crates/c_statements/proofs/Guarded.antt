@@ -90,7 +90,8 @@ except_is b w0 w1 w2 w3 w4 answer filter vs ks made a ss at e hs same v m0 is n 
 four : (first w1 w2 w3 w4 : Option FaultAt) (x y z u : List FaultAt) → w1 ≡ kept first x → w2 ≡ kept w1 y → w3 ≡ kept w2 z → w4 ≡ kept w3 u → w4 ≡ kept first (((x ++ y) ++ z) ++ u)
 four first w1 w2 w3 w4 x y z u p q r s = kept_more first w3 w4 ((x ++ y) ++ z) u (kept_more first w2 w3 (x ++ y) z (kept_more first w1 w2 x y p q) r) s
 
--- w1 after what it does first, w2 after the condition, w3 after what follows each iteration, w4 after the body
+-- w1 after what it does first, w2 after the condition, w3 after what follows each iteration, w4
+-- after the body
 for_is : (b : Scope) (es : Entries) (w0 w1 w2 w3 w4 : Walk) (beginning : Beginning) (value next : Option Expr) (s made : Stmt) (a : Environment) (at : ℕ) (first : ForInitialiser) (c n : Option Expression) (t : Statement)
     → Begins es w0 w1 beginning (resolve_for_initialiser (inside a b) first (numbering w0))
     → MayEvaluate w1.worst w2.worst value (optional (λ x. condition at (resolved_at (inside a b) (block_of es) x)) c)

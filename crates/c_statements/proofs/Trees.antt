@@ -1,4 +1,5 @@
--- The statements that were read, as those of the definitions, one equation for each kind that a proof cites.
+-- The statements that were read, as those of the definitions, one equation for each kind that a
+-- proof cites.
 use Rattle.std.proofs.Common.{◌≡◌, ℕ, Some, sym, ap, ◌∙◌, map}
 use Rattle.c_syntax.specs.declared.expression.Expr.{Expr}
 use Rattle.c_syntax.specs.declared.statement.Stmt.{Stmt}

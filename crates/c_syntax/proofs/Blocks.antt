@@ -1,4 +1,5 @@
--- There is one tree at most for a declaration, for a statement that no `else` follows, and for what a block holds.
+-- There is one tree at most for a declaration, for a statement that no `else` follows, and for what
+-- a block holds.
 use Rattle.std.proofs.Common.{◌≡◌, ◌≤◌, ◌<◌, ℕ, Bool, true, false, IsTrue, IsFalse, List, [], ◌∷◌, Option, Some, None, refl, sym, ap, ◌∙◌, subst, arith}
 use Rattle.c_lex.specs.declared.keyword.Keyword.{Keyword}
 use Rattle.c_lex.specs.declared.keyword.Keyword.TheVariants as keywords

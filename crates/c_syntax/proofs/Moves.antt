@@ -1,4 +1,5 @@
--- What spells a phrase before a rest spells it before any other rest, and in any text that spells its names alike.
+-- What spells a phrase before a rest spells it before any other rest, and in any text that spells
+-- its names alike.
 use Rattle.std.proofs.Common.{◌≡◌, ◌≤◌, ◌<◌, ℕ, zero, suc, List, [], ◌∷◌, ◌++◌, codes, slice_range, refl, sym, ap, ◌∙◌, subst, append_assoc, inl, inr}
 use Rattle.std.specs.Str.{bytes_eq}
 use Rattle.c_lex.specs.declared.keyword.Keyword.{Keyword}

@@ -1,4 +1,5 @@
--- Elements between commas are before any other rest too, and in any text that spells their names alike, where each element is.
+-- Elements between commas are before any other rest too, and in any text that spells their names
+-- alike, where each element is.
 use Rattle.std.specs.Prelude.{ℕ, List, [], ◌∷◌}
 use Rattle.c_lex.specs.declared.punctuator.Punctuator.{Punctuator}
 use Rattle.c_lex.specs.declared.punctuator.Punctuator.TheVariants as punctuators

@@ -1,4 +1,5 @@
--- ExternalDeclaration declarations are before any other rest too, and in any text that spells their names alike; programs are joined, and moved to such a text.
+-- ExternalDeclaration declarations are before any other rest too, and in any text that spells
+-- their names alike; programs are joined, and moved to such a text.
 use Rattle.std.proofs.Common.{◌≡◌, ℕ, Bool, true, false, List, [], ◌∷◌, ◌++◌, Option, Some, None, refl, sym, ap, ◌∙◌, subst, append_assoc, inl, inr}
 use Rattle.c_lex.specs.declared.keyword.Keyword.TheVariants as keywords
 use Rattle.c_lex.specs.declared.punctuator.Punctuator.TheVariants as punctuators

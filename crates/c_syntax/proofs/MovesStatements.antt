@@ -1,4 +1,5 @@
--- Statements are before any other rest too, and in any text that spells their names alike; the same of their filters and finally blocks have numbers there.
+-- Statements are before any other rest too, and in any text that spells their names alike; the
+-- same of their filters and finally blocks have numbers there.
 use Rattle.std.proofs.Common.{◌≡◌, ℕ, List, [], ◌∷◌, ◌++◌, cond, Option, Some, None, IsFalse, refl, ap, ◌∙◌}
 use Rattle.c_lex.specs.declared.keyword.Keyword.{Keyword}
 use Rattle.c_lex.specs.declared.keyword.Keyword.TheVariants as keywords

@@ -61,7 +61,8 @@ along text n l p (x ∷ steps) (y ∷ steps') ts left rest e end u low a b s c d
     subst (λ (z : List Token). Run text (apply p x) steps' z e end) q.1 v in
     along text n l (apply p x) steps steps' r.after_step left rest e end u low a b s c d r.others w
 
--- A left part was read, and the next token continues: whatever is at the front at all goes through it.
+-- A left part was read, and the next token continues: whatever is at the front at all goes through
+-- it.
 pub passes : (text : List ℕ) (l : ℕ) (left : Expression) (ts rest : List Token) (e : Expression) (end : List Token) → SpellsExpression text left ts rest → rank left ≤ l → Closes left rest → follows rest ≤ l → Derives text l e ts end → Stops l end → Goes text left rest e end
 passes text l left ts rest e end h a c d g s =
     let x = spine text left ts rest h in

@@ -1,13 +1,11 @@
 -- The grammar of expressions, one case for each production (C11, 6.5 and annex A.2.1). An
--- expression takes the tokens up to a rest. Identifiers are read from the text.
---     primary := literal | NAME | NAME '(' [assignment {',' assignment}] ')' | '(' comma ')' | information
---     postfix := primary | postfix '[' comma ']' | postfix '++' | postfix '--'
---     unary := postfix | '++' unary | '--' unary | operator cast
---     cast := unary | '(' type ')' cast
---     each binary level, the tightest first := the level below it | it operator (the level below it)
---     conditional := logical-or | logical-or '?' comma ':' conditional
---     assignment := conditional | unary punctuator assignment
---     comma := assignment | comma ',' assignment
+-- expression takes the tokens up to a rest. Identifiers are read from the text. primary := literal
+-- | NAME | NAME '(' [assignment {',' assignment}] ')' | '(' comma ')' | information postfix :=
+-- primary | postfix '[' comma ']' | postfix '++' | postfix '--' unary := postfix | '++' unary |
+-- '--' unary | operator cast cast := unary | '(' type ')' cast each binary level, the tightest
+-- first := the level below it | it operator (the level below it) conditional := logical-or |
+-- logical-or '?' comma ':' conditional assignment := conditional | unary punctuator assignment
+-- comma := assignment | comma ',' assignment
 use Rattle.std.specs.Prelude.{◌≤◌, ◌<◌, ℕ, List, codes}
 use Rattle.c_lex.specs.declared.keyword.Keyword.TheVariants as keywords
 use Rattle.c_lex.specs.declared.punctuator.Punctuator.{Punctuator}

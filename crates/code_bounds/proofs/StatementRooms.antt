@@ -1,4 +1,5 @@
--- The code of statements, of the filters and `__finally` blocks in them, and their scope records take no more than their room.
+-- The code of statements, of the filters and `__finally` blocks in them, and their scope records
+-- take no more than their room.
 use Rattle.std.proofs.Common.{◌≡◌, ℕ, ◌+◌, ◌-◌, ◌*◌, ◌≤◌, List, [], ◌∷◌, ◌++◌, length, Option, Some, None, sym, arith, zero-add, length-append}
 use Rattle.c_checked.specs.Expression.{Expression}
 use Rattle.c_checked.specs.Statement as statements

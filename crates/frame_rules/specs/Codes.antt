@@ -1,5 +1,5 @@
--- What the unwind codes of an info are to be. They are listed from the prologue's last instruction
--- to its first: saves, before them at most one SET_FPREG, before it at most one allocation, before
+-- What the unwind codes of an info are to be. They are from the prologue's last instruction to
+-- its first: saves, before them at most one SET_FPREG, before it at most one allocation, before
 -- that pushes (Microsoft x64 ABI, "Prolog").
 use Rattle.std.specs.Prelude.{ℕ, ◌+◌, Bool, true, false, not, ◌==◌, ◌&&◌, ◌||◌, nat_le, List, [], ◌∷◌}
 use Rattle.eh_tables.specs.declared.code.UnwindOperation.{UnwindOperation}

@@ -78,7 +78,7 @@ abbrev pub items : List Step → List FetchedInstr
 items [] = []
 items (s ∷ ss) = s.items ++ items ss
 
--- the codes are listed from the last step to the first
+-- the codes are from the last step to the first
 abbrev pub codes_onto : List UnwindCode → List Step → List UnwindCode
 codes_onto done [] = done
 codes_onto done (s ∷ ss) = codes_onto (s.code ∷ done) ss

@@ -44,7 +44,7 @@ begun r = record r { frame = 0; row = 0; walk = context_of r.saved }
 abbrev pub in_hand : DispatchRecord → ℕ → ℕ → Context → DispatchRecord
 in_hand r frame row walk = record r { frame = frame; row = row; walk = walk }
 
--- where a record can't be placed the run is at the stack's limit
+-- where a record can't be placed the run has come to the stack's limit
 abbrev pub if_placed : State → ℕ → DispatchRecord → (State → Turn) → Option ℕ → Turn
 if_placed s at r go (Some a) = Ends [] (ends.StackLimit a)
 if_placed s at r go None = go (record { cpu = s.cpu; memory = placed s.memory at r })

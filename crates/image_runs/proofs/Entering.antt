@@ -1,4 +1,5 @@
--- A function with at most four parameters is entered from its first byte: once its frame is made, the parameters go to their locals.
+-- A function with at most four parameters is entered from its first byte: once its frame is made,
+-- the parameters go to their locals.
 use Rattle.std.proofs.Common.{◌≡◌, ℕ, ◌+◌, ◌*◌, ◌^◌, ◌<◌, ◌≤◌, true, Some, List, length, sym, ap, subst, ◌∙◌, arith, inl, inr}
 use Rattle.std.specs.Prelude.{◌⊎◌, slice_get, slice_index}
 use Rattle.host_layout.specs.declared.range.TheConstants.{STACK_START, STACK_END}
@@ -36,7 +37,8 @@ use Rattle.turn_steps.proofs.Callee.{own_frame, IsOwn, roomy_own, fresh_own, par
 use Rattle.turn_steps.proofs.Entered.{argument_is}
 use Rattle.turn_steps.proofs.Prologues.{Made}
 
--- a state at a function's first byte: its arguments are in registers, the return address is at RSP, and above that is room for a home space
+-- a state at a function's first byte: its arguments are in registers, the return address is at RSP,
+-- and above that is room for a home space
 pub record IsCalled (t : Functions) (fs : List Funclet) (program : LinearProgram) (p : Plan) (q : Sites) (s : State) (source : Memory) (f : ℕ) (fn : LinearFunction) (top : ℕ) (arguments : ℕ → ℕ) : Type 0 where
   pub function : slice_get program.functions f ≡ Some fn
   pub rip : s.cpu.rip ≡ q.function f

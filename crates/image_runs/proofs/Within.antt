@@ -1,4 +1,5 @@
--- In the midst of an instruction the walk gives the frames that it gave where the instruction began.
+-- In the midst of an instruction the walk gives the frames that it gave where the instruction
+-- began.
 use Rattle.std.proofs.Common.{◌≡◌, ℕ, ◌+◌, ◌-◌, ◌^◌, ◌<◌, ◌≤◌, false, Some, None, Ok, List, [], ◌∷◌, length, refl, sym, ap, subst, ◌∙◌, arith}
 use Rattle.std.specs.Prelude.{nat_lt, Option}
 use Rattle.std.specs.List.{AllByRecursion}

@@ -1,5 +1,8 @@
-//! Whole runs of the images of compiled programs: what they show is what the program means. Begin
-//! reading with `specs/Realises`.
+//! Whole runs of the images of compiled programs.
+//!
+//! Proved: of every accepted text a run of its image shows what the program means, and nothing
+//! more, and a walk over the stack gives the shadow at every turn, while the program is calm. Begin
+//! with `specs/Realises.antt`, then `specs/Shadows.antt`.
 #![tactic(auto)]
 
 pub mod accepted_laws;

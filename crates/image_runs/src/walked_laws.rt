@@ -4,8 +4,8 @@ ghost use Rattle.image_runs.specs.WalkedLaws.{RunsPassTheFrames, RunsEndAsProgra
 ghost use Rattle.image_runs.specs.Texts.{AcceptedPassTheFrames, AcceptedEndAsPrograms};
 
 /// The run of a compiled image passes, for each step of linear code that continues, a state in
-/// which the walk gives the frames that are live there. It never stops, and never reaches the stack's
-/// limit.
+/// which the walk gives the frames that are live there. It never stops, and never reaches the
+/// stack's limit.
 pub fn laws()
     ensures passes { RunsPassTheFrames }
     ensures ends { RunsEndAsPrograms }

@@ -1,4 +1,5 @@
--- The code of sound statements, and their filters and `__finally` blocks, use a bounded number of slots.
+-- The code of sound statements, and their filters and `__finally` blocks, use a bounded number of
+-- slots.
 use Rattle.std.proofs.Common.{◌≡◌, ℕ, ◌+◌, ◌-◌, ◌*◌, ◌<◌, ◌≤◌, List, [], ◌∷◌, ◌++◌, length, refl, sym, subst, arith, length-append}
 use Rattle.std.proofs.lemmas.Bool.{ltb-true}
 use Rattle.std.proofs.lemmas.Option.{slice_get_within}

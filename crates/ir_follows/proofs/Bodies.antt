@@ -1,4 +1,5 @@
--- What is claimed of statements: where they lead, what is around them, and which stores there may be.
+-- What is claimed of statements: where they lead, what is around them, and which stores there may
+-- be.
 use Rattle.std.proofs.Common.{◌≡◌, ◌⊎◌, inl, inr, ◌≤◌, ℕ, ◌+◌, List, [], ◌∷◌, length, refl, ◌∙◌, arith}
 use Rattle.std.proofs.lemmas.Bool.{or_left}
 use Rattle.std.specs.Prelude.{◌-◌, Bool, true, false, Option, Some, None}

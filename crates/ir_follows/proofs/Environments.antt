@@ -1,4 +1,5 @@
--- What is around a part of a program while its linear code runs: where codes and flags are kept, and which handlers a search meets.
+-- What is around a part of a program while its linear code runs: where codes and flags are kept,
+-- and which handlers a search meets.
 use Rattle.std.proofs.Common.{◌≡◌, ◌≤◌, ℕ, suc, ◌+◌, List, [], ◌∷◌, ◌++◌, length, refl, ap, ◌∙◌}
 use Rattle.std.specs.Prelude.{Bool, true, false, get_or, slice_get, Option, Some, None}
 use Rattle.c_checked.specs.Expression.{Expression}

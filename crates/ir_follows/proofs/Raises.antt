@@ -113,7 +113,8 @@ module _ (program : Program) (linear : LinearProgram) (pace body : ℕ) where
           ∙ ap (λ name. unwind linear next (target_past name target) isite.below None st.events (left_store name inner.activation q.store)) b
           ∙ onward next target st q.store
 
-  -- a funclet of a number, with these items below it, of which a search and an unwinding make what they make of a place
+  -- a funclet of a number, with these items below it, of which a search and an unwinding make what
+  -- they make of a place
   pub record IsFunclet (j : ℕ) (isite : Site) (context : Context) (site : Site) (pc : ℕ) (temps : List ℕ) : Type 0 where
     pub named : isite.body ≡ FuncletBody j
     pub bare : isite.regions ≡ []

@@ -1,4 +1,5 @@
--- The stores of the meaning and of its linear code: the same memory and the same locals; codes and flags lie after them.
+-- The stores of the meaning and of its linear code: the same memory and the same locals; codes and
+-- flags lie after them.
 use Rattle.std.proofs.Common.{◌≡◌, ◌⊎◌, inl, inr, ◌<◌, ◌≤◌, ℕ, zero, suc, ◌+◌, List, [], ◌∷◌, ◌++◌, length, refl, ap, sym, subst, ◌∙◌, arith, length-set}
 use Rattle.std.proofs.lemmas.Bool.{cases_eq, cases_lt}
 use Rattle.std.proofs.lemmas.List.{get_or-set_same, get_or-set_other, length-take, length_push}

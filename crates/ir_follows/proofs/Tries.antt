@@ -1,4 +1,5 @@
--- `__try`: a target lands at its handler, and a `__finally` block runs for every result on its way out.
+-- `__try`: a target lands at its handler, and a `__finally` block runs for every result on its way
+-- out.
 use Rattle.std.proofs.Common.{◌≡◌, ◌⊎◌, inl, inr, ◌<◌, ◌≤◌, ℕ, ◌+◌, List, ◌∷◌, ◌++◌, length, refl, ap, sym, subst, ◌∙◌, arith}
 use Rattle.std.specs.Prelude.{Bool, slice_get, Option, Some, None}
 use Rattle.c_checked.specs.Statement.{Filter, Always, Funclet}

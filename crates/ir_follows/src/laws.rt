@@ -2,7 +2,7 @@
 
 ghost use Rattle.ir_follows.specs.Laws.{LinkedFollows};
 
-/// From so many turns on, linear code that has each function of a program has shown the
+/// From so many turns on, linear code in which each function of a program is placed has shown the
 /// events that the program's steps show, and has ended as they end; it shows nothing more, and is
 /// never stuck.
 pub fn linked_follows()

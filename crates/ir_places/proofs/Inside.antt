@@ -1,4 +1,5 @@
--- In lowered code the label of each local unwind is an instruction of the body: after each statement there is one.
+-- In lowered code the label of each local unwind is an instruction of the body: after each
+-- statement there is one.
 use Rattle.std.proofs.Common.{◌≡◌, ℕ, ◌+◌, ◌-◌, ◌<◌, List, [], ◌∷◌, ◌++◌, length, ap, ◌∙◌, arith, length-append}
 use Rattle.std.specs.List.{AllByRecursion}
 use Rattle.std.specs.Prelude.{false, slice_get, Option, Some, None}

@@ -1,4 +1,5 @@
--- Each call in the code of an expression has as many arguments as its function takes, and what may fault reads temporaries alone.
+-- Each call in the code of an expression has as many arguments as its function takes, and what may
+-- fault reads temporaries alone.
 use Rattle.std.proofs.Common.{ℕ, ◌+◌, List, ◌++◌}
 use Rattle.std.specs.List.{AllByRecursion}
 use Rattle.std.specs.Prelude.{Bool}

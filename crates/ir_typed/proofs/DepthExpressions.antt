@@ -1,4 +1,5 @@
--- The code of an expression ends with its value in one more temporary, and its jumps lead to places that hold as many as they leave.
+-- The code of an expression ends with its value in one more temporary, and its jumps lead to places
+-- that hold as many as they leave.
 use Rattle.std.proofs.Common.{◌≡◌, ℕ, suc, ◌+◌, ◌-◌, List, [], ◌∷◌, ◌++◌, refl, sym, ap, ◌∙◌, arith}
 use Rattle.std.specs.Prelude.{Option, Some, None}
 use Rattle.c_operations.specs.declared.operation.Pure.{Pure}

@@ -1,4 +1,5 @@
--- No temporary is held between statements, and their jumps lead to places that hold as many as they leave.
+-- No temporary is held between statements, and their jumps lead to places that hold as many as they
+-- leave.
 use Rattle.std.proofs.Common.{◌≡◌, ℕ, ◌+◌, ◌-◌, List, [], ◌∷◌, ◌++◌, refl, sym, ap, ◌∙◌, arith}
 use Rattle.std.specs.Prelude.{Option, Some, None}
 use Rattle.c_checked.specs.Expression.{Expression}

@@ -1,4 +1,5 @@
--- What the regions and calls of lowered statements name is there, and so it is in their filters and `__finally` blocks.
+-- What the regions and calls of lowered statements name is there, and so it is in their filters and
+-- `__finally` blocks.
 use Rattle.std.proofs.Common.{◌≡◌, ℕ, ◌+◌, ◌-◌, List, [], ◌∷◌, ◌++◌, length, refl, sym, ap, subst, ◌∙◌, arith, length-append}
 use Rattle.std.specs.List.{AllByRecursion}
 use Rattle.std.specs.Prelude.{true, false, slice_get, Option, Some, None}

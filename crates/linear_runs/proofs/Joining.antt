@@ -100,7 +100,8 @@ module _ (linear : LinearProgram) (pace : ℕ) where
 
   -- ---- another price, or more steps left at the beginning
 
-  -- what is allowed at a state allows as much at one with as many steps left or more, and as much shown
+  -- what is allowed at a state allows as much at one with as many steps left or more, and as much
+  -- shown
   record Allows (st : State) (p : Price) (st' : State) (r : Price) : Type 0 where
     same : st'.events ≡ st.events
     left : st.steps_left ≤ st'.steps_left

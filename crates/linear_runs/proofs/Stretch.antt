@@ -21,7 +21,8 @@ Part = Next → Seen
 abbrev pub at : Configuration → Part
 at c next = next c
 
--- a body at a place: its name, the regions around the place, what lies below it, the exception that it is asked about, and what is held
+-- a body at a place: its name, the regions around the place, what lies below it, the exception that
+-- it is asked about, and what is held
 pub record Site : Type 0 where
   pub body : BodyName
   pub regions : List Region
@@ -80,7 +81,8 @@ Prefix a b = (rest : List Event) × (b ≡ a ++ rest)
 abbrev pub Before : Seen → List Event → Type 0
 Before seen es = (shown : List Event) × (seen ≡ Running shown) × Prefix shown es
 
--- turns beside 16 for each step; steps that are gone already; steps that need no turn where it arrives, and where it leaves
+-- turns beside 16 for each step; steps that are gone already; steps that need no turn where it
+-- arrives, and where it leaves
 pub record Price : Type 0 where
   pub turns : ℕ
   pub extra : ℕ
@@ -105,7 +107,8 @@ module _ (linear : LinearProgram) (pace : ℕ) where
   abbrev pub found : Context → Site → List Handler
   found context site = handlers_in site.regions context.activation (length site.below) ++ handlers linear site.below None
 
-  -- from s, at state st, the machine comes to t, at state st': at most 16 turns for each step, and at most so many steps for each turn
+  -- from s, at state st, the machine comes to t, at state st': at most 16 turns for each step, and
+  -- at most so many steps for each turn
   pub record Reaches (s t : Part) (st st' : State) (turns extra slack : ℕ) : Type 0 where
     pub cost : ℕ
     pub credit : ℕ

@@ -1,4 +1,5 @@
--- The list is in each memory that reads the same in the stack, from its stack pointer up, and has the same code.
+-- The list is in each memory that reads the same in the stack, from its stack pointer up, and has
+-- the same code.
 use Rattle.std.proofs.Common.{◌≡◌, ℕ, ◌+◌, ◌≤◌, Bool, true, false, Ok, List, [], ◌∷◌, ◌∙◌, arith}
 use Rattle.flat_memory.specs.Memory.{Memory}
 use Rattle.x64_machine.specs.declared.context.Context.{Context}

@@ -1,4 +1,5 @@
--- The list outlives stores below the stack pointer, and all that leaves the stack from there up as it is.
+-- The list outlives stores below the stack pointer, and all that leaves the stack from there up as
+-- it is.
 use Rattle.std.proofs.Common.{◌≡◌, ℕ, ◌+◌, ◌^◌, ◌<◌, ◌≤◌, Bool, true, false, cond, Option, Some, Ok, List, refl, sym, ap, ◌∙◌, arith}
 use Rattle.std.specs.Prelude.{nat_lt}
 use Rattle.std.proofs.lemmas.Bool.{ltb-false}

@@ -1,4 +1,5 @@
--- In one frame an unwinding runs the same `__finally` block first, or leaves the frame or stops there.
+-- In one frame an unwinding runs the same `__finally` block first, or leaves the frame or stops
+-- there.
 use Rattle.std.proofs.Common.{◌≡◌, ◌≢◌, ◌⊎◌, inl, inr, ℕ, suc, ◌+◌, Bool, true, false, cond, Some, List, [], ◌∷◌, length, drop, refl, sym, ap, ◌∙◌, arith}
 use Rattle.std.specs.Prelude.{filter, ◌==◌, ◌&&◌, ◌||◌}
 use Rattle.std.specs.List.{AllByRecursion}

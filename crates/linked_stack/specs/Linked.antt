@@ -269,7 +269,7 @@ module _ (t : Functions) (fs : List Funclet) (program : LinearProgram) (p : Plan
     pub finds_handlers : found ≡ handlers_in (regions_from b row) b.activation (length below)
         ++ handlers program below None
 
-  -- a search has come to a context of the list and a row there, and would still find these handlers
+  -- a search has come to a context of the list and a row there, and would still ask these handlers
   abbrev pub Onward : (to : Context) (row : ℕ) → List Handler → Context → List StackItem → List Item
       → Type 0
   Onward to row found c (Framed f ∷ is) (Waits b ∷ below) =

@@ -31,7 +31,7 @@ pub record CanBeKept (frame row : ℕ) (to : Context) : Type 0 where
 
 module _ (t : Functions) (fs : List Funclet) (program : LinearProgram) (p : Plan) where
   -- the filter of a handler is asked: with its frame in hand, and from the row after it on the
-  -- others are found
+  -- others are asked
   pub record Asks (m : Memory) (acts : List Activation) (c : Context) (is : List StackItem)
       (items : List Item) (s : SearchResult) (k : ℕ) (h : Handler)
       (rest : List Handler) : Type 0 where

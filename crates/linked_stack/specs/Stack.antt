@@ -109,7 +109,7 @@ ItemIsAt t m c (Leaf back) = LeafIsAt t m c back
 ItemIsAt t m c (Searching r) = RecordIsAt m c r filter_return true (context_of r.saved)
 ItemIsAt t m c (Unwinding r) = RecordIsAt m c r finally_return false r.walk
 
--- the list is in memory from a context on, up to the first frame, which returns to 0
+-- the list is there from a context on, up to the first frame, which returns to 0
 abbrev pub IsStack : Functions → Memory → Context → List StackItem → Type 0
 IsStack t m c [] = c.rip ≡ 0
 IsStack t m c (i ∷ is) = ItemIsAt t m c i × IsStack t m (context_after c i) is

@@ -21,7 +21,7 @@ pub record IsSane (s : State) : Type 0 where
   pub small : AllSmall s.cpu.registers
 
 -- at the first byte of a funclet: RCX is its first argument, RDX leads to its activation, and below
--- its return address the list is there
+-- its return address is the list
 pub record Arrives (t : Functions) (fs : List Funclet) (program : LinearProgram) (p : Plan)
     (s : State) (k activation first : ℕ) (items : List Item) (acts : List Activation) : Type 0 where
   pub rip : s.cpu.rip ≡ p.funclet k

@@ -22,7 +22,7 @@ use Rattle.linked_stack.specs.Searches.{FilterBegins, TakesOver, NobodyTakesOver
 use Rattle.linked_stack.specs.Unwinds.{Unwound, BlockBegins, LandsThere}
 
 -- a search's record represents the exception of a body that waits, and these handlers are still to
--- be found
+-- be asked
 pub record IsSearching (t : Functions) (fs : List Funclet) (program : LinearProgram) (p : Plan)
     (s : State) (at : ℕ) (r : DispatchRecord) (is : List StackItem) (acts : List Activation)
     (exception : Exception) (found : List Handler) (c : Configuration) : Type 0 where

@@ -6,8 +6,8 @@ ghost use Rattle.linked_stack.specs.Steps.{RaiseSearches, LocalUnwindUnwinds, Ac
 /// local unwind is an unwinding to a body of the list. A handler that takes over makes its search
 /// an unwinding to that handler's frame. After a filter's answer the search continues with the
 /// handlers that were left, the asked handler takes over, or C0000025 is raised where the exception
-/// was. After a `__finally` block the unwinding continues with the regions that were left. So
-/// each is a turn of the two laws on searches and unwindings, whatever waits below: nested and collided
+/// was. After a `__finally` block the unwinding continues with the regions that were left. So each
+/// is a turn of the two laws on searches and unwindings, whatever waits below: nested and collided
 /// dispatch too.
 pub fn steps()
     ensures raises { RaiseSearches }

@@ -17,7 +17,8 @@ use Rattle.program_link.specs.Fits.{function_bodies, funclet_bodies}
 use Rattle.program_shape.specs.Rows.{regions_in, regions}
 use Rattle.lowered_shape.specs.Tries.{Try, Accepts, Asks, Finishes, with_filter, tries_in, tries, tries_of, all_tries}
 
--- what a `__finally` block, a filter and one that always accepts count for; funclets are numbered from 0 on, their statements from 1 on
+-- what a `__finally` block, a filter and one that always accepts count for; funclets are numbered
+-- from 0 on, their statements from 1 on
 module _ (finally filter : ℕ → ℕ) (always : ℕ) where
   abbrev pub weight : RegionKind → ℕ
   weight (kinds.Finally k) = finally k

@@ -1,4 +1,5 @@
--- An image by hand, written and read by the definitions alone: `.data` is a page of zeros, `.text` has `mov eax, 7` and `ret`.
+-- An image by hand, written and read by the definitions alone: `.data` is a page of zeros, `.text`
+-- has `mov eax, 7` and `ret`.
 use Rattle.std.proofs.Common.{◌≡◌, ℕ, List, [], ◌∷◌, ◌++◌, Some, None, refl}
 use Rattle.pe_image.specs.Image.{Section, stored}
 use Rattle.pe_image.specs.Reading.{headers, outline, reading, IsImage}

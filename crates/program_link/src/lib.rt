@@ -1,7 +1,10 @@
 //! From programs of linear code to images.
 //!
 //! `link::compile_program` gives the bytes of the image of a program within the limits of
-//! `specs/Fits`. Begin reading at `specs/Linked`, which says what they are.
+//! `specs/Fits.antt`.
+//!
+//! Proved: they are those of the image `linked` of the program, and are read again as that image.
+//! Begin with `specs/Linked.antt`.
 #![tactic(auto)]
 
 pub mod entry;

@@ -1,4 +1,5 @@
--- What a written image stores of a program: pieces of its text, its unwind infos and its function table.
+-- What a written image stores of a program: pieces of its text, its unwind infos and its function
+-- table.
 use Rattle.std.proofs.Common.{◌≡◌, ℕ, ◌+◌, ◌-◌, ◌<◌, true, ltb, leb, List, [], ◌∷◌, ◌++◌, length, take, drop, Some, refl, sym, ap, ◌∙◌, arith, length-append}
 use Rattle.std.proofs.lemmas.Bool.{and_from, eq-eqb, lt-ltb, le-leb}
 use Rattle.std.proofs.lemmas.List.{drop_at, append-nil}

@@ -108,8 +108,8 @@ fn imports_are_bound(rt: HostRuntime) -> Result<(), Fail> {
     answers(&rt, alloc, &image, done, bound, "")
 }
 
-/// One byte of the names, which begin at 448 with 24 bytes for each, is changed; and the first entry
-/// of the lookup table, which is at 336, is an ordinal.
+/// One byte of the names, which begin at 448 with 24 bytes for each, is changed; and the first
+/// entry of the lookup table, which is at 336, is an ordinal.
 const IMPORTS: &str = r"
 file+548 | 78 | load Import 4
 file+549 | 63 | load Import 4

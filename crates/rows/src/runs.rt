@@ -1,8 +1,8 @@
 //! What commands answer for images, over memory.
 //!
-//! A table is one text. Each line after its first is a row, `COMMAND | BYTES | INSTRUCTIONS | STATUS
-//! LINES`: the words of the command, the code of an image, and what it answers, its lines of `out`
-//! joined by ` / `. In place of bytes a row may name one of the images of the examples.
+//! A table is one text. Each line after its first is a row, `COMMAND | BYTES | INSTRUCTIONS |
+//! STATUS LINES`: the words of the command, the code of an image, and what it answers, its lines of
+//! `out` joined by ` / `. In place of bytes a row may name one of the images of the examples.
 
 use crate::image::{all_refused, of_code, started_at};
 use seh::status::Status;

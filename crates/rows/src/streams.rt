@@ -84,8 +84,8 @@ fn statuses_have_codes(rt: HostRuntime) {
     }
 }
 
-/// A case: the call of the source, of `out` and of `err` that fails, 0 where none does, and how many
-/// bytes each call of all three moves.
+/// A case: the call of the source, of `out` and of `err` that fails, 0 where none does, and how
+/// many bytes each call of all three moves.
 #[derive(Clone, Copy, Debug)]
 struct Case {
     read: u64,

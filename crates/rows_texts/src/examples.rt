@@ -1,4 +1,4 @@
-//! The programs of examples/, each with the text that is beside it.
+//! The programs of examples/, as they are there, each with the text beside it.
 
 use crate::ways::{WAYS, all_show};
 use std::test::Fail;

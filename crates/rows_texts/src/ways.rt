@@ -1,4 +1,4 @@
-//! The ways to show what a text does, and the rows that each has to give.
+//! The ways to show what a text does, and the rows that each has to show.
 //!
 //! A table of rows is one text. A row begins with a line `# NAME: OPTIONS`; then comes the
 //! program's text, and then `=> STATUS` with the lines of `out` with `--trace`, joined by ` / ` or

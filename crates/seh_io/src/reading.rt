@@ -23,9 +23,9 @@ const CHUNK: usize = 4096;
 
 /// All bytes that the source holds, which may be `limit` at most.
 ///
-/// Where it is known what the source holds, `Ok` gives exactly that, and then nothing is left. Where
-/// it isn't, `Ok` says only that the source ended within the limit. Without `Fault` or want of
-/// memory, `TooLong` comes exactly where more than `limit` bytes are held. After a refusal the
+/// Where it is known what the source holds, `Ok` gives exactly that, and then nothing is left.
+/// Where it isn't, `Ok` says only that the source ended within the limit. Without `Fault` or want
+/// of memory, `TooLong` comes exactly where more than `limit` bytes are held. After a refusal the
 /// source has lost at most `limit + 1` bytes, from the front.
 pub fn read_all<S: Source>(alloc: Global, src: &mut S, limit: u64) -> Result<Vec<u8>, ReadErr>
     ensures all { IfOk result (λ v. ForSome (S.left src.old) (λ all. v.items ≡ all)) }

@@ -1,7 +1,9 @@
 //! From checked programs to linear code.
 //!
 //! `lower::lower` makes the linear code that `specs/Lowered` defines by recursion on the program.
-//! Begin with that definition. Expressions are lowered by the crate ir_expressions.
+//! Expressions are lowered by the crate ir_expressions.
+//!
+//! Proved: exactly that linear code. Begin with `specs/Lowered.antt`.
 #![tactic(auto)]
 
 pub mod bodies;

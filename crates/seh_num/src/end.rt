@@ -12,7 +12,7 @@ pub enum Reason {
     /// The stack pointer would not rise from a frame to its caller; the address is the stack
     /// pointer.
     Backward,
-    /// An unwinding doesn't find its target frame, whose address this is.
+    /// An unwinding doesn't come to its target frame, whose address this is.
     LostFrame,
 }
 
@@ -23,7 +23,7 @@ pub enum RunEnd {
     Exit(i32),
     /// Nobody handled an exception of this code.
     Unhandled(Code),
-    /// The stack touched its guard at this address.
+    /// The guard below the stack was accessed, at this address.
     StackLimit { address: u64 },
     /// As many turns as were allowed were made.
     OutOfTurns { turns: u64 },

@@ -77,7 +77,7 @@ FetchedByItsBytes =
     → ((x : ℕ) → at + 32 ≤ x → x < at + RECORD_SIZE → new.byte x ≡ m.byte x)
     → fetched new at ≡ fetched m at
 
--- so a store that touches none of them leaves what is fetched
+-- so a store that overlaps none of them leaves what is fetched
 abbrev pub StoresLeaveIt : Type 0
 StoresLeaveIt =
     (m : Memory) (at to v : ℕ) (w : Width) → at + RECORD_SIZE < 2 ^ 64 → to < 2 ^ 64

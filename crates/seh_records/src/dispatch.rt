@@ -17,18 +17,23 @@ pub enum Kind {
 /// A suspended search or unwinding.
 #[derive(Clone, Copy, Debug, PartialEq, Eq)]
 pub struct DispatchRecord {
+    /// What it is kept for.
     pub kind: Kind,
     /// The establisher frame in hand.
     pub frame: u64,
     /// The next scope record at the walk's frame.
     pub row: u64,
-    /// The frame that an unwinding goes to, and the address there.
+    /// The frame that an unwinding goes to.
     pub target_frame: u64,
+    /// The address at which that frame continues.
     pub target: u64,
+    /// ExceptionCode.
     pub code: Code,
+    /// ExceptionFlags: 0, or 1 where the exception can't be continued.
     pub flags: u32,
     /// How many of the parameters say something.
     pub count: u32,
+    /// ExceptionInformation.
     pub parameters: [u64; EXCEPTION_MAXIMUM_PARAMETERS],
     /// The state that search and unwinding begin from.
     pub saved: Cpu,

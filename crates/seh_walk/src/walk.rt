@@ -22,7 +22,9 @@ use x64_memory::space::AddressSpace;
 /// The state of a walk: a context, and the index of the next scope record there.
 #[derive(Clone, Copy, Debug, PartialEq, Eq)]
 pub struct WalkState {
+    /// The registers in the frame.
     pub context: Context,
+    /// The index of the next scope record of the frame's entry.
     pub row: u64,
 }
 

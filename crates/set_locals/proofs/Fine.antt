@@ -33,7 +33,8 @@ abbrev pub FlagIn : Seen → Option ℕ → Type 0
 FlagIn seen None = Unit {0}
 FlagIn seen (Some x) = seen x ≡ true
 
--- what is recorded around an expression: the locals that are seen and what its names are kept in, all of them locals of the body
+-- what is recorded around an expression: the locals that are seen and what its names are kept in, all
+-- of them locals of the body
 pub record IsAround (locals : ℕ) (names : Names) (before seen : Seen) : Type 0 where
   pub part : IsPart before seen
   pub below : (x : ℕ) → seen x ≡ true → x < locals

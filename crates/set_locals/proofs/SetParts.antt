@@ -1,4 +1,5 @@
--- Each part of a program is beside its sets: its instructions lead to places that tell no more, its regions guard no more, and so it is in its filters and `__finally` blocks.
+-- Each part of a program is beside its sets: its instructions lead to places that tell no more,
+-- its regions guard no more, and so it is in its filters and `__finally` blocks.
 use Rattle.std.proofs.Common.{◌≡◌, ℕ, suc, ◌+◌, ◌-◌, ◌<◌, ◌≤◌, List, [], ◌∷◌, ◌++◌, length, refl, sym, ap, subst, ◌∙◌, arith, length-append, append_assoc}
 use Rattle.std.proofs.lemmas.Bool.{leb-true, ltb-true}
 use Rattle.std.proofs.lemmas.List.{length-replicate}

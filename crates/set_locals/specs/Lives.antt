@@ -19,7 +19,7 @@ Marked marks k x = slice_get (marks_of marks k) x ≡ Some true
 module _ (program : LinearProgram) (sets : BodyName → ℕ → Seen) where
   -- ---- where what waits may lead
 
-  -- what is recorded at a frame's place
+  -- what is known at a frame's place
   abbrev pub here : Frame → Seen
   here f = sets f.body f.next
 

@@ -119,7 +119,7 @@ list_of p (FuncletBody k) = get_or (all_funclet_sets p.functions) k []
 abbrev pub none_seen : Seen
 none_seen x = false
 
--- past its end nothing is recorded
+-- past its end nothing is known
 abbrev pub set_in : List Seen → ℕ → Seen
 set_in list label = get_or list label none_seen
 

@@ -1,4 +1,4 @@
--- What is claimed of programs whose code records which locals have been set.
+-- What is claimed of programs at whose places it is known which locals have been set.
 use Rattle.std.specs.Prelude.{ℕ}
 use Rattle.linear_code.specs.Program.{LinearProgram}
 use Rattle.linear_machine.specs.Frames.{BodyName}

@@ -60,7 +60,7 @@ module _ (program : LinearProgram) (sets : BodyName → ℕ → Seen) where
       IsPart (sets (FuncletBody k) 0) (with_flag (flag_of (slice_get program.funclets k)) seen)
 
   -- what an instruction of a body reads has been set, and where it leads to, nothing more than here
-  -- and what it writes is recorded
+  -- and what it writes is known
   abbrev pub Leads : BodyName → ℕ → Instruction → Type 0
   Leads name label (instructions.Compute to o first second) =
       OperandsIn (is_constant o) (sets name label) first second

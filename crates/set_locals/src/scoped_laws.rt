@@ -2,8 +2,8 @@
 
 ghost use Rattle.set_locals.specs.ScopedLaws.{ScopedHasSetMap, ScopedReadsNoUnset};
 
-/// Each place of the linear code records which locals have been set: those that are declared there,
-/// and the code and the flags of the blocks around.
+/// At each place of the linear code it is known which locals have been set: those that are declared
+/// there, and the code and the flags of the blocks around.
 pub fn scoped_has_set_map()
     ensures recorded { ScopedHasSetMap }
 {}

@@ -2,8 +2,8 @@
 
 ghost use Rattle.set_locals.specs.SetLaws.{SetMapReadsNoUnset};
 
-/// Where each place records which locals have been set, and what is read is among them, no run
-/// reads another one.
+/// Where it is known at each place which locals have been set, and what is read is among them, no
+/// run reads another one.
 pub fn set_map_reads_no_unset()
     ensures reads { SetMapReadsNoUnset }
 {}

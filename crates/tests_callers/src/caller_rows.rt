@@ -14,7 +14,7 @@
 //! FRAME the establisher frame, and READ names the registers that are read, each with the place of
 //! its word. NOTE is for the reader. All are distances from 0x70000000, which is the callee's RSP
 //! where no line says another, in hexadecimal. Each word of the stack is its own address, so that a
-//! value tells where it was read. Where no caller is found the row has, in place of PLACE RIP RSP
+//! value says where it was read. Where no caller is found the row has, in place of PLACE RIP RSP
 //! FRAME,
 //!
 //!     unreadable WORD      the first word that is needed and can't be read

@@ -4,7 +4,7 @@
 //! "test_virtual_unwind"); the others are of our own making. The answers are those of Wine 8.0: its
 //! `RtlVirtualUnwind` was called for each row on these bytes and a stack of such words, for
 //! handlers of searching and of unwinding alike. Where our answer differs by our own choice, the
-//! row's note has Wine's, and the table says what was chosen. Wine tells a handler or none: that a
+//! row's note has Wine's, and the table says what was chosen. Wine gives a handler or none: that a
 //! row without one is in a body is ours to say.
 
 use crate::caller_rows::all_unwind;

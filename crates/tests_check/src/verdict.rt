@@ -1,7 +1,7 @@
-//! What is found of a text, and tables of texts.
+//! What is reported of a text, and tables of texts.
 //!
 //! A table is one text. A row is a line with a program's text, and a line with `=> ` and what is
-//! found of it: `accepted`, or the rule that it breaks and the place.
+//! reported of it: `accepted`, or the rule that it breaks and the place.
 
 use c_check::check::{CheckErr, check};
 use c_lex::lexing::lex;
@@ -10,7 +10,7 @@ use std::alloc::{AllocError, Global};
 use std::process::Abort;
 use std::test::Fail;
 
-/// What is found of a text.
+/// What is reported of a text.
 fn verdict_of(alloc: Global, text: &str) -> Result<String, AllocError> {
     let text = text.as_bytes();
     let Ok(tokens) = lex(alloc, text) else {
@@ -26,7 +26,7 @@ fn verdict_of(alloc: Global, text: &str) -> Result<String, AllocError> {
     }
 }
 
-/// Compares what is found of each text of a table with its row.
+/// Compares what is reported of each text of a table with its row.
 pub fn all_as_wanted(rt: &impl Abort, alloc: Global, table: &str) -> Result<(), Fail> {
     let mut pending = None;
     for line in table.lines().skip(1) {

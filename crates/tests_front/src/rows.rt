@@ -48,7 +48,7 @@ fn expanded(alloc: Global, text: &str) -> Result<String, AllocError> {
     Ok(whole)
 }
 
-/// What is found of a text.
+/// What is reported of a text.
 fn told_of(alloc: Global, reader: Reader, text: &str) -> Result<String, Fail> {
     match reader {
         Reader::Token => tokens::token_of(alloc, text.as_bytes()),
@@ -72,7 +72,7 @@ pub fn refusal_of(alloc: Global, refusal: ParseErr) -> Result<String, AllocError
     }
 }
 
-/// Compares what is found of each text of a table with its row.
+/// Compares what is reported of each text of a table with its row.
 pub fn all_told(rt: &impl Abort, alloc: Global, reader: Reader, table: &str) -> Result<(), Fail> {
     for row in table.lines().skip(1) {
         match row.split_once(" => ") {

@@ -79,8 +79,8 @@ fn a_target_frame_is_above_all(rt: HostRuntime) -> Result<(), Fail> {
     shows_of(&rt, rt.alloc(), &bytes, lines)
 }
 
-// The record is at 0x707FF990. The search from the funclet that raises finds the return address of
-// the funclet, and the record after it has no mark, or not the kind of that return.
+// The record is at 0x707FF990. The search from the funclet that raises comes to the return address
+// of the funclet, and the record after it has no mark, or not the kind of that return.
 #[test]
 fn walks_refuse_harmed_records(rt: HostRuntime) -> Result<(), Fail> {
     let lines = "raise E0000001 0\nfilter 1\nraise E0000002 0\n\

@@ -76,7 +76,7 @@ fn unsigned_quotients(rt: HostRuntime) {
     }
 }
 
-// The number of steps takes no bytes, so the contract alone tells it.
+// The number of steps takes no bytes, so the contract alone says it.
 fn ticked_twice<L: Ledger>(blank: Blank) -> Steps<L>
     requires name { blank.name ≡ L.name }
     requires parts { blank.parts ≡ L.parts }

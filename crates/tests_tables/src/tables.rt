@@ -271,7 +271,7 @@ fn finds_nothing_without_entries(rt: HostRuntime) -> Result<(), Fail> {
 }
 
 /// Where the entry begins that holds an address, and the steps of the search. The number of steps
-/// takes no bytes, so that the contract alone tells it: 0 where there are no entries, at most 2 of
+/// takes no bytes, so that the contract alone says it: 0 where there are no entries, at most 2 of
 /// 3.
 fn looked_up<L: Ledger>(tables: &Tables<'_, '_>, rva: u64, blank: Blank) -> (Option<u32>, Steps<L>)
     requires whole { IsWhole tables.now }

@@ -1,4 +1,5 @@
--- A built-in function is called: the service is reached, and what it saves of the body is on top of the list.
+-- A built-in function is called: the service is reached, and what it saves of the body is on top of
+-- the list.
 use Rattle.std.proofs.Common.{◌≡◌, ℕ, ◌+◌, ◌-◌, ◌%◌, ◌^◌, ◌<◌, ◌≤◌, Some, List, [], ◌∷◌, length, Ok, refl, sym, ap, subst, ◌∙◌, arith, length-set, set}
 use Rattle.std.specs.Prelude.{◌==◌, false, slice_get, take}
 use Rattle.seh_num.specs.declared.width.Width.TheVariants.{W64}

@@ -1,4 +1,5 @@
--- A body calls its `__finally` block: the machine comes to the block's first byte, above the body that waits.
+-- A body calls its `__finally` block: the machine comes to the block's first byte, above the body
+-- that waits.
 use Rattle.std.proofs.Common.{◌≡◌, ℕ, ◌+◌, ◌-◌, ◌^◌, ◌<◌, ◌≤◌, true, false, Option, Some, None, Ok, List, [], ◌∷◌, length, refl, sym, ap, subst, ◌∙◌, arith, inl}
 use Rattle.std.specs.Prelude.{slice_get, drop}
 use Rattle.std.proofs.lemmas.List.{length-drop, get_or-set_same}

@@ -1,4 +1,5 @@
--- A built-in function is called: RAX is cleared, the arguments are passed, and the thunk leads to the service.
+-- A built-in function is called: RAX is cleared, the arguments are passed, and the thunk leads to
+-- the service.
 use Rattle.std.proofs.Common.{◌≡◌, ℕ, ◌+◌, ◌≤◌, [], ◌∷◌, refl, ap, subst, arith}
 use Rattle.x64_encode.specs.Chosen.{opcode_register}
 use Rattle.x64_machine.specs.declared.cpu.Flags.{Flags}

@@ -1,4 +1,5 @@
--- A caller passes its arguments and calls: at the callee's first byte they are in their registers and above its return address.
+-- A caller passes its arguments and calls: at the callee's first byte they are in their registers
+-- and above its return address.
 use Rattle.std.proofs.Common.{◌≡◌, ℕ, ◌+◌, ◌-◌, ◌*◌, ◌<◌, ◌≤◌, true, false, Option, Some, None, List, length, set, refl, sym, ap, subst, ◌∙◌, arith, inl, inr, get_or-set_same, length-set}
 use Rattle.std.specs.Prelude.{◌⊎◌, slice_get}
 use Rattle.std.proofs.lemmas.Bool.{cases_lt}

@@ -181,7 +181,8 @@ module _ (t : Functions) (fs : List Funclet) (program : LinearProgram) (p : Plan
     pub keeps : Keeps s at_callee
     keeps = reaches_keeps turns_of_call s at_callee calls
 
-    -- what is outside of the callee's slots: all but the stack, the return address, and the caller's frame above its home space
+    -- what is outside of the callee's slots: all but the stack, the return address, and the
+    -- caller's frame above its home space
     abbrev pub Outside : ℕ → Type 0
     Outside a = (a < STACK_START) ⊎ ((STACK_END ≤ a) ⊎ (((caller ≤ a + 8) × (a < caller)) ⊎ (caller + 32 ≤ a)))
 

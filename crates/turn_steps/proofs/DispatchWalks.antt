@@ -1,4 +1,5 @@
--- What the walk gives where the host dispatches: at the first byte of a funclet that it starts, where it lands, and at its services.
+-- What the walk gives where the host dispatches: at the first byte of a funclet that it starts,
+-- where it lands, and at its services.
 use Rattle.std.proofs.Common.{◌≡◌, ◌≢◌, ℕ, ◌+◌, ◌%◌, ◌^◌, ◌<◌, ◌≤◌, true, false, Option, Some, None, Ok, List, [], ◌∷◌, length, refl, sym, ap, subst, ◌∙◌, arith}
 use Rattle.std.specs.Prelude.{Result, slice_get, slice_index, slice_set}
 use Rattle.seh_num.specs.declared.width.Width.TheVariants.{W64}

@@ -1,4 +1,5 @@
--- A funclet that the dispatcher has called returns to it: RIP is at the host's return address, and RSP at the record.
+-- A funclet that the dispatcher has called returns to it: RIP is at the host's return address, and
+-- RSP at the record.
 use Rattle.std.proofs.Common.{◌≡◌, ℕ, zero, ◌+◌, ◌<◌, ◌≤◌, Some, List, [], ◌∷◌, length, refl, sym, ap, subst, ◌∙◌, arith}
 use Rattle.std.specs.Prelude.{slice_get, replicate}
 use Rattle.seh_num.specs.declared.width.Width.TheVariants.{W32}

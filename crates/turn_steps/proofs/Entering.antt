@@ -88,7 +88,8 @@ module _ (t : Functions) (fs : List Funclet) (program : LinearProgram) (p : Plan
         let a = image.addresses (FuncletBody k) l.funclet.body is in
         subst (λ r. arrivals u.cpu (distance t.base r) 1 fs ≡ []) (sym here) (image.funclets.none (p.address (FuncletBody k) 0) first_small (λ j inside e. a.not_first 0 j some inside e) u.cpu)
 
-  -- the state after these turns: RSP is at the frame, which keeps the base, and the rest of the entry follows
+  -- the state after these turns: RSP is at the frame, which keeps the base, and the rest of the
+  -- entry follows
   pub record HasEntered (s : State) (k : ℕ) (l : IsLaid t fs program p q image k) (base : ℕ) : Type 0 where
     pub sp : ℕ
     pub sp_is : register s.cpu Rsp ≡ sp + (p.layout (FuncletBody k)).frame

@@ -1,4 +1,5 @@
--- In the midst of an operation that faults, the machine raises the fault, and the body's state there is saved.
+-- In the midst of an operation that faults, the machine raises the fault, and the body's state
+-- there is saved.
 use Rattle.std.proofs.Common.{◌≡◌, ℕ, zero, suc, ◌^◌, ◌<◌, Bool, true, false, List, [], ◌∷◌, ◌++◌, Option, Some, None, Err, refl, ap, subst, ◌∙◌, arith}
 use Rattle.std.specs.Prelude.{slice_index, replicate}
 use Rattle.std.proofs.lemmas.Bool.{ne_eqb}

@@ -1,4 +1,5 @@
--- A filter begins: it keeps the base and the address of its EXCEPTION_POINTERS, and its first instruction follows.
+-- A filter begins: it keeps the base and the address of its EXCEPTION_POINTERS, and its first
+-- instruction follows.
 use Rattle.std.proofs.Common.{◌≡◌, ℕ, ◌+◌, ◌%◌, ◌^◌, ◌<◌, ◌≤◌, false, Option, Some, None, Ok, List, [], ◌∷◌, ◌++◌, length, refl, sym, ap, subst, ◌∙◌, arith, inl, length-append}
 use Rattle.std.proofs.lemmas.List.{append-nil}
 use Rattle.std.specs.Prelude.{nat_lt, slice_get}

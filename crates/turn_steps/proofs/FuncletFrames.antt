@@ -1,4 +1,5 @@
--- A funclet's frame is where it was made: below the return address that the funclet was given, on the list that was there.
+-- A funclet's frame is where it was made: below the return address that the funclet was given, on
+-- the list that was there.
 use Rattle.std.proofs.Common.{◌≡◌, ℕ, ◌+◌, ◌^◌, ◌<◌, ◌≤◌, true, false, Option, Some, None, Ok, List, [], ◌∷◌, length, refl, sym, ap, subst, ◌∙◌, arith, inl, inr}
 use Rattle.std.specs.Prelude.{◌⊎◌, slice_get}
 use Rattle.std.specs.List.{AllByRecursion}
@@ -104,7 +105,7 @@ module _ (t : Functions) (fs : List Funclet) (program : LinearProgram) (p : Plan
   pub word_within : (at v : ℕ) → lo ≤ at → at + 8 ≤ hi → number_at m'.byte 8 at ≡ v → word m' at ≡ Ok v
   word_within at v l h e = word_of m' at v (omega arith) (λ a x z. may_read_written m' a (stack_writable a (omega arith) (omega arith))) e
 
--- a funclet is called, by the dispatcher or by a body: below its return address the list is there
+-- a funclet is called, by the dispatcher or by a body: below its return address is the list
 pub record ArrivesBelow (t : Functions) (fs : List Funclet) (program : LinearProgram) (p : Plan) (s : State) (k activation first : ℕ) (items : List Item) (acts : List Activation) : Type 0 where
   pub rip : s.cpu.rip ≡ p.funclet k
   pub name : BodyName

@@ -1,4 +1,5 @@
--- Steps of linear code at the host's return addresses: a filter's return, and that of a `__finally` block above an unwinding.
+-- Steps of linear code at the host's return addresses: a filter's return, and that of a `__finally`
+-- block above an unwinding.
 use Rattle.std.proofs.Common.{◌≡◌, ℕ, zero, ◌+◌, ◌≤◌, List, [], ◌∷◌, ap, subst, arith}
 use Rattle.std.specs.Prelude.{◌==◌}
 use Rattle.x64_instr.specs.declared.register.Reg.TheVariants.{Rsp}

@@ -1,4 +1,5 @@
--- Where a body begins an instruction, and where a funclet is called, the list is above the return address.
+-- Where a body begins an instruction, and where a funclet is called, the list is above the return
+-- address.
 use Rattle.std.proofs.Common.{ℕ, ◌+◌, ◌≤◌, List, refl, sym, subst, arith}
 use Rattle.host_layout.specs.declared.range.TheConstants.{STACK_END}
 use Rattle.x64_instr.specs.declared.register.Reg.TheVariants.{Rsp}

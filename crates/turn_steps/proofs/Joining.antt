@@ -1,4 +1,5 @@
--- A body continues wherever an exception of it is continued: after its call, or at the same operation.
+-- A body continues wherever an exception of it is continued: after its call, or at the same
+-- operation.
 use Rattle.std.proofs.Common.{ℕ, List, inl}
 use Rattle.x64_machine.specs.Effect.{State}
 use Rattle.virtual_unwind.specs.CallerOf.{Functions}

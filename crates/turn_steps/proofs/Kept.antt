@@ -1,4 +1,5 @@
--- RAX goes to the temporary after those that a body has kept: where what it called has returned, the next instruction begins.
+-- RAX goes to the temporary after those that a body has kept: where what it called has returned,
+-- the next instruction begins.
 use Rattle.std.proofs.Common.{◌≡◌, ℕ, zero, suc, ◌+◌, ◌^◌, ◌<◌, ◌≤◌, Bool, true, cond, Option, Some, None, List, [], ◌∷◌, ◌++◌, length, refl, sym, ap, subst, ◌∙◌, arith, inl, inr, length-append}
 use Rattle.std.specs.Prelude.{◌⊎◌, slice_get, slice_index}
 use Rattle.std.proofs.lemmas.Bool.{eq-eqb, ne_eqb}
@@ -99,7 +100,8 @@ pub record Resumes (t : Functions) (fs : List Funclet) (program : LinearProgram)
   pub keeps : AllKeep t fs 1 u
 
 module _ (t : Functions) (fs : List Funclet) (program : LinearProgram) (p : Plan) (q : Sites) (image : IsProgramImage t fs program p q) (roomy : HaveRoom program) where
-  -- what the frames below a body are like: a leaf's caller has one, and the function whose locals a funclet works on
+  -- what the frames below a body are like: a leaf's caller has one, and the function whose locals a
+  -- funclet works on
   pub record IsSurrounded (name : BodyName) (activation : ℕ) (items : List Item) (depth : ℕ) : Type 0 where
     pub caller : p.leaf name ≡ true → CallerHasFrame p items
     pub owner : (k : ℕ) → name ≡ FuncletBody k → (acts : List Activation) → length acts ≡ depth → OwnerHasFrame t fs program p activation items acts
@@ -108,7 +110,8 @@ module _ (t : Functions) (fs : List Funclet) (program : LinearProgram) (p : Plan
   abbrev pub answered : Frame → List Item → Memory → List Activation → List Event → ℕ → Configuration
   answered w items source acts es v = on_top (again w (w.next + 1) (w.temporaries ++ v ∷ []) w.landed) items source acts es
 
-  -- where what the body called has returned RSP is the body's, the list is from there on, and RIP is at the code that keeps the result
+  -- where what the body called has returned RSP is the body's, the list is there from there on, and
+  -- RIP is at the code that keeps the result
   module _ (u : State) (w : Frame) (items : List Item) (acts : List Activation) (source : Memory) (es : List Event) (above : Context) (is : List StackItem)
       (on : On t fs program p u.memory above is (Waits w ∷ items) acts) (sp : register u.cpu Rsp ≡ rsp above) (sane : IsSane u) (memory : IsMachineMemory t fs program p q u.memory source)
       (o : LinearBody) (there : body_of program w.body ≡ Some o) (i : Instruction) (first : ℕ) (done : List Instr) (calls : slice_get o.code w.next ≡ Some i) (goes : IsReturn i → ⊥)

@@ -1,4 +1,5 @@
--- Where a funclet begins its frame is made, and the base is kept in it: RDX, or what the parent's frame in RDX keeps.
+-- Where a funclet begins its frame is made, and the base is kept in it: RDX, or what the parent's
+-- frame in RDX keeps.
 use Rattle.std.proofs.Common.{◌≡◌, ℕ, ◌+◌, ◌-◌, ◌%◌, ◌^◌, ◌<◌, ◌≤◌, true, false, Option, Some, None, Ok, List, [], ◌∷◌, ◌++◌, length, refl, ap, subst, ◌∙◌, arith}
 use Rattle.flat_memory.specs.Memory.{Memory, may_read, may_write, first_refused, number_at, access}
 use Rattle.virtual_unwind.specs.Undone.{word, readable}

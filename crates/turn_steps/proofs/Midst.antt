@@ -1,4 +1,5 @@
--- In the midst of an operation: the body is as where the operation's instruction begins, and the operation is made on what memory holds.
+-- In the midst of an operation: the body is as where the operation's instruction begins, and the
+-- operation is made on what memory holds.
 use Rattle.std.proofs.Common.{◌≡◌, ℕ, ◌+◌, ◌^◌, ◌<◌, ◌≤◌, Bool, true, false, List, [], ◌∷◌, length, Option, Some, None, Ok, refl, sym, ap, subst, ◌∙◌, arith}
 use Rattle.std.specs.Prelude.{slice_get}
 use Rattle.std.specs.List.{AllByRecursion}

@@ -1,4 +1,5 @@
--- Arguments from the fifth on go to their places at the bottom of the caller's frame, above the home space.
+-- Arguments from the fifth on go to their places at the bottom of the caller's frame, above the
+-- home space.
 use Rattle.std.proofs.Common.{◌≡◌, ℕ, zero, suc, ◌+◌, ◌*◌, ◌%◌, ◌^◌, ◌<◌, ◌≤◌, true, false, Option, Some, None, [], ◌∷◌, refl, sym, ap, subst, ◌∙◌, arith, inl, inr}
 use Rattle.std.specs.Prelude.{◌⊎◌}
 use Rattle.std.proofs.lemmas.Bool.{cases_eq, cases_lt}

@@ -1,4 +1,5 @@
--- From a function's first byte its frame is made: by a subtraction, through `__chkstk`, or not at all in a leaf function.
+-- From a function's first byte its frame is made: by a subtraction, through `__chkstk`, or not at
+-- all in a leaf function.
 use Rattle.std.proofs.Common.{◌≡◌, ◌≢◌, ℕ, zero, suc, ◌+◌, ◌-◌, ◌^◌, ◌<◌, ◌≤◌, List, length, get_or, set, refl, subst, ◌∙◌, arith, inl, inr, get_or-set_same, get_or-set_other, length-set}
 use Rattle.std.specs.Prelude.{◌⊎◌}
 use Rattle.x64_machine.specs.declared.cpu.Flags.{Flags}
@@ -22,7 +23,8 @@ pub enters_of : (n : ℕ) (s u : State) → Reaches n s u → Enters n s u
 enters_of zero s u r = r
 enters_of (suc n) s u r = (r.0, r.1.steps, r.2)
 
--- after so many turns RSP is the frame's, arguments are where they were, and memory has changed at most right below the return address
+-- after so many turns RSP is the frame's, arguments are where they were, and memory has changed at
+-- most right below the return address
 pub record Made (v : MachineView) (target to : ℕ) (f : Flags) (top sp : ℕ) (arguments : ℕ → ℕ) (n : ℕ) : Type 0 where
   pub turns : ℕ
   pub exact : turns ≡ n

@@ -1,4 +1,5 @@
--- Where the exception of a call of RaiseException is continued, the instruction after the call begins, with the result 0.
+-- Where the exception of a call of RaiseException is continued, the instruction after the call
+-- begins, with the result 0.
 use Rattle.std.proofs.Common.{◌≡◌, ℕ, suc, ◌+◌, ◌*◌, ◌≤◌, Bool, true, false, List, [], ◌∷◌, ◌++◌, length, Some, None, refl, sym, ap, subst, ◌∙◌, arith, length-append}
 use Rattle.std.specs.Prelude.{slice_get}
 use Rattle.flat_memory.specs.Memory.{Memory}

@@ -1,4 +1,5 @@
--- A local unwind: the host is asked with the body's own frame and the label's address, and saves the state after the call.
+-- A local unwind: the host is asked with the body's own frame and the label's address, and saves
+-- the state after the call.
 use Rattle.std.proofs.Common.{◌≡◌, ℕ, zero, ◌+◌, ◌-◌, ◌%◌, ◌^◌, ◌<◌, ◌≤◌, Bool, true, false, List, [], ◌∷◌, length, Option, Some, None, Ok, refl, sym, ap, subst, ◌∙◌, arith, inl, length-set}
 use Rattle.std.specs.Prelude.{slice_get}
 use Rattle.std.proofs.lemmas.List.{length-drop}

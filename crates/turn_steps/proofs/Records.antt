@@ -1,4 +1,5 @@
--- What is on top of the machine's stack where a search or an unwinding waits: its record, at the host's return address.
+-- What is on top of the machine's stack where a search or an unwinding waits: its record, at the
+-- host's return address.
 use Rattle.std.proofs.Common.{◌≡◌, List, [], ◌∷◌, refl}
 use Rattle.flat_memory.specs.Memory.{Memory}
 use Rattle.x64_machine.specs.declared.context.Context.{Context}

@@ -1,4 +1,5 @@
--- The body that waits for a call has its result: RAX goes to the temporary of the first argument, and the next instruction begins.
+-- The body that waits for a call has its result: RAX goes to the temporary of the first argument,
+-- and the next instruction begins.
 use Rattle.std.proofs.Common.{◌≡◌, ℕ, ◌+◌, ◌-◌, ◌<◌, Some, None, List, [], ◌∷◌, ◌++◌, length, sym, arith, append_assoc}
 use Rattle.std.specs.Prelude.{slice_get}
 use Rattle.seh_num.specs.declared.event.Event.{Event}
@@ -46,7 +47,7 @@ unfolding template_size
 call_template y f first count = passing_call_size y first count 0 0
 
 module _ (t : Functions) (fs : List Funclet) (program : LinearProgram) (p : Plan) (q : Sites) (image : IsProgramImage t fs program p q) (roomy : HaveRoom program) where
-  -- after the callee's return RSP is the caller's, and the list is from there on
+  -- after the callee's return RSP is the caller's, and the list is there from there on
   module _ (u : State) (w : Frame) (items : List Item) (acts : List Activation) (source : Memory) (es : List Event) (above : Context) (is : List StackItem)
       (on : On t fs program p u.memory above is (Waits w ∷ items) acts) (sp : register u.cpu Rsp ≡ rsp above) (sane : IsSane u) (memory : IsMachineMemory t fs program p q u.memory source)
       (o : LinearBody) (there : body_of program w.body ≡ Some o) (f first arguments : ℕ) (calls : slice_get o.code w.next ≡ Some (instructions.Call f first arguments)) (within : w.next + 1 < length o.code)

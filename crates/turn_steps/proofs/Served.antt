@@ -55,7 +55,8 @@ module _ (t : Functions) (fs : List Funclet) where
   pub finally_turns : (s : State) → s.cpu.rip ≡ finally_return → turn t fs s ≡ arrived t fs (finally_returned t s (register s.cpu Rsp) (fetched s.memory (register s.cpu Rsp)))
   finally_turns s e = at_service s finally_return e
 
-  -- RaiseException: its code is ECX, bit 0 of its flags that of EDX, and the state after its return is saved
+  -- RaiseException: its code is ECX, bit 0 of its flags that of EDX, and the state after its return
+  -- is saved
   pub raise_turns : (s : State) (ret : ℕ) → s.cpu.rip ≡ address_of services.RaiseException → loaded s.memory (register s.cpu Rsp) W64 ≡ Ok ret
       → turn t fs s ≡ arrived t fs (raised t s (record { 0 = low W32 (register s.cpu Rcx) }) (register s.cpu Rdx % 2) None (back s ret).cpu)
   raise_turns s ret e w = at_service s (address_of services.RaiseException) e ∙ ap (λ (x : Result ℕ RefusedAccess). arrived t fs (returned s x (λ u. raised t s (record { 0 = low W32 (register s.cpu Rcx) }) (register s.cpu Rdx % 2) None u.cpu))) w

@@ -1,4 +1,5 @@
--- A service returns: its result goes to the temporary of the first argument, and the next instruction begins.
+-- A service returns: its result goes to the temporary of the first argument, and the next
+-- instruction begins.
 use Rattle.std.proofs.Common.{◌≡◌, ℕ, zero, suc, ◌+◌, ◌-◌, ◌%◌, ◌^◌, ◌<◌, ◌≤◌, false, List, [], ◌∷◌, ◌++◌, length, take, drop, get_or, set, Option, Some, None, refl, sym, ap, subst, ◌∙◌, arith, inl, inr}
 use Rattle.std.specs.Prelude.{◌⊎◌, slice_get, slice_index}
 use Rattle.std.proofs.lemmas.List.{append-nil, length-set}

@@ -1,4 +1,5 @@
--- A service that has been called returns: its own call is over, and the walk gives the callers of the body again.
+-- A service that has been called returns: its own call is over, and the walk gives the callers of
+-- the body again.
 use Rattle.std.proofs.Common.{◌≡◌, ℕ, ◌+◌, ◌-◌, ◌%◌, ◌^◌, ◌<◌, ◌≤◌, List, [], ◌∷◌, ◌++◌, length, drop, get_or, Option, Some, Ok, Err, refl, sym, ap, subst, ◌∙◌, arith}
 use Rattle.std.specs.Prelude.{Result, slice_get, slice_index, slice_set, if◌then◌else◌}
 use Rattle.seh_num.specs.declared.width.Width.TheVariants.{W64}
@@ -75,7 +76,8 @@ module _ (t : Functions) (fs : List Funclet) (program : LinearProgram) (p : Plan
       let list = kept_by_other_memories t fs program p s.memory m caller b.body.is c.below (activations_below c.frame.body b.body.acts) (higher_stack s.memory m sp (sp + frame + 8) (omega arith) keeps) (omega arith) (b.body.below (drop 1 kept) refl).is_there in
       record { program_there = has; returns = reads.words (sp + frame) b.body.back (omega arith) (omega arith) b.body.returns; beyond = on_stack t m caller 0 b.body.is list.stack }
 
-  -- where the return address of the call is at RSP, and the walk gives the same callers after the return
+  -- where the return address of the call is at RSP, and the walk gives the same callers after the
+  -- return
   pub service_keeps : (f : BuiltIn) (s u : State) (back : ℕ) (d : Context) (cs : List Context) → s.cpu.rip ≡ address_of (service_of f) → loaded s.memory (register s.cpu Rsp) W64 ≡ Ok back → register s.cpu Rsp + 8 < 2 ^ 64
       → context_of u.cpu ≡ caller_above (context_of s.cpu) 0 back → WalkGives t (record { cpu = u.cpu; memory = s.memory }) (d ∷ cs) → WalkGives t u (d ∷ cs) → register u.cpu Rsp ≡ register s.cpu Rsp + 8 → register u.cpu Rsp + 8 ≤ rsp d
       → arrivals u.cpu (distance t.base u.cpu.rip) 1 fs ≡ [] → KeepsShadow t fs s u

@@ -1,4 +1,5 @@
--- The body that runs is in its body too with the state that the host saves of it: RSP is the same, and RIP at the instruction or, where a call is the last of its code, at the next one.
+-- The body that runs is in its body too with the state that the host saves of it: RSP is the same,
+-- and RIP at the instruction or, where a call is the last of its code, at the next one.
 use Rattle.std.proofs.Common.{◌≡◌, ℕ, zero, suc, ◌+◌, ◌^◌, ◌<◌, ◌≤◌, List, [], ◌∷◌, length, Option, Some, None, Ok, sym, subst, arith}
 use Rattle.std.specs.Prelude.{slice_get, take}
 use Rattle.host_layout.specs.declared.range.TheConstants.{STACK_END}

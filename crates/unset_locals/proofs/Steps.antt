@@ -1,4 +1,5 @@
--- An instruction that reads locals alone that have been set goes alike whatever the other locals are.
+-- An instruction that reads locals alone that have been set goes alike whatever the other locals
+-- are.
 use Rattle.std.proofs.Common.{◌≡◌, ℕ, ◌+◌, ◌-◌, List, [], ◌∷◌, ◌++◌, length, refl, sym, ap, subst, ◌∙◌, arith}
 use Rattle.std.proofs.lemmas.List.{length-drop, length-replicate}
 use Rattle.std.specs.Prelude.{Bool, true, false, nat_eq, take, drop, get_or, replicate, slice_get, if◌then◌else◌, Option, Some, None}

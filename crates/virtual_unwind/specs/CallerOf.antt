@@ -38,7 +38,7 @@ abbrev pub sets_frame : List UnwindOperation → Bool
 sets_frame [] = false
 sets_frame (x ∷ xs) = is_set_frame x || sets_frame xs
 
--- where the frame register is set, it tells; else it is the RSP in hand
+-- where the frame register is set, by it; else it is the RSP in hand
 abbrev pub base_if : Info → Context → Bool → ℕ
 base_if i c true = below_frame i c
 base_if i c false = rsp c

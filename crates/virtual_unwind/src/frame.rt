@@ -7,6 +7,7 @@ use x64_machine::context::Context;
 pub struct Caller {
     /// The establisher frame.
     pub frame: u64,
+    /// What the caller can rely on after the return.
     pub context: Context,
     /// In the body of an entry that has one, the address of its handler.
     pub handler: Option<u32>,

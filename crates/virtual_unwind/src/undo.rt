@@ -15,7 +15,9 @@ use x64_memory::space::AddressSpace;
 /// A context on the way, and whether RIP is the caller's already.
 #[derive(Clone, Copy, Debug, PartialEq, Eq)]
 pub struct Undo {
+    /// The context with the codes so far undone.
     pub context: Context,
+    /// Whether a machine frame has given RIP already.
     pub is_returned: bool,
 }
 

@@ -65,7 +65,7 @@ pub fn subtract(width: Width, first: u64, second: u64) -> (u64, Flags)
     (difference, flags)
 }
 
-/// A signed product's low half; CF and OF tell that the product doesn't fit, ZF and SF stay (Intel
+/// A signed product's low half; CF and OF say that the product doesn't fit, ZF and SF stay (Intel
 /// manual, volume 2, IMUL, which leaves ZF and SF open).
 #[tactic(auto, unfolding(crate::specs::Words::multiplied))]
 pub fn multiply(width: Width, first: u64, second: u64, flags: Flags) -> (u64, Flags)

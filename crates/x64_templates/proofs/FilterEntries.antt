@@ -1,4 +1,5 @@
--- A filter or a `__finally` block begins in a frame of its own, and holds the locals of its function.
+-- A filter or a `__finally` block begins in a frame of its own, and holds the locals of its
+-- function.
 use Rattle.std.proofs.Common.{◌≡◌, ℕ, ◌+◌, ◌*◌, ◌%◌, ◌^◌, ◌<◌, ◌≤◌, Bool, true, false, List, [], ◌∷◌, length, Some, refl, sym, ap, subst, ◌∙◌, arith, inl, inr}
 use Rattle.std.specs.Prelude.{◌⊎◌}
 use Rattle.std.proofs.lemmas.Bool.{cases_lt}

@@ -1,4 +1,6 @@
--- Templates flow: each of their instructions but a jump at the end keeps RSP and the nonvolatile registers, and at most one of them stores, but for a store of the source before its result is kept.
+-- Templates flow: each of their instructions but a jump at the end keeps RSP and the nonvolatile
+-- registers, and at most one of them stores, but for a store of the source before its result is
+-- kept.
 use Rattle.std.proofs.Common.{ℕ, ◌+◌, ◌<◌, ◌^◌, Bool, true, false, List, [], ◌∷◌, ◌++◌, Option, Some, None, refl, inl, inr}
 use Rattle.seh_num.specs.declared.width.Width.{Width}
 use Rattle.seh_num.specs.declared.width.Width.TheVariants.{W8, W16, W32, W64}

@@ -54,7 +54,8 @@ move_size : (n : ℕ) → size (instrs.Move W32 (places.Register Rax) (operands.
 unfolding size opcode_register
 move_size n = refl
 
--- RSP has fallen by the frame, RAX and R11 hold something else, and below the old RSP a return address was written
+-- RSP has fallen by the frame, RAX and R11 hold something else, and below the old RSP a return
+-- address was written
 pub record EnteredLarge (v : MachineView) (sp frame rip : ℕ) (f : Flags) : Type 0 where
   pub flags : Flags
   pub eleventh : ℕ

@@ -1,4 +1,5 @@
--- What an instruction leaves as it was: what may be done where, and the bytes that may not be written; and RIP, but for a jump, a call and a return.
+-- What an instruction leaves as it was: what may be done where, and the bytes that may not be
+-- written; and RIP, but for a jump, a call and a return.
 use Rattle.std.proofs.Common.{◌≡◌, ℕ, zero, suc, ◌+◌, ◌-◌, ◌%◌, ◌^◌, ◌<◌, Bool, true, false, cond, Option, Some, None, Ok, Err, refl, sym, ap, subst, ◌∙◌, arith, inl, inr}
 use Rattle.std.specs.Prelude.{Result}
 use Rattle.std.proofs.lemmas.Bool.{cases_eq}

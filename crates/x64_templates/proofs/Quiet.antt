@@ -1,4 +1,5 @@
--- No template but that of a return has an instruction that could be in an epilogue, and sizes of slots are fixed where they are 128 bytes or more above their base.
+-- No template but that of a return has an instruction that could be in an epilogue, and sizes of
+-- slots are fixed where they are 128 bytes or more above their base.
 use Rattle.std.proofs.Common.{◌≡◌, ℕ, zero, suc, ◌+◌, ◌-◌, ◌^◌, ◌<◌, ◌≤◌, Bool, true, false, ltb, leb, List, [], ◌∷◌, ◌++◌, refl, ap, ◌∙◌, arith}
 use Rattle.std.specs.Prelude.{◌&&◌, ◌||◌}
 use Rattle.std.proofs.lemmas.Bool.{lt-leb, le-ltb}

@@ -15,7 +15,8 @@ use Rattle.template_code.specs.Slots.{compute_code}
 use Rattle.template_code.specs.Jumps.{jump_code}
 use Rattle.template_code.specs.Template.{template_size, offset_of}
 
--- a function with temporaries from 128 and locals from 256 above RSP, and a block of it that keeps the base 32 above its own
+-- a function with temporaries from 128 and locals from 256 above RSP, and a block of it that keeps
+-- the base 32 above its own
 function_layout : Layout
 function_layout = record { base = None; pointers = 0; locals = 256; temporaries = 128; frame = 312 }
 
@@ -32,7 +33,8 @@ quotient_of_slots : spelled (compute_code block_layout (Temporary 0) (operations
 unfolding block_layout modrm
 quotient_of_slots = refl
 
--- in a block a local is reached through the base: mov rax,[rsp+32] ; mov rax,[rax+256], and so for each slot
+-- in a block a local is reached through the base: mov rax,[rsp+32] ; mov rax,[rax+256], and so for
+-- each slot
 local_of_a_block : length (compute_code block_layout (Local 0) (operations.Pure pures.First) (Local 0) (Local 1)) ≡ 6
 unfolding block_layout
 local_of_a_block = refl

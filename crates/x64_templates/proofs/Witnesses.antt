@@ -1,4 +1,5 @@
--- The premises can hold: a function's frame and a block's below it, in memory of which every byte may be written.
+-- The premises can hold: a function's frame and a block's below it, in memory of which every byte
+-- may be written.
 use Rattle.std.proofs.Common.{◌<◌, true, false, Some, None, refl, arith, inr}
 use Rattle.flat_memory.specs.declared.protection.Rights.TheVariants.{ReadWrite}
 use Rattle.flat_memory.specs.Memory.{Memory}

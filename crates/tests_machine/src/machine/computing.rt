@@ -96,7 +96,7 @@ fn flags_named(letters: &str) -> Flags {
     named
 }
 
-/// The states before and after that a row tells.
+/// The states before and after that a row has.
 fn states_of(rt: &impl Abort, row: &str) -> Option<(Cpu, Cpu)> {
     let mut columns = row.split('|').skip(2);
     let mut words = columns.next()?.split_ascii_whitespace();
