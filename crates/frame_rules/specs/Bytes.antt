@@ -1,4 +1,4 @@
--- Instructions by their chosen spellings, and bytes of code that stand in memory.
+-- Instructions by their chosen spellings, and bytes of code in memory.
 use Rattle.std.specs.Prelude.{◌≡◌, ℕ, ◌+◌, ◌^◌, ◌<◌, Bool, true, ◌&&◌, List, [], ◌∷◌, ◌++◌, length}
 use Rattle.std.specs.List.{flat_map}
 use Rattle.flat_memory.specs.Memory.{Memory}
@@ -22,7 +22,7 @@ spell i =
       plain = is_plain (chosen i) (length (chosen i)) i;
     }
 
--- the bytes stand at this address, to be executed
+-- the bytes are at this address, to be executed
 abbrev pub Stands : Memory → ℕ → List ℕ → Type 0
 Stands m at [] = Unit {0}
 Stands m at (b ∷ bytes) =
@@ -34,7 +34,7 @@ code is = flat_map chosen is
 abbrev pub SpellsAll : Type 0
 SpellsAll = IsSpelling spell
 
--- where the bytes of instructions stand, the instructions stand
+-- where the bytes of instructions are, the instructions are
 abbrev pub ItemsStand : Type 0
 ItemsStand =
     (m : Memory) (at : ℕ) (is : List Instr) → all_encodable is ≡ true
@@ -70,7 +70,7 @@ PlansAreEncodable =
     (p : Plan) → IsPlan p → (all_encodable (prologue_code p) ≡ true)
     × (all_encodable (epilogue p) ≡ true)
 
--- where the bytes of a planned function stand, its caller is found in each of its states
+-- where the bytes of a planned function are, its caller is found in each of its states
 abbrev pub PlannedFramesAreRight : Type 0
 PlannedFramesAreRight =
     (p : Plan) (parts : List (List Instr)) (last : List Instr) (e s : State) (begin distance : ℕ)

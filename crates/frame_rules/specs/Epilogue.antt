@@ -32,7 +32,7 @@ pops [] (x ∷ y ∷ is) = false
 pops (r ∷ rs) [] = false
 pops (r ∷ rs) (x ∷ is) = is_pop r x && pops rs is
 
--- n bytes given back, from RSP or from the frame register, which stands so far above it
+-- n bytes given back, from RSP or from the frame register, which is so far above it
 abbrev pub gives_back : ℕ → ℕ → ℕ → Instr → Bool
 gives_back f offset n (instrs.Arithmetic Add W64 (places.Register Rsp) (operands.Immediate v)) =
     v == n

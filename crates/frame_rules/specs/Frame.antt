@@ -1,4 +1,4 @@
--- What stands in a frame, from RSP up to the return address. Registers are functions from their
+-- What is in a frame, from RSP up to the return address. Registers are functions from their
 -- numbers; old: those at the function's first byte.
 use Rattle.std.specs.Prelude.{◌≡◌, ◌≢◌, ℕ, ◌+◌, ◌^◌, ◌≤◌, true, false, List, [], ◌∷◌, None}
 use Rattle.flat_memory.specs.Memory.{Memory, first_refused, may_read, number_at}

@@ -58,7 +58,7 @@ EpilogueRestores =
     → is_epilogue i.frame_register i.frame_offset ops is ≡ true
     → left m is c ≡ Ok (left_to old back)
 
--- a function that is right, and stands from an address on: in each of its states the caller is
+-- a function that is right, and in memory from an address on: in each of its states the caller is
 -- found, as it was at its first byte
 abbrev pub FramesAreRight : Type 0
 FramesAreRight =
@@ -116,7 +116,7 @@ WritesNoOther =
 
 -- ---- a function returns
 
--- RIP is the return address, RSP stands above it, and the other nonvolatile registers and the
+-- RIP is the return address, RSP is above it, and the other nonvolatile registers and the
 -- memory are as they were
 pub record Returned (e s t : State) : Type 0 where
   pub rip : t.cpu.rip ≡ return_address e

@@ -16,7 +16,7 @@ registers s r = slice_index s.cpu.registers r
 
 -- ---- instructions that are run
 
--- a call that has returned, of a function that keeps RAX and what stands from RSP up: `__chkstk`
+-- a call that has returned, of a function that keeps RAX and what is from RSP up: `__chkstk`
 pub record Called (s : State) (u : State) : Type 0 where
   pub length : length u.cpu.registers ≡ 16
   pub kept : (r : ℕ) → (is_nonvolatile r ≡ true) ⊎ (r ≡ 0) → registers u r ≡ registers s r
@@ -106,7 +106,7 @@ all_leave f offset ops (x ∷ xs) = leaves f offset ops x && all_leave f offset 
 
 -- ---- instructions in memory
 
--- from this address to that one stand these instructions
+-- from this address to that one are these instructions
 abbrev pub HasItems : Memory → ℕ → List FetchedInstr → ℕ → Type 0
 HasItems m at [] to = at ≡ to
 HasItems m at (x ∷ xs) to =

@@ -1,5 +1,5 @@
 -- The rules as a test on what is decoded: an unwind info, the instructions of its prologue, and
--- those after it up to the entry's end. Decode is that these instructions stand there, and Chain
+-- those after it up to the entry's end. Decode is that these instructions are there, and Chain
 -- that the info has no parent.
 use Rattle.std.specs.Prelude.{ℕ, ◌+◌, ◌^◌, Bool, true, false, not, ◌==◌, ◌&&◌, ◌||◌, nat_lt, List, [], ◌∷◌, Option, Some, None}
 use Rattle.eh_tables.specs.declared.code.UnwindCode.{UnwindCode}
