@@ -30,7 +30,7 @@ use Rattle.frame_rules.specs.Bytes.{spell, IsExecutableAt, code, SpellsAll, Code
 use Rattle.frame_rules.proofs.Planning.{AllEmitted, all_turned, emitted_plan, step_encodable, small_signed, codes_plan}
 use Rattle.frame_rules.proofs.Sizes.{frame_has_its_size}
 use Rattle.frame_rules.proofs.Emitting.{plans_are_right}
-use Rattle.frame_rules.proofs.Every_frame.{frames_are_right}
+use Rattle.frame_rules.proofs.EveryFrame.{frames_are_right}
 
 -- ---- no spelling is empty
 
@@ -45,7 +45,7 @@ never_empty i h = go (chosen i) (again i [] h)
 pub spells_all : SpellsAll
 spells_all = record { instr = λ i. refl; sized = λ i h. never_empty i h; plain = refl }
 
--- ---- what an end of an epilogue asks of its bytes is told by the spelling alone
+-- ---- what an end of an epilogue asks of its bytes is said by the spelling alone
 
 -- a place's first byte
 pub record Starts (xs : List ℕ) : Type 0 where

@@ -18,7 +18,7 @@ use Rattle.frame_rules.specs.Laws.{EntriesAreFound, LeavesAreFound}
 use Rattle.frame_rules.proofs.Undoing.{popped_is}
 use Rattle.frame_rules.proofs.Bodies.{body_holds}
 use Rattle.frame_rules.proofs.Frames.{first_running, finds}
-use Rattle.frame_rules.proofs.Every_frame.{frames_are_right}
+use Rattle.frame_rules.proofs.EveryFrame.{frames_are_right}
 
 -- RSP rises
 rises : (c : Context) (a : Answer CallerFrame) (to : Context) → Finds a to (rsp c) → IsFound (a >>= rising c) to

@@ -26,7 +26,7 @@ use Rattle.frame_rules.proofs.Entering.{entering}
 use Rattle.frame_rules.proofs.Bodies.{following-append, body_holds}
 use Rattle.frame_rules.proofs.Tails.{trails, opens_here, no_tail}
 use Rattle.frame_rules.proofs.Leaving.{InLoads, InPops, Known}
-use Rattle.frame_rules.proofs.Epilogue_runs.{Has, leave_run, pushed_or_loaded}
+use Rattle.frame_rules.proofs.EpilogueRuns.{Has, leave_run, pushed_or_loaded}
 use Rattle.frame_rules.proofs.Epilogues.{pops_restore, epilogue_restores}
 use Rattle.frame_rules.proofs.Frames.{others_context, framed_context, based, finds, first_running, good_run, at_end, items_split, other_or_not}
 

@@ -17,8 +17,8 @@ use Rattle.frame_rules.proofs.Steps.{ok_same, set_same, set_other}
 use Rattle.frame_rules.proofs.Bodies.{only, next_mode, pop_role, body_holds}
 use Rattle.frame_rules.proofs.Frames.{first_running}
 use Rattle.frame_rules.proofs.Leaving.{InPops, Known, load_at}
-use Rattle.frame_rules.proofs.Epilogue_runs.{Has, opened}
-use Rattle.frame_rules.proofs.Every_frame.{known, leaving_has, leaving_modes}
+use Rattle.frame_rules.proofs.EpilogueRuns.{Has, opened}
+use Rattle.frame_rules.proofs.EveryFrame.{known, leaving_has, leaving_modes}
 
 return_effect : (s : State) (a v : ℕ) → load s.memory (registers s 4) W64 ≡ Ok v
     → effect (with_rip s a) instrs.Return ≡ Ok (record { cpu = record { registers = set s.cpu.registers 4 ((registers s 4 + 8) % 2 ^ 64 % 2 ^ 64); rip = v; flags = s.cpu.flags }; memory = s.memory })
