@@ -1,7 +1,7 @@
 //! Parameters: the first locals of a function, in the outermost block of its body (C11, 6.2.1 p4
 //! and 6.9.1).
 
-ghost use Rattle.std.specs.Prelude.{◌≡◌, ◌∷◌, ◌++◌, [], IfOk, OnOk, map};
+ghost use Rattle.std.specs.Prelude.{◌≡◌, [], IfOk, OnOk};
 ghost use Rattle.c_check.specs.Parameters.{faults_of_parameter, sizes_of};
 ghost use Rattle.c_expressions.specs.Kept.{AddsFaults};
 ghost use Rattle.c_expressions.specs.Views.{block_of};

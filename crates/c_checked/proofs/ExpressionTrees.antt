@@ -1,6 +1,6 @@
 -- The code's trees as those of the meaning, one equation for each kind.
-use Rattle.std.proofs.Common.{◌≡◌, ℕ, Option, Some, None, refl, sym, ap, ◌∙◌}
-use Rattle.std.specs.Prelude.{map, option_map, List}
+use Rattle.std.proofs.Common.{◌≡◌, ℕ, sym, ap, ◌∙◌}
+use Rattle.std.specs.Prelude.{map}
 use Rattle.c_operations.specs.declared.built_in.BuiltIn.{BuiltIn}
 use Rattle.c_operations.specs.declared.field.Field.{Field}
 use Rattle.c_operations.specs.declared.operation.Operation.{Operation}
@@ -15,7 +15,7 @@ use Rattle.c_checked.specs.declared.expression.Node.TheVariants as nodes
 use Rattle.c_checked.specs.declared.expression.Lvalue.{Lvalue}
 use Rattle.c_checked.specs.declared.expression.Lvalue.TheVariants as lvalues
 use Rattle.c_checked.specs.declared.expression.Lvalue.TheOpen as opened
-use Rattle.c_checked.specs.declared.expression.Lvalue.TheFolds.{fold-Lvalue, fold-Node, fold-Expr, fold-roll-Lvalue, fold-roll-Node, fold_out-Expr}
+use Rattle.c_checked.specs.declared.expression.Lvalue.TheFolds.{fold-Expr, fold-roll-Lvalue, fold-roll-Node, fold_out-Expr}
 use Rattle.c_checked.specs.Expression as trees
 use Rattle.c_checked.specs.Expression.{lvalue, node, expression, arguments, lvalue_layer, node_layer, expression_layer}
 

@@ -1,6 +1,5 @@
 -- A rule after its operands.
-use Rattle.std.proofs.Common.{◌≡◌, ℕ, Bool, false, List, ◌++◌, Option, Some, None, Result, Ok, Err, refl, sym, ap, ◌∙◌}
-use Rattle.std.specs.Prelude.{OnOk}
+use Rattle.std.proofs.Common.{◌≡◌, ℕ, Bool, false, List, ◌++◌, Option, Some, None, refl, sym, ap, ◌∙◌}
 use Rattle.c_expressions.proofs.Kept.{kept_more}
 use Rattle.c_expressions.specs.Kept.{kept}
 use Rattle.c_expressions.specs.Rules.{assigning_to, assigning_at}
@@ -11,6 +10,7 @@ use Rattle.c_syntax.specs.declared.operator.Arithmetic.{Arithmetic}
 use Rattle.c_syntax.specs.Expression.{Expression, start}
 use Rattle.c_resolved.specs.Operators.{TypedNode}
 
+-- a rule after two operands
 pub two : (first w1 w2 w3 : Option FaultAt) (ja jb : ResolvedExpression) (rule : List FaultAt → Option TypedNode → Option TypedNode → ResolvedExpression) (a b : Option TypedNode)
     → w1 ≡ kept first ja.faults → w2 ≡ kept w1 jb.faults → a ≡ ja.found → b ≡ jb.found
     → ((f : Option FaultAt) (fs : List FaultAt) → w2 ≡ kept f fs → w3 ≡ kept f (rule fs a b).faults)
@@ -20,6 +20,7 @@ two first w1 w2 w3 ja jb rule a b k1 k2 ea eb adds =
     ∙ ap (λ o. kept first (rule (ja.faults ++ jb.faults) o b).faults) ea
     ∙ ap (λ o. kept first (rule (ja.faults ++ jb.faults) ja.found o).faults) eb
 
+-- a rule after three operands
 pub three : (first w1 w2 w3 w4 : Option FaultAt) (jc ja jb : ResolvedExpression) (rule : List FaultAt → Option TypedNode → Option TypedNode → Option TypedNode → ResolvedExpression) (c a b : Option TypedNode)
     → w1 ≡ kept first jc.faults → w2 ≡ kept w1 ja.faults → w3 ≡ kept w2 jb.faults → c ≡ jc.found → a ≡ ja.found → b ≡ jb.found
     → ((f : Option FaultAt) (fs : List FaultAt) → w3 ≡ kept f fs → w4 ≡ kept f (rule fs c a b).faults)
@@ -35,10 +36,6 @@ three first w1 w2 w3 w4 jc ja jb rule c a b k1 k2 k3 ec ea eb adds =
 pub refused_kept : (first old new : Option FaultAt) (b : Bool) (at : ℕ) (f : Fault) (fs : List FaultAt) (j : ResolvedExpression)
     → b ≡ false → old ≡ kept first fs → new ≡ kept old (fault_at at f) → new ≡ kept first (given_that b at f fs j).faults
 refused_kept first old new b at f fs j e p q = kept_more first old new fs (fault_at at f) p q ∙ sym (ap (λ k. kept first (given_that k at f fs j).faults) e)
-
-pub on_any : {T E P : Type 0} (r : Result T E) → P → OnOk r P
-on_any (Ok x) p = p
-on_any (Err e) p = tt
 
 pub assign_is : (s : Names) (target value : Expression) (at : ℕ) (o : Option Arithmetic) (ja jb : ResolvedExpression)
     → assigning_to s target (assigning_at o at (start value)) o (ja.faults ++ jb.faults) ja.found jb.found ≡ given_that (is_lvalue s target) (start target) NotLvalue (ja.faults ++ jb.faults) (changed o at (start value) ja jb)

@@ -1,9 +1,11 @@
 -- What the code of a rule on types gives, and what it keeps, after operands with these faults.
 use Rattle.std.specs.Prelude.{◌≡◌, ℕ, Bool, true, false, List, Option, Some, None, option_map}
 use Rattle.c_expressions.specs.declared.least.Least.{Least}
+use Rattle.c_expressions.specs.declared.rules.TwoOperands.{TwoOperands}
+use Rattle.c_expressions.specs.declared.rules.TwoOperands.TheVariants as operators
 use Rattle.c_expressions.specs.Kept.{least_of, kept}
 use Rattle.c_resolved.specs.Expressions.{Entity, UserFunction, BuiltInFunction, FaultAt, Names, ResolvedExpression, only_where, given_that, rule_1, rule_2, rule_3, is_lvalue, operand_is_lvalue}
-use Rattle.c_resolved.specs.Operators.{TypedNode, assigned, compound_assigned, incremented, unary_of}
+use Rattle.c_resolved.specs.Operators.{TypedNode, assigned, compound_assigned, incremented, unary_of, binary_of, element_of, comma_of}
 use Rattle.c_syntax.specs.declared.operator.Arithmetic.{Arithmetic}
 use Rattle.c_syntax.specs.declared.operator.Increment.{Increment}
 use Rattle.c_syntax.specs.declared.operator.UnaryOperator.{UnaryOperator}
@@ -44,6 +46,13 @@ ternary_rule at rule c a b fs =
 abbrev pub assigning_rule : Option Arithmetic → TypedNode → TypedNode → Option TypedNode
 assigning_rule None = assigned
 assigning_rule (Some o) = compound_assigned o
+
+-- what an operator makes of two operands
+abbrev pub rule_of_two : TwoOperands → TypedNode → TypedNode → Option TypedNode
+rule_of_two operators.Element = element_of
+rule_of_two (operators.Operator o) = binary_of o
+rule_of_two operators.Comma = comma_of
+rule_of_two (operators.Assign o) = assigning_rule o
 
 abbrev pub assigning : Option Arithmetic → ℕ → List FaultAt → Option TypedNode → Option TypedNode
     → ResolvedExpression

@@ -31,6 +31,7 @@ pub fn pass(worst: &mut Least, want: Wanted, e: &Expr, found: Option<TypedNode>)
             if want.fits(&a) {
                 return Some(want.passed(a));
             }
+            drop(a);
             worst.add(e.start(), Fault::TypeClash);
             None
         }
@@ -61,7 +62,10 @@ pub fn with_one(
         put_after (expressions_of passed) (option_map nodes.expression one)) }
 {
     match passed {
-        None => Ok(None),
+        None => {
+            drop(one);
+            Ok(None)
+        }
         Some(mut items) => match one {
             None => Ok(None),
             Some(e) => {
@@ -150,6 +154,7 @@ pub fn only_where(
     if allowed {
         return found;
     }
+    drop(found);
     worst.add(at, fault);
     None
 }

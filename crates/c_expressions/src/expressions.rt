@@ -6,8 +6,9 @@ ghost use Rattle.c_syntax.specs.Expression.{expression};
 ghost use Rattle.c_expressions.specs.Calls.{passed_of, resolved_all, AddsCall, FindsCall};
 ghost use Rattle.c_expressions.specs.Kept.{AddsFaults};
 ghost use Rattle.c_expressions.specs.Resolved.{all_passed, called, called_with, resolved};
+ghost use Rattle.c_expressions.specs.Resolved.{resolved_with};
 ghost use Rattle.c_expressions.specs.Rules.{has_prefix_or_several, has_several, is_special};
-ghost use Rattle.c_expressions.specs.Rules.{is_conditional_or_assignment};
+ghost use Rattle.c_expressions.specs.Rules.{is_conditional_or_assignment, Finds, Adds};
 ghost use Rattle.c_expressions.specs.Views.{entity, names_of};
 ghost use Rattle.c_types.specs.Views.{FindsTyped};
 
@@ -19,7 +20,7 @@ use crate::context::{Context, named};
 use crate::least::Least;
 use crate::places::{assign, place_of, step, unary};
 use crate::primary::{information, literal, name};
-use crate::rules;
+use crate::rules::{self, TwoOperands};
 use crate::scopes::Entity;
 use crate::wanted::{Wanted, built_in_wants, wanted_by};
 use c_checked::expression::{Expr as Checked, Fixity};
@@ -67,7 +68,7 @@ fn resolve_all(
         (faults_of (resolved_all (names_of context.now) given.now))) }
 {
     for e in given {
-        resolve(alloc, context, worst, e)?;
+        drop(resolve(alloc, context, worst, e)?);
     }
     Ok(())
 }
@@ -173,6 +174,26 @@ fn call(
     }
 }
 
+/// An operator on an operand that is resolved, and on one that follows.
+#[cycle(expressions)]
+fn with_second(
+    alloc: Global,
+    context: &Context<'_, '_>,
+    worst: &mut Least,
+    at: u64,
+    operator: TwoOperands,
+    a: Option<TypedNode>,
+    second: &Expr,
+) -> Result<Option<TypedNode>, AllocError>
+    ensures found { IfOk result (λ r. Finds r
+        (resolved_with context.now at operator a second.now)) }
+    ensures faults { OnOk result (Adds worst.old worst.new
+        (resolved_with context.now at operator a second.now)) }
+{
+    let b = resolve(alloc, context, worst, second)?;
+    rules::two(alloc, worst, at, operator, a, b)
+}
+
 /// An expression with several operands.
 #[cycle(expressions)]
 fn several(
@@ -189,8 +210,7 @@ fn several(
     match e {
         Expr::Index { array, at, index } => {
             let a = resolve(alloc, context, worst, array)?;
-            let i = resolve(alloc, context, worst, index)?;
-            rules::element(alloc, worst, *at, a, i)
+            with_second(alloc, context, worst, *at, TwoOperands::Element, a, index)
         }
         Expr::Binary {
             left,
@@ -199,13 +219,12 @@ fn several(
             right,
         } => {
             let a = resolve(alloc, context, worst, left)?;
-            let b = resolve(alloc, context, worst, right)?;
-            rules::binary(alloc, worst, *at, *operator, a, b)
+            let operator = TwoOperands::Operator(*operator);
+            with_second(alloc, context, worst, *at, operator, a, right)
         }
-        Expr::Comma { left, right, .. } => {
+        Expr::Comma { left, at, right } => {
             let a = resolve(alloc, context, worst, left)?;
-            let b = resolve(alloc, context, worst, right)?;
-            rules::comma(alloc, a, b)
+            with_second(alloc, context, worst, *at, TwoOperands::Comma, a, right)
         }
         _ => conditional_or_assignment(alloc, context, worst, e),
     }

@@ -11,7 +11,7 @@ ghost use Rattle.c_types.specs.Views.{typed_node};
 
 use crate::context::{Context, named};
 use crate::least::Least;
-use crate::rules;
+use crate::rules::{self, TwoOperands};
 use crate::scopes::Entity;
 use c_checked::expression::Fixity;
 use c_resolved::fault::Fault;
@@ -92,6 +92,7 @@ pub fn step(
     if is_lvalue(context, operand) {
         return rules::increment(worst, at, fixity, operator, a);
     }
+    drop(a);
     worst.add(operand.start(), Fault::NotLvalue);
     None
 }
@@ -116,6 +117,7 @@ pub fn unary(
     if operand_is_lvalue(context, operator, operand) {
         return rules::unary(alloc, worst, at, operator, a);
     }
+    drop(a);
     worst.add(operand.start(), Fault::NotLvalue);
     Ok(None)
 }
@@ -149,8 +151,10 @@ pub fn assign(
         (option_map typed_node a) (option_map typed_node b))) }
 {
     if is_lvalue(context, target) {
-        return rules::assign(alloc, worst, operator, at, a, b);
+        return rules::two(alloc, worst, at, TwoOperands::Assign(operator), a, b);
     }
+    drop(a);
+    drop(b);
     worst.add(target.start(), Fault::NotLvalue);
     Ok(None)
 }

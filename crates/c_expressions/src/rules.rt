@@ -1,11 +1,10 @@
 //! Rules on the types of operands: an operand that holds a fault has no type, and breaks no rule.
 
-ghost use Rattle.std.specs.Prelude.{◌≡◌, ℕ, IfOk, OnOk, List, option_map};
+ghost use Rattle.std.specs.Prelude.{IfOk, OnOk, option_map};
 ghost use Rattle.c_resolved.specs.declared.fault.Fault.TheVariants.{TypeClash};
-ghost use Rattle.c_resolved.specs.Expressions.{FaultAt, ruled};
-ghost use Rattle.c_resolved.specs.Operators.{binary_of, unary_of, cast_of, element_of, comma_of};
-ghost use Rattle.c_resolved.specs.Operators.{conditional_of, incremented};
-ghost use Rattle.c_expressions.specs.Rules.{Finds, Adds, assigning_rule};
+ghost use Rattle.c_resolved.specs.Expressions.{ruled};
+ghost use Rattle.c_resolved.specs.Operators.{unary_of, cast_of, conditional_of, incremented};
+ghost use Rattle.c_expressions.specs.Rules.{Finds, Adds, rule_of_two};
 ghost use Rattle.c_expressions.specs.Rules.{unary_rule, binary_rule, ternary_rule};
 ghost use Rattle.c_types.specs.Views.{typed_node, FindsTyped};
 
@@ -17,6 +16,19 @@ use c_syntax::operator::{Arithmetic, BinaryOperator, Increment, UnaryOperator};
 use c_types::typed::TypedNode;
 use c_types::{changes, comparisons, operators, pointers, unary};
 use std::alloc::{AllocError, Global};
+
+/// An operator with two operands.
+#[derive(Clone, Copy, Drop)]
+pub enum TwoOperands {
+    /// `array[index]` (C11, 6.5.2.1)
+    Element,
+    /// An operator that changes no place (C11, 6.5.5 to 6.5.14).
+    Operator(BinaryOperator),
+    /// `left, right` (C11, 6.5.17)
+    Comma,
+    /// `a = b`, or with an operator `a operator= b` (C11, 6.5.16).
+    Assign(Option<Arithmetic>),
+}
 
 /// What a rule gave; a fault where it gave nothing.
 fn ruled(worst: &mut Least, at: u64, found: Option<TypedNode>) -> Option<TypedNode>
@@ -33,61 +45,48 @@ fn ruled(worst: &mut Least, at: u64, found: Option<TypedNode>) -> Option<TypedNo
     }
 }
 
-/// `array[index]`
-pub fn element(
+/// What an operator makes of two operands, if their types keep its rule.
+fn made_of_two(
     alloc: Global,
-    worst: &mut Least,
-    at: u64,
-    a: Option<TypedNode>,
-    i: Option<TypedNode>,
+    operator: TwoOperands,
+    a: TypedNode,
+    b: TypedNode,
 ) -> Result<Option<TypedNode>, AllocError>
-    ensures found { IfOk result (λ r. Finds r (binary_rule at element_of a i)) }
-    ensures faults { OnOk result (Adds worst.old worst.new (binary_rule at element_of a i)) }
+    ensures { IfOk result (λ r. FindsTyped r
+        (rule_of_two operator (typed_node a) (typed_node b))) }
 {
-    match (a, i) {
-        (Some(a), Some(i)) => {
-            let found = pointers::element_of(alloc, a, i)?;
-            Ok(ruled(worst, at, found))
-        }
-        _ => Ok(None),
+    match operator {
+        TwoOperands::Element => pointers::element_of(alloc, a, b),
+        TwoOperands::Operator(operator) => comparisons::binary_of(alloc, operator, a, b),
+        TwoOperands::Comma => operators::comma_of(alloc, a, b),
+        TwoOperands::Assign(None) => changes::assigned(alloc, a, b),
+        TwoOperands::Assign(Some(operator)) => changes::compound_assigned(alloc, operator, a, b),
     }
 }
 
-/// An operator between two operands.
-pub fn binary(
+/// An operator on two operands.
+pub fn two(
     alloc: Global,
     worst: &mut Least,
     at: u64,
-    operator: BinaryOperator,
+    operator: TwoOperands,
     a: Option<TypedNode>,
     b: Option<TypedNode>,
 ) -> Result<Option<TypedNode>, AllocError>
-    ensures found { IfOk result (λ r. Finds r (binary_rule at (binary_of operator) a b)) }
+    ensures found { IfOk result (λ r. Finds r (binary_rule at (rule_of_two operator) a b)) }
     ensures faults { OnOk result (Adds worst.old worst.new
-        (binary_rule at (binary_of operator) a b)) }
+        (binary_rule at (rule_of_two operator) a b)) }
 {
-    match (a, b) {
-        (Some(a), Some(b)) => {
-            let found = comparisons::binary_of(alloc, operator, a, b)?;
-            Ok(ruled(worst, at, found))
-        }
-        _ => Ok(None),
-    }
-}
-
-/// `left, right`
-pub fn comma(
-    alloc: Global,
-    a: Option<TypedNode>,
-    b: Option<TypedNode>,
-) -> Result<Option<TypedNode>, AllocError>
-    ensures found { IfOk result (λ r. (at : ℕ) → Finds r (binary_rule at comma_of a b)) }
-    ensures faults { (at : ℕ) (fs : List FaultAt) → (binary_rule at comma_of a b fs).faults ≡ fs }
-{
-    match (a, b) {
-        (Some(a), Some(b)) => operators::comma_of(alloc, a, b),
-        _ => Ok(None),
-    }
+    let Some(a) = a else {
+        drop(b);
+        return Ok(None);
+    };
+    let Some(b) = b else {
+        drop(a);
+        return Ok(None);
+    };
+    let found = made_of_two(alloc, operator, a, b)?;
+    Ok(ruled(worst, at, found))
 }
 
 /// `c ? a : b`
@@ -102,50 +101,23 @@ pub fn conditional(
     ensures found { IfOk result (λ r. Finds r (ternary_rule at conditional_of c a b)) }
     ensures faults { OnOk result (Adds worst.old worst.new (ternary_rule at conditional_of c a b)) }
 {
-    match (c, a, b) {
-        (Some(c), Some(a), Some(b)) => {
-            let found = unary::conditional_of(alloc, c, a, b)?;
-            Ok(ruled(worst, at, found))
-        }
-        _ => Ok(None),
-    }
-}
-
-/// `a = b` and `a operator= b`.
-pub fn assign(
-    alloc: Global,
-    worst: &mut Least,
-    operator: Option<Arithmetic>,
-    at: u64,
-    a: Option<TypedNode>,
-    b: Option<TypedNode>,
-) -> Result<Option<TypedNode>, AllocError>
-    ensures found { IfOk result (λ r. Finds r (binary_rule at (assigning_rule operator) a b)) }
-    ensures faults { OnOk result (Adds worst.old worst.new
-        (binary_rule at (assigning_rule operator) a b)) }
-{
-    match (a, b) {
-        (Some(a), Some(b)) => {
-            let found = assigned(alloc, operator, a, b)?;
-            Ok(ruled(worst, at, found))
-        }
-        _ => Ok(None),
-    }
-}
-
-fn assigned(
-    alloc: Global,
-    operator: Option<Arithmetic>,
-    a: TypedNode,
-    b: TypedNode,
-) -> Result<Option<TypedNode>, AllocError>
-    ensures { IfOk result (λ r. FindsTyped r
-        (assigning_rule operator (typed_node a) (typed_node b))) }
-{
-    match operator {
-        None => changes::assigned(alloc, a, b),
-        Some(operator) => changes::compound_assigned(alloc, operator, a, b),
-    }
+    let Some(c) = c else {
+        drop(a);
+        drop(b);
+        return Ok(None);
+    };
+    let Some(a) = a else {
+        drop(c);
+        drop(b);
+        return Ok(None);
+    };
+    let Some(b) = b else {
+        drop(c);
+        drop(a);
+        return Ok(None);
+    };
+    let found = unary::conditional_of(alloc, c, a, b)?;
+    Ok(ruled(worst, at, found))
 }
 
 /// `++` and `--`.

@@ -1,6 +1,6 @@
 //! Names, and what they mean.
 
-ghost use Rattle.std.specs.Prelude.{◌≡◌, ◌++◌, None, OnOk, option_map, IfSome};
+ghost use Rattle.std.specs.Prelude.{◌≡◌, ◌++◌, None, OnOk, option_map};
 ghost use Rattle.c_resolved.specs.Scopes.{spelled, same_bytes, meaning_in, built_ins};
 ghost use Rattle.c_resolved.specs.Statements.{is_taken, with_name};
 ghost use Rattle.c_expressions.specs.Views.{entity, block_of, scopes_of, built_in_functions};

@@ -196,7 +196,7 @@ fn refused_value<'t>(
     ensures { OnOk result (AddsFaults worst.old worst.new
         ((resolved_in env.now block.now.entries e.now).faults ++ fault_at at TypeClash)) }
 {
-    resolved_at(alloc, env, block, worst, e)?;
+    drop(resolved_at(alloc, env, block, worst, e)?);
     worst.add(at, Fault::TypeClash);
     Ok(())
 }

@@ -36,17 +36,18 @@ to_width_makes W16 s W64 t = (refl, refl)
 to_width_makes W32 s W64 t = (refl, refl)
 to_width_makes W64 s W64 t = (refl, refl)
 
-same_base_width : (a b : Base) → same_base a b ≡ true → base_width a ≡ base_width b
-same_base_width Void Void h = refl
-same_base_width Char Char h = refl
-same_base_width UnsignedChar UnsignedChar h = refl
-same_base_width Short Short h = refl
-same_base_width UnsignedShort UnsignedShort h = refl
-same_base_width Int Int h = refl
-same_base_width Unsigned Unsigned h = refl
-same_base_width LongLong LongLong h = refl
-same_base_width UnsignedLongLong UnsignedLongLong h = refl
-same_base_width a b h = absurd (cc)
+-- where `same_base` holds, the bases are equal
+pub same_base_is : (a b : Base) → same_base a b ≡ true → a ≡ b
+same_base_is Void Void h = refl
+same_base_is Char Char h = refl
+same_base_is UnsignedChar UnsignedChar h = refl
+same_base_is Short Short h = refl
+same_base_is UnsignedShort UnsignedShort h = refl
+same_base_is Int Int h = refl
+same_base_is Unsigned Unsigned h = refl
+same_base_is LongLong LongLong h = refl
+same_base_is UnsignedLongLong UnsignedLongLong h = refl
+same_base_is a b h = absurd (cc)
 
 kept_makes : (from to : Width) → from ≡ to → Makes Kept from to
 kept_makes from to e = (refl, ap (λ w. Some (size_of_width w)) e)
@@ -64,7 +65,7 @@ same_type_width a b h =
     let pointers : nat_eq a.pointers b.pointers ≡ true = and_left (nat_eq a.pointers b.pointers) (same_base a.base b.base) h in
     let bases : same_base a.base b.base ≡ true = and_right (nat_eq a.pointers b.pointers) (same_base a.base b.base) h in
     let alike : a.pointers ≡ b.pointers = eqb-true a.pointers b.pointers pointers in
-    ap (λ k. if nat_lt 0 k then W64 else base_width a.base) alike ∙ ap (λ w. if nat_lt 0 b.pointers then W64 else w) (same_base_width a.base b.base bases)
+    ap (λ k. if nat_lt 0 k then W64 else base_width a.base) alike ∙ ap (λ w. if nat_lt 0 b.pointers then W64 else w) (ap base_width (same_base_is a.base b.base bases))
 
 pub conversion_makes : (a b : CType) → Makes (conversion a b) (width_of a) (width_of b)
 conversion_makes a b = by_same (same_type a b) refl

@@ -16,7 +16,7 @@ use Rattle.c_checked.specs.declared.expression.Fixity.TheVariants.{Postfix, Pref
 use Rattle.c_checked.specs.Expression as nodes
 use Rattle.c_checked.specs.Expression.{Arguments, Done, Next}
 use Rattle.c_checked.specs.Program.{Function}
-use Rattle.c_checked.specs.Sound.{Scope, is_size, are_sizes, constant_fits, built_in_takes, built_in_gives, argument_sizes, arguments_sound, expression_size, node_size, node_sound, call_fits, is_in_memory, size_in_memory}
+use Rattle.c_checked.specs.Sound.{Scope, are_sizes, constant_fits, argument_sizes, arguments_sound, call_fits}
 use Rattle.c_checked.specs.Sound as sound
 use Rattle.c_lex.specs.declared.token.IntegerType.{IntegerType}
 use Rattle.c_lex.specs.declared.token.IntegerType.TheVariants as integers

@@ -9,8 +9,7 @@ use Rattle.c_checked.specs.Statement as checked
 use Rattle.c_checked.specs.Program as checked_program
 use Rattle.c_checked.specs.Sound.{Inside, some_sizes, are_sizes, is_size, statements_sound, funclets, count_up, all_funclets, function_sound, functions_sound, main_sound, IsSound}
 use Rattle.c_syntax.specs.declared.declaration.Parameter.{Parameter}
-use Rattle.c_syntax.specs.declared.expression.Base.{Base}
-use Rattle.c_syntax.specs.declared.expression.Base.TheVariants.{Void, Char, UnsignedChar, Short, UnsignedShort, Int, Unsigned, LongLong, UnsignedLongLong}
+use Rattle.c_syntax.specs.declared.expression.Base.TheVariants.{LongLong}
 use Rattle.c_syntax.specs.declared.expression.CType.{CType}
 use Rattle.c_syntax.specs.declared.expression.Identifier.{Identifier}
 use Rattle.c_syntax.specs.Limits as limits
@@ -26,6 +25,7 @@ use Rattle.c_resolved.specs.Statements.{unless_holds, is_taken, with_name, Numbe
 use Rattle.c_resolved.specs.Program.{file_of, empty_file, parameter_types, with_parameters, parameter_faults, result_size, around, function_of, functions_of, main_name, are_main_parameters, place_of_function, main_of, resolve}
 use Rattle.c_resolved.specs.Accepted.{Accepted}
 use Rattle.c_resolved.specs.Laws.{AcceptedIsSound}
+use Rattle.c_resolved.proofs.Conversions.{same_base_is}
 use Rattle.c_resolved.proofs.Operands.{and_true}
 use Rattle.c_resolved.proofs.ResolvedExpressions.{MeaningFits}
 use Rattle.c_resolved.proofs.Numbers.{IsFront, front_itself, front_get, Counted, count_up_append, statements_counted}
@@ -162,18 +162,6 @@ functions_from text file (Function t n ps body ∷ xs) number front =
     )
 
 -- ---- main
-
-same_base_is : (a b : Base) → same_base a b ≡ true → a ≡ b
-same_base_is Void Void h = refl
-same_base_is Char Char h = refl
-same_base_is UnsignedChar UnsignedChar h = refl
-same_base_is Short Short h = refl
-same_base_is UnsignedShort UnsignedShort h = refl
-same_base_is Int Int h = refl
-same_base_is Unsigned Unsigned h = refl
-same_base_is LongLong LongLong h = refl
-same_base_is UnsignedLongLong UnsignedLongLong h = refl
-same_base_is a b h = absurd (cc)
 
 same_type_is : (a b : CType) → same_type a b ≡ true → a ≡ b
 same_type_is a b h =

@@ -7,7 +7,6 @@ use Rattle.c_operations.specs.declared.operation.Size.{Size}
 use Rattle.c_operations.specs.declared.operation.Size.TheVariants as sizes
 use Rattle.c_checked.specs.Program.{Function}
 use Rattle.c_checked.specs.Statement as checked
-use Rattle.c_checked.specs.Statement.{Declared, Filter}
 use Rattle.c_checked.specs.Sound as sound
 use Rattle.c_checked.specs.Sound.{Inside, same_sizes, expression_size, expression_sound, optional_sound, condition_sound, test_sound, value_fits, declared_sound, all_declared_sound, result_sound, filter_sound, statement_sound, statements_sound}
 use Rattle.c_syntax.specs.declared.expression.Base.{Base}

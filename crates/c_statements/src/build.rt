@@ -26,80 +26,67 @@ pub fn evaluate_of(value: Option<Expr>) -> Stmt
 }
 
 /// An `if` without `else`.
-pub fn if_of(alloc: Global, condition: Expr, then: Stmt) -> Result<Stmt, AllocError>
-    ensures { IfOk result (λ s. statement s ≡ checked.If (expression condition) (statement then)) }
+pub fn if_of(condition: Expr, then: Box<Stmt>) -> Stmt
+    ensures { statement result ≡ checked.If (expression condition) (statement then.value) }
 {
-    let then = Box::new(alloc, then)?;
-    Ok(Stmt::If {
+    Stmt::If {
         condition,
         then,
         otherwise: None,
-    })
+    }
 }
 
 /// An `if` with an `else`.
-pub fn if_else_of(
-    alloc: Global,
-    condition: Expr,
-    then: Stmt,
-    otherwise: Stmt,
-) -> Result<Stmt, AllocError>
-    ensures { IfOk result (λ s. statement s ≡ checked.IfElse (expression condition) (statement then)
-        (statement otherwise)) }
+pub fn if_else_of(condition: Expr, then: Box<Stmt>, otherwise: Box<Stmt>) -> Stmt
+    ensures { statement result ≡ checked.IfElse (expression condition) (statement then.value)
+        (statement otherwise.value) }
 {
-    let then = Box::new(alloc, then)?;
-    let otherwise = Box::new(alloc, otherwise)?;
-    Ok(Stmt::If {
+    Stmt::If {
         condition,
         then,
         otherwise: Some(otherwise),
-    })
+    }
 }
 
 /// A `for`.
 pub fn for_of(
-    alloc: Global,
     beginning: Beginning,
     condition: Option<Expr>,
     next: Option<Expr>,
-    body: Stmt,
-) -> Result<Stmt, AllocError>
-    ensures { IfOk result (λ s. statement s ≡ checked.For (map declared beginning.declared.items)
+    body: Box<Stmt>,
+) -> Stmt
+    ensures { statement result ≡ checked.For (map declared beginning.declared.items)
         (option_map expression beginning.first) (option_map expression condition)
-        (option_map expression next) (statement body)) }
+        (option_map expression next) (statement body.value) }
 {
-    let body = Box::new(alloc, body)?;
-    Ok(Stmt::For {
+    Stmt::For {
         declared: beginning.declared,
         first: beginning.first,
         condition,
         next,
         body,
-    })
+    }
 }
 
 /// A `while`: a `for` with a condition alone.
-pub fn while_of(alloc: Global, condition: Expr, body: Stmt) -> Result<Stmt, AllocError>
-    ensures { IfOk result (λ s. statement s ≡ checked.For [] None (Some (expression condition)) None
-        (statement body)) }
+pub fn while_of(alloc: Global, condition: Expr, body: Box<Stmt>) -> Stmt
+    ensures { statement result ≡ checked.For [] None (Some (expression condition)) None
+        (statement body.value) }
 {
-    let body = Box::new(alloc, body)?;
-    Ok(Stmt::For {
+    Stmt::For {
         declared: Vec::new(alloc),
         first: None,
         condition: Some(condition),
         next: None,
         body,
-    })
+    }
 }
 
 /// A `do`.
-pub fn do_of(alloc: Global, body: Stmt, condition: Expr) -> Result<Stmt, AllocError>
-    ensures { IfOk result (λ s. statement s ≡ checked.DoWhile (statement body)
-        (expression condition)) }
+pub fn do_of(body: Box<Stmt>, condition: Expr) -> Stmt
+    ensures { statement result ≡ checked.DoWhile (statement body.value) (expression condition) }
 {
-    let body = Box::new(alloc, body)?;
-    Ok(Stmt::Do { body, condition })
+    Stmt::Do { body, condition }
 }
 
 /// A `return`.

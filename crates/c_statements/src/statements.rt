@@ -39,13 +39,13 @@ fn part(
     env: &Environment<'_, '_>,
     walk: &mut Walk,
     s: &Stmt,
-) -> Result<Checked, AllocError>
-    ensures { IfOk result (λ m. MakesPart walk.old walk.new m
+) -> Result<Box<Checked>, AllocError>
+    ensures { IfOk result (λ m. MakesPart walk.old walk.new m.value
         (resolve_statement (statement s.now) (environment env.now) [] (numbering walk.old))) }
 {
     let mut block = IndexMap::new(alloc);
     let made = statement(alloc, env, &mut block, walk, s)?;
-    Ok(only(made))
+    Ok(Box::new(alloc, only(made))?)
 }
 
 /// The statements of a block within another statement.
@@ -75,8 +75,8 @@ fn governed<'t>(
     s: &Stmt,
     at: u64,
     e: &Expr,
-) -> Result<(CheckedExpr, Checked), AllocError>
-    ensures { IfOk result (λ x. MakesGoverned walk.old walk.new x.0 x.1
+) -> Result<(CheckedExpr, Box<Checked>), AllocError>
+    ensures { IfOk result (λ x. MakesGoverned walk.old walk.new x.0 x.1.value
         (definitions.condition at (resolved_at (environment env.now) (block_of block.now.entries)
         (expression e.now))) (resolve_statement (statement s.now) (environment inner.now) []
         (numbering walk.old))) }
@@ -112,7 +112,7 @@ fn for_loop<'t>(
     let after = any_or_none(alloc, &here, &names, &mut walk.worst, next)?;
     let inner = Scopes::Inside(&names, here.outer);
     let made = part(alloc, &in_loop(&within(&here, &inner)), walk, body)?;
-    for_of(alloc, beginning, value, after, made)
+    Ok(for_of(beginning, value, after, made))
 }
 
 /// A `__try` of a block.
@@ -176,7 +176,7 @@ fn loop_or_try<'t>(
         } => {
             let inner = in_loop(&here);
             let (value, body) = governed(alloc, env, block, &inner, walk, body, *at, condition)?;
-            one(alloc, while_of(alloc, value, body)?)
+            one(alloc, while_of(alloc, value, body))
         }
         Stmt::Do {
             body,
@@ -185,7 +185,7 @@ fn loop_or_try<'t>(
         } => {
             let inner = in_loop(&here);
             let (value, body) = governed(alloc, env, block, &inner, walk, body, *at, condition)?;
-            one(alloc, do_of(alloc, body, value)?)
+            one(alloc, do_of(body, value))
         }
         _ => guarded(alloc, env, block, walk, s),
     }
@@ -215,10 +215,10 @@ fn with_parts<'t>(
         } => {
             let (value, then) = governed(alloc, env, block, &here, walk, then, *at, condition)?;
             match otherwise {
-                None => one(alloc, if_of(alloc, value, then)?),
+                None => one(alloc, if_of(value, then)),
                 Some(otherwise) => {
                     let otherwise = part(alloc, &here, walk, otherwise)?;
-                    one(alloc, if_else_of(alloc, value, then, otherwise)?)
+                    one(alloc, if_else_of(value, then, otherwise))
                 }
             }
         }

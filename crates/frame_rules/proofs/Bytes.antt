@@ -45,7 +45,7 @@ never_empty i h = go (chosen i) (again i [] h)
 pub spells_all : SpellsAll
 spells_all = record { instr = λ i. refl; sized = λ i h. never_empty i h; plain = refl }
 
--- ---- what an end of an epilogue asks of its bytes is told by the spelling alone
+-- ---- what an end of an epilogue asks of its bytes is said by the spelling alone
 
 -- a place's first byte
 pub record Starts (xs : List ℕ) : Type 0 where

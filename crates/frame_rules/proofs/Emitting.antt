@@ -19,7 +19,7 @@ use Rattle.frame_rules.specs.States.{is_other}
 use Rattle.frame_rules.specs.Plan.{Saved, Plan, IsPlan, IsSpelling, frame_then, allocation_then, operations_of, stack_place, spelled_by, load_of, loads_then, opening_by, opening_then, pops_then, epilogue, is_inner, are_inner, with_epilogues, all_inner}
 use Rattle.frame_rules.specs.Laws.{PlansAreRight}
 use Rattle.frame_rules.proofs.Bodies.{following-append}
-use Rattle.frame_rules.proofs.Planning.{register_number, ordered_plan, framed_plan, codes_plan, are_steps}
+use Rattle.frame_rules.proofs.Planning.{nonvolatile_number, ordered_plan, framed_plan, codes_plan, are_steps}
 use Rattle.frame_rules.proofs.Planned.{Loadable, AllLoadable, all_loadable, allocation_plan, pushes_plan, loaded, restored_plan, frame_saved, allowed_later, saved_later}
 use Rattle.frame_rules.proofs.Undoing.{saved_register}
 use Rattle.frame_rules.proofs.Order.{ordered, pushes_allowed}
@@ -32,7 +32,7 @@ load_next f offset ops s x rs e h =
     let r = s.register in
     let n = s.offset in
     let k : ℕ = number (register r) in
-    let same : k ≡ r = register_number r h.kept in
+    let same : k ≡ r = nonvolatile_number r h.kept in
     let G : Instr → Option Mode = λ i. from_body f offset ops rs (record x { instr = i }) (role_of f x.plain i) in
     let place : is_place f offset n (stack_place n) ≡ true = or_left (true && eqb n n) _ (eq-eqb n n refl) in
     let restored : if_place f offset (stack_place n) k (saved_at k ops) ≡ Some r =
@@ -50,7 +50,7 @@ inner_next f offset ops x rs o w = ap (from_body f offset ops rs x) o ∙ ap (on
 
 -- a pop, the return
 pop_next : (f r : ℕ) (rs : List ℕ) (x : FetchedInstr) → x.instr ≡ instrs.Pop (register r) → is_nonvolatile r ≡ true → leaving f (r ∷ rs) x ≡ Some (Leaving rs)
-pop_next f r rs x e h = ap (only_if (Some (Leaving rs))) (ap (is_pop r) e ∙ eq-eqb (number (register r)) r (register_number r h))
+pop_next f r rs x e h = ap (only_if (Some (Leaving rs))) (ap (is_pop r) e ∙ eq-eqb (number (register r)) r (nonvolatile_number r h))
 
 return_next : (f : ℕ) (x : FetchedInstr) → x.instr ≡ instrs.Return → x.plain ≡ true → leaving f [] x ≡ Some (Body [])
 return_next f x e p = ap (only_if (Some (Body []))) (ap (λ i. is_ends (role_of f x.plain i)) e ∙ ap (λ b. is_ends (ending b)) p)
@@ -76,7 +76,7 @@ frame_kept p h ne =
     (saved_register p.frame p.frame (operations_of p) h.allowed (saved_later p.frame p.saves xs s)).0
 
 is_frame : (p : Plan) → IsPlan p → eqb p.frame 0 ≡ false → is_of p.frame (bases.Register (register p.frame)) None ≡ true
-is_frame p h e = ap (λ b. cond b false (eqb (number (register p.frame)) p.frame)) e ∙ eq-eqb (number (register p.frame)) p.frame (register_number p.frame (frame_kept p h (eqb-false p.frame 0 e)))
+is_frame p h e = ap (λ b. cond b false (eqb (number (register p.frame)) p.frame)) e ∙ eq-eqb (number (register p.frame)) p.frame (nonvolatile_number p.frame (frame_kept p h (eqb-false p.frame 0 e)))
 
 opens_role : (p : Plan) → IsPlan p → (b : Bool) → eqb p.frame 0 ≡ b → (plain : Bool) → role_of p.frame plain (opening_by p b) ≡ Opens
 opens_role p h true e plain = refl

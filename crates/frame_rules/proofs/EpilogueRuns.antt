@@ -29,7 +29,8 @@ use Rattle.frame_rules.specs.Body.{written, has, may_write_all, restored_by, wit
 use Rattle.frame_rules.specs.States.{registers, Turn, Runs, is_some, is_leaving, leaves, all_leave}
 use Rattle.frame_rules.proofs.Undoing.{stack_depth, others_after}
 use Rattle.frame_rules.proofs.Order.{framed_above, stack_opened, pushes_allowed}
-use Rattle.frame_rules.proofs.Steps.{Became, became, set_same, set_other, number_small}
+use Rattle.x64_instr.proofs.RegisterNumbers.{number_small}
+use Rattle.frame_rules.proofs.Steps.{Became, became, set_same, set_other}
 use Rattle.frame_rules.proofs.Bodies.{only, pop_role}
 use Rattle.frame_rules.proofs.Tails.{some_same}
 use Rattle.frame_rules.proofs.Prologues.{turn_plain}

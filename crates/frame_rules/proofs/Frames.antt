@@ -96,7 +96,7 @@ pub at_end : (f offset at : ℕ) (done : List UnwindCode) (ss : List Step) → A
 at_end f offset at done [] h m = subst (λ k. AtMost k done) (let e : at ≡ at + 0 = omega arith in e) m
 at_end f offset at done (s ∷ ss) h m =
     let e = bytes-append s.items (items ss) in
-    subst (λ k. AtMost k (codes_onto (s.code ∷ done) ss)) (let z : at + bytes s.items + bytes (items ss) ≡ at + bytes (s.items ++ items ss) = omega arith in z) (at_end f offset (at + bytes s.items) (s.code ∷ done) ss h.3 (let end = h.2 in omega arith))
+    subst (λ k. AtMost k (codes_onto (s.code ∷ done) ss)) (let z : at + bytes s.items + bytes (items ss) ≡ at + bytes (s.items ++ items ss) = omega arith in z) (at_end f offset (at + bytes s.items) (s.code ∷ done) ss h.1 (let end = h.0.ends in omega arith))
 
 pub items_split : (m : Memory) (at : ℕ) (xs ys : List FetchedInstr) (to : ℕ) → HasItems m at (xs ++ ys) to → HasItems m (at + bytes xs) ys to
 items_split m at [] ys to h = subst (λ a. HasItems m a ys to) (let e : at ≡ at + 0 = omega arith in e) h

@@ -18,12 +18,12 @@ use Rattle.virtual_unwind.specs.Contexts.{is_nonvolatile}
 use Rattle.virtual_unwind.specs.Tail.{FetchedInstr}
 use Rattle.frame_rules.specs.Codes.{is_saved}
 use Rattle.frame_rules.specs.Frame.{IsWord, Stack}
-use Rattle.frame_rules.specs.Prologue.{bytes, does, is_stack, sets_size, is_call, subtracts, allocates, is_step, Step, items, AreSteps}
+use Rattle.frame_rules.specs.Prologue.{bytes, does, is_stack, sets_size, subtracts, is_step, Step, items, AreSteps}
 use Rattle.frame_rules.specs.Body.{written, is_a_call, has, may_write, may_write_all}
 use Rattle.frame_rules.specs.States.{registers, Runs, KeepsWord, KeepsWords, is_other, writes, is_written}
 use Rattle.frame_rules.specs.Rules.{ops}
 use Rattle.frame_rules.specs.Laws.{BodyBegins, BodyContinues}
-use Rattle.frame_rules.proofs.Prologues.{turn_plain, turn_call, size_plain, subtracts_plain, does_plain}
+use Rattle.frame_rules.proofs.Prologues.{turn_plain, turn_call, size_plain, subtracts_plain, does_plain, large_of}
 use Rattle.frame_rules.proofs.Writing.{writes_no_other}
 use Rattle.frame_rules.proofs.EveryFrame.{following_running}
 
@@ -89,43 +89,44 @@ subtracts_writes : (i : Instr) (r : ℕ) → subtracts i ≡ true → r ≢ 4 �
 subtracts_writes (instrs.Arithmetic computes.Sub W64 (places.Register Rsp) (operands.Register Rax)) r e four = (refl, one_register 4 r four)
 subtracts_writes i r e four = absurd (false≢true e)
 
-allocates_parts : (op : UnwindOperation) (x y z : Instr) → allocates op x y z ≡ true → (k : ℕ) × (sets_size k x ≡ true) × (is_call y ≡ true) × (subtracts z ≡ true)
-allocates_parts (Allocate k) x y z h =
-    let a = and_parts (sets_size k x) (is_call y && subtracts z) h in
-    let b = and_parts (is_call y) (subtracts z) a.1 in
-    (k, a.0, b.0, b.1)
-allocates_parts (Push r) x y z h = absurd (false≢true h)
-allocates_parts SetFrame x y z h = absurd (false≢true h)
-allocates_parts (Save r k) x y z h = absurd (false≢true h)
-allocates_parts (SaveVector r k) x y z h = absurd (false≢true h)
-allocates_parts (MachineFrame k) x y z h = absurd (false≢true h)
+-- after a step's instructions: the state, and the run of what follows them
+record StillAfter (f : ℕ) (e t : State) (xs : List FetchedInstr) : Type 0 where
+  to : State
+  still : Still f e to
+  runs : Runs to xs t
 
-still_items : (f offset : ℕ) (op : UnwindOperation) (its xs : List FetchedInstr) (e s t : State) → is_step f offset op its ≡ true → Still f e s → Runs s (its ++ xs) t → (u : State) × Still f e u × Runs u xs t
+still_items : (f offset : ℕ) (op : UnwindOperation) (its xs : List FetchedInstr) (e s t : State) → is_step f offset op its ≡ true → Still f e s → Runs s (its ++ xs) t → StillAfter f e t xs
 still_items f offset op [] xs e s t h st runs = absurd (false≢true h)
-still_items f offset op (x ∷ []) xs e s t h st runs =
-    (runs.0, λ r nv four fr. writes_no_other _ runs.0 x.instr r (does_no_call f offset op x.instr h) (turn_plain s runs.0 x (does_plain f offset op x.instr h) runs.1) (does_writes f offset op x.instr r h four fr) ∙ st r nv four fr, runs.2)
+still_items f offset op (x ∷ []) xs e s t h st runs = record {
+  to = runs.0;
+  still = λ r nv four fr. writes_no_other _ runs.0 x.instr r (does_no_call f offset op x.instr h) (turn_plain s runs.0 x (does_plain f offset op x.instr h) runs.1) (does_writes f offset op x.instr r h four fr) ∙ st r nv four fr;
+  runs = runs.2;
+}
 still_items f offset op (x ∷ y ∷ []) xs e s t h st runs = absurd (false≢true h)
 still_items f offset op (x ∷ y ∷ z ∷ []) xs e s t h st runs =
-    let p = allocates_parts op x.instr y.instr z.instr h in
+    let large = large_of op x.instr y.instr z.instr h in
     let s1 = runs.0 in
-    let s2 = runs.2.0 in
-    let s3 = runs.2.2.0 in
-    let call = turn_call s1 s2 y p.2 runs.2.1 in (
-      s3,
-      λ r nv four fr.
-          (let q = subtracts_writes z.instr r p.3 four in writes_no_other _ s3 z.instr r q.0 (turn_plain s2 s3 z (subtracts_plain z.instr p.3) runs.2.2.1) q.1)
+    let second = runs.2 in
+    let s2 = second.0 in
+    let third = second.2 in
+    let s3 = third.0 in
+    let call = turn_call s1 s2 y large.calls second.1 in
+    record {
+      to = s3;
+      still = λ r nv four fr.
+          (let q = subtracts_writes z.instr r large.takes four in writes_no_other _ s3 z.instr r q.0 (turn_plain s2 s3 z (subtracts_plain z.instr large.takes) third.1) q.1)
           ∙ call.kept r (inl nv)
-          ∙ (let q = size_writes p.0 x.instr r p.1 nv in writes_no_other _ s1 x.instr r q.0 (turn_plain s s1 x (size_plain p.0 x.instr p.1) runs.1) q.1)
-          ∙ st r nv four fr,
-      runs.2.2.2,
-    )
+          ∙ (let q = size_writes large.size x.instr r large.sets nv in writes_no_other _ s1 x.instr r q.0 (turn_plain s s1 x (size_plain large.size x.instr large.sets) runs.1) q.1)
+          ∙ st r nv four fr;
+      runs = third.2;
+    }
 still_items f offset op (x ∷ y ∷ z ∷ w ∷ its) xs e s t h st runs = absurd (false≢true h)
 
 still_steps : (f offset at : ℕ) (ss : List Step) (e s t : State) → AreSteps f offset at ss → Still f e s → Runs s (items ss) t → Still f e t
 still_steps f offset at [] e s t h st runs = subst (Still f e) runs st
 still_steps f offset at (k ∷ ss) e s t h st runs =
-    let n = still_items f offset k.code.operation k.items (items ss) e s t h.0 st runs in
-    still_steps f offset (at + bytes k.items) ss e n.0 t h.3 n.1 n.2
+    let n = still_items f offset k.code.operation k.items (items ss) e s t h.0.does st runs in
+    still_steps f offset (at + bytes k.items) ss e n.to t h.1 n.still n.runs
 
 pub body_begins : BodyBegins
 body_begins f e p right entry runs =

@@ -27,7 +27,8 @@ use Rattle.frame_rules.specs.Body.{has, saved_at, is_place, if_place, restored_b
 use Rattle.frame_rules.specs.States.{registers}
 use Rattle.frame_rules.proofs.Undoing.{stack_depth, saved_register, framed_saved}
 use Rattle.frame_rules.proofs.Order.{Ordered, push, allocate, frame, save, framed_above}
-use Rattle.frame_rules.proofs.Steps.{became, set_same, set_other, number_small, stack_address, allocation_depth}
+use Rattle.x64_instr.proofs.RegisterNumbers.{number_small}
+use Rattle.frame_rules.proofs.Steps.{became, set_same, set_other, stack_address, allocation_depth}
 
 -- ---- where saved registers are
 
@@ -152,21 +153,28 @@ load_effect s a at v q m place got =
     let G : Answer ℕ → Answer State = λ r. r >>= λ x. Ok (record { cpu = record { registers = set s.cpu.registers (number q) (x % 2 ^ 64); rip = a; flags = s.cpu.flags }; memory = s.memory }) in
     ap (λ x. G (load s.memory x W64)) place ∙ ap G got
 
-if_place_parts : (f offset : ℕ) (a : MemRef) (q r : ℕ) (o : Option ℕ) → if_place f offset a q o ≡ Some r → (n : ℕ) × (o ≡ Some n) × (is_place f offset n a ≡ true) × (q ≡ r)
+-- where a saved register is loaded from
+record IsPlaceOf (f offset : ℕ) (a : MemRef) (q r : ℕ) (o : Option ℕ) : Type 0 where
+  at : ℕ
+  saved : o ≡ Some at
+  place : is_place f offset at a ≡ true
+  same : q ≡ r
+
+if_place_parts : (f offset : ℕ) (a : MemRef) (q r : ℕ) (o : Option ℕ) → if_place f offset a q o ≡ Some r → IsPlaceOf f offset a q r o
 if_place_parts f offset a q r None e = absurd cc
 if_place_parts f offset a q r (Some n) e = go (is_place f offset n a) refl e
   where
-    go : (b : Bool) → is_place f offset n a ≡ b → cond b (Some q) None ≡ Some r → (k : ℕ) × (Some n ≡ Some k) × (is_place f offset k a ≡ true) × (q ≡ r)
-    go true is e = (n, refl, is, some_number e)
+    go : (b : Bool) → is_place f offset n a ≡ b → cond b (Some q) None ≡ Some r → IsPlaceOf f offset a q r (Some n)
+    go true is e = record { at = n; saved = refl; place = is; same = some_number e }
     go false is e = absurd cc
 
 pub loads : (f offset back a : ℕ) (old : ℕ → ℕ) (ops : List UnwindOperation) (rs : List ℕ) (s u : State) (i : Instr) (r : ℕ) → Known f offset old ops → InLoads f offset old back ops rs s → restored_by f offset ops i ≡ Some r → effect (with_rip s a) i ≡ Ok u → InLoads f offset old back ops (r ∷ rs) u
 loads f offset back a old ops rs s u (instrs.Move W64 (places.Register q) (operands.Memory m)) r known h e ef =
     let parts = if_place_parts f offset m (number q) r (saved_at (number q) ops) e in
-    let n = parts.0 in
-    let same = parts.3 in
+    let n = parts.at in
+    let same = parts.same in
     let base = registers s 4 in
-    let place = saved_place f offset s.memory old back base base (number q) n ops known.ordered known.allowed h.holds.stack parts.1 in
+    let place = saved_place f offset s.memory old back base base (number q) n ops known.ordered known.allowed h.holds.stack parts.saved in
     let kept = saved_register f (number q) ops known.allowed place.saved in
     let d = stack_depth s.memory old back base base ops h.holds.stack in
     let shallow = allocation_depth ops in
@@ -175,7 +183,7 @@ loads f offset back a old ops rs s u (instrs.Move W64 (places.Register q) (opera
     let lt : registers s 4 + n < 2 ^ 64 = omega arith in
     let c : Cpu = record { registers = s.cpu.registers; rip = a; flags = s.cpu.flags } in
     let framed : f ≢ 0 → registers s f ≡ registers s 4 + offset = λ ne. framed_above f offset (registers s) base ops known.ordered (known.frame ne) h.holds.framed in
-    let at = place_address f offset n c m parts.2 framed lt in
+    let at = place_address f offset n c m parts.place framed lt in
     let fits = known.fits (number q) in
     let v = old (number q) % 2 ^ 64 in
     let value : v ≡ old (number q) = omega arith in

@@ -1,5 +1,5 @@
 -- The functions of plans are right.
-use Rattle.std.proofs.Common.{◌≡◌, ◌≢◌, ℕ, zero, suc, ◌+◌, ◌^◌, ◌<◌, ◌≤◌, Bool, true, false, not, ◌&&◌, eqb, leb, ltb, List, [], ◌∷◌, refl, ap, ◌∙◌, arith}
+use Rattle.std.proofs.Common.{◌≡◌, ◌≢◌, ℕ, ◌+◌, ◌^◌, ◌<◌, ◌≤◌, Bool, true, false, not, ◌&&◌, eqb, leb, ltb, List, [], ◌∷◌, refl, ap, ◌∙◌, arith}
 use Rattle.std.proofs.lemmas.Bool.{and_parts, and_from, eq-eqb, ne_eqb, lt-ltb, leb-true}
 use Rattle.std.proofs.lemmas.Grind.{common_steps}
 use Rattle.x64_instr.specs.declared.instruction.Instr.{Instr}
@@ -19,38 +19,20 @@ use Rattle.virtual_unwind.specs.Undone.{operations}
 use Rattle.virtual_unwind.specs.Tail.{FetchedInstr}
 use Rattle.virtual_unwind.specs.CallerOf.{sets_frame}
 use Rattle.frame_rules.specs.Codes.{are_apart, allocation, pushed, is_saved, may_save, is_allowed, are_allowed, are_pushes, is_allocated, is_framed, is_ordered}
-use Rattle.frame_rules.specs.Prologue.{bytes, does, is_step, allocates, codes_onto, are_sized, AreSteps}
+use Rattle.frame_rules.specs.Prologue.{bytes, does, is_step, allocates, codes_onto, are_sized, IsStep, AreSteps}
 use Rattle.frame_rules.specs.Plan.{Saved, Plan, IsPlan, IsSpelling, saves_then, frame_then, allocation_then, operations_of, stack_place, allocating, instructions_of, spelled_by, all_encodable, turned, step_of, steps_of, prologue}
 use Rattle.x64_encode.specs.Chosen.{is_encodable, is_signed}
+use Rattle.x64_instr.proofs.RegisterNumbers.{number_register}
 use Rattle.frame_rules.proofs.Undoing.{saved_register}
 use Rattle.frame_rules.proofs.Order.{pushes_alone}
 
 -- ---- registers by number
 
-number_register : (r : ℕ) → r < 16 → number (register r) ≡ r
-number_register zero lt = refl
-number_register (suc zero) lt = refl
-number_register (suc (suc zero)) lt = refl
-number_register (suc (suc (suc zero))) lt = refl
-number_register (suc (suc (suc (suc zero)))) lt = refl
-number_register (suc (suc (suc (suc (suc zero))))) lt = refl
-number_register (suc (suc (suc (suc (suc (suc zero)))))) lt = refl
-number_register (suc (suc (suc (suc (suc (suc (suc zero))))))) lt = refl
-number_register (suc (suc (suc (suc (suc (suc (suc (suc zero)))))))) lt = refl
-number_register (suc (suc (suc (suc (suc (suc (suc (suc (suc zero))))))))) lt = refl
-number_register (suc (suc (suc (suc (suc (suc (suc (suc (suc (suc zero)))))))))) lt = refl
-number_register (suc (suc (suc (suc (suc (suc (suc (suc (suc (suc (suc zero))))))))))) lt = refl
-number_register (suc (suc (suc (suc (suc (suc (suc (suc (suc (suc (suc (suc zero)))))))))))) lt = refl
-number_register (suc (suc (suc (suc (suc (suc (suc (suc (suc (suc (suc (suc (suc zero))))))))))))) lt = refl
-number_register (suc (suc (suc (suc (suc (suc (suc (suc (suc (suc (suc (suc (suc (suc zero)))))))))))))) lt = refl
-number_register (suc (suc (suc (suc (suc (suc (suc (suc (suc (suc (suc (suc (suc (suc (suc zero))))))))))))))) lt = refl
-number_register (suc (suc (suc (suc (suc (suc (suc (suc (suc (suc (suc (suc (suc (suc (suc (suc r)))))))))))))))) lt = absurd (omega arith)
-
 pub nonvolatile_small : (r : ℕ) → is_nonvolatile r ≡ true → r < 16
 nonvolatile_small r h = grind (arith, common_steps)
 
-pub register_number : (r : ℕ) → is_nonvolatile r ≡ true → number (register r) ≡ r
-register_number r h = number_register r (nonvolatile_small r h)
+pub nonvolatile_number : (r : ℕ) → is_nonvolatile r ≡ true → number (register r) ≡ r
+nonvolatile_number r h = number_register r (nonvolatile_small r h)
 
 -- ---- the order of a plan's codes
 
@@ -196,16 +178,18 @@ module _ (spell : Instr → FetchedInstr) (sp : IsSpelling spell) where
       ∙ and_from (eqb n n && ltb n (2 ^ 32)) true (and_from (eqb n n) (ltb n (2 ^ 32)) (eq-eqb n n refl) (lt-ltb n (2 ^ 32) lt)) refl
 
   one_step : (p : Plan) (x : UnwindOperation) → Emitted p x → is_step p.frame p.distance x (spelled_by spell (instructions_of p x)) ≡ true
-  one_step p (Push r) h = ap (does p.frame p.distance (Push r)) (sp.instr (instrs.Push (register r))) ∙ eq-eqb (number (register r)) r (register_number r h)
+  one_step p (Push r) h = ap (does p.frame p.distance (Push r)) (sp.instr (instrs.Push (register r))) ∙ eq-eqb (number (register r)) r (nonvolatile_number r h)
   one_step p (Allocate n) h = allocated p.frame p.distance p.probe n (leb n 4096) (omega arith)
-  one_step p SetFrame h = ap (does p.frame p.distance SetFrame) (sp.instr (instrs.LoadAddress W64 (register p.frame) (stack_place p.distance))) ∙ and_from (eqb (number (register p.frame)) p.frame) (true && eqb p.distance p.distance) (eq-eqb (number (register p.frame)) p.frame (register_number p.frame h)) (eq-eqb p.distance p.distance refl)
-  one_step p (Save r n) h = ap (does p.frame p.distance (Save r n)) (sp.instr (instrs.Move W64 (places.Memory (stack_place n)) (operands.Register (register r)))) ∙ and_from (eqb (number (register r)) r) (true && eqb n n) (eq-eqb (number (register r)) r (register_number r h.0)) (eq-eqb n n refl)
+  one_step p SetFrame h = ap (does p.frame p.distance SetFrame) (sp.instr (instrs.LoadAddress W64 (register p.frame) (stack_place p.distance))) ∙ and_from (eqb (number (register p.frame)) p.frame) (true && eqb p.distance p.distance) (eq-eqb (number (register p.frame)) p.frame (nonvolatile_number p.frame h)) (eq-eqb p.distance p.distance refl)
+  one_step p (Save r n) h = ap (does p.frame p.distance (Save r n)) (sp.instr (instrs.Move W64 (places.Memory (stack_place n)) (operands.Register (register r)))) ∙ and_from (eqb (number (register r)) r) (true && eqb n n) (eq-eqb (number (register r)) r (nonvolatile_number r h.0)) (eq-eqb n n refl)
   one_step p (SaveVector r n) h = absurd h
   one_step p (MachineFrame n) h = absurd h
 
   all_steps : (p : Plan) (at : ℕ) (xs : List UnwindOperation) → IsPlan p → AllEmitted p xs → AreSteps p.frame p.distance at (steps_of spell p at xs)
   all_steps p at [] k h = tt
-  all_steps p at (x ∷ xs) k h = (one_step p x h.0, all_sized (instructions_of p x) (step_encodable p x k h.0), refl, all_steps p (at + bytes (spelled_by spell (instructions_of p x))) xs k h.1)
+  all_steps p at (x ∷ xs) k h =
+      let first : IsStep p.frame p.distance at (step_of spell p at x) = record { does = one_step p x h.0; sized = all_sized (instructions_of p x) (step_encodable p x k h.0); ends = refl } in
+      (first, all_steps p (at + bytes (spelled_by spell (instructions_of p x))) xs k h.1)
 
   pub are_steps : (p : Plan) → IsPlan p → AreSteps p.frame p.distance 0 (prologue spell p)
   are_steps p h = all_steps p 0 (turned [] (operations_of p)) h (all_turned p [] (operations_of p) tt (emitted_plan p h))

@@ -21,7 +21,7 @@ use Rattle.virtual_unwind.specs.Tail.{FetchedInstr}
 use Rattle.virtual_unwind.specs.CallerOf.{run_or, run_by}
 use Rattle.frame_rules.specs.Codes.{depth, allocation, may_save, is_allowed, are_allowed, is_saved, are_apart, are_pushes}
 use Rattle.frame_rules.specs.Frame.{Stack, Framed}
-use Rattle.frame_rules.specs.Prologue.{bytes, does, is_stack, sets_size, is_call, subtracts, is_step, Step, codes_onto, are_sized, AreSteps}
+use Rattle.frame_rules.specs.Prologue.{bytes, does, is_stack, sets_size, is_call, subtracts, allocates, is_step, Step, codes_onto, are_sized, AreSteps}
 use Rattle.frame_rules.specs.States.{registers, Called, Turn, IsEntry}
 use Rattle.frame_rules.proofs.Undoing.{stack_depth, saved_register, framed_saved}
 use Rattle.frame_rules.proofs.Order.{Ordered, push, allocate, frame, save, ordered_rest}
@@ -144,6 +144,27 @@ pub positive : (f offset : ℕ) (op : UnwindOperation) (xs : List FetchedInstr) 
 positive f offset op [] s e = absurd (false≢true s)
 positive f offset op (x ∷ xs) s e = let h = first_positive x xs e in omega arith
 
+-- ---- a large allocation
+
+-- how much three instructions allocate, and what each of them does
+pub record IsLarge (op : UnwindOperation) (x y z : Instr) : Type 0 where
+  pub size : ℕ
+  pub is : op ≡ Allocate size
+  pub sets : sets_size size x ≡ true
+  pub calls : is_call y ≡ true
+  pub takes : subtracts z ≡ true
+
+pub large_of : (op : UnwindOperation) (x y z : Instr) → allocates op x y z ≡ true → IsLarge op x y z
+large_of (Allocate k) x y z h =
+    let a = and_parts (sets_size k x) (is_call y && subtracts z) h in
+    let b = and_parts (is_call y) (subtracts z) a.1 in
+    record { size = k; is = refl; sets = a.0; calls = b.0; takes = b.1 }
+large_of (Push r) x y z h = absurd (false≢true h)
+large_of SetFrame x y z h = absurd (false≢true h)
+large_of (Save r k) x y z h = absurd (false≢true h)
+large_of (SaveVector r k) x y z h = absurd (false≢true h)
+large_of (MachineFrame k) x y z h = absurd (false≢true h)
+
 -- ---- lists of codes that continue
 
 pub record Good (f n : ℕ) (ops : List UnwindOperation) : Type 0 where
@@ -176,14 +197,14 @@ run_done d (c ∷ cs) h = ap (run_or (c ∷ cs) (run_by d cs)) (le-leb c.offset 
 pub skips : (f offset at d : ℕ) (done : List UnwindCode) (ss : List Step) → d ≤ at → AreSteps f offset at ss → run_by d (codes_onto done ss) ≡ run_by d done
 skips f offset at d done [] le h = refl
 skips f offset at d done (s ∷ ss) le h =
-    let pos = positive f offset s.code.operation s.items h.0 h.1 in
-    let end = h.2 in
-    skips f offset (at + bytes s.items) d (s.code ∷ done) ss (omega arith) h.3 ∙ ap (run_or (s.code ∷ done) (run_by d done)) (lt-leb s.code.offset d (omega arith))
+    let pos = positive f offset s.code.operation s.items h.0.does h.0.sized in
+    let end = h.0.ends in
+    skips f offset (at + bytes s.items) d (s.code ∷ done) ss (omega arith) h.1 ∙ ap (run_or (s.code ∷ done) (run_by d done)) (lt-leb s.code.offset d (omega arith))
 
 pub skips_first : (f offset at d : ℕ) (done : List UnwindCode) (s : Step) (ss : List Step) → d < at + bytes s.items → AreSteps f offset at (s ∷ ss) → run_by d (codes_onto done (s ∷ ss)) ≡ run_by d done
 skips_first f offset at d done s ss lt h =
-    let end = h.2 in
-    skips f offset (at + bytes s.items) d (s.code ∷ done) ss (omega arith) h.3 ∙ ap (run_or (s.code ∷ done) (run_by d done)) (lt-leb s.code.offset d (omega arith))
+    let end = h.0.ends in
+    skips f offset (at + bytes s.items) d (s.code ∷ done) ss (omega arith) h.1 ∙ ap (run_or (s.code ∷ done) (run_by d done)) (lt-leb s.code.offset d (omega arith))
 
 -- ---- the states on the way
 

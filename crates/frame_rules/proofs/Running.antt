@@ -108,7 +108,7 @@ module _ (f offset back n : ℕ) (e : State) (entry : IsEntry n e) (small : offs
   ends at done [] s h one g run lt = record { to = s; runs = refl; rip = let z : s.cpu.rip ≡ s.cpu.rip + 0 = omega arith in z }
   ends at done (st ∷ ss) s h one g run lt =
       let o = and_parts (is_single st.items) (are_single ss) one in
-      by_items at done st.code ss st.items s o.0 h.0 (good_done f n (st.code ∷ done) ss g) run lt (λ u r l. ends (at + bytes st.items) (st.code ∷ done) ss u h.3 o.1 g r l)
+      by_items at done st.code ss st.items s o.0 h.0.does (good_done f n (st.code ∷ done) ss g) run lt (λ u r l. ends (at + bytes st.items) (st.code ∷ done) ss u h.1 o.1 g r l)
 
 pub prologues_run : ProloguesRun
 prologues_run f e right entry one lt =

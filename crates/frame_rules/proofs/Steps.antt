@@ -6,7 +6,7 @@ use Rattle.flat_memory.specs.declared.protection.Protection.{Protection}
 use Rattle.flat_memory.specs.Protections.{is_writable}
 use Rattle.flat_memory.specs.Memory.{Memory, first_refused, may_write, with_number, with_bytes, access, unless_refused}
 use Rattle.x64_instr.specs.declared.register.Reg.{Reg}
-use Rattle.x64_instr.specs.declared.register.Reg.TheVariants.{Rax, Rcx, Rdx, Rbx, Rsp, Rbp, Rsi, Rdi, R8, R9, R10, R11, R12, R13, R14, R15}
+use Rattle.x64_instr.specs.declared.register.Reg.TheVariants.{Rsp}
 use Rattle.x64_instr.specs.declared.operand.MemRef.{MemRef}
 use Rattle.x64_instr.specs.declared.operand.Base.{Base}
 use Rattle.x64_instr.specs.declared.operand.Base.TheVariants as bases
@@ -25,6 +25,7 @@ use Rattle.virtual_unwind.specs.Contexts.{is_nonvolatile}
 use Rattle.virtual_unwind.specs.CallerOf.{sets_frame}
 use Rattle.frame_rules.specs.Codes.{depth, allocation, may_save, are_allowed, is_saved, are_apart, are_pushes}
 use Rattle.frame_rules.specs.Frame.{Stack, Framed, Others, Holds}
+use Rattle.x64_instr.proofs.RegisterNumbers.{number_small}
 use Rattle.frame_rules.specs.Prologue.{is_stack, is_stack_base}
 use Rattle.frame_rules.specs.States.{registers, IsEntry}
 use Rattle.frame_rules.proofs.Undoing.{stack_depth, saved_register}
@@ -32,24 +33,6 @@ use Rattle.frame_rules.proofs.Order.{Ordered, of_pushes, unframed, pushes_unfram
 use Rattle.frame_rules.proofs.Words.{all_may, stored_word, left_words, pushes_apart, rebased}
 
 -- ---- registers
-
-pub number_small : (r : Reg) → number r < 16
-number_small Rax = omega arith
-number_small Rcx = omega arith
-number_small Rdx = omega arith
-number_small Rbx = omega arith
-number_small Rsp = omega arith
-number_small Rbp = omega arith
-number_small Rsi = omega arith
-number_small Rdi = omega arith
-number_small R8 = omega arith
-number_small R9 = omega arith
-number_small R10 = omega arith
-number_small R11 = omega arith
-number_small R12 = omega arith
-number_small R13 = omega arith
-number_small R14 = omega arith
-number_small R15 = omega arith
 
 pub set_same : (xs : List ℕ) (k v : ℕ) → length xs ≡ 16 → k < 16 → get_or (set xs k v) k 0 ≡ v
 set_same xs k v n lt = get_or-set_same xs k v 0 (omega arith)

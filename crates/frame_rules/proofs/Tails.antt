@@ -143,6 +143,6 @@ opens_here f offset ops m n at to x ys rs lt fuel h b other = go (role_of f x.pl
     go Ends e = popping (sym (ap (from_body f offset ops rs x) e) ∙ k.is)
     go Other e = absurd (other e)
 
--- elsewhere none is
+-- elsewhere there is none
 pub no_tail : (n f : ℕ) (m : Memory) (at : ℕ) (x : FetchedInstr) → 0 < n → fetched_at m at ≡ Some x → role_of f x.plain x.instr ≡ Other → tail n true f m at ≡ None
 no_tail n f m at x lt here e = tail-more n (n - 1) true f m at x (omega arith) here ∙ ap (by_role (λ k. tail (n - 1) false f m ((at + k) % 2 ^ 64)) true x) e

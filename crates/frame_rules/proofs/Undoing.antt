@@ -106,12 +106,22 @@ pub rsp_length : (c : Context) (v : ℕ) → length c.kept ≡ 9 → length (wit
 rsp_length c v n = length-set c.kept 0 v ∙ n
 
 -- RSP moved
-moved : (i : Info) (old : ℕ → ℕ) (c : Context) (v at : ℕ) (ops : List UnwindOperation) → length c.kept ≡ 9 → are_allowed i.frame_register ops ≡ true → v ≡ at → Framed i.frame_register i.frame_offset (get c) at ops → Others old (get c) ops
-    → (length (with_rsp c v).kept ≡ 9) × (get (with_rsp c v) 4 ≡ at) × Framed i.frame_register i.frame_offset (get (with_rsp c v)) (get (with_rsp c v) 4) ops × Others old (get (with_rsp c v)) ops
+record IsMoved (i : Info) (old : ℕ → ℕ) (c : Context) (at : ℕ) (ops : List UnwindOperation) : Type 0 where
+  kept : length c.kept ≡ 9
+  top : get c 4 ≡ at
+  framed : Framed i.frame_register i.frame_offset (get c) (get c 4) ops
+  others : Others old (get c) ops
+
+moved : (i : Info) (old : ℕ → ℕ) (c : Context) (v at : ℕ) (ops : List UnwindOperation) → length c.kept ≡ 9 → are_allowed i.frame_register ops ≡ true → v ≡ at → Framed i.frame_register i.frame_offset (get c) at ops → Others old (get c) ops → IsMoved i old (with_rsp c v) at ops
 moved i old c v at ops n a e f o =
     let top : get (with_rsp c v) 4 ≡ at = get-rsp_same c v n ∙ e in
     let framed = framed_saved i.frame_register i.frame_offset (get c) (get (with_rsp c v)) at ops a (λ y. sym (get-rsp_other c i.frame_register v (saved_register i.frame_register i.frame_register ops a y).1)) f in
-    (rsp_length c v n, top, subst (λ x. Framed i.frame_register i.frame_offset (get (with_rsp c v)) x ops) (sym top) framed, λ q nv four s. get-rsp_other c q v four ∙ o q nv four s)
+    record {
+      kept = rsp_length c v n;
+      top = top;
+      framed = subst (λ x. Framed i.frame_register i.frame_offset (get (with_rsp c v)) x ops) (sym top) framed;
+      others = λ q nv four s. get-rsp_other c q v four ∙ o q nv four s;
+    }
 
 pub restores : (i : Info) (m : Memory) (old : ℕ → ℕ) (back base : ℕ) (ops : List UnwindOperation) (u : Undo) → length u.context.kept ≡ 9 → old 4 < 2 ^ 64 → i.frame_offset ≤ 2 ^ 64 → are_allowed i.frame_register ops ≡ true → Stack m old back base (get u.context 4) ops → Framed i.frame_register i.frame_offset (get u.context) (get u.context 4) ops → Others old (get u.context) ops → Restored m base i old ops u
 restores i m old back base [] u n lt ol a s f o = record {
@@ -146,18 +156,18 @@ restores i m old back base (Allocate k ∷ ops) u n lt ol a s f o =
     let c = u.context in
     let d = stack_depth m old back base (rsp c + k) ops s in
     let up : (rsp c + k) % 2 ^ 64 ≡ rsp c + k = omega arith in
-    let m' = moved i old c ((rsp c + k) % 2 ^ 64) (rsp c + k) ops n a up f o in
+    let after = moved i old c ((rsp c + k) % 2 ^ 64) (rsp c + k) ops n a up f o in
     let v : Undo = record { context = rsp_raised c k; is_returned = u.is_returned } in
-    step m base i old (Allocate k) ops u v refl refl (restores i m old back base ops v m'.0 lt ol a (subst (λ x. Stack m old back base x ops) (sym m'.1) s) m'.2 m'.3)
+    step m base i old (Allocate k) ops u v refl refl (restores i m old back base ops v after.kept lt ol a (subst (λ x. Stack m old back base x ops) (sym after.top) s) after.framed after.others)
 restores i m old back base (SetFrame ∷ ops) u n lt ol a s f o =
     let c = u.context in
     let parts = and_parts (not (eqb i.frame_register 0) && is_saved i.frame_register ops) (are_allowed i.frame_register ops) a in
     let d = stack_depth m old back base (rsp c) ops s in
     let set = f.0 in
     let back_at : below_frame i c ≡ rsp c = omega arith in
-    let m' = moved i old c (below_frame i c) (rsp c) ops n parts.1 back_at f.1 o in
+    let after = moved i old c (below_frame i c) (rsp c) ops n parts.1 back_at f.1 o in
     let v : Undo = record { context = with_rsp c (below_frame i c); is_returned = u.is_returned } in
-    step m base i old SetFrame ops u v refl refl (restores i m old back base ops v m'.0 lt ol parts.1 (subst (λ x. Stack m old back base x ops) (sym m'.1) s) m'.2 m'.3)
+    step m base i old SetFrame ops u v refl refl (restores i m old back base ops v after.kept lt ol parts.1 (subst (λ x. Stack m old back base x ops) (sym after.top) s) after.framed after.others)
 restores i m old back base (Save r k ∷ ops) u n lt ol a s f o =
     let c = u.context in
     let parts = and_parts (may_save r ops && (leb (k + 8) (allocation ops) && are_apart k ops)) (are_allowed i.frame_register ops) a in

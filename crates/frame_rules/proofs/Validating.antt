@@ -38,7 +38,7 @@ joined f offset at done cs c its xs rest ss h r e =
     let q = and_parts (are_sized its) (eqb c.offset (at + bytes its)) p.1 in
     let end = eqb-true c.offset (at + bytes its) q.1 in
     subst (Has f offset at done (c ∷ cs) (its ++ xs)) e (record {
-      are = (p.0, q.0, end, subst (λ a. AreSteps f offset a rest) end r.are);
+      are = (record { does = p.0; sized = q.0; ends = end }, subst (λ a. AreSteps f offset a rest) end r.are);
       spelled = ap (λ (ys : List FetchedInstr). its ++ ys) r.spelled;
       codes = r.codes;
     })

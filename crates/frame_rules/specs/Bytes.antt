@@ -1,4 +1,4 @@
--- Instructions by their chosen spellings, and bytes of code that are in memory.
+-- Instructions by their chosen spellings, and bytes of code in memory.
 use Rattle.std.specs.Prelude.{◌≡◌, ℕ, ◌+◌, ◌^◌, ◌<◌, Bool, true, ◌&&◌, List, [], ◌∷◌, ◌++◌, length}
 use Rattle.std.specs.List.{flat_map}
 use Rattle.flat_memory.specs.Memory.{Memory}

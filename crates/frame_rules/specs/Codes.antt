@@ -1,6 +1,6 @@
--- What the unwind codes of an info are to be. They are from the prologue's last instruction to
--- its first: saves, before them at most one SET_FPREG, before it at most one allocation, before
--- that pushes (Microsoft x64 ABI, "Prolog").
+-- What the unwind codes of an info are to be. They are in the order from the prologue's last
+-- instruction to its first: saves, before them at most one SET_FPREG, before it at most one
+-- allocation, before that pushes (Microsoft x64 ABI, "Prolog").
 use Rattle.std.specs.Prelude.{ℕ, ◌+◌, Bool, true, false, not, ◌==◌, ◌&&◌, ◌||◌, nat_le, List, [], ◌∷◌}
 use Rattle.eh_tables.specs.declared.code.UnwindOperation.{UnwindOperation}
 use Rattle.eh_tables.specs.declared.code.UnwindOperation.TheVariants.{Push, Allocate, SetFrame, Save, SaveVector, MachineFrame}
@@ -78,7 +78,7 @@ is_ordered xs = is_framed xs
 abbrev pub may_save : ℕ → List UnwindOperation → Bool
 may_save r xs = is_nonvolatile r && (not (r == 4) && not (is_saved r xs))
 
--- the word at that distance doesn't overlap the words of other saves
+-- the word at that distance is apart from the words of other saves
 abbrev pub is_apart : ℕ → UnwindOperation → Bool
 is_apart n (Save r m) = nat_le (n + 8) m || nat_le (m + 8) n
 is_apart n x = true

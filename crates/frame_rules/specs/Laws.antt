@@ -58,7 +58,7 @@ EpilogueRestores =
     → is_epilogue i.frame_register i.frame_offset ops is ≡ true
     → left m is c ≡ Ok (left_to old back)
 
--- a function that is right, and is placed from an address on: in each of its states the caller is
+-- a function that is right, and in memory from an address on: in each of its states the caller is
 -- found, as it was at its first byte
 abbrev pub FramesAreRight : Type 0
 FramesAreRight =

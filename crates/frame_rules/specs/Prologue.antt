@@ -78,7 +78,7 @@ abbrev pub items : List Step → List FetchedInstr
 items [] = []
 items (s ∷ ss) = s.items ++ items ss
 
--- the codes are from the last step to the first
+-- the codes are in the order from the last step to the first
 abbrev pub codes_onto : List UnwindCode → List Step → List UnwindCode
 codes_onto done [] = done
 codes_onto done (s ∷ ss) = codes_onto (s.code ∷ done) ss
@@ -88,12 +88,17 @@ abbrev pub are_sized : List FetchedInstr → Bool
 are_sized [] = true
 are_sized (x ∷ xs) = nat_lt 0 x.size && are_sized xs
 
--- each code has the offset of its instructions' end
+-- the instructions do what the code says, none of them is empty, and the code has the offset of
+-- their end
+pub record IsStep (f offset at : ℕ) (s : Step) : Type 0 where
+  pub does : is_step f offset s.code.operation s.items ≡ true
+  pub sized : are_sized s.items ≡ true
+  pub ends : s.code.offset ≡ at + bytes s.items
+
+-- steps, each at the end of the one before it
 abbrev pub AreSteps : ℕ → ℕ → ℕ → List Step → Type 0
 AreSteps f offset at [] = Unit {0}
-AreSteps f offset at (s ∷ ss) =
-    (is_step f offset s.code.operation s.items ≡ true) × (are_sized s.items ≡ true)
-    × (s.code.offset ≡ at + bytes s.items) × AreSteps f offset (at + bytes s.items) ss
+AreSteps f offset at (s ∷ ss) = IsStep f offset at s × AreSteps f offset (at + bytes s.items) ss
 
 -- a prologue without calls
 abbrev pub is_single : List FetchedInstr → Bool

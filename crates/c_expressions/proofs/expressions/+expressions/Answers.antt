@@ -2,12 +2,12 @@ use Rattle.std.proofs.Common.{◌≡◌, ◌∙◌, ◌+◌, ◌++◌, ◌<◌, 
 use Rattle.std.proofs.lemmas.Result.{on_ok_weaker, IfOk-weaker}
 use Rattle.std.specs.Prelude.{option_map}
 use Rattle.c_expressions.proofs.Kept.{kept_more}
-use Rattle.c_expressions.proofs.Ruled.{two, three, on_any, assign_is}
+use Rattle.c_expressions.proofs.Ruled.{two, three, assign_is}
 use Rattle.c_expressions.proofs.Calling.{StillToPass, none_passed, pass_next_to, all_passed_at, called_for, fused, same_counts, call_refused, call_passed, faults_on, allowed_found, allowed_kept}
 use Rattle.c_expressions.proofs.expressions.+expressions.Goals as goal
 use Rattle.c_expressions.specs.Calls.{passed_of, resolved_all}
 use Rattle.c_expressions.specs.Kept.{least_of, kept}
-use Rattle.c_expressions.specs.Rules.{assigning_to, assigning_at}
+use Rattle.c_expressions.specs.Rules.{assigning_to, assigning_at, rule_of_two}
 use Rattle.c_expressions.specs.Views.{names_of, wanted}
 use denote.Hole.Carrier as Carrier
 use Rattle.c_checked.specs.Expression as nodes
@@ -22,45 +22,104 @@ use Rattle.c_types.specs.Views.{typed_node}
 use Rattle.c_syntax.specs.Expression as trees
 use Rattle.c_syntax.specs.Expression.{Expression, node, expression, start}
 
-pub several-returns-in_ok-i-in-Index-clause-faults : goal.several-returns-in_ok-i-in-Index-clause-faults
+pub with_second-returns-clause-found : goal.with_second-returns-clause-found
+with_second-returns-clause-found t c =
+    let jb = resolve_expression (names_of c.args.context.now) (expression c.args.second.now) in
+    let rule = rule_2 c.args.at (rule_of_two c.args.operator) in
+    IfOk-weaker c.two.result _ _
+    (λ r h. λ fs. h (fs ++ jb.faults) ∙ ap (λ o. (rule (fs ++ jb.faults) (option_map typed_node c.args.a) o).found) c.in_ok-b.ensures.found) c.two.ensures.found
+
+pub with_second-returns-clause-faults : goal.with_second-returns-clause-faults
+with_second-returns-clause-faults t c =
+    let jb = resolve_expression (names_of c.args.context.now) (expression c.args.second.now) in
+    let rule = rule_2 c.args.at (rule_of_two c.args.operator) in
+    on_ok_weaker c.two.result
+    (λ h. λ first fs k. h first (fs ++ jb.faults) (kept_more first (least_of c.args.worst.now) _ fs jb.faults k c.in_ok-b.ensures.faults)
+    ∙ ap (λ o. kept first (rule (fs ++ jb.faults) (option_map typed_node c.args.a) o).faults) c.in_ok-b.ensures.found) c.two.ensures.faults
+
+pub several-returns-in_ok-a-in-Index-clause-found : goal.several-returns-in_ok-a-in-Index-clause-found
 unfolding roll-Expr Carrier.roll
-several-returns-in_ok-i-in-Index-clause-faults t c =
+several-returns-in_ok-a-in-Index-clause-found t c =
     let x = c.in-Index in
     let s = names_of c.args.context.now in
+    let ja = resolve_expression s (expression x.array.value) in
+    let jb = resolve_expression s (expression x.index.value) in
+    let rule = rule_2 x.at element_of (ja.faults ++ jb.faults) in
+    let left : option_map typed_node c.in_ok-a-in-Index.a ≡ ja.found = rw c.deref.ensures at c.in_ok-a-in-Index.ensures.found in
     let q : expression c.args.e.now ≡ trees.Index (expression x.array.value) x.at (expression x.index.value) = ap expression c.in-Index.is ∙ ap expression (rolls-Index x.array x.at x.index) ∙ fold-roll-Expr Expression node (Index_F x.array x.at x.index) in
     rw q
-    (on_ok_weaker c.element.result
-    (λ h. two (least_of c.args.worst.now) _ _ _ (resolve_expression s (expression x.array.value)) (resolve_expression s (expression x.index.value)) (rule_2 x.at element_of) _ _
-    (rw c.deref.ensures at c.in_ok-a-in-Index.ensures.faults) (rw c.deref-in-Index.ensures at c.in_ok-i-in-Index.ensures.faults)
-    (rw c.deref.ensures at c.in_ok-a-in-Index.ensures.found) (rw c.deref-in-Index.ensures at c.in_ok-i-in-Index.ensures.found) h) c.element.ensures.faults)
+    (IfOk-weaker c.with_second.result _ _ (λ r h. h ja.faults ∙ ap (λ o. (rule o jb.found).found) left) (rw c.deref-in-Index.ensures at c.with_second.ensures.found))
 
-pub several-returns-in_ok-b-in-Binary-clause-found : goal.several-returns-in_ok-b-in-Binary-clause-found
+pub several-returns-in_ok-a-in-Index-clause-faults : goal.several-returns-in_ok-a-in-Index-clause-faults
 unfolding roll-Expr Carrier.roll
-several-returns-in_ok-b-in-Binary-clause-found t c =
+several-returns-in_ok-a-in-Index-clause-faults t c =
+    let x = c.in-Index in
+    let s = names_of c.args.context.now in
+    let ja = resolve_expression s (expression x.array.value) in
+    let jb = resolve_expression s (expression x.index.value) in
+    let rule = rule_2 x.at element_of (ja.faults ++ jb.faults) in
+    let left : option_map typed_node c.in_ok-a-in-Index.a ≡ ja.found = rw c.deref.ensures at c.in_ok-a-in-Index.ensures.found in
+    let q : expression c.args.e.now ≡ trees.Index (expression x.array.value) x.at (expression x.index.value) = ap expression c.in-Index.is ∙ ap expression (rolls-Index x.array x.at x.index) ∙ fold-roll-Expr Expression node (Index_F x.array x.at x.index) in
+    rw q
+    (on_ok_weaker c.with_second.result
+    (λ h. h (least_of c.args.worst.now) ja.faults (rw c.deref.ensures at c.in_ok-a-in-Index.ensures.faults) ∙ ap (λ o. kept (least_of c.args.worst.now) (rule o jb.found).faults) left)
+    (rw c.deref-in-Index.ensures at c.with_second.ensures.faults))
+
+pub several-returns-in_ok-a-in-Binary-clause-found : goal.several-returns-in_ok-a-in-Binary-clause-found
+unfolding roll-Expr Carrier.roll
+several-returns-in_ok-a-in-Binary-clause-found t c =
     let x = c.in-Binary in
     let s = names_of c.args.context.now in
     let ja = resolve_expression s (expression x.left.value) in
     let jb = resolve_expression s (expression x.right.value) in
-    let b = option_map typed_node c.in_ok-b-in-Binary.b in
     let rule = rule_2 x.at (binary_of x.operator) (ja.faults ++ jb.faults) in
     let left : option_map typed_node c.in_ok-a-in-Binary.a ≡ ja.found = rw c.deref-in-Binary.ensures at c.in_ok-a-in-Binary.ensures.found in
-    let right : b ≡ jb.found = rw c.deref-in-Binary-2.ensures at c.in_ok-b-in-Binary.ensures.found in
     let q : expression c.args.e.now ≡ trees.Binary (expression x.left.value) x.at x.operator (expression x.right.value) = ap expression c.in-Binary.is ∙ ap expression (rolls-Binary x.left x.at x.operator x.right) ∙ fold-roll-Expr Expression node (Binary_F x.left x.at x.operator x.right) in
     rw q
-    (IfOk-weaker c.binary.result _ _
-    (λ r h. h (ja.faults ++ jb.faults) ∙ ap (λ o. (rule o b).found) left ∙ ap (λ o. (rule ja.found o).found) right) c.binary.ensures.found)
+    (IfOk-weaker c.with_second-in-Binary.result _ _ (λ r h. h ja.faults ∙ ap (λ o. (rule o jb.found).found) left) (rw c.deref-in-Binary-2.ensures at c.with_second-in-Binary.ensures.found))
 
-pub several-returns-in_ok-b-in-Binary-clause-faults : goal.several-returns-in_ok-b-in-Binary-clause-faults
+pub several-returns-in_ok-a-in-Binary-clause-faults : goal.several-returns-in_ok-a-in-Binary-clause-faults
 unfolding roll-Expr Carrier.roll
-several-returns-in_ok-b-in-Binary-clause-faults t c =
+several-returns-in_ok-a-in-Binary-clause-faults t c =
     let x = c.in-Binary in
     let s = names_of c.args.context.now in
+    let ja = resolve_expression s (expression x.left.value) in
+    let jb = resolve_expression s (expression x.right.value) in
+    let rule = rule_2 x.at (binary_of x.operator) (ja.faults ++ jb.faults) in
+    let left : option_map typed_node c.in_ok-a-in-Binary.a ≡ ja.found = rw c.deref-in-Binary.ensures at c.in_ok-a-in-Binary.ensures.found in
     let q : expression c.args.e.now ≡ trees.Binary (expression x.left.value) x.at x.operator (expression x.right.value) = ap expression c.in-Binary.is ∙ ap expression (rolls-Binary x.left x.at x.operator x.right) ∙ fold-roll-Expr Expression node (Binary_F x.left x.at x.operator x.right) in
     rw q
-    (on_ok_weaker c.binary.result
-    (λ h. two (least_of c.args.worst.now) _ _ _ (resolve_expression s (expression x.left.value)) (resolve_expression s (expression x.right.value)) (rule_2 x.at (binary_of x.operator)) _ _
-    (rw c.deref-in-Binary.ensures at c.in_ok-a-in-Binary.ensures.faults) (rw c.deref-in-Binary-2.ensures at c.in_ok-b-in-Binary.ensures.faults)
-    (rw c.deref-in-Binary.ensures at c.in_ok-a-in-Binary.ensures.found) (rw c.deref-in-Binary-2.ensures at c.in_ok-b-in-Binary.ensures.found) h) c.binary.ensures.faults)
+    (on_ok_weaker c.with_second-in-Binary.result
+    (λ h. h (least_of c.args.worst.now) ja.faults (rw c.deref-in-Binary.ensures at c.in_ok-a-in-Binary.ensures.faults) ∙ ap (λ o. kept (least_of c.args.worst.now) (rule o jb.found).faults) left)
+    (rw c.deref-in-Binary-2.ensures at c.with_second-in-Binary.ensures.faults))
+
+pub several-returns-in_ok-a-in-Comma-clause-found : goal.several-returns-in_ok-a-in-Comma-clause-found
+unfolding roll-Expr Carrier.roll
+several-returns-in_ok-a-in-Comma-clause-found t c =
+    let x = c.in-Comma in
+    let s = names_of c.args.context.now in
+    let ja = resolve_expression s (expression x.left.value) in
+    let jb = resolve_expression s (expression x.right.value) in
+    let rule = rule_2 x.at comma_of (ja.faults ++ jb.faults) in
+    let left : option_map typed_node c.in_ok-a-in-Comma.a ≡ ja.found = rw c.deref-in-Comma.ensures at c.in_ok-a-in-Comma.ensures.found in
+    let q : expression c.args.e.now ≡ trees.Comma (expression x.left.value) x.at (expression x.right.value) = ap expression c.in-Comma.is ∙ ap expression (rolls-Comma x.left x.at x.right) ∙ fold-roll-Expr Expression node (Comma_F x.left x.at x.right) in
+    rw q
+    (IfOk-weaker c.with_second-in-Comma.result _ _ (λ r h. h ja.faults ∙ ap (λ o. (rule o jb.found).found) left) (rw c.deref-in-Comma-2.ensures at c.with_second-in-Comma.ensures.found))
+
+pub several-returns-in_ok-a-in-Comma-clause-faults : goal.several-returns-in_ok-a-in-Comma-clause-faults
+unfolding roll-Expr Carrier.roll
+several-returns-in_ok-a-in-Comma-clause-faults t c =
+    let x = c.in-Comma in
+    let s = names_of c.args.context.now in
+    let ja = resolve_expression s (expression x.left.value) in
+    let jb = resolve_expression s (expression x.right.value) in
+    let rule = rule_2 x.at comma_of (ja.faults ++ jb.faults) in
+    let left : option_map typed_node c.in_ok-a-in-Comma.a ≡ ja.found = rw c.deref-in-Comma.ensures at c.in_ok-a-in-Comma.ensures.found in
+    let q : expression c.args.e.now ≡ trees.Comma (expression x.left.value) x.at (expression x.right.value) = ap expression c.in-Comma.is ∙ ap expression (rolls-Comma x.left x.at x.right) ∙ fold-roll-Expr Expression node (Comma_F x.left x.at x.right) in
+    rw q
+    (on_ok_weaker c.with_second-in-Comma.result
+    (λ h. h (least_of c.args.worst.now) ja.faults (rw c.deref-in-Comma.ensures at c.in_ok-a-in-Comma.ensures.faults) ∙ ap (λ o. kept (least_of c.args.worst.now) (rule o jb.found).faults) left)
+    (rw c.deref-in-Comma-2.ensures at c.with_second-in-Comma.ensures.faults))
 
 pub conditional_or_assignment-returns-in_ok-b-in-Conditional-clause-faults : goal.conditional_or_assignment-returns-in_ok-b-in-Conditional-clause-faults
 unfolding roll-Expr Carrier.roll
@@ -73,21 +132,6 @@ conditional_or_assignment-returns-in_ok-b-in-Conditional-clause-faults t c =
     (λ h. three (least_of c.args.worst.now) _ _ _ _ (resolve_expression s (expression x.condition.value)) (resolve_expression s (expression x.yes.value)) (resolve_expression s (expression x.no.value)) (rule_3 x.at conditional_of) _ _ _
     (rw c.deref.ensures at c.in_ok-c-in-Conditional.ensures.faults) (rw c.deref-in-Conditional.ensures at c.in_ok-a-in-Conditional.ensures.faults) (rw c.deref-in-Conditional-2.ensures at c.in_ok-b-in-Conditional.ensures.faults)
     (rw c.deref.ensures at c.in_ok-c-in-Conditional.ensures.found) (rw c.deref-in-Conditional.ensures at c.in_ok-a-in-Conditional.ensures.found) (rw c.deref-in-Conditional-2.ensures at c.in_ok-b-in-Conditional.ensures.found) h) c.conditional.ensures.faults)
-
-pub several-returns-in_ok-b-in-Comma-clause-faults : goal.several-returns-in_ok-b-in-Comma-clause-faults
-unfolding roll-Expr Carrier.roll
-several-returns-in_ok-b-in-Comma-clause-faults t c =
-    let x = c.in-Comma in
-    let s = names_of c.args.context.now in
-    let ja = resolve_expression s (expression x.left.value) in
-    let jb = resolve_expression s (expression x.right.value) in
-    let q : expression c.args.e.now ≡ trees.Comma (expression x.left.value) x.at (expression x.right.value) = ap expression c.in-Comma.is ∙ ap expression (rolls-Comma x.left x.at x.right) ∙ fold-roll-Expr Expression node (Comma_F x.left x.at x.right) in
-    rw q
-    (on_any c.comma.result
-    (two (least_of c.args.worst.now) _ _ _ ja jb (rule_2 x.at comma_of) _ _
-    (rw c.deref-in-Comma.ensures at c.in_ok-a-in-Comma.ensures.faults) (rw c.deref-in-Comma-2.ensures at c.in_ok-b-in-Comma.ensures.faults)
-    (rw c.deref-in-Comma.ensures at c.in_ok-a-in-Comma.ensures.found) (rw c.deref-in-Comma-2.ensures at c.in_ok-b-in-Comma.ensures.found)
-    (λ f fs h. h ∙ ap (kept f) (sym (c.comma.ensures.faults x.at fs)))))
 
 pub resolve_all-loop-e-preserved : goal.resolve_all-loop-e-preserved
 resolve_all-loop-e-preserved t c =

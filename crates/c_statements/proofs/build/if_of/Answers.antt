@@ -1,16 +1,14 @@
 use Rattle.std.proofs.Common.{None, ap, ◌∙◌}
-use Rattle.c_checked.specs.declared.statement.Stmt.{Stmt}
 use Rattle.c_checked.specs.declared.statement.Stmt.TheViews.{roll-Stmt}
 use Rattle.c_checked.specs.declared.statement.Stmt.TheVariants.{rolls-If}
 use Rattle.c_checked.specs.declared.statement.Stmt.TheOpen.{If as If_F}
 use Rattle.c_checked.specs.declared.statement.Stmt.TheFolds.{fold-roll-Stmt}
 use denote.Hole.Carrier as Carrier
-use Rattle.c_checked.specs.Expression.{expression}
-use Rattle.c_checked.specs.Statement.{Statement, If, layer, statement}
+use Rattle.c_checked.specs.Statement.{Statement, layer, statement}
 use Rattle.c_statements.proofs.build.if_of.Goals as goal
 
 pub returns : goal.returns
 unfolding roll-Stmt Carrier.roll
 returns c =
-    let k = c.in_ok-then in
-    ap statement (rolls-If c.args.condition k.then None) ∙ fold-roll-Stmt Statement layer (If_F c.args.condition k.then None) ∙ ap (λ (s : Stmt). If (expression c.args.condition) (statement s)) k.ensures.ok
+    let a = c.args in
+    ap statement (rolls-If a.condition a.then None) ∙ fold-roll-Stmt Statement layer (If_F a.condition a.then None)

@@ -22,7 +22,7 @@ governed-returns t c =
     let first : Walk = record { sizes = w.sizes; number = w.number; worst = c.condition.new.worst } in
     let f : Numbering → ResolvedStatements = λ n. resolve_statement (statement c.args.s.now) (environment c.args.inner.now) [] n in
     let v = definitions.condition c.args.at (resolved_at (environment c.args.env.now) (block_of c.args.block.now.entries) (expression c.args.e.now)) in
-    governed_is w first c.part.new.walk c.in_ok-value.value c.in_ok-made.made v f c.in_ok-value.ensures.value c.in_ok-value.ensures.faults refl c.in_ok-made.ensures
+    governed_is w first c.part.new.walk c.in_ok-value.value c.in_ok-made.made.value v f c.in_ok-value.ensures.value c.in_ok-value.ensures.faults refl c.in_ok-made.ensures
 
 pub for_loop-returns : goal.for_loop-returns
 for_loop-returns t c =
@@ -31,13 +31,11 @@ for_loop-returns t c =
     let w1 = c.for_initialiser.new.walk in
     let w2 : Walk = record { sizes = w1.sizes; number = w1.number; worst = c.condition_or_none.new.worst } in
     let w3 : Walk = record { sizes = w1.sizes; number = w1.number; worst = c.any_or_none.new.worst } in
-    IfOk-weaker c.for_of.result _ _
-    (λ made p.
-    for_over (block_of c.args.block.now.entries) es w w1 w2 w3 c.part.new.walk c.in_ok-beginning.beginning c.in_ok-value.value c.in_ok-after.after c.in_ok-made.made made (environment c.args.env.now) (environment c.within-here.result) (environment c.in_loop.result) c.args.at (trees.first c.args.first.now) (option_map expression c.args.condition.now)
-    (option_map expression c.args.next.now) (statement c.args.body.now) c.within-here.ensures (c.in_loop.ensures ∙ ap in_loop c.within.ensures) c.in_ok-beginning.ensures c.in_ok-value.ensures c.in_ok-after.ensures refl c.in_ok-made.ensures p) c.for_of.ensures
+    for_over (block_of c.args.block.now.entries) es w w1 w2 w3 c.part.new.walk c.in_ok-beginning.beginning c.in_ok-value.value c.in_ok-after.after c.in_ok-made.made.value c.for_of.result (environment c.args.env.now) (environment c.within-here.result) (environment c.in_loop.result) c.args.at (trees.first c.args.first.now) (option_map expression c.args.condition.now)
+    (option_map expression c.args.next.now) (statement c.args.body.now) c.within-here.ensures (c.in_loop.ensures ∙ ap in_loop c.within.ensures) c.in_ok-beginning.ensures c.in_ok-value.ensures c.in_ok-after.ensures refl c.in_ok-made.ensures c.for_of.ensures
 
-pub with_parts-returns-in_ok-if_else_of-in-Some : goal.with_parts-returns-in_ok-if_else_of-in-Some
-with_parts-returns-in_ok-if_else_of-in-Some t c =
+pub with_parts-returns-in_ok-otherwise-in-Some : goal.with_parts-returns-in_ok-otherwise-in-Some
+with_parts-returns-in_ok-otherwise-in-Some t c =
     let x = c.in-If in
     let y = c.in-Some in
     let w = c.args.walk.now in
@@ -48,14 +46,14 @@ with_parts-returns-in_ok-if_else_of-in-Some t c =
     let here = environment c.within-here.result in
     let k = c.in_ok-value-in-If in
     let o = c.in_ok-otherwise-in-Some in
-    let made = c.in_ok-if_else_of-in-Some.field-0 in
+    let made = c.if_else_of.result in
     let v = definitions.condition x.at (resolved_at a (block_of es) (expression x.condition)) in
-    let m = governed_in w w1 k.value k.then v (statement c.deref.result.now) (statement x.then.value) here (inside a (block_of es)) (numbering w) (ap statement c.deref.ensures) c.within-here.ensures k.ensures in
-    let n = part_in w1 w2 o.otherwise (statement c.deref-in-Some.result.now) (statement y.otherwise.value) here (inside a (block_of es)) (numbering w1) (ap statement c.deref-in-Some.ensures) c.within-here.ensures o.ensures in
+    let m = governed_in w w1 k.value k.then.value v (statement c.deref.result.now) (statement x.then.value) here (inside a (block_of es)) (numbering w) (ap statement c.deref.ensures) c.within-here.ensures k.ensures in
+    let n = part_in w1 w2 o.otherwise.value (statement c.deref-in-Some.result.now) (statement y.otherwise.value) here (inside a (block_of es)) (numbering w1) (ap statement c.deref-in-Some.ensures) c.within-here.ensures o.ensures in
     IfOk-weaker c.one-in-Some.result _ _
     (λ list q.
     one_is es w w2 made (map checked.statement list.items) (statement c.args.s.now) (trees.IfElse x.at (expression x.condition) (statement x.then.value) (statement y.otherwise.value)) a (read.if_some x.at x.condition x.then x.otherwise y.otherwise c.args.s.now x.is y.is)
-    (if_else_is (block_of es) w w1 w2 k.value k.then o.otherwise made a x.at (expression x.condition) (statement x.then.value) (statement y.otherwise.value) m n c.in_ok-if_else_of-in-Some.ensures) q) c.one-in-Some.ensures
+    (if_else_is (block_of es) w w1 w2 k.value k.then.value o.otherwise.value made a x.at (expression x.condition) (statement x.then.value) (statement y.otherwise.value) m n c.if_else_of.ensures) q) c.one-in-Some.ensures
 
 pub statement-returns-in-Break : goal.statement-returns-in-Break
 statement-returns-in-Break t c =
