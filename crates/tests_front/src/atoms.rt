@@ -1,6 +1,6 @@
 //! Operators and operands by the C standard's rules (C11, 6.4.4 and 6.5).
 
-use crate::rows::{Reader, all_told};
+use crate::rows::{Reader, all_as_wanted};
 use c_lex::lexing::lex;
 use c_lex::punctuator::Punctuator;
 use c_lex::token::{IntegerType, Kind};
@@ -38,7 +38,7 @@ const OPERATORS: &str = r"
 #[test]
 fn binary_operators_have_levels(rt: HostRuntime) -> Result<(), Fail> {
     laws();
-    all_told(&rt, rt.alloc(), Reader::Operator, OPERATORS)
+    all_as_wanted(&rt, rt.alloc(), Reader::Operator, OPERATORS)
 }
 
 #[test]
@@ -107,5 +107,5 @@ GetExceptionInformation()->Context->ExceptionFlags => no field
 
 #[test]
 fn fields_of_the_record_are_named(rt: HostRuntime) -> Result<(), Fail> {
-    all_told(&rt, rt.alloc(), Reader::Information, FIELDS)
+    all_as_wanted(&rt, rt.alloc(), Reader::Information, FIELDS)
 }

@@ -1,9 +1,11 @@
 //! Expressions by the C standard's rules (C11, 6.5), with the places of operators.
 
-use crate::rows::{Reader, all_told, refusal_of};
+use crate::rows::{Reader, all_as_wanted, refusal_of};
 use c_lex::lexing::lex;
 use c_parse_expr::expressions::expression;
 use c_syntax::expression::Expr;
+use c_syntax::level::COMMA;
+use c_syntax::limit::MOST_EXPRESSIONS;
 use std::alloc::Global;
 use std::test::Fail;
 
@@ -28,9 +30,9 @@ fn place(expr: &Expr) -> u64 {
 
 /// The place of an expression's operator, how many expressions are around a part, and how many
 /// tokens follow; or its refusal.
-pub fn told_of(alloc: Global, text: &[u8], room: u64) -> Result<String, Fail> {
+pub fn found_of(alloc: Global, text: &[u8], room: u64) -> Result<String, Fail> {
     let tokens = lex(alloc, text)?;
-    match expression(alloc, text, room, 16, &tokens) {
+    match expression(alloc, text, room.min(MOST_EXPRESSIONS), COMMA, &tokens) {
         Err(refusal) => Ok(refusal_of(alloc, refusal)?),
         Ok(found) => {
             let at = place(&found.expr);
@@ -130,7 +132,7 @@ a ? b : c => TooDeep 2
 
 #[test]
 fn operators_bind_by_their_levels(rt: HostRuntime) -> Result<(), Fail> {
-    all_told(
+    all_as_wanted(
         &rt,
         rt.alloc(),
         Reader::Expression { room: 64 },
@@ -140,18 +142,18 @@ fn operators_bind_by_their_levels(rt: HostRuntime) -> Result<(), Fail> {
 
 #[test]
 fn no_expression_continues(rt: HostRuntime) -> Result<(), Fail> {
-    all_told(&rt, rt.alloc(), Reader::Expression { room: 64 }, REFUSED)
+    all_as_wanted(&rt, rt.alloc(), Reader::Expression { room: 64 }, REFUSED)
 }
 
 #[test]
 fn expressions_nest_within_their_room(rt: HostRuntime) -> Result<(), Fail> {
-    all_told(
+    all_as_wanted(
         &rt,
         rt.alloc(),
         Reader::Expression { room: 1 },
         ROOM_FOR_ONE,
     )?;
-    all_told(
+    all_as_wanted(
         &rt,
         rt.alloc(),
         Reader::Expression { room: 0 },

@@ -1,7 +1,7 @@
 //! Programs by the C standard's rules (C11, 6.9), with the places of refusals: a fault is at the
 //! first token with which no program within the limits continues.
 
-use crate::rows::{Reader, all_told, refusal_of};
+use crate::rows::{Reader, all_as_wanted, refusal_of};
 use c_lex::lexing::lex;
 use c_parse::program::parse;
 use c_syntax::declaration::ExternalDeclaration;
@@ -22,7 +22,7 @@ fn counts(external_declaration: &ExternalDeclaration) -> (usize, usize, usize) {
 
 /// How many external declarations a program has, and how many globals, parameters and items of its
 /// body the last of them; or its refusal.
-pub fn told_of(alloc: Global, text: &[u8]) -> Result<String, Fail> {
+pub fn found_of(alloc: Global, text: &[u8]) -> Result<String, Fail> {
     let tokens = lex(alloc, text)?;
     match parse(alloc, text, &tokens) {
         Err(refusal) => Ok(refusal_of(alloc, refusal)?),
@@ -153,30 +153,30 @@ int f(){f(1$2000$,1$);} => 1 0 0 1
 
 #[test]
 fn texts_are_programs(rt: HostRuntime) -> Result<(), Fail> {
-    all_told(&rt, rt.alloc(), Reader::Program, PROGRAMS)
+    all_as_wanted(&rt, rt.alloc(), Reader::Program, PROGRAMS)
 }
 
 #[test]
 fn no_program_continues(rt: HostRuntime) -> Result<(), Fail> {
-    all_told(&rt, rt.alloc(), Reader::Program, UNEXPECTED)
+    all_as_wanted(&rt, rt.alloc(), Reader::Program, UNEXPECTED)
 }
 
 #[test]
 fn no_program_within_the_limits_continues(rt: HostRuntime) -> Result<(), Fail> {
-    all_told(&rt, rt.alloc(), Reader::Program, BEYOND_LIMITS)
+    all_as_wanted(&rt, rt.alloc(), Reader::Program, BEYOND_LIMITS)
 }
 
 #[test]
 fn functions_locals_and_funclets_are_counted(rt: HostRuntime) -> Result<(), Fail> {
-    all_told(&rt, rt.alloc(), Reader::Program, COUNTED)
+    all_as_wanted(&rt, rt.alloc(), Reader::Program, COUNTED)
 }
 
 #[test]
 fn statements_and_expressions_nest_to_64(rt: HostRuntime) -> Result<(), Fail> {
-    all_told(&rt, rt.alloc(), Reader::Program, NESTED)
+    all_as_wanted(&rt, rt.alloc(), Reader::Program, NESTED)
 }
 
 #[test]
 fn lists_may_be_long(rt: HostRuntime) -> Result<(), Fail> {
-    all_told(&rt, rt.alloc(), Reader::Program, LONG)
+    all_as_wanted(&rt, rt.alloc(), Reader::Program, LONG)
 }

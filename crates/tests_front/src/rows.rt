@@ -1,7 +1,7 @@
-//! Tables of texts, and what is told of each.
+//! Tables of texts, and what is found of each.
 //!
-//! A table is one text. Each line after its first is a row, `TEXT => TOLD`: a text, and what its
-//! reader tells of it. In a text `$TIMES$PIECE$` is a piece so many times.
+//! A table is one text. Each line after its first is a row, `TEXT => FOUND`: a text, and what its
+//! reader finds of it. In a text `$TIMES$PIECE$` is a piece so many times.
 
 use crate::{atoms, expressions, programs, statements, tokens, types};
 use c_parse_expr::refusal::ParseErr;
@@ -49,16 +49,16 @@ fn expanded(alloc: Global, text: &str) -> Result<String, AllocError> {
 }
 
 /// What is reported of a text.
-fn told_of(alloc: Global, reader: Reader, text: &str) -> Result<String, Fail> {
+fn found_of(alloc: Global, reader: Reader, text: &str) -> Result<String, Fail> {
     match reader {
         Reader::Token => tokens::token_of(alloc, text.as_bytes()),
         Reader::Tokens => tokens::tokens_of(alloc, text.as_bytes()),
         Reader::Operator => atoms::operator_of(alloc, text.as_bytes()),
         Reader::Information => atoms::information_of(alloc, text.as_bytes()),
         Reader::Type => types::type_of(alloc, text.as_bytes()),
-        Reader::Expression { room } => expressions::told_of(alloc, text.as_bytes(), room),
-        Reader::Items => statements::told_of(alloc, text),
-        Reader::Program => programs::told_of(alloc, text.as_bytes()),
+        Reader::Expression { room } => expressions::found_of(alloc, text.as_bytes(), room),
+        Reader::Items => statements::found_of(alloc, text),
+        Reader::Program => programs::found_of(alloc, text.as_bytes()),
     }
 }
 
@@ -73,14 +73,14 @@ pub fn refusal_of(alloc: Global, refusal: ParseErr) -> Result<String, AllocError
 }
 
 /// Compares what is reported of each text of a table with its row.
-pub fn all_told(rt: &impl Abort, alloc: Global, reader: Reader, table: &str) -> Result<(), Fail> {
+pub fn all_as_wanted(rt: &impl Abort, alloc: Global, reader: Reader, table: &str) -> Result<(), Fail> {
     for row in table.lines().skip(1) {
         match row.split_once(" => ") {
             None => assert!(rt; false, "no row: {row}"),
             Some((text, wanted)) => {
                 let whole = expanded(alloc, text)?;
-                let told = told_of(alloc, reader, &whole)?;
-                assert_eq!(rt; told.as_str(), wanted, "of {text}");
+                let found = found_of(alloc, reader, &whole)?;
+                assert_eq!(rt; found.as_str(), wanted, "of {text}");
             }
         }
     }

@@ -4,10 +4,11 @@
 //! A row's text is `ROOM LOCALS FUNCLETS: ITEMS`: the room for statements around each, what is left
 //! of the counts, and the items of a block after the opening brace.
 
-use crate::rows::{Reader, all_told, refusal_of};
+use crate::rows::{Reader, all_as_wanted, refusal_of};
 use c_lex::lexing::lex;
 use c_parse_stmt::left::Left;
 use c_parse_stmt::statements::items;
+use c_syntax::limit::MOST_STATEMENTS;
 use std::alloc::Global;
 use std::test::Fail;
 
@@ -21,7 +22,7 @@ fn given_of(words: &str) -> Option<(u64, Left)> {
 }
 
 /// How many items there are, and what is left of the counts of locals and funclets; or the refusal.
-pub fn told_of(alloc: Global, row: &str) -> Result<String, Fail> {
+pub fn found_of(alloc: Global, row: &str) -> Result<String, Fail> {
     let Some((given, text)) = row.split_once(": ") else {
         return Ok(String::from_str(alloc, "no numbers")?);
     };
@@ -29,7 +30,7 @@ pub fn told_of(alloc: Global, row: &str) -> Result<String, Fail> {
         return Ok(String::from_str(alloc, "not three numbers")?);
     };
     let tokens = lex(alloc, text.as_bytes())?;
-    match items(alloc, text.as_bytes(), room, left, &tokens) {
+    match items(alloc, text.as_bytes(), room.min(MOST_STATEMENTS), left, &tokens) {
         Err(refusal) => Ok(refusal_of(alloc, refusal)?),
         Ok((_, _, [_, ..])) => Ok(String::from_str(alloc, "tokens are left")?),
         Ok((read, left, [])) => {
@@ -125,25 +126,25 @@ const REFUSED_IN_FILTERS: &str = r"
 
 #[test]
 fn blocks_are_read_whole(rt: HostRuntime) -> Result<(), Fail> {
-    all_told(&rt, rt.alloc(), Reader::Items, BLOCKS)
+    all_as_wanted(&rt, rt.alloc(), Reader::Items, BLOCKS)
 }
 
 #[test]
 fn no_block_continues(rt: HostRuntime) -> Result<(), Fail> {
-    all_told(&rt, rt.alloc(), Reader::Items, REFUSED)
+    all_as_wanted(&rt, rt.alloc(), Reader::Items, REFUSED)
 }
 
 #[test]
 fn statements_are_read_whole(rt: HostRuntime) -> Result<(), Fail> {
-    all_told(&rt, rt.alloc(), Reader::Items, STATEMENTS)
+    all_as_wanted(&rt, rt.alloc(), Reader::Items, STATEMENTS)
 }
 
 #[test]
 fn no_statement_continues(rt: HostRuntime) -> Result<(), Fail> {
-    all_told(&rt, rt.alloc(), Reader::Items, REFUSED_AFTER_EXPRESSIONS)
+    all_as_wanted(&rt, rt.alloc(), Reader::Items, REFUSED_AFTER_EXPRESSIONS)
 }
 
 #[test]
 fn no_accepting_filter_continues(rt: HostRuntime) -> Result<(), Fail> {
-    all_told(&rt, rt.alloc(), Reader::Items, REFUSED_IN_FILTERS)
+    all_as_wanted(&rt, rt.alloc(), Reader::Items, REFUSED_IN_FILTERS)
 }

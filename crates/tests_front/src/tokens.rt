@@ -1,6 +1,6 @@
 //! Texts and their tokens by the rules of C11, 6.4, and what is refused.
 
-use crate::rows::{Reader, all_told};
+use crate::rows::{Reader, all_as_wanted};
 use c_lex::laws::laws;
 use c_lex::lexing::{LexErr, lex};
 use c_lex::token::Kind;
@@ -44,18 +44,18 @@ pub fn tokens_of(alloc: Global, text: &[u8]) -> Result<String, Fail> {
         Ok(tokens) => tokens,
         Err(refusal) => return Ok(refusal_of(alloc, refusal)?),
     };
-    let mut told = String::new(alloc);
+    let mut found = String::new(alloc);
     for token in tokens.iter() {
-        let comma = if told.is_empty() { "" } else { ", " };
+        let comma = if found.is_empty() { "" } else { ", " };
         let kind = kind_of(alloc, token.kind)?;
         let part = format!(in alloc; "{comma}{kind} {} {}", token.start, token.end)?;
-        told.push_str(&part)?;
+        found.push_str(&part)?;
     }
-    Ok(told)
+    Ok(found)
 }
 
 /// The tokens of a text that no row of a table can have.
-fn told(rt: &impl Abort, alloc: Global, text: &[u8], wanted: &str) -> Result<(), Fail> {
+fn found(rt: &impl Abort, alloc: Global, text: &[u8], wanted: &str) -> Result<(), Fail> {
     let found = tokens_of(alloc, text)?;
     assert_eq!(rt; found.as_str(), wanted, "of {text:?}");
     Ok(())
@@ -84,7 +84,7 @@ abcdefghijklmnopqrstuvwxyzABCDEFGHIJKLMNOPQRSTUVWXYZ_0123456789 => Identifier
 
 #[test]
 fn words_are_identifiers(rt: HostRuntime) -> Result<(), Fail> {
-    all_told(&rt, rt.alloc(), Reader::Token, NAMES)
+    all_as_wanted(&rt, rt.alloc(), Reader::Token, NAMES)
 }
 
 /// Decimal literals: int, long long, unsigned long long.
@@ -127,8 +127,8 @@ const OCTAL_AND_HEXADECIMAL: &str = r"
 
 #[test]
 fn literals_have_the_first_type_that_holds_them(rt: HostRuntime) -> Result<(), Fail> {
-    all_told(&rt, rt.alloc(), Reader::Token, DECIMAL)?;
-    all_told(&rt, rt.alloc(), Reader::Token, OCTAL_AND_HEXADECIMAL)
+    all_as_wanted(&rt, rt.alloc(), Reader::Token, DECIMAL)?;
+    all_as_wanted(&rt, rt.alloc(), Reader::Token, OCTAL_AND_HEXADECIMAL)
 }
 
 /// `long` has 32 bits, so that `l` alone changes no type.
@@ -168,7 +168,7 @@ const SUFFIXES: &str = r"
 
 #[test]
 fn suffixes_narrow_the_types(rt: HostRuntime) -> Result<(), Fail> {
-    all_told(&rt, rt.alloc(), Reader::Token, SUFFIXES)
+    all_as_wanted(&rt, rt.alloc(), Reader::Token, SUFFIXES)
 }
 
 const ESCAPES: &str = r#"
@@ -198,7 +198,7 @@ fn characters_are_signed(rt: HostRuntime) -> Result<(), Fail> {
             assert_eq!(rt; found, wanted);
         }
     }
-    all_told(&rt, alloc, Reader::Token, ESCAPES)
+    all_as_wanted(&rt, alloc, Reader::Token, ESCAPES)
 }
 
 /// Each token is the longest that there is.
@@ -223,7 +223,7 @@ if1 1if => Identifier 0 3, 1 Int 4 5, Keyword(If) 5 7
 
 #[test]
 fn tokens_are_the_longest(rt: HostRuntime) -> Result<(), Fail> {
-    all_told(&rt, rt.alloc(), Reader::Tokens, LONGEST)
+    all_as_wanted(&rt, rt.alloc(), Reader::Tokens, LONGEST)
 }
 
 /// Comments end at the first end, and separate tokens.
@@ -247,11 +247,11 @@ fn white_space_and_comments_separate_tokens(rt: HostRuntime) -> Result<(), Fail>
         b"/* \x00\xff @ ' \" // \n ** / * */",
         b"/**//**/",
     ] {
-        told(&rt, alloc, text, "")?;
+        found(&rt, alloc, text, "")?;
     }
-    told(&rt, alloc, b"a//b\nc", "Identifier 0 1, Identifier 5 6")?;
-    told(&rt, alloc, b"//\\\na", "Identifier 4 5")?;
-    all_told(&rt, alloc, Reader::Tokens, COMMENTS)
+    found(&rt, alloc, b"a//b\nc", "Identifier 0 1, Identifier 5 6")?;
+    found(&rt, alloc, b"//\\\na", "Identifier 4 5")?;
+    all_as_wanted(&rt, alloc, Reader::Tokens, COMMENTS)
 }
 
 #[test]
@@ -263,9 +263,9 @@ fn bytes_begin_no_token(rt: HostRuntime) -> Result<(), Fail> {
             _ => false,
         };
         if bad {
-            told(&rt, alloc, &[byte], "BadByte 0")?;
-            told(&rt, alloc, &[b'a', b' ', byte], "BadByte 2")?;
-            told(&rt, alloc, &[byte, b'\''], "BadByte 0")?;
+            found(&rt, alloc, &[byte], "BadByte 0")?;
+            found(&rt, alloc, &[b'a', b' ', byte], "BadByte 2")?;
+            found(&rt, alloc, &[byte, b'\''], "BadByte 0")?;
         }
     }
     Ok(())
@@ -283,8 +283,8 @@ int a /* x => OpenComment 6
 
 #[test]
 fn comments_have_ends(rt: HostRuntime) -> Result<(), Fail> {
-    told(&rt, rt.alloc(), b"//\n/*", "OpenComment 3")?;
-    all_told(&rt, rt.alloc(), Reader::Tokens, OPEN_COMMENTS)
+    found(&rt, rt.alloc(), b"//\n/*", "OpenComment 3")?;
+    all_as_wanted(&rt, rt.alloc(), Reader::Tokens, OPEN_COMMENTS)
 }
 
 const BAD_CHARACTERS: &str = r"
@@ -311,11 +311,11 @@ int main(void){ return 'ab'; } => BadChar 23
 #[test]
 fn quotes_begin_one_character(rt: HostRuntime) -> Result<(), Fail> {
     let alloc = rt.alloc();
-    told(&rt, alloc, b"'\n'", "BadChar 0")?;
-    told(&rt, alloc, b"'\x1f'", "BadChar 0")?;
-    told(&rt, alloc, b"'\x7f'", "BadChar 0")?;
-    told(&rt, alloc, b"'\xc3'", "BadChar 0")?;
-    all_told(&rt, alloc, Reader::Tokens, BAD_CHARACTERS)
+    found(&rt, alloc, b"'\n'", "BadChar 0")?;
+    found(&rt, alloc, b"'\x1f'", "BadChar 0")?;
+    found(&rt, alloc, b"'\x7f'", "BadChar 0")?;
+    found(&rt, alloc, b"'\xc3'", "BadChar 0")?;
+    all_as_wanted(&rt, alloc, Reader::Tokens, BAD_CHARACTERS)
 }
 
 const BIG_LITERALS: &str = r"
@@ -331,7 +331,7 @@ int main(void){ return 18446744073709551616; } => BigLiteral 23
 
 #[test]
 fn literals_are_below_2_to_the_64(rt: HostRuntime) -> Result<(), Fail> {
-    all_told(&rt, rt.alloc(), Reader::Tokens, BIG_LITERALS)
+    all_as_wanted(&rt, rt.alloc(), Reader::Tokens, BIG_LITERALS)
 }
 
 #[test]

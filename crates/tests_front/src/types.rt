@@ -1,6 +1,6 @@
 //! Types by the C standard's rules (C11, 6.7.2 and 6.7.6), with `long` of 32 bits.
 
-use crate::rows::{Reader, all_told};
+use crate::rows::{Reader, all_as_wanted};
 use c_lex::lexing::lex;
 use c_parse_type::specifiers::c_type;
 use std::alloc::Global;
@@ -29,5 +29,5 @@ x int => no type
 
 #[test]
 fn texts_begin_with_types(rt: HostRuntime) -> Result<(), Fail> {
-    all_told(&rt, rt.alloc(), Reader::Type, TYPES)
+    all_as_wanted(&rt, rt.alloc(), Reader::Type, TYPES)
 }
