@@ -1,5 +1,5 @@
 -- What comes of a text or an image comes of the input that it was.
-use Rattle.std.proofs.Common.{◌≡◌, ◌+◌, ◌<◌, ◌≤◌, ℕ, min, List, [], length, append-nil, ◌∙◌, take, drop, Option, Result, Ok, Err, sym, ap, arith, refl, inl, inr}
+use Rattle.std.proofs.Common.{◌≡◌, ◌+◌, ◌<◌, ◌≤◌, ℕ, min, List, [], length, append-nil, ◌∙◌, take, drop, Option, Result, Ok, Err, sym, ap, arith, refl, subst, inl, inr}
 use Rattle.std.proofs.lemmas.List.{take-append-drop, length-take-le}
 use Rattle.seh_io.specs.Streams.{Grew, last_count}
 use Rattle.seh_io.specs.Writer.{TookPart}
@@ -18,6 +18,10 @@ lost_all limit source source' bytes input = (
   (let w = input.within in omega arith),
   λ held known. ([], sym (input.all held known) ∙ sym (append-nil bytes), input.emptied held known),
 )
+
+-- the same bytes are the same input
+pub same_input : (limit : ℕ) (source source' : Stream) (read bytes : List ℕ) → bytes ≡ read → IsInput limit source source' read → IsInput limit source source' bytes
+same_input limit source source' read bytes same input = subst (λ (bs : List ℕ). IsInput limit source source' bs) (sym same) input
 
 -- of a text that was compiled
 pub from_text : (text : List ℕ) (source source' out out' : Stream) (answer : Result Outcome Refusal) → IsInput text_limit source source' text → IsCompileAnswer text out out' answer → IsInputAnswer text_limit IsCompileAnswer source source' out out' answer

@@ -1,13 +1,16 @@
-use Rattle.std.proofs.Common.{List, ℕ, subst, sym}
-use Rattle.seh.specs.Answers.{image_limit, IsInput}
-use Rattle.seh.proofs.Inputs.{from_image, refused_input}
+use Rattle.seh.specs.Answers.{image_limit, IsRunAnswer}
+use Rattle.seh.specs.Streams.{stream}
+use Rattle.seh.proofs.Inputs.{same_input, from_image, refused_input}
 use Rattle.seh.proofs.exec.exec.Goals as goal
 
 pub returns-in-Ok : goal.returns-in-Ok
 returns-in-Ok g c =
     from_image _ _ _ _ _ _ c.run_image.result
-    (subst (λ (bytes : List ℕ). IsInput image_limit _ _ bytes) (sym c.deref.ensures.value) c.in-Ok.ensures.read)
-    c.run_image.ensures
+    (same_input image_limit _ _ _ _ c.deref.ensures.value c.in-Ok.ensures.read) c.run_image.ensures
 
 pub returns-in-Err : goal.returns-in-Err
-returns-in-Err g c = refused_input _ _ _ _ _ c.in-Err.refusal c.in-Err.ensures.refused
+returns-in-Err g c =
+    refused_input image_limit (IsRunAnswer c.args.options) (stream g.S.Source.left g.S.Source.faults c.args.src.now)
+    (stream g.S.Source.left g.S.Source.faults c.read_input.new.src)
+    (stream g.O.Sink.taken g.O.Sink.faults c.args.out.now) c.in-Err.refusal
+    c.in-Err.ensures.refused
