@@ -71,12 +71,14 @@ fn shows(rt: &impl Abort, alloc: Global, bytes: &[u8], how: Run, lines: &str) ->
     let mut out = VecSink::new(alloc);
     let end = run(&mut host, how.turns, how.trace, &mut out)?;
     let mut text = String::new(alloc);
-    let mut last = "";
     for line in lines.split(" / ") {
         text.push_str(line)?;
         text.push_str("\n")?;
-        last = line;
     }
+    let last = match lines.rsplit_once(" / ") {
+        Some((_, last)) => last,
+        None => lines,
+    };
     assert_eq!(rt; out.bytes.as_slice(), text.as_bytes(), "{how:?}: {lines}");
     assert_eq!(rt; Some(end), end_of(last), "{how:?}: {lines}");
     Ok(())
