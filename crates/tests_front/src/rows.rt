@@ -73,7 +73,12 @@ pub fn refusal_of(alloc: Global, refusal: ParseErr) -> Result<String, AllocError
 }
 
 /// Compares what is reported of each text of a table with its row.
-pub fn all_as_wanted(rt: &impl Abort, alloc: Global, reader: Reader, table: &str) -> Result<(), Fail> {
+pub fn all_as_wanted(
+    rt: &impl Abort,
+    alloc: Global,
+    reader: Reader,
+    table: &str,
+) -> Result<(), Fail> {
     for row in table.lines().skip(1) {
         match row.split_once(" => ") {
             None => assert!(rt; false, "no row: {row}"),

@@ -30,7 +30,13 @@ pub fn found_of(alloc: Global, row: &str) -> Result<String, Fail> {
         return Ok(String::from_str(alloc, "not three numbers")?);
     };
     let tokens = lex(alloc, text.as_bytes())?;
-    match items(alloc, text.as_bytes(), room.min(MOST_STATEMENTS), left, &tokens) {
+    match items(
+        alloc,
+        text.as_bytes(),
+        room.min(MOST_STATEMENTS),
+        left,
+        &tokens,
+    ) {
         Err(refusal) => Ok(refusal_of(alloc, refusal)?),
         Ok((_, _, [_, ..])) => Ok(String::from_str(alloc, "tokens are left")?),
         Ok((read, left, [])) => {
