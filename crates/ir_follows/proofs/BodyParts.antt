@@ -17,7 +17,7 @@ use Rattle.linear_code.specs.Program.{LinearProgram}
 use Rattle.linear_machine.specs.Frames.{Store, Finished, with_some, set_local}
 use Rattle.linear_machine.specs.Instructions.{end_body}
 use Rattle.linear_machine.specs.Run.{exec}
-use Rattle.linear_runs.proofs.Stretch.{Part, at, Site, conf, Ways, Price, price, Join, Arrives, Claim, first_ways}
+use Rattle.linear_runs.proofs.Stretch.{Part, at, Site, conf, Ways, Price, price, Join, Arrives, Claim, first_ways, joins}
 use Rattle.linear_runs.proofs.Joining.{Passes, Joined, more, after, arrives_more, targets_more, finishes_more, stops_more}
 use Rattle.linear_runs.proofs.SingleTurns.{first, stepped, still, fetch, prefix_self}
 use Rattle.ir_expressions.specs.declared.scope.Scope.{Scope}
@@ -53,14 +53,14 @@ module _ (program : Program) (linear : LinearProgram) (pace body : ℕ) where
   pub normal_then : (s : Part) (t : State → Store → Part) (w : Ways) (st : State) (p q r : Price) (o : Outcome) → Join p q r → Passes linear pace p r → Claim linear pace s st p (first_ways t w) o
       → ((mid : State) (store : Store) → mid.steps_left ≤ st.steps_left → w.kept mid store → mid.held ≡ w.held → Claim linear pace (t mid store) mid q w (Gives Normal mid)) → Claim linear pace s st r w o
   normal_then s t w st p q r (Gives (Value x) mid) j l a b = absurd a
-  normal_then s t w st p q r (Gives Normal mid) j l a b = after linear pace s (t mid a.store) st mid p.turns p.extra p.slack q r w (Gives Normal mid) (j.0, j.1, j.3) a.reaches (b mid a.store a.reaches.low a.fits a.same)
-  normal_then s t w st p q r (Gives (Returned x) mid) j l a b = let lr = j.0 in arrives_more linear pace s st mid p r w.kept w.held (w.returned x) (omega arith) l a
-  normal_then s t w st p q r (Gives Broke mid) j l a b = let lr = j.0 in arrives_more linear pace s st mid p r w.kept w.held w.broke (omega arith) l a
-  normal_then s t w st p q r (Gives Continued mid) j l a b = let lr = j.0 in arrives_more linear pace s st mid p r w.kept w.held w.again (omega arith) l a
-  normal_then s t w st p q r (Gives LeftTry mid) j l a b = let lr = j.0 in arrives_more linear pace s st mid p r w.kept w.held w.left (omega arith) l a
-  normal_then s t w st p q r (Gives (Target level exc) mid) j l a b = let lr = j.0 in targets_more linear pace s st mid p r w.kept w.context w.site level exc (omega arith) j.2 a
-  normal_then s t w st p q r (Gives (End (Some e)) mid) j l a b = let lr = j.0 in finishes_more linear pace s st mid p.turns r.turns (Finished e mid.events) (omega arith) a
-  normal_then s t w st p q r (Gives (End None) mid) j l a b = let lr = j.0 in stops_more linear pace s st mid p.turns p.extra p.out r.turns r.extra r.out (omega arith) j.2 a
+  normal_then s t w st p q r (Gives Normal mid) j l a b = after linear pace s (t mid a.store) st mid p.turns p.extra p.slack q r w (Gives Normal mid) (j.turns, j.slack, j.second_out) a.reaches (b mid a.store a.reaches.low a.fits a.same)
+  normal_then s t w st p q r (Gives (Returned x) mid) j l a b = let lr = j.turns in arrives_more linear pace s st mid p r w.kept w.held (w.returned x) (omega arith) l a
+  normal_then s t w st p q r (Gives Broke mid) j l a b = let lr = j.turns in arrives_more linear pace s st mid p r w.kept w.held w.broke (omega arith) l a
+  normal_then s t w st p q r (Gives Continued mid) j l a b = let lr = j.turns in arrives_more linear pace s st mid p r w.kept w.held w.again (omega arith) l a
+  normal_then s t w st p q r (Gives LeftTry mid) j l a b = let lr = j.turns in arrives_more linear pace s st mid p r w.kept w.held w.left (omega arith) l a
+  normal_then s t w st p q r (Gives (Target level exc) mid) j l a b = let lr = j.turns in targets_more linear pace s st mid p r w.kept w.context w.site level exc (omega arith) j.first_out a
+  normal_then s t w st p q r (Gives (End (Some e)) mid) j l a b = let lr = j.turns in finishes_more linear pace s st mid p.turns r.turns (Finished e mid.events) (omega arith) a
+  normal_then s t w st p q r (Gives (End None) mid) j l a b = let lr = j.turns in stops_more linear pace s st mid p.turns p.extra p.out r.turns r.extra r.out (omega arith) j.first_out a
 
   module _ (roomy : 4 ≤ pace) (n : ℕ) (ih : Runs program linear pace body n) (bih : BodyRuns program linear pace body n) where
     module _ (scope : Scope) (z : Shape) (shapes : List Shape) (context : Context) (site : Site) (base : Store) where
@@ -99,14 +99,14 @@ module _ (program : Program) (linear : LinearProgram) (pace body : ℕ) where
           → OptionalFits program linear pace body z.own e → HasAt linear site.body site.regions pc (discarded_code scope.names e pc) → Surroundings program linear pace body scope.names z shapes context site base notes → Ks st store → st.held ≡ site.held
           → ((v : ℕ) (mid : State) (after : Store) → mid.steps_left ≤ n → Ks mid after → mid.held ≡ site.held → G (pc + discarded_size e) [] mid after q done (f v mid)) → G pc [] st store r done (optional (within program n) v e context st f)
       discard_then None v notes pc st store q r done f steps light j fits has standing kept held go =
-          let a = j.0 in let b = j.1 in let c = j.3 in
+          let a = j.turns in let b = j.slack in let c = j.second_out in
           more linear pace (at (conf context site pc [] st store)) st q r (S done) (f v st) (omega arith, omega arith, omega arith) (starts_at (pc + 0) pc [] st store q done (f v st) (omega arith) (go v st store steps kept held))
       discard_then (Some e) v notes pc st store q r done f steps light j fits has standing kept held go =
-          let a = j.0 in let b = j.1 in let c = j.2 in let d = j.3 in
+          let a = j.turns in let b = j.slack in let c = j.first_out in let d = j.second_out in
           let end : pc + expression_size e + 1 ≡ pc + (expression_size e + 1) = omega arith in
           let code = expression_code scope.names e 0 pc in
           statement_eval program linear pace body n ih e scope.names z shapes context site base notes pc st store (price (1 + q.turns) q.extra q.slack q.out) r (S done) f steps light
-          (omega arith, omega arith, omega arith, omega arith) fits (has_front linear site.body site.regions pc code (Separator ∷ []) has) standing kept held
+          (joins (omega arith) (omega arith) (omega arith) (omega arith)) fits (has_front linear site.body site.regions pc code (Separator ∷ []) has) standing kept held
           (λ v mid after steps kept held.
           continue_from (pc + expression_size e) (pc + expression_size e + 1) (v ∷ []) [] mid after after q (price (1 + q.turns) q.extra q.slack q.out) done (f v mid) (omega arith, omega arith, omega arith)
           (λ k. separator_turn (pc + expression_size e) (v ∷ []) mid after k (has_after linear site.body site.regions pc (expression_size e) code (Separator ∷ []) (expression_length scope.names e 0 pc) has))
@@ -178,14 +178,14 @@ module _ (program : Program) (linear : LinearProgram) (pace body : ℕ) where
           → Claim linear pace s st p (statement_ways program linear pace body (scopes.in_loop end again scope) context site Ks again) o → Claim linear pace s st r (S end) (in_loop o go)
       unfolding in_loop
       loop_ends s end again st p q r (Gives (Value x) mid) go j l b a = absurd a
-      loop_ends s end again st p q r (Gives Normal mid) go j l b a = after linear pace s (at (conf context site again [] mid a.store)) st mid p.turns p.extra p.slack q r (S end) (go mid) (j.0, j.1, j.3) a.reaches (b mid a.store a.reaches.low a.fits a.same)
-      loop_ends s end again st p q r (Gives Continued mid) go j l b a = after linear pace s (at (conf context site again [] mid a.store)) st mid p.turns p.extra p.slack q r (S end) (go mid) (j.0, j.1, j.3) a.reaches (b mid a.store a.reaches.low a.fits a.same)
-      loop_ends s end again st p q r (Gives Broke mid) go j l b a = let w = S end in let lr = j.0 in arrives_more linear pace s st mid p r Ks site.held w.normal (omega arith) l a
-      loop_ends s end again st p q r (Gives (Returned x) mid) go j l b a = let w = S end in let lr = j.0 in arrives_more linear pace s st mid p r Ks site.held (w.returned x) (omega arith) l a
-      loop_ends s end again st p q r (Gives LeftTry mid) go j l b a = let w = S end in let lr = j.0 in arrives_more linear pace s st mid p r Ks site.held w.left (omega arith) l a
-      loop_ends s end again st p q r (Gives (Target level exc) mid) go j l b a = let lr = j.0 in targets_more linear pace s st mid p r Ks context site level exc (omega arith) j.2 a
-      loop_ends s end again st p q r (Gives (End (Some e)) mid) go j l b a = let lr = j.0 in finishes_more linear pace s st mid p.turns r.turns (Finished e mid.events) (omega arith) a
-      loop_ends s end again st p q r (Gives (End None) mid) go j l b a = let lr = j.0 in stops_more linear pace s st mid p.turns p.extra p.out r.turns r.extra r.out (omega arith) j.2 a
+      loop_ends s end again st p q r (Gives Normal mid) go j l b a = after linear pace s (at (conf context site again [] mid a.store)) st mid p.turns p.extra p.slack q r (S end) (go mid) (j.turns, j.slack, j.second_out) a.reaches (b mid a.store a.reaches.low a.fits a.same)
+      loop_ends s end again st p q r (Gives Continued mid) go j l b a = after linear pace s (at (conf context site again [] mid a.store)) st mid p.turns p.extra p.slack q r (S end) (go mid) (j.turns, j.slack, j.second_out) a.reaches (b mid a.store a.reaches.low a.fits a.same)
+      loop_ends s end again st p q r (Gives Broke mid) go j l b a = let w = S end in let lr = j.turns in arrives_more linear pace s st mid p r Ks site.held w.normal (omega arith) l a
+      loop_ends s end again st p q r (Gives (Returned x) mid) go j l b a = let w = S end in let lr = j.turns in arrives_more linear pace s st mid p r Ks site.held (w.returned x) (omega arith) l a
+      loop_ends s end again st p q r (Gives LeftTry mid) go j l b a = let w = S end in let lr = j.turns in arrives_more linear pace s st mid p r Ks site.held w.left (omega arith) l a
+      loop_ends s end again st p q r (Gives (Target level exc) mid) go j l b a = let lr = j.turns in targets_more linear pace s st mid p r Ks context site level exc (omega arith) j.first_out a
+      loop_ends s end again st p q r (Gives (End (Some e)) mid) go j l b a = let lr = j.turns in finishes_more linear pace s st mid p.turns r.turns (Finished e mid.events) (omega arith) a
+      loop_ends s end again st p q r (Gives (End None) mid) go j l b a = let lr = j.turns in stops_more linear pace s st mid p.turns p.extra p.out r.turns r.extra r.out (omega arith) j.first_out a
 
       -- ---- declarations
 
@@ -234,7 +234,7 @@ module _ (program : Program) (linear : LinearProgram) (pace body : ℕ) where
           first linear pace (conf context site pc [] st store) (at (conf context site pc1 [] cleared store')) st cleared (price 15 0 (1 + w) (1 + w)) (price 16 1 (1 + w) (1 + w)) (S done) o (omega arith, omega arith, omega arith) refl refl (prefix_self linear pace st.events)
           (λ k. clear_turn x pc [] st store k (has.2.0, has.2.1, tt))
           (statement_eval program linear pace body n ih e scope.names z shapes context site base notes pc1 cleared store' (price 2 0 0 0) (price 15 0 (1 + w) (1 + w)) (S done) f steps (omega arith)
-          (omega arith, omega arith, omega arith, omega arith) has.1 (has_front linear site.body site.regions pc1 code (copy (Local x) (Temporary 0) ∷ Separator ∷ []) has.2.2) standing (stays_set x 0 notes st store has.0 standing kept) held
+          (joins (omega arith) (omega arith) (omega arith) (omega arith)) has.1 (has_front linear site.body site.regions pc1 code (copy (Local x) (Temporary 0) ∷ Separator ∷ []) has.2.2) standing (stays_set x 0 notes st store has.0 standing kept) held
           (λ v mid after steps kept held.
           let put : State = model.set_local mid a x v in
           let after' = set_local after a x v in

@@ -9,7 +9,7 @@ use Rattle.c_model.specs.Expressions.{all}
 use Rattle.c_model.specs.Meaning.{within}
 use Rattle.linear_code.specs.Program.{LinearProgram}
 use Rattle.linear_machine.specs.Frames.{Store}
-use Rattle.linear_runs.proofs.Stretch.{at, Site, conf, Ways, Price, price, Claim}
+use Rattle.linear_runs.proofs.Stretch.{at, Site, conf, Ways, Price, price, Claim, joins}
 use Rattle.linear_runs.proofs.Joining.{then_normal}
 use Rattle.linear_runs.proofs.SingleTurns.{still, prefix_self}
 use Rattle.ir_expressions.specs.declared.scope.Scope.{Scope}
@@ -51,7 +51,7 @@ module _ (program : Program) (linear : LinearProgram) (pace body : ℕ) (n : ℕ
         let hi = pc + (statement_size s + statements_size ss) in
         subst (λ d. G pc [] st store (price 0 0 (a + b) (a + b)) d (and_then (within program n (Run s) context st) (λ st. all (within program n) ss context st))) end
         (then_normal linear pace (at (conf context site pc [] st store)) (λ st store. at (conf context site pc1 [] st store)) (S done) st (price 0 0 a a) (price 0 0 b b) (price 0 0 (a + b) (a + b)) (within program n (Run s) context st) (λ st. all (within program n) ss context st)
-        (omega arith, omega arith, omega arith, omega arith) (omega arith)
+        (joins (omega arith) (omega arith) (omega arith) (omega arith)) (omega arith)
         (bih.run s scope z shapes context site base pc st store steps (omega arith) has.0 (inner_part linear site.body scope site.regions pc hi pc pc1 (omega arith) (omega arith) inner)
         (surroundings_less program linear pace body scope.names z shapes context site base (max (statement_notes s) (statements_notes ss)) (statement_notes s) (max_left (statement_notes s) (statements_notes ss)) standing) kept held)
         (λ mid after low kept held.

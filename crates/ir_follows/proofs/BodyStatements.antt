@@ -15,7 +15,7 @@ use Rattle.linear_code.specs.declared.program.Region.{Region}
 use Rattle.linear_code.specs.declared.program.RegionKind.TheVariants as regions
 use Rattle.linear_code.specs.Program.{LinearProgram}
 use Rattle.linear_machine.specs.Frames.{BodyName, Store, set_local}
-use Rattle.linear_runs.proofs.Stretch.{at, Site, conf, Ways, Price, price, found}
+use Rattle.linear_runs.proofs.Stretch.{at, Site, conf, Ways, Price, price, found, joins}
 use Rattle.linear_runs.proofs.Joining.{more, then_normal}
 use Rattle.linear_runs.proofs.SingleTurns.{chosen}
 use Rattle.ir_expressions.specs.declared.scope.Scope.{Scope}
@@ -76,7 +76,7 @@ module _ (program : Program) (linear : LinearProgram) (pace body : ℕ) (roomy :
         let end : done ≡ hi = omega arith in
         ends_at program linear pace body roomy n ih bih scope z shapes context site base pc [] st store (price 0 0 (a + b) (a + b)) done hi (and_then (within program n (Run (Declare d)) context st) (λ st. declare_each (within program n) ds context st)) end
         (then_normal linear pace (at (conf context site pc [] st store)) (λ st store. at (conf context site pc1 [] st store)) (W done) st (price 0 0 a a) (price 0 0 b b) (price 0 0 (a + b) (a + b)) (within program n (Run (Declare d)) context st) (λ st. declare_each (within program n) ds context st)
-        (omega arith, omega arith, omega arith, omega arith) (omega arith)
+        (joins (omega arith) (omega arith) (omega arith) (omega arith)) (omega arith)
         (bih.run (Declare d) scope z shapes context site base pc st store steps (omega arith) has.0 (part_in pc hi pc pc1 (omega arith) (omega arith) inner) standing kept held)
         (λ mid after low kept held. declares_runs ds pc1 mid after (omega arith) (omega arith) has.1 (part_in pc hi pc1 done (omega arith) (omega arith) inner) standing kept held))
 
@@ -99,7 +99,7 @@ module _ (program : Program) (linear : LinearProgram) (pace body : ℕ) (roomy :
         let w = expression_weight e in
         let done = pc + (expression_size e + 2) in
         statement_eval program linear pace body n ih e scope.names z shapes context site base notes pc st store (price 1 0 0 0) (price 16 1 (1 + w) (1 + w)) (W done) (λ v st. Gives (Returned v) st) steps (omega arith)
-        (omega arith, omega arith, omega arith, omega arith) has.value has.computes standing kept held
+        (joins (omega arith) (omega arith) (omega arith) (omega arith)) has.value has.computes standing kept held
         (λ v mid after steps kept held. leaves_by program linear pace body roomy n ih bih scope z shapes context site base scope.exit (pc + expression_size e) v mid after (price 1 0 0 0) (omega arith) (omega arith) has.leads has.returns kept held)
 
     except_runs : (ss : Statements) (filter : Filter) (block : Statements) (pc : ℕ) (st : State) (store : Store) → st.steps_left ≤ n → statement_weight (TryExcept ss filter block) + body + 4 ≤ pace → Placed program linear pace body z.own site.body scope (TryExcept ss filter block) site.regions pc
@@ -176,7 +176,7 @@ module _ (program : Program) (linear : LinearProgram) (pace body : ℕ) (roomy :
     statement_runs (Evaluate e) pc st store steps light has inner standing kept held =
         let w = optional_weight e in
         let done = pc + discarded_size e in
-        discard_then program linear pace body roomy n ih bih scope z shapes context site base e 0 0 pc st store (price 0 0 0 0) (price 16 1 (1 + w) (1 + w)) done (λ v st. Gives Normal st) steps (omega arith) (omega arith, omega arith, omega arith, omega arith) has.0 has.1 standing kept held
+        discard_then program linear pace body roomy n ih bih scope z shapes context site base e 0 0 pc st store (price 0 0 0 0) (price 16 1 (1 + w) (1 + w)) done (λ v st. Gives Normal st) steps (omega arith) (joins (omega arith) (omega arith) (omega arith) (omega arith)) has.0 has.1 standing kept held
         (λ v mid after steps kept held. here program linear pace body roomy n ih bih scope z shapes context site base done done mid after (price 0 0 0 0) refl (omega arith) kept held)
     statement_runs (If c s) pc st store steps light has inner standing kept held =
         let wc = expression_weight c in
@@ -189,7 +189,7 @@ module _ (program : Program) (linear : LinearProgram) (pace body : ℕ) (roomy :
         let code = expression_code scope.names c 0 pc in
         let go : State → Outcome = λ st. within program n (Run s) context st in
         statement_eval program linear pace body n ih c scope.names z shapes context site base (statement_notes s) pc st store (price 2 0 ws ws) (price 16 1 w w) (W done) (λ v st. choose (nat_eq v 0) (λ st. Gives Normal st) go st) steps (omega arith)
-        (omega arith, omega arith, omega arith, omega arith) has.0 (has_front linear site.body site.regions pc code (JumpIfZero (Temporary 0) label ∷ []) has.1) standing kept held
+        (joins (omega arith) (omega arith) (omega arith) (omega arith)) has.0 (has_front linear site.body site.regions pc code (JumpIfZero (Temporary 0) label ∷ []) has.1) standing kept held
         (λ v mid after steps kept held.
         chosen linear pace (nat_eq v 0) (conf context site pc1 (v ∷ []) mid after) (at (conf context site label [] mid after)) (at (conf context site (pc1 + 1) [] mid after)) (price 1 0 ws ws) (price 2 0 ws ws) (W done) (λ st. Gives Normal st) go mid (omega arith, omega arith, omega arith) refl
         (λ k. test_turn linear pace context site label v pc1 [] mid after k (has_after linear site.body site.regions pc (expression_size c) code (JumpIfZero (Temporary 0) label ∷ []) (expression_length scope.names c 0 pc) has.1))
@@ -213,12 +213,12 @@ module _ (program : Program) (linear : LinearProgram) (pace body : ℕ) (roomy :
         let no : State → Outcome = λ st. within program n (Run t) context st in
         let q = ws + wt in
         statement_eval program linear pace body n ih c scope.names z shapes context site base notes pc st store (price 3 0 q q) (price 16 1 w w) (W done) (λ v st. choose (nat_eq v 0) no yes st) steps (omega arith)
-        (omega arith, omega arith, omega arith, omega arith) has.condition (has_front linear site.body site.regions pc code (JumpIfZero (Temporary 0) otherwise ∷ []) has.test) standing kept held
+        (joins (omega arith) (omega arith) (omega arith) (omega arith)) has.condition (has_front linear site.body site.regions pc code (JumpIfZero (Temporary 0) otherwise ∷ []) has.test) standing kept held
         (λ v mid after steps kept held.
         chosen linear pace (nat_eq v 0) (conf context site pc1 (v ∷ []) mid after) (at (conf context site otherwise [] mid after)) (at (conf context site then [] mid after)) (price 2 0 q q) (price 3 0 q q) (W done) no yes mid (omega arith, omega arith, omega arith) refl
         (λ k. test_turn linear pace context site otherwise v pc1 [] mid after k (has_after linear site.body site.regions pc (expression_size c) code (JumpIfZero (Temporary 0) otherwise ∷ []) (expression_length scope.names c 0 pc) has.test))
         (sub_run t otherwise done mid after (price 2 0 q q) notes pc done steps (omega arith) (omega arith) (omega arith) refl has.no (omega arith) (omega arith) inner (max_right (statement_notes s) (statement_notes t)) standing kept held end)
-        (normal_then program linear pace body (at (conf context site then [] mid after)) (λ st store. at (conf context site jump [] st store)) (W done) mid (price 0 0 ws ws) (price 1 0 0 0) (price 2 0 q q) (yes mid) (omega arith, omega arith, omega arith, omega arith) (omega arith)
+        (normal_then program linear pace body (at (conf context site then [] mid after)) (λ st store. at (conf context site jump [] st store)) (W done) mid (price 0 0 ws ws) (price 1 0 0 0) (price 2 0 q q) (yes mid) (joins (omega arith) (omega arith) (omega arith) (omega arith)) (omega arith)
         (sub_run s then jump mid after (price 0 0 ws ws) notes pc done steps (omega arith) (omega arith) (omega arith) refl has.yes (omega arith) (omega arith) inner (max_left (statement_notes s) (statement_notes t)) standing kept held refl)
         (λ st store low kept held.
         continue_from program linear pace body roomy n ih bih scope z shapes context site base jump label [] [] st store store (price 0 0 0 0) (price 1 0 0 0) done (Gives Normal st) (omega arith, omega arith, omega arith) (λ k. jump_turn linear pace context site label jump [] st store k has.skip)
@@ -237,10 +237,10 @@ module _ (program : Program) (linear : LinearProgram) (pace body : ℕ) (roomy :
         let g : State → Outcome = λ st. optional (within program n) 0 first context st f in
         ends_at program linear pace body roomy n ih bih scope z shapes context site base pc [] st store (price 16 1 w w) last hi (and_then (declare_each (within program n) ds context st) g) end
         (then_normal linear pace (at (conf context site pc [] st store)) (λ st store. at (conf context site begin [] st store)) (W last) st (price 0 0 wd wd) (price 1 0 (wf + wi) (wf + wi)) (price 16 1 w w) (declare_each (within program n) ds context st) g
-        (omega arith, omega arith, omega arith, omega arith) (omega arith)
+        (joins (omega arith) (omega arith) (omega arith) (omega arith)) (omega arith)
         (declares_runs ds pc st store steps (omega arith) has.declared (part_in pc hi pc begin (omega arith) (omega arith) inner) (fewer (statement_notes s) 0 (omega arith) standing) kept held)
         (λ mid after low kept held.
-        discard_then program linear pace body roomy n ih bih scope z shapes context site base first 0 (statement_notes s) begin mid after (price 0 0 wi wi) (price 1 0 (wf + wi) (wf + wi)) last f (omega arith) (omega arith) (omega arith, omega arith, omega arith, omega arith) has.first has.begins standing kept held
+        discard_then program linear pace body roomy n ih bih scope z shapes context site base first 0 (statement_notes s) begin mid after (price 0 0 wi wi) (price 1 0 (wf + wi) (wf + wi)) last f (omega arith) (omega arith) (joins (omega arith) (omega arith) (omega arith) (omega arith)) has.first has.begins standing kept held
         (λ v mid after steps kept held. bih.for_run c next s scope z shapes context site base iteration mid after steps (omega arith) has.iterations (part_in pc hi iteration last (omega arith) (omega arith) inner) standing kept held)))
     statement_runs (DoWhile s c) pc st store steps light has inner standing kept held =
         let wi = 1 + statement_weight s + expression_weight c in

@@ -13,7 +13,7 @@ use Rattle.linear_code.specs.declared.instruction.Instruction.TheVariants.{JumpI
 use Rattle.linear_code.specs.declared.program.Region.{Region}
 use Rattle.linear_code.specs.Program.{LinearProgram}
 use Rattle.linear_machine.specs.Frames.{BodyName, Store}
-use Rattle.linear_runs.proofs.Stretch.{at, Site, conf, Ways, Price, price}
+use Rattle.linear_runs.proofs.Stretch.{at, Site, conf, Ways, Price, price, joins}
 use Rattle.linear_runs.proofs.Joining.{more}
 use Rattle.linear_runs.proofs.SingleTurns.{chosen}
 use Rattle.linear_runs.proofs.Walks.{Around, around_part, holds_yes}
@@ -33,7 +33,7 @@ use Rattle.ir_follows.proofs.BodyParts.{Ks, S, G, starts_at, continue_from, sepa
 
 lands_around : (rs : List Region) (lo hi label : ℕ) → Around rs lo hi → lo ≤ label → label ≤ hi → Lands rs label
 lands_around [] lo hi label a l h = tt
-lands_around (r ∷ rs) lo hi label a l h = let x = a.0 in let y = a.1 in inl (holds_yes r label (omega arith) (omega arith))
+lands_around (r ∷ rs) lo hi label a l h = let x = a.0 in inl (holds_yes r label (omega arith) (omega arith))
 
 -- the body of a loop
 inside_loop : (linear : LinearProgram) (b : BodyName) (scope : Scope) (rs : List Region) (lo hi start again : ℕ) → lo ≤ start → start ≤ again → again ≤ hi → Inner linear b scope rs lo hi → Inner linear b (scopes.in_loop hi again scope) rs start again
@@ -74,7 +74,7 @@ module _ (program : Program) (linear : LinearProgram) (pace body : ℕ) (roomy :
         let f : ℕ → State → Outcome = λ w st. within program n (ForIteration c next s) context st in
         continue_from program linear pace body roomy n ih bih scope z shapes context site base again (again + 1) [] [] st store store (price 2 0 wi wi) (price 3 pace wi wi) end (optional (within program n) 0 next context st f) (omega arith, omega arith, omega arith)
         (λ k. separator_turn program linear pace body roomy n ih bih scope z shapes context site base again [] st store k has.end)
-        (discard_then program linear pace body roomy n ih bih scope z shapes context site base next 0 (statement_notes s) (again + 1) st store (price 1 pace wi wi) (price 2 0 wi wi) end f steps (omega arith) (omega arith, omega arith, omega arith, omega arith) has.next has.steps standing kept held
+        (discard_then program linear pace body roomy n ih bih scope z shapes context site base next 0 (statement_notes s) (again + 1) st store (price 1 pace wi wi) (price 2 0 wi wi) end f steps (omega arith) (joins (omega arith) (omega arith) (omega arith) (omega arith)) has.next has.steps standing kept held
         (λ v mid after steps kept held.
         continue_from program linear pace body roomy n ih bih scope z shapes context site base (again + 1 + discarded_size next) pc [] [] mid after after (price 0 0 wi wi) (price 1 pace wi wi) end (within program n (ForIteration c next s) context mid) (omega arith, omega arith, omega arith)
         (λ k. jump_turn linear pace context site pc (again + 1 + discarded_size next) [] mid after k has.repeats)
@@ -92,7 +92,7 @@ module _ (program : Program) (linear : LinearProgram) (pace body : ℕ) (roomy :
         let again = start + statement_size s in
         let end = for_end c next s pc in
         loop_ends program linear pace body roomy n ih bih scope z shapes context site base (at (conf context site start [] st store)) end again st (price 0 0 ws ws) (price 3 pace wi wi) (price 10 e wi wi) (within program n (Run s) context st)
-        (λ st. optional (within program n) 0 next context st (λ w st. within program n (ForIteration c next s) context st)) (omega arith, omega arith, omega arith, omega arith) (omega arith)
+        (λ st. optional (within program n) 0 next context st (λ w st. within program n (ForIteration c next s) context st)) (joins (omega arith) (omega arith) (omega arith) (omega arith)) (omega arith)
         (λ mid after low kept held. for_tail c next s pc mid after (omega arith) light has inner standing kept held)
         (bih.run s (scopes.in_loop end again scope) z shapes context site base start st store steps (omega arith) has.body (inside_loop linear site.body scope site.regions pc end start again (omega arith) (omega arith) (omega arith) inner) standing kept held)
 
@@ -115,7 +115,7 @@ module _ (program : Program) (linear : LinearProgram) (pace body : ℕ) (roomy :
         let code = expression_code scope.names c 0 pc in
         let go : State → Outcome = λ st. in_loop (within program n (Run s) context st) (λ st. optional (within program n) 0 next context st (λ w st. within program n (ForIteration (Some c) next s) context st)) in
         statement_eval program linear pace body n ih c scope.names z shapes context site base (statement_notes s) pc st store (price 15 pace wi wi) (price 16 1 wi wi) (W end) (λ v st. choose (nat_eq v 0) (λ st. Gives Normal st) go st) steps (omega arith)
-        (omega arith, omega arith, omega arith, omega arith) has.condition (has_front linear site.body site.regions pc code (JumpIfZero (Temporary 0) end ∷ []) has.tests) standing kept held
+        (joins (omega arith) (omega arith) (omega arith) (omega arith)) has.condition (has_front linear site.body site.regions pc code (JumpIfZero (Temporary 0) end ∷ []) has.tests) standing kept held
         (λ v mid after steps kept held.
         chosen linear pace (nat_eq v 0) (conf context site pc1 (v ∷ []) mid after) (at (conf context site end [] mid after)) (at (conf context site (pc1 + 1) [] mid after)) (price 10 0 wi wi) (price 15 pace wi wi) (W end) (λ st. Gives Normal st) go mid (omega arith, omega arith, omega arith) refl
         (λ k. test_turn linear pace context site end v pc1 [] mid after k (has_after linear site.body site.regions pc (expression_size c) code (JumpIfZero (Temporary 0) end ∷ []) (expression_length scope.names c 0 pc) has.tests))
@@ -138,7 +138,7 @@ module _ (program : Program) (linear : LinearProgram) (pace body : ℕ) (roomy :
         continue_from program linear pace body roomy n ih bih scope z shapes context site base again (again + 1) [] [] st store store (price 4 0 wi wi) (price 5 pace wi wi) end (with_value (within program n (Eval c) context st) f) (omega arith, omega arith, omega arith)
         (λ k. separator_turn program linear pace body roomy n ih bih scope z shapes context site base again [] st store k has.end)
         (statement_eval program linear pace body n ih c scope.names z shapes context site base (statement_notes s) (again + 1) st store (price 4 pace wi wi) (price 4 0 wi wi) (W end) f steps (omega arith)
-        (omega arith, omega arith, omega arith, omega arith) has.condition (has_front linear site.body site.regions (again + 1) code (JumpIfZero (Temporary 0) end ∷ []) has.tests) standing kept held
+        (joins (omega arith) (omega arith) (omega arith) (omega arith)) has.condition (has_front linear site.body site.regions (again + 1) code (JumpIfZero (Temporary 0) end ∷ []) has.tests) standing kept held
         (λ v mid after steps kept held.
         chosen linear pace (nat_eq v 0) (conf context site pc1 (v ∷ []) mid after) (at (conf context site end [] mid after)) (at (conf context site (pc1 + 1) [] mid after)) (price 2 0 wi wi) (price 4 pace wi wi) (W end) (λ st. Gives Normal st) go mid (omega arith, omega arith, omega arith) refl
         (λ k. test_turn linear pace context site end v pc1 [] mid after k (has_after linear site.body site.regions (again + 1) (expression_size c) code (JumpIfZero (Temporary 0) end ∷ []) (expression_length scope.names c 0 (again + 1)) has.tests))
@@ -156,6 +156,6 @@ module _ (program : Program) (linear : LinearProgram) (pace body : ℕ) (roomy :
         let again = pc + statement_size s in
         let end = do_end s c pc in
         loop_ends program linear pace body roomy n ih bih scope z shapes context site base (at (conf context site pc [] st store)) end again st (price 0 0 ws ws) (price 5 pace wi wi) (price 16 1 wi wi) (within program n (Run s) context st)
-        (λ st. with_value (within program n (Eval c) context st) (λ v st. choose (nat_eq v 0) (λ st. Gives Normal st) (λ st. within program n (DoIteration s c) context st) st)) (omega arith, omega arith, omega arith, omega arith) (omega arith)
+        (λ st. with_value (within program n (Eval c) context st) (λ v st. choose (nat_eq v 0) (λ st. Gives Normal st) (λ st. within program n (DoIteration s c) context st) st)) (joins (omega arith) (omega arith) (omega arith) (omega arith)) (omega arith)
         (λ mid after low kept held. do_tail s c pc mid after (omega arith) light has inner standing kept held)
         (bih.run s (scopes.in_loop end again scope) z shapes context site base pc st store steps (omega arith) has.body (inside_loop linear site.body scope site.regions pc end pc again (omega arith) (omega arith) (omega arith) inner) standing kept held)

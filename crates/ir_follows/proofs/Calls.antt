@@ -15,7 +15,7 @@ use Rattle.linear_code.specs.declared.instruction.Instruction.{Instruction}
 use Rattle.linear_code.specs.Program.{LinearProgram}
 use Rattle.linear_machine.specs.Frames.{Store, Seen}
 use Rattle.linear_machine.specs.Run.{exec}
-use Rattle.linear_runs.proofs.Stretch.{Part, Site, conf, price}
+use Rattle.linear_runs.proofs.Stretch.{Part, Site, conf, price, joins}
 use Rattle.linear_runs.proofs.Joining.{more}
 use Rattle.ir_expressions.specs.declared.scope.Names.{Names}
 use Rattle.ir_sizes.specs.Sizes.{expression_size}
@@ -181,7 +181,7 @@ module _ (program : Program) (linear : LinearProgram) (pace body : ℕ) (same_gl
         first linear pace (conf context site pc (temps ++ vs) st store) part st st (price 0 0 1 pace) (price 13 x o o) w (and_then (within program n (Raise exc) context st) last) (omega arith, omega arith, omega arith) refl refl (prefix_self linear pace st.events)
         (λ k. built_in_turn RaiseException pc temps vs st store k has len)
         (then_plain linear pace part (λ st store. pushed context site (pc + 1) temps 0 st store) w st (price 0 0 1 pace) (price 0 0 0 0) (price 0 0 1 pace) (within program n (Raise exc) context st) last
-        (omega arith, omega arith, omega arith, omega arith)
+        (joins (omega arith) (omega arith) (omega arith) (omega arith))
         (ih.raised exc AfterCall names info z shapes context site base pc temps st store steps has.1 around kept held)
         (λ mid after lower kept held. here_value program linear pace body same_globals roomy n ih names info z shapes context site base around (pc + 1) temps 0 mid after 0 0 0 0 (omega arith) kept held))
 

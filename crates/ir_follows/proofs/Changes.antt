@@ -18,7 +18,7 @@ use Rattle.linear_code.specs.declared.slot.Slot.TheVariants.{Temporary}
 use Rattle.linear_code.specs.declared.instruction.Instruction.{Instruction}
 use Rattle.linear_code.specs.Program.{LinearProgram}
 use Rattle.linear_machine.specs.Frames.{Store, with_temporary}
-use Rattle.linear_runs.proofs.Stretch.{Part, at, Site, conf, price}
+use Rattle.linear_runs.proofs.Stretch.{Part, at, Site, conf, price, joins}
 use Rattle.linear_runs.proofs.Joining.{more, then_value}
 use Rattle.ir_expressions.specs.declared.scope.Names.{Names}
 use Rattle.ir_sizes.specs.Sizes.{address_count, read_size, conversion_size, expression_size, locate_size, node_size}
@@ -187,7 +187,7 @@ module _ (program : Program) (linear : LinearProgram) (pace body : ℕ) (same_gl
         conversion_then program linear pace body same_globals roomy n ih names info z shapes context site base around after u us pc5 mid after_operation 2 0 w w part (operated u mid)
         (has_front linear site.body site.regions pc5 (conversion_code after i) (write_code p d i i ∷ copy (Temporary d) (Temporary (chosen_of m l)) ∷ []) h4.2.2)
         (then_value linear pace _ (λ v st store. at (conf context site (pc6 + 1) (us ++ v ∷ []) st store)) (Wv program linear pace body same_globals roomy n ih names info z shapes context site base around part) mid (price 1 0 0 0) (price 1 0 w w) (price 2 0 w w) (write program (within program n) p a u' context mid) (λ new st. Gives (Value (incremented_value m x new)) st)
-        (omega arith, omega arith, omega arith, omega arith)
+        (joins (omega arith) (omega arith) (omega arith) (omega arith))
         (write_runs program linear pace body same_globals roomy n ih names info z shapes context site base around p a u' d i i (λ v. us ++ v ∷ []) pc6 (us ++ u' ∷ []) mid after_operation 0 steps (omega arith) fits.0 (h6.0, h6.1, tt) (new_fits p a x u' temps) kept held)
         (λ new mid after_write lower kept held.
         let v = incremented_value m x new in

@@ -21,7 +21,7 @@ use Rattle.linear_machine.specs.Unwinding.{flag_in, flag_of, begin_finally, run_
 use Rattle.linear_machine.specs.Searching.{target_of}
 use Rattle.linear_machine.specs.Instructions.{end_body}
 use Rattle.linear_machine.specs.Run.{instruction_in, exec}
-use Rattle.linear_runs.proofs.Stretch.{Part, at, Site, frame_of, conf, Way, Never, To, Out, Ways, Kept, Price, price, Join, found, Reaches, unwound, Arrives, Claim, normal_ways}
+use Rattle.linear_runs.proofs.Stretch.{Part, at, Site, frame_of, conf, Way, Never, To, Out, Ways, Kept, Price, price, Join, found, Reaches, unwound, Arrives, Claim, normal_ways, joins}
 use Rattle.linear_runs.proofs.Joining.{more, after, reaches_after, targets_more, finishes_more, stops_more, then_held}
 use Rattle.linear_runs.proofs.SingleTurns.{onto, still, stepped, first, fetch, prefix_self}
 use Rattle.linear_runs.proofs.Walks.{Outward, starts}
@@ -48,14 +48,14 @@ module _ (program : Program) (linear : LinearProgram) (pace body : ℕ) where
   pub plain_then : (s : Part) (t : State → Store → Part) (w : Ways) (st : State) (p q r : Price) (o : Outcome) → Join p q r → Claim linear pace s st p (record (normal_ways t w.kept w.context w.site) { held = w.held }) o
       → ((mid : State) (store : Store) → mid.steps_left ≤ st.steps_left → w.kept mid store → mid.held ≡ w.held → Claim linear pace (t mid store) mid q w (Gives Normal mid)) → Claim linear pace s st r w o
   plain_then s t w st p q r (Gives (Value x) mid) j a b = absurd a
-  plain_then s t w st p q r (Gives Normal mid) j a b = after linear pace s (t mid a.store) st mid p.turns p.extra p.slack q r w (Gives Normal mid) (j.0, j.1, j.3) a.reaches (b mid a.store a.reaches.low a.fits a.same)
+  plain_then s t w st p q r (Gives Normal mid) j a b = after linear pace s (t mid a.store) st mid p.turns p.extra p.slack q r w (Gives Normal mid) (j.turns, j.slack, j.second_out) a.reaches (b mid a.store a.reaches.low a.fits a.same)
   plain_then s t w st p q r (Gives (Returned x) mid) j a b = absurd a
   plain_then s t w st p q r (Gives Broke mid) j a b = absurd a
   plain_then s t w st p q r (Gives Continued mid) j a b = absurd a
   plain_then s t w st p q r (Gives LeftTry mid) j a b = absurd a
-  plain_then s t w st p q r (Gives (Target level exc) mid) j a b = let lr = j.0 in targets_more linear pace s st mid p r w.kept w.context w.site level exc (omega arith) j.2 a
-  plain_then s t w st p q r (Gives (End (Some e)) mid) j a b = let lr = j.0 in finishes_more linear pace s st mid p.turns r.turns (Finished e mid.events) (omega arith) a
-  plain_then s t w st p q r (Gives (End None) mid) j a b = let lr = j.0 in stops_more linear pace s st mid p.turns p.extra p.out r.turns r.extra r.out (omega arith) j.2 a
+  plain_then s t w st p q r (Gives (Target level exc) mid) j a b = let lr = j.turns in targets_more linear pace s st mid p r w.kept w.context w.site level exc (omega arith) j.first_out a
+  plain_then s t w st p q r (Gives (End (Some e)) mid) j a b = let lr = j.turns in finishes_more linear pace s st mid p.turns r.turns (Finished e mid.events) (omega arith) a
+  plain_then s t w st p q r (Gives (End None) mid) j a b = let lr = j.turns in stops_more linear pace s st mid p.turns p.extra p.out r.turns r.extra r.out (omega arith) j.first_out a
 
   -- the block begins
   run_is : (k : ℕ) (names : Names) (flag : Bool) (held : ℕ) (below : List Item) (next : Next) (c : Configuration) → HasFunclet linear (k - 1) (λ funclet. funclet.kind ≡ kinds.Finally names.free)
@@ -97,7 +97,7 @@ module _ (program : Program) (linear : LinearProgram) (pace body : ℕ) where
         (λ j. starts linear (exec linear j) to (λ store. unwind linear (exec linear j) (target_past site.body to) site.below None st.events store) begin (end + 1) (k - 1) site.regions (conf context site pc temps st store) forth o
         ∙ run_is k scope.names true to.held below (exec linear j) (conf context site pc temps st store) placed.funclet) p)
         (then_held linear pace s' (λ mid store'. unwound linear pace context site to temps mid store' pc) to.held w' st (price 0 0 y y) (price 1 0 0 0) (price 1 0 y y) (within program n (RunFinally k last true) context st) (λ st. Gives how st)
-        (omega arith, omega arith, omega arith, omega arith)
+        (joins (omega arith) (omega arith) (omega arith) (omega arith))
         (bih.finally_run k last true to.held below scope.names z shapes context site base pc temps st store steps light placed isf standing kept held) go)
 
     -- it runs at a body's normal end
@@ -112,7 +112,7 @@ module _ (program : Program) (linear : LinearProgram) (pace body : ℕ) where
         let isf : IsFunclet program linear pace body (k - 1) (finally_site (k - 1) below site.held) context site pc [] = record { named = refl; bare = refl; same_found = walked; onward = λ next target st store. unwound_is program linear pace body target context site pc [] st store next has.1 } in
         first linear pace (conf context site pc [] st store) s' st st (price 1 0 y y) (price 2 0 y y) w (within program n (RunFinally k last false) context st) (omega arith, omega arith, omega arith) refl refl (prefix_self linear pace st.events)
         (λ j. fetch linear pace (conf context site pc [] st store) (CallFinally (k - 1)) j has.0 ∙ run_is k scope.names false site.held below (exec linear j) (conf context site pc [] st store) placed.funclet)
-        (plain_then s' (λ st store. at (conf context site (pc + 1) [] st store)) w st (price 0 0 y y) (price 1 0 0 0) (price 1 0 y y) (within program n (RunFinally k last false) context st) (omega arith, omega arith, omega arith, omega arith)
+        (plain_then s' (λ st store. at (conf context site (pc + 1) [] st store)) w st (price 0 0 y y) (price 1 0 0 0) (price 1 0 y y) (within program n (RunFinally k last false) context st) (joins (omega arith) (omega arith) (omega arith) (omega arith))
         (bih.finally_run k last false site.held below scope.names z shapes context site base pc [] st store steps light placed isf standing kept held)
         (λ mid store' low kept' held'. record {
           store = store';

@@ -23,7 +23,7 @@ use Rattle.linear_code.specs.Program.{LinearProgram}
 use Rattle.linear_machine.specs.Frames.{Store, Seen, pick, with_some, with_temporary}
 use Rattle.linear_machine.specs.Instructions.{is_constant}
 use Rattle.linear_machine.specs.Run.{exec}
-use Rattle.linear_runs.proofs.Stretch.{Part, at, Site, conf, Ways, price, Claim, value_ways}
+use Rattle.linear_runs.proofs.Stretch.{Part, at, Site, conf, Ways, price, Claim, value_ways, joins}
 use Rattle.linear_runs.proofs.Joining.{more, then_value}
 use Rattle.linear_runs.proofs.SingleTurns.{first, still, fetch, prefix_self}
 use Rattle.ir_expressions.specs.declared.scope.Names.{Names}
@@ -84,7 +84,7 @@ module _ (program : Program) (linear : LinearProgram) (pace body : ℕ) (same_gl
         → From pc temps st store t x s o part (with_value (within program n (Eval e) context st) k)
     sub_eval e pc temps st store t x s o part k steps light fit_o fits has kept held go =
         then_value linear pace _ (pushed context site (pc + expression_size e) temps) (Wv part) st (price 0 0 (expression_weight e) (expression_weight e)) (price t (x + expression_weight e) s o) (price t x s o) (within program n (Eval e) context st) k
-        (omega arith, omega arith, omega arith, omega arith) (ih.eval e names info z shapes context site base pc temps st store steps light fits has around kept held)
+        (joins (omega arith) (omega arith) (omega arith) (omega arith)) (ih.eval e names info z shapes context site base pc temps st store steps light fits has around kept held)
         (λ v mid after lower kept held. go v mid after (omega arith) kept held)
 
     -- a target, and what is done with its address
@@ -94,7 +94,7 @@ module _ (program : Program) (linear : LinearProgram) (pace body : ℕ) (same_gl
         → From pc temps st store t x s o part (with_value (within program n (Locate p) context st) k)
     sub_target p pc temps st store t x s o part k steps light fit_o fits has kept held go =
         then_value linear pace _ (with_address context site (pc + locate_size p) p temps) (Wv part) st (price 0 0 (1 + lvalue_weight p) (1 + lvalue_weight p)) (price t (x + (1 + lvalue_weight p)) s o) (price t x s o) (within program n (Locate p) context st) k
-        (omega arith, omega arith, omega arith, omega arith) (ih.locate p names info z shapes context site base pc temps st store steps light fits has around kept held)
+        (joins (omega arith) (omega arith) (omega arith) (omega arith)) (ih.locate p names info z shapes context site base pc temps st store steps light fits has around kept held)
         (λ v mid after lower kept held. go v mid after (omega arith) kept held)
 
     -- a place that is no target
@@ -104,7 +104,7 @@ module _ (program : Program) (linear : LinearProgram) (pace body : ℕ) (same_gl
         → From pc temps st store (1 + t) x s o part (with_value (locate (within program n) p context st) k)
     sub_locate p pc temps st store t x s o part k steps light fit_o fits has kept held go =
         then_value linear pace _ (with_address context site (pc + locate_size p) p temps) (Wv part) st (price 1 0 (lvalue_weight p) (lvalue_weight p)) (price t (x + lvalue_weight p) s o) (price (1 + t) x s o) (locate (within program n) p context st) k
-        (omega arith, omega arith, omega arith, omega arith) (locate_runs program linear pace body same_globals roomy n ih names info z shapes context site base around p pc temps st store steps light fits has kept held)
+        (joins (omega arith) (omega arith) (omega arith) (omega arith)) (locate_runs program linear pace body same_globals roomy n ih names info z shapes context site base around p pc temps st store steps light fits has kept held)
         (λ v mid after lower kept held. go v mid after (omega arith) kept held)
 
     pub sub_read : (p : Lvalue) (a address : ℕ) (ts : List ℕ) (pc : ℕ) (temps : List ℕ) (st : State) (store : Store) (t x s o : ℕ) (part : ℕ → State → Store → Part) (k : ℕ → State → Outcome) → st.steps_left ≤ n → x + 1 ≤ pace → x ≤ o
@@ -113,7 +113,7 @@ module _ (program : Program) (linear : LinearProgram) (pace body : ℕ) (same_gl
         → From pc temps st store (2 + t) x s o part (with_value (read program (within program n) p a context st) k)
     sub_read p a address ts pc temps st store t x s o part k steps le fit_o fits has r kept held go =
         then_value linear pace _ (pushed context site (pc + read_size p) ts) (Wv part) st (price 2 x 0 x) (price t 0 s o) (price (2 + t) x s o) (read program (within program n) p a context st) k
-        (omega arith, omega arith, omega arith, omega arith) (read_runs program linear pace body same_globals roomy n ih names info z shapes context site base around p a address ts pc temps st store x steps le fits has r kept held)
+        (joins (omega arith) (omega arith) (omega arith) (omega arith)) (read_runs program linear pace body same_globals roomy n ih names info z shapes context site base around p a address ts pc temps st store x steps le fits has r kept held)
         (λ v mid after lower kept held. go v mid after (omega arith) kept held)
 
     pub sub_operate : (op : Operation) (x' y to left right a b : ℕ) (result : ℕ → List ℕ) (pc : ℕ) (temps : List ℕ) (st : State) (store : Store) (t x s o : ℕ) (part : ℕ → State → Store → Part) (k : ℕ → State → Outcome)
@@ -122,7 +122,7 @@ module _ (program : Program) (linear : LinearProgram) (pace body : ℕ) (same_gl
         → From pc temps st store (1 + t) x s o part (with_value (operate program (within program n) op x' y context st) k)
     sub_operate op x' y to left right a b result pc temps st store t x s o part k c steps le fit_o has r alike kept held go =
         then_value linear pace _ (λ v st store. at (conf context site (pc + 1) (result v) st store)) (Wv part) st (price 1 x 0 x) (price t 0 s o) (price (1 + t) x s o) (operate program (within program n) op x' y context st) k
-        (omega arith, omega arith, omega arith, omega arith) (operate_runs program linear pace body same_globals roomy n ih names info z shapes context site base around op x' y to left right a b result pc temps st store x c steps le has r alike kept held)
+        (joins (omega arith) (omega arith) (omega arith) (omega arith)) (operate_runs program linear pace body same_globals roomy n ih names info z shapes context site base around op x' y to left right a b result pc temps st store x c steps le has r alike kept held)
         (λ v mid after lower kept held. go v mid after (omega arith) kept held)
 
     -- a turn that changes temporaries alone

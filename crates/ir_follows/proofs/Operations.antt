@@ -27,7 +27,7 @@ use Rattle.linear_machine.specs.Frames as machine
 use Rattle.linear_machine.specs.Searching.{raise}
 use Rattle.linear_machine.specs.Instructions.{is_constant, computed}
 use Rattle.linear_machine.specs.Run.{exec}
-use Rattle.linear_runs.proofs.Stretch.{Part, at, Site, conf, Kept, Ways, Price, price, Claim, value_ways}
+use Rattle.linear_runs.proofs.Stretch.{Part, at, Site, conf, Kept, Ways, Price, price, Claim, value_ways, joins}
 use Rattle.linear_runs.proofs.Joining.{more, then_value, then_plain}
 use Rattle.linear_runs.proofs.SingleTurns.{first, still, stepped, prefix_self}
 use Rattle.ir_expressions.specs.declared.scope.Names.{Names}
@@ -99,7 +99,7 @@ module _ (program : Program) (linear : LinearProgram) (pace body : ℕ) (same_gl
         first linear pace cc part st st (price 0 0 1 pace) (price 1 e 0 e) w (and_then (within program n (Raise exc) context st) again) (omega arith, omega arith, omega arith) refl refl (prefix_self linear pace st.events)
         (λ k. computes linear pace context site o to left right a b after pc temps st store k c has r ∙ ap (computed linear (exec linear k) (Temporary to) cc) seen)
         (then_plain linear pace part (λ st store. at (conf context site pc temps st store)) w st (price 0 0 1 pace) (price 0 0 0 1) (price 0 0 1 pace) (within program n (Raise exc) context st) again
-        (omega arith, omega arith, omega arith, omega arith)
+        (joins (omega arith) (omega arith) (omega arith) (omega arith))
         (ih.raised exc SameOperation names info z shapes context site base pc temps st store steps has.1 around kept held)
         (λ mid after' lower fits same. ih.retry o x y to left right a b after names info z shapes context site base pc temps mid after' c (omega arith) has r alike around fits same))
     operated o x y to left right a b after pc temps st store e (performing.Undefined a') q c steps le has r alike kept held =
@@ -154,11 +154,11 @@ module _ (program : Program) (linear : LinearProgram) (pace body : ℕ) (same_gl
         let keep : ℕ → ℕ → State → Outcome = λ a k st. Gives (Value (result_of (pures.Add Long) a k)) st in
         value_at _ st (price 1 0 (we + wi) (we + wi)) (pc2 + 1) (pc + (expression_size e + (expression_size i + 1))) temps _ e_pc
         (then_value linear pace _ (pushed context site pc1 temps) w st (price 0 0 we we) (price 1 we (we + wi) (we + wi)) (price 1 0 (we + wi) (we + wi)) (within program n (Eval e) context st) (λ a st. with_value (within program n (Eval i) context st) (λ k st. keep a k st))
-        (omega arith, omega arith, omega arith, omega arith)
+        (joins (omega arith) (omega arith) (omega arith) (omega arith))
         (ih.eval e names info z shapes context site base pc temps st store steps (omega arith) fits.0 (has_front linear site.body site.regions pc first_code (second_code ++ combine d (Pure (pures.Add Long)) ∷ []) has) around kept held)
         (λ a mid store1 lower1 kept1 held1.
         then_value linear pace _ (pushed context site pc2 (temps ++ a ∷ [])) w mid (price 0 0 wi wi) (price 1 (we + wi) (we + wi) (we + wi)) (price 1 we (we + wi) (we + wi)) (within program n (Eval i) context mid) (λ k st. keep a k st)
-        (omega arith, omega arith, omega arith, omega arith)
+        (joins (omega arith) (omega arith) (omega arith) (omega arith))
         (ih.eval i names info z shapes context site base pc1 (temps ++ a ∷ []) mid store1 (omega arith) (omega arith) fits.1 (subst (λ j. HasAt linear site.body site.regions pc1 (expression_code names i j pc1)) (sym (length_push temps a)) second) around kept1 held1)
         (λ k end store2 lower2 kept2 held2.
         ends_by (conf context site pc2 ((temps ++ a ∷ []) ++ k ∷ []) end store2) (result_of (pures.Add Long) a k) 1 (we + wi) (we + wi) (we + wi) (pushed context site (pc2 + 1) temps) end end store2 (omega arith) (omega arith) refl refl refl kept2 held2
@@ -183,7 +183,7 @@ module _ (program : Program) (linear : LinearProgram) (pace body : ℕ) (same_gl
         let e_pc : pc + 1 + 1 ≡ pc + 2 = omega arith in
         value_at _ st (price 2 e 0 e) (pc + 1 + 1) (pc + 2) ts _ e_pc
         (then_value linear pace _ (pushed context site (pc + 1) ts) w st (price 1 e 0 e) (price 1 0 0 0) (price 2 e 0 e) (operate program (within program n) (Load access.width) a 0 context st) keep
-        (omega arith, omega arith, omega arith, omega arith)
+        (joins (omega arith) (omega arith) (omega arith) (omega arith))
         (operate_runs (Load access.width) a 0 to address address a a (λ v. ts ++ v ∷ []) pc temps st store e refl steps le (has.0, has.1, tt) r (λ m. refl) kept held)
         (λ v mid after lower kept held.
         let k = pures.Extend access.signedness access.width (size_of access.width) in

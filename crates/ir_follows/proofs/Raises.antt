@@ -23,7 +23,7 @@ use Rattle.linear_machine.specs.Unwinding.{target_past, left_store, unwind_body,
 use Rattle.linear_machine.specs.Searching.{target_of, accept, begin_filter, consult, search, raise, resumed, answered}
 use Rattle.linear_machine.specs.Instructions.{end_funclet}
 use Rattle.linear_machine.specs.Run.{exec}
-use Rattle.linear_runs.proofs.Stretch.{Part, at, Site, frame_of, conf, Picked, Kept, price, Price, Join, Ways, found, Reaches, unwound, Targets, Claim, value_ways, normal_ways}
+use Rattle.linear_runs.proofs.Stretch.{Part, at, Site, frame_of, conf, Picked, Kept, price, Price, Join, Ways, found, Reaches, unwound, Targets, Claim, value_ways, normal_ways, joins}
 use Rattle.linear_runs.proofs.Joining.{more, after, then_value, targets_more, finishes_more, stops_more}
 use Rattle.linear_runs.proofs.SingleTurns.{prefix_self, still, stepped, fetch, sooner, deep_claim}
 use Rattle.linear_runs.proofs.Walks.{picked_at, handlers_below, leaves}
@@ -126,18 +126,18 @@ module _ (program : Program) (linear : LinearProgram) (pace body : ℕ) where
       → Join p q r → IsFunclet j isite w.context w.site pc temps → ((st : State) (store : Store) → kept st store → w.kept st store) → Claim linear pace s st p (value_ways v kept inner isite) o
       → ((x : ℕ) (mid : State) (store : Store) → mid.steps_left ≤ st.steps_left → kept mid store → mid.held ≡ isite.held → Claim linear pace (v x mid store) mid q w (k x mid)) → Claim linear pace s st r w (with_value o k)
   unfolding with_value
-  then_value_out s v kept j inner isite w pc temps st p q r (Gives (Value x) mid) k t f g a b = after linear pace s (v x mid a.store) st mid p.turns p.extra p.slack q r w (k x mid) (t.0, t.1, t.3) a.reaches (b x mid a.store a.reaches.low a.fits a.same)
+  then_value_out s v kept j inner isite w pc temps st p q r (Gives (Value x) mid) k t f g a b = after linear pace s (v x mid a.store) st mid p.turns p.extra p.slack q r w (k x mid) (t.turns, t.slack, t.second_out) a.reaches (b x mid a.store a.reaches.low a.fits a.same)
   then_value_out s v kept j inner isite w pc temps st p q r (Gives Normal mid) k t f g a b = absurd a
   then_value_out s v kept j inner isite w pc temps st p q r (Gives (Returned x) mid) k t f g a b = absurd a
   then_value_out s v kept j inner isite w pc temps st p q r (Gives Broke mid) k t f g a b = absurd a
   then_value_out s v kept j inner isite w pc temps st p q r (Gives Continued mid) k t f g a b = absurd a
   then_value_out s v kept j inner isite w pc temps st p q r (Gives LeftTry mid) k t f g a b = absurd a
   then_value_out s v kept j inner isite w pc temps st p q r (Gives (Target level exc) mid) k t f g a b =
-      let lr = t.0 in
+      let lr = t.turns in
       let kept_target : Targets linear pace s st p w.kept inner isite level exc mid = record { handler = a.handler; picked = a.picked; temps = a.temps; pc = a.pc; store = a.store; fits = g mid a.store a.fits; reaches = a.reaches } in
-      targets_more linear pace s st mid p r w.kept w.context w.site level exc (omega arith) t.2 (targets_out s st p w.kept j inner w.context isite w.site pc temps level exc mid f.named f.bare f.same_found f.onward kept_target)
-  then_value_out s v kept j inner isite w pc temps st p q r (Gives (End (Some e)) mid) k t f g a b = let lr = t.0 in finishes_more linear pace s st mid p.turns r.turns (Finished e mid.events) (omega arith) a
-  then_value_out s v kept j inner isite w pc temps st p q r (Gives (End None) mid) k t f g a b = let lr = t.0 in stops_more linear pace s st mid p.turns p.extra p.out r.turns r.extra r.out (omega arith) t.2 a
+      targets_more linear pace s st mid p r w.kept w.context w.site level exc (omega arith) t.first_out (targets_out s st p w.kept j inner w.context isite w.site pc temps level exc mid f.named f.bare f.same_found f.onward kept_target)
+  then_value_out s v kept j inner isite w pc temps st p q r (Gives (End (Some e)) mid) k t f g a b = let lr = t.turns in finishes_more linear pace s st mid p.turns r.turns (Finished e mid.events) (omega arith) a
+  then_value_out s v kept j inner isite w pc temps st p q r (Gives (End None) mid) k t f g a b = let lr = t.turns in stops_more linear pace s st mid p.turns p.extra p.out r.turns r.extra r.out (omega arith) t.first_out a
 
   module _ (n : ℕ) (ih : Runs program linear pace body n) where
     -- what a filter's answer comes to
@@ -179,7 +179,7 @@ module _ (program : Program) (linear : LinearProgram) (pace body : ℕ) where
         then_value linear pace _ (answers_search program linear pace body exc resumption f rest context site pc temps)
         (normal_ways (resumes program linear pace body resumption context site pc temps) (Within program linear pace body shapes base) context site) st (price 0 1 0 (2 + expression_weight e)) (price 16 0 1 pace) (price 16 1 1 pace)
         (within program n (RunFilter k e h exc) context st) (λ v st. source.answered (within program n) v (length hs) exc context st (λ st. source.search (within program n) hs exc context st))
-        (omega arith, omega arith, omega arith, omega arith) (ih.filter k j e h f rest exc resumption names info z shapes context site base pc temps st store steps t a fit around kept held)
+        (joins (omega arith) (omega arith) (omega arith) (omega arith)) (ih.filter k j e h f rest exc resumption names info z shapes context site base pc temps st store steps t a fit around kept held)
         (λ v mid after lower fits same. answered_runs (nat_eq (low W32 v) 0) (nat_lt (low W32 v) (2 ^ 31)) exc.flag hs f pre rest exc resumption names info z shapes context site base pc temps mid after len t w le (omega arith) around fits same
         (go mid after (omega arith) fits same))
 
@@ -259,7 +259,7 @@ module _ (program : Program) (linear : LinearProgram) (pace body : ℕ) where
         (subst (λ c. Claim linear pace (at c) asked (price 16 2 0 (2 + expression_weight e)) w o) same
         (then_value_out (at (place h.activation k)) (pushed inner isite (0 + expression_size e) []) (Within program linear pace body shapes base) j inner isite w pc temps asked
         (price 0 0 (expression_weight e) (expression_weight e)) (price 16 pace 0 0) (price 16 2 0 (2 + expression_weight e)) (within program n (Eval e) inner asked) keep
-        (omega arith, omega arith, omega arith, omega arith) out (λ st store q. q)
+        (joins (omega arith) (omega arith) (omega arith) (omega arith)) out (λ st store q. q)
         (ih.eval e fit.names true fit.shape shapes inner isite base 0 [] asked store steps light fit.fits (has_front linear (FuncletBody j) [] 0 code (Return (Temporary 0) ∷ []) fit.code) env kept (ap (λ x. x + 2) held))
         (λ v mid after lower fits same_held.
         let answer = events.Answer (signed W32 v) in

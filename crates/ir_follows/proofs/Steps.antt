@@ -20,7 +20,7 @@ use Rattle.linear_machine.specs.Regions.{regions_at}
 use Rattle.linear_machine.specs.Searching.{begin_filter, raise}
 use Rattle.linear_machine.specs.Instructions.{is_constant}
 use Rattle.linear_machine.specs.Run.{exec}
-use Rattle.linear_runs.proofs.Stretch.{at, Site, conf, price, Claim, normal_ways}
+use Rattle.linear_runs.proofs.Stretch.{at, Site, conf, price, Claim, normal_ways, joins}
 use Rattle.linear_runs.proofs.Joining.{more, then_value}
 use Rattle.linear_runs.proofs.SingleTurns.{counted_claim, shown_deep}
 use Rattle.ir_expressions.specs.declared.scope.Names.{Names}
@@ -81,7 +81,7 @@ module _ (program : Program) (linear : LinearProgram) (pace body : ℕ) (same_gl
           let part = pushed context site (pc + (node_size nd + conversion_size c)) temps in
           let cn = node_code names nd d pc in
           then_value linear pace _ (pushed context site pc1 temps) (Wv program linear pace body same_globals roomy n ih names info z shapes context site base around part) st (price 13 1 w w) (price 3 0 0 0) (price 16 1 w w) (model.node program (within program n) nd context st) (λ v st. Gives (Value (converted c v)) st)
-          (omega arith, omega arith, omega arith, omega arith)
+          (joins (omega arith) (omega arith) (omega arith) (omega arith))
           (node_runs nd pc temps st store steps light fits (has_front linear site.body site.regions pc cn (conversion_code c d) has) kept held)
           (λ v mid after lower kept held.
           conversion_then program linear pace body same_globals roomy n ih names info z shapes context site base around c v temps pc1 mid after 0 0 0 0 part (Gives (Value (converted c v)) mid) (has_after linear site.body site.regions pc (node_size nd) cn (conversion_code c d) (node_length names nd d pc) has)

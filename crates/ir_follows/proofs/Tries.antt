@@ -71,7 +71,7 @@ inside_except linear b scope filter target done rs lo hi hi' l h f =
     let r = region lo target (except_kind filter target) in
     let e = is_except filter target in
     record {
-      around = (omega arith, l, is_block filter target, around_part rs lo hi lo hi' (omega arith) (omega arith) f.around);
+      around = (record { begin = omega arith; end = l; block = is_block filter target }, around_part rs lo hi lo hi' (omega arith) (omega arith) f.around);
       exit = exit_in linear b r rs hi hi' scope.exit (omega arith) e f.exit;
       loop_end = jump_in r rs hi hi' scope.loop_end (omega arith) e f.loop_end;
       loop_next = jump_in r rs hi hi' scope.loop_next (omega arith) e f.loop_next;
@@ -82,7 +82,7 @@ pub inside_finally : (linear : LinearProgram) (b : BodyName) (scope : Scope) (k 
 inside_finally linear b scope k end done rs lo hi hi' l h f =
     let r = region lo end (regions.Finally k) in
     record {
-      around = (omega arith, l, tt, around_part rs lo hi lo hi' (omega arith) (omega arith) f.around);
+      around = (record { begin = omega arith; end = l; block = tt }, around_part rs lo hi lo hi' (omega arith) (omega arith) f.around);
       exit = exit_over linear b r rs hi hi' scope.exit (omega arith) f.exit;
       loop_end = jump_over r rs hi hi' scope.loop_end (omega arith) f.loop_end;
       loop_next = jump_over r rs hi hi' scope.loop_next (omega arith) f.loop_next;

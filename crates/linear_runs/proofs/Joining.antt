@@ -231,7 +231,7 @@ module _ (linear : LinearProgram) (pace : ℕ) where
   claim_kept s st p w kept (Gives (End None) end) h a = a
 
   joined : (p q r : Price) → Join p q r → Joined p.turns p.extra p.slack q r
-  joined p q r j = (j.0, j.1, j.3)
+  joined p q r j = (j.turns, j.slack, j.second_out)
 
   -- ---- one thing after another
 
@@ -250,9 +250,9 @@ module _ (linear : LinearProgram) (pace : ℕ) where
   then_value s v w st p q r (Gives Broke mid) k j a b = absurd a
   then_value s v w st p q r (Gives Continued mid) k j a b = absurd a
   then_value s v w st p q r (Gives LeftTry mid) k j a b = absurd a
-  then_value s v w st p q r (Gives (Target level exc) mid) k j a b = let lr = j.0 in targets_more s st mid p r w.kept w.context w.site level exc (omega arith) j.2 a
-  then_value s v w st p q r (Gives (End (Some e)) mid) k j a b = let lr = j.0 in finishes_more s st mid p.turns r.turns (Finished e mid.events) (omega arith) a
-  then_value s v w st p q r (Gives (End None) mid) k j a b = let lr = j.0 in stops_more s st mid p.turns p.extra p.out r.turns r.extra r.out (omega arith) j.2 a
+  then_value s v w st p q r (Gives (Target level exc) mid) k j a b = let lr = j.turns in targets_more s st mid p r w.kept w.context w.site level exc (omega arith) j.first_out a
+  then_value s v w st p q r (Gives (End (Some e)) mid) k j a b = let lr = j.turns in finishes_more s st mid p.turns r.turns (Finished e mid.events) (omega arith) a
+  then_value s v w st p q r (Gives (End None) mid) k j a b = let lr = j.turns in stops_more s st mid p.turns p.extra p.out r.turns r.extra r.out (omega arith) j.first_out a
 
   -- what is left where the first part of a block ends otherwise
   abbrev pub Passes : Price → Price → Type 0
@@ -263,13 +263,13 @@ module _ (linear : LinearProgram) (pace : ℕ) where
   unfolding and_then
   then_normal s t w st p q r (Gives (Value x) mid) k j l a b = absurd a
   then_normal s t w st p q r (Gives Normal mid) k j l a b = after s (t mid a.store) st mid p.turns p.extra p.slack q r w (k mid) (joined p q r j) a.reaches (b mid a.store a.reaches.low a.fits a.same)
-  then_normal s t w st p q r (Gives (Returned x) mid) k j l a b = let lr = j.0 in arrives_more s st mid p r w.kept w.held (w.returned x) (omega arith) l a
-  then_normal s t w st p q r (Gives Broke mid) k j l a b = let lr = j.0 in arrives_more s st mid p r w.kept w.held w.broke (omega arith) l a
-  then_normal s t w st p q r (Gives Continued mid) k j l a b = let lr = j.0 in arrives_more s st mid p r w.kept w.held w.again (omega arith) l a
-  then_normal s t w st p q r (Gives LeftTry mid) k j l a b = let lr = j.0 in arrives_more s st mid p r w.kept w.held w.left (omega arith) l a
-  then_normal s t w st p q r (Gives (Target level exc) mid) k j l a b = let lr = j.0 in targets_more s st mid p r w.kept w.context w.site level exc (omega arith) j.2 a
-  then_normal s t w st p q r (Gives (End (Some e)) mid) k j l a b = let lr = j.0 in finishes_more s st mid p.turns r.turns (Finished e mid.events) (omega arith) a
-  then_normal s t w st p q r (Gives (End None) mid) k j l a b = let lr = j.0 in stops_more s st mid p.turns p.extra p.out r.turns r.extra r.out (omega arith) j.2 a
+  then_normal s t w st p q r (Gives (Returned x) mid) k j l a b = let lr = j.turns in arrives_more s st mid p r w.kept w.held (w.returned x) (omega arith) l a
+  then_normal s t w st p q r (Gives Broke mid) k j l a b = let lr = j.turns in arrives_more s st mid p r w.kept w.held w.broke (omega arith) l a
+  then_normal s t w st p q r (Gives Continued mid) k j l a b = let lr = j.turns in arrives_more s st mid p r w.kept w.held w.again (omega arith) l a
+  then_normal s t w st p q r (Gives LeftTry mid) k j l a b = let lr = j.turns in arrives_more s st mid p r w.kept w.held w.left (omega arith) l a
+  then_normal s t w st p q r (Gives (Target level exc) mid) k j l a b = let lr = j.turns in targets_more s st mid p r w.kept w.context w.site level exc (omega arith) j.first_out a
+  then_normal s t w st p q r (Gives (End (Some e)) mid) k j l a b = let lr = j.turns in finishes_more s st mid p.turns r.turns (Finished e mid.events) (omega arith) a
+  then_normal s t w st p q r (Gives (End None) mid) k j l a b = let lr = j.turns in stops_more s st mid p.turns p.extra p.out r.turns r.extra r.out (omega arith) j.first_out a
 
   -- the same where only a normal end, with so much held, a target or an end may come
   pub then_held : (s : Part) (t : State → Store → Part) (held : ℕ) (w : Ways) (st : State) (p q r : Price) (o : Outcome) (k : State → Outcome) → Join p q r
@@ -282,9 +282,9 @@ module _ (linear : LinearProgram) (pace : ℕ) where
   then_held s t held w st p q r (Gives Broke mid) k j a b = absurd a
   then_held s t held w st p q r (Gives Continued mid) k j a b = absurd a
   then_held s t held w st p q r (Gives LeftTry mid) k j a b = absurd a
-  then_held s t held w st p q r (Gives (Target level exc) mid) k j a b = let lr = j.0 in targets_more s st mid p r w.kept w.context w.site level exc (omega arith) j.2 a
-  then_held s t held w st p q r (Gives (End (Some e)) mid) k j a b = let lr = j.0 in finishes_more s st mid p.turns r.turns (Finished e mid.events) (omega arith) a
-  then_held s t held w st p q r (Gives (End None) mid) k j a b = let lr = j.0 in stops_more s st mid p.turns p.extra p.out r.turns r.extra r.out (omega arith) j.2 a
+  then_held s t held w st p q r (Gives (Target level exc) mid) k j a b = let lr = j.turns in targets_more s st mid p r w.kept w.context w.site level exc (omega arith) j.first_out a
+  then_held s t held w st p q r (Gives (End (Some e)) mid) k j a b = let lr = j.turns in finishes_more s st mid p.turns r.turns (Finished e mid.events) (omega arith) a
+  then_held s t held w st p q r (Gives (End None) mid) k j a b = let lr = j.turns in stops_more s st mid p.turns p.extra p.out r.turns r.extra r.out (omega arith) j.first_out a
 
   pub then_plain : (s : Part) (t : State → Store → Part) (w : Ways) (st : State) (p q r : Price) (o : Outcome) (k : State → Outcome) → Join p q r
       → Claim linear pace s st p (normal_ways t w.kept w.context w.site) o → ((mid : State) (store : Store) → mid.steps_left ≤ st.steps_left → w.kept mid store → mid.held ≡ w.site.held → Claim linear pace (t mid store) mid q w (k mid)) → Claim linear pace s st r w (and_then o k)

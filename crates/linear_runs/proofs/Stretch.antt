@@ -92,11 +92,16 @@ pub record Price : Type 0 where
 abbrev pub price : ℕ → ℕ → ℕ → ℕ → Price
 price turns extra slack out = record { turns = turns; extra = extra; slack = slack; out = out }
 
--- two stretches make one
-abbrev pub Join : Price → Price → Price → Type 0
-Join p q r =
-    (p.turns + q.turns ≤ r.turns) × (r.extra + p.slack + q.slack ≤ p.extra + q.extra + r.slack)
-    × (r.extra + p.out ≤ p.extra + r.out) × (r.extra + p.slack + q.out ≤ p.extra + q.extra + r.out)
+-- two stretches make one: where both arrive, where the first leaves, and where the second does
+pub record Join (p q r : Price) : Type 0 where
+  pub turns : p.turns + q.turns ≤ r.turns
+  pub slack : r.extra + p.slack + q.slack ≤ p.extra + q.extra + r.slack
+  pub first_out : r.extra + p.out ≤ p.extra + r.out
+  pub second_out : r.extra + p.slack + q.out ≤ p.extra + q.extra + r.out
+
+pub joins : {p q r : Price} → p.turns + q.turns ≤ r.turns → r.extra + p.slack + q.slack ≤ p.extra + q.extra + r.slack
+    → r.extra + p.out ≤ p.extra + r.out → r.extra + p.slack + q.out ≤ p.extra + q.extra + r.out → Join p q r
+joins a b c d = record { turns = a; slack = b; first_out = c; second_out = d }
 
 -- a price that allows more
 abbrev pub Dearer : Price → Price → Type 0

@@ -26,14 +26,19 @@ BlockAt (kinds.Finally k) end = Unit {0}
 BlockAt (kinds.Filter k target) end = target ≡ end
 BlockAt (kinds.Always target) end = target ≡ end
 
--- these regions hold each place from lo up to hi, and hi too
+-- a region holds each place from lo up to hi, and hi too, and its block begins where it ends
+pub record IsAround (r : Region) (lo hi : ℕ) : Type 0 where
+  pub begin : r.begin ≤ lo
+  pub end : hi < r.end
+  pub block : BlockAt r.kind r.end
+
 abbrev pub Around : List Region → (lo hi : ℕ) → Type 0
 Around [] lo hi = Unit {0}
-Around (r ∷ regions) lo hi = (r.begin ≤ lo) × (hi < r.end) × BlockAt r.kind r.end × Around regions lo hi
+Around (r ∷ regions) lo hi = IsAround r lo hi × Around regions lo hi
 
 pub around_part : (regions : List Region) (lo hi lo' hi' : ℕ) → lo ≤ lo' → hi' ≤ hi → Around regions lo hi → Around regions lo' hi'
 around_part [] lo hi lo' hi' a b h = tt
-around_part (r ∷ regions) lo hi lo' hi' a b h = let x = h.0 in let y = h.1 in (omega arith, omega arith, h.2, around_part regions lo hi lo' hi' a b h.3)
+around_part (r ∷ regions) lo hi lo' hi' a b h = let x = h.0 in (record { begin = omega arith; end = omega arith; block = h.0.block }, around_part regions lo hi lo' hi' a b h.1)
 
 -- of a frame below the one of this depth, or of that with a block after this place
 abbrev pub Inside : (depth hi : ℕ) → Handler → Type 0
@@ -72,8 +77,8 @@ inside_by r depth hi P f b go (inr q) = let e = q.1 in inr (q.0, omega arith)
 picked_in : (regions : List Region) (activation depth lo hi : ℕ) (rest : List Handler) (level : ℕ) (f : Handler) → Around regions lo hi → (Picked rest level f → f.depth < depth) → Picked (handlers_in regions activation depth ++ rest) level f → Inside depth hi f
 picked_in [] activation depth lo hi rest level f around low p = inl (low p)
 picked_in (r ∷ regions) activation depth lo hi rest level f around low p =
-    inside_by r depth hi (Picked (handlers_in regions activation depth ++ rest) level f) f around.1 (picked_in regions activation depth lo hi rest level f around.3 low)
-    (picked_kind r.kind activation depth r.end (handlers_in regions activation depth ++ rest) level f around.2 (regroup (handlers_of r.kind activation depth) (handlers_in regions activation depth) rest level f p))
+    inside_by r depth hi (Picked (handlers_in regions activation depth ++ rest) level f) f around.0.end (picked_in regions activation depth lo hi rest level f around.1 low)
+    (picked_kind r.kind activation depth r.end (handlers_in regions activation depth ++ rest) level f around.0.block (regroup (handlers_of r.kind activation depth) (handlers_in regions activation depth) rest level f p))
 
 depth_by : (depth : ℕ) (P : Type 0) (f : Handler) → (P → f.depth < suc depth) → P ⊎ (f.depth ≡ depth) → f.depth < suc depth
 depth_by depth P f go (inl q) = go q
@@ -131,7 +136,7 @@ FindsRegions label (r ∷ regions) = (holds label r || leads_to r.kind label) �
 pub finds_around : (regions : List Region) (lo hi label : ℕ) → Around regions lo hi → lo ≤ label → label ≤ hi → FindsRegions label regions
 finds_around [] lo hi label h a b = tt
 finds_around (r ∷ regions) lo hi label h a b =
-    let x = h.0 in let y = h.1 in
+    let x = h.0 in
     or_left (holds label r) (leads_to r.kind label) (holds_yes r label (omega arith) (omega arith))
 
 -- of a `__try` with an `__except`
