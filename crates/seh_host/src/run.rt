@@ -6,7 +6,7 @@ ghost use Rattle.seh_io.specs.Streams.{Rose, Grew};
 ghost use Rattle.seh_io.specs.Text.{text};
 ghost use Rattle.seh_io.specs.Writer.{TookPart, writer_of};
 ghost use Rattle.host_model.specs.HostStep as model;
-ghost use Rattle.seh_host.specs.Running.{running_of, after_turn, shown_of, run_of, made};
+ghost use Rattle.seh_host.specs.Running.{running_of, after_turn, shown_of, run_of, made, image_of};
 ghost use Rattle.seh_host.specs.Writing.{Stopped, Written, run_text};
 ghost use Rattle.seh_host.specs.Turns.{answer_of, end_within, taken_before};
 
@@ -18,11 +18,12 @@ use seh_io::sink::Sink;
 
 /// One turn of the host: an instruction, a service, or the dispatch between two funclets. The
 /// receiver takes what the turn shows, in order. A host whose run has ended stays as it is, and
-/// nothing is shown.
+/// nothing is shown. The host keeps its image.
 #[tactic(auto, using(image_funclets::proofs::Ascending::listed_ascend))]
 pub fn turn<V: Events>(host: &mut Host<'_, '_>, to: &mut V) -> Turn
     ensures answer { result ≡ answer_of (running_of host.old).host }
     ensures host { running_of host.new ≡ after_turn (running_of host.old) }
+    ensures image { image_of host.new ≡ image_of host.old }
     ensures shown { V.took to.old (shown_of (running_of host.old)) to.new }
 {
     if host.end.is_some() {
@@ -42,6 +43,7 @@ pub fn turn<V: Events>(host: &mut Host<'_, '_>, to: &mut V) -> Turn
 /// stops at the first line that can't be written.
 fn write_turns<O: Sink>(host: &mut Host<'_, '_>, turns: u64, lines: &mut Lines<'_, O>)
     requires { lines.old.failed ≡ false }
+    ensures image { image_of host.new ≡ image_of host.old }
     ensures same_reference { lines.new.sink.ghost_name ≡ lines.old.sink.ghost_name }
     ensures trace { lines.new.trace ≡ lines.old.trace }
     ensures written { Written turns lines.old.trace
@@ -72,7 +74,7 @@ pub enum RunErr {
 /// that is answered. The host is then as its turns left it, so that a later run begins there; one
 /// that has ended answers the same end. After `Write` the sink has taken a part of the text from
 /// the front, of `taken` bytes (a count that stays at 2^64 - 1), and no turn was made after the one
-/// whose line failed.
+/// whose line failed. The host keeps its image in both.
 pub fn run<O: Sink>(
     host: &mut Host<'_, '_>,
     turns: u64,
@@ -85,6 +87,7 @@ pub fn run<O: Sink>(
     ensures part { IfErr result (λ e. TookPart (O.taken sink.old)
         (run_text turns trace (running_of host.old)) (O.taken sink.new) (taken_before e)) }
     ensures host { IfOk result (λ _. running_of host.new ≡ made turns (running_of host.old)) }
+    ensures image { image_of host.new ≡ image_of host.old }
     ensures stopped { IfErr result (λ _. Stopped turns trace (running_of host.old)
         (O.taken sink.old) (running_of host.new) (O.taken sink.new)) }
     ensures cause { OnErr result (Rose (O.faults sink.old) (O.faults sink.new)) }

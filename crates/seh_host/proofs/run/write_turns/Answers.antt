@@ -1,10 +1,10 @@
-use Rattle.std.proofs.Common.{arith}
+use Rattle.std.proofs.Common.{refl, ◌∙◌, arith}
 use Rattle.seh_host.specs.Running.{running_of}
 use Rattle.seh_host.proofs.Writing.{next_host, next_took, stops, over, all_made, none_made, none_taken}
 use Rattle.seh_host.proofs.run.write_turns.Goals as goal
 
 pub loop-i-init : goal.loop-i-init
-loop-i-init g c = (none_made (running_of c.args.host.now), c.requires, none_taken g.O.Sink.taken g.O.Sink.faults c.args.lines.now (running_of c.args.host.now))
+loop-i-init g c = (none_made (running_of c.args.host.now), c.requires, none_taken g.O.Sink.taken g.O.Sink.faults c.args.lines.now (running_of c.args.host.now), refl)
 
 pub loop-i-preserved : goal.loop-i-preserved
 loop-i-preserved g c =
@@ -13,6 +13,7 @@ loop-i-preserved g c =
       next_host g.O.Sink.taken g.O.Sink.faults c.args.lines.now c.loop-i.lines c.turn.new.to c.args.turns c.loop-i._i r (running_of c.loop-i.host) (running_of c.turn.new.host) i.0 i.1 i.2 c.turn.ensures.host c.turn.ensures.shown,
       c.if-lines.false,
       next_took g.O.Sink.taken g.O.Sink.faults c.args.lines.now c.loop-i.lines c.turn.new.to c.args.turns c.loop-i._i r (running_of c.loop-i.host) (running_of c.turn.new.host) i.0 i.1 i.2 c.turn.ensures.host c.turn.ensures.shown,
+      c.turn.ensures.image ∙ i.3,
     )
 
 pub returns-in-Ended-clause-written : goal.returns-in-Ended-clause-written
