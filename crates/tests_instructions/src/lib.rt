@@ -3,4 +3,10 @@
 #![tactic(auto)]
 
 #[cfg(test)]
+mod refused;
+#[cfg(test)]
 mod spelling;
+#[cfg(test)]
+mod unspelled;
+#[cfg(test)]
+mod words;
