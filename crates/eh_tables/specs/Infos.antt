@@ -4,7 +4,7 @@ use Rattle.std.specs.Prelude.{◌≡◌, ◌≤◌, ℕ, ◌+◌, ◌*◌, ◌/�
 use denote.Ref.{Bor}
 use Rattle.pe_image.specs.Field.{field}
 use Rattle.pe_image.specs.Image.{Image, stored}
-use Rattle.eh_tables.specs.declared.layout.TheConstants.{BEGIN_ADDRESS, END_ADDRESS, UNWIND_INFO_ADDRESS, RUNTIME_FUNCTION_SIZE, VERSION_AND_FLAGS, SIZE_OF_PROLOG, COUNT_OF_CODES, FRAME_REGISTER_AND_OFFSET, UNWIND_CODES, HANDLER_SIZE, UNWIND_VERSION, UNW_FLAG_CHAININFO}
+use Rattle.eh_tables.specs.declared.layout.TheConstants.{BEGIN_ADDRESS, END_ADDRESS, UNWIND_INFO_ADDRESS, RUNTIME_FUNCTION_SIZE, VERSION_AND_FLAGS, SIZE_OF_PROLOG, COUNT_OF_CODES, FRAME_REGISTER_AND_OFFSET, UNWIND_CODES, HANDLER_SIZE, SCOPE_COUNT_SIZE, SCOPE_RECORD_SIZE, UNWIND_VERSION, UNW_FLAG_CHAININFO}
 use Rattle.eh_tables.specs.declared.code.UnwindCode.{UnwindCode}
 use Rattle.eh_tables.specs.declared.range.RuntimeFunction.{RuntimeFunction}
 use Rattle.eh_tables.specs.declared.scope.ScopeRecord.{ScopeRecord}
@@ -139,10 +139,10 @@ stored_info image index rva = do
 -- themselves
 abbrev pub scope_records_at : Image → ℕ → ℕ → Table (List ℕ)
 scope_records_at image rva at = do
-  counted ← or_refused (stored image.sections rva (at + 4)) (refusals.Truncated rva)
-  all ← or_refused (stored image.sections rva (at + 4 + 16 * field 4 counted at))
-      (refusals.Truncated rva)
-  Ok (drop (at + 4) all)
+  counted ← or_refused (stored image.sections rva (at + SCOPE_COUNT_SIZE)) (refusals.Truncated rva)
+  all ← or_refused (stored image.sections rva
+      (at + SCOPE_COUNT_SIZE + SCOPE_RECORD_SIZE * field 4 counted at)) (refusals.Truncated rva)
+  Ok (drop (at + SCOPE_COUNT_SIZE) all)
 
 abbrev pub scope_records_if : Table (List ℕ) → Bool → Table (List ℕ)
 scope_records_if rows true = rows

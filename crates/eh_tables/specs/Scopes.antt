@@ -1,6 +1,7 @@
 -- The records of the C handler's scope tables.
 use Rattle.std.specs.Prelude.{ℕ, zero, suc, ◌+◌, ◌/◌, Bool, ◌&&◌, nat_lt, List, [], ◌∷◌, length, drop, Ok}
 use Rattle.pe_image.specs.Field.{field}
+use Rattle.eh_tables.specs.declared.layout.TheConstants.{SCOPE_RECORD_SIZE}
 use Rattle.eh_tables.specs.declared.scope.ScopeRecord.{ScopeRecord}
 use Rattle.eh_tables.specs.declared.refusal.TableErr.TheVariants as refusals
 use Rattle.pe_image.specs.Answer.{◌>>=◌, unless}
@@ -15,13 +16,13 @@ scope_record bytes =
       jump_target = field 4 bytes 12;
     }
 
--- so many rows, of 16 bytes each
+-- so many rows, one after another
 abbrev pub rows : ℕ → List ℕ → List ScopeRecord
 rows zero bytes = []
-rows (suc n) bytes = scope_record bytes ∷ rows n (drop 16 bytes)
+rows (suc n) bytes = scope_record bytes ∷ rows n (drop SCOPE_RECORD_SIZE bytes)
 
 abbrev pub scope_records_in : List ℕ → List ScopeRecord
-scope_records_in bytes = rows (length bytes / 16) bytes
+scope_records_in bytes = rows (length bytes / SCOPE_RECORD_SIZE) bytes
 
 -- a range that isn't empty, and all addresses in an image of that size
 abbrev pub is_within : ℕ → ScopeRecord → Bool

@@ -7,8 +7,9 @@ ghost use Rattle.eh_tables.specs.Infos as spec;
 use crate::codes::{Codes, check_codes};
 use crate::handler::is_c_handler;
 use crate::layout::{
-    COUNT_OF_CODES, FRAME_REGISTER_AND_OFFSET, HANDLER_SIZE, RUNTIME_FUNCTION_SIZE, SIZE_OF_PROLOG,
-    UNW_FLAG_CHAININFO, UNWIND_CODES, UNWIND_VERSION, VERSION_AND_FLAGS,
+    COUNT_OF_CODES, FRAME_REGISTER_AND_OFFSET, HANDLER_SIZE, RUNTIME_FUNCTION_SIZE,
+    SCOPE_COUNT_SIZE, SCOPE_RECORD_SIZE, SIZE_OF_PROLOG, UNW_FLAG_CHAININFO, UNWIND_CODES,
+    UNWIND_VERSION, VERSION_AND_FLAGS,
 };
 use crate::range::{RuntimeFunction, read_range};
 use crate::refusal::TableErr;
@@ -203,14 +204,15 @@ fn stored_scope_records<'a>(
     }
     let refusal = TableErr::Truncated { rva: rva as u64 };
     let at = slots_end(bytes) + HANDLER_SIZE;
-    let Some(counted) = image.bytes(rva as u64, at as u64 + 4) else {
+    let rows = at + SCOPE_COUNT_SIZE;
+    let Some(counted) = image.bytes(rva as u64, rows as u64) else {
         return Err(refusal);
     };
-    let count = u32_at(counted, at);
-    let Some(all) = image.bytes(rva as u64, at as u64 + 4 + 16 * count as u64) else {
+    let end = rows as u64 + SCOPE_RECORD_SIZE as u64 * u32_at(counted, at) as u64;
+    let Some(all) = image.bytes(rva as u64, end) else {
         return Err(refusal);
     };
-    Ok(&all[at + 4..])
+    Ok(&all[rows..])
 }
 
 /// Whether the handler of an info is the C handler.

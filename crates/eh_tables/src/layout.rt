@@ -29,6 +29,17 @@ pub const UNWIND_CODES: usize = 4;
 /// The size of a handler's address, which is relative to the image base.
 pub const HANDLER_SIZE: usize = 4;
 
+/// The size of the count of records with which the C handler's scope table begins.
+pub const SCOPE_COUNT_SIZE: usize = 4;
+
+/// The size of a record of the C handler's scope table, four addresses relative to the image base
+/// (Windows headers, `winnt.h`, SCOPE_TABLE_AMD64).
+pub const SCOPE_RECORD_SIZE: usize = 16;
+
+/// The HandlerAddress of a `__try` whose filter is this constant: it always accepts, and there is
+/// no filter to be called (Windows headers, `excpt.h`).
+pub const EXCEPTION_EXECUTE_HANDLER: u32 = 1;
+
 /// The version of UNWIND_INFO that is read and written.
 pub const UNWIND_VERSION: u8 = 1;
 

@@ -9,8 +9,8 @@ ghost use Rattle.eh_tables.specs.Refusals.{refusal_name};
 #[derive(Clone, Copy, Debug, PartialEq, Eq)]
 pub enum TableErr {
     /// The unwind info at `rva`, with its codes, its handler's address or parent, and its scope
-    /// table, isn't stored whole in the image; or the directory at `rva` isn't, or its size isn't a
-    /// multiple of 12.
+    /// table, isn't stored whole in the image; or the directory at `rva` isn't, or its size isn't
+    /// that of whole entries.
     Truncated { rva: u64 },
     /// The unwind info or the directory at `rva` isn't 4-aligned.
     Misaligned { rva: u64 },

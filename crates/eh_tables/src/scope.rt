@@ -3,6 +3,7 @@
 ghost use Rattle.std.specs.Prelude.{◌≡◌, ◌≤◌, ◌+◌, ◌/◌, ◌<◌, ◌^◌, length};
 ghost use Rattle.eh_tables.specs.Scopes as spec;
 
+use crate::layout::SCOPE_RECORD_SIZE;
 use crate::refusal::TableErr;
 use pe_image::fields::u32_at;
 use std::marker::Model;
@@ -15,8 +16,8 @@ pub struct ScopeRecord {
     pub begin: u32,
     /// The byte after the body.
     pub end: u32,
-    /// The `__finally` block, where the jump target is 0; else the filter, where 1 means one that
-    /// always accepts.
+    /// The `__finally` block, where the jump target is 0; else the filter, or
+    /// [`EXCEPTION_EXECUTE_HANDLER`](crate::EXCEPTION_EXECUTE_HANDLER).
     pub handler_address: u32,
     /// The `__except` block, or 0.
     pub jump_target: u32,
@@ -24,7 +25,7 @@ pub struct ScopeRecord {
 
 impl ScopeRecord {
     fn read(bytes: &[u8]) -> ScopeRecord
-        requires { 16 ≤ length bytes.now }
+        requires { SCOPE_RECORD_SIZE ≤ length bytes.now }
         ensures { result ≡ spec.scope_record bytes.now }
     {
         ScopeRecord {
@@ -83,11 +84,11 @@ impl<'a> Iterator for Scopes<'a> {
     ghost remaining = { item_count (λ s. s) };
 
     fn next(&mut self) -> Option<ScopeRecord> {
-        if self.rows.len() < 16 {
+        if self.rows.len() < SCOPE_RECORD_SIZE {
             return None;
         }
         let row = ScopeRecord::read(self.rows);
-        self.rows = &self.rows[16..];
+        self.rows = &self.rows[SCOPE_RECORD_SIZE..];
         Some(row)
     }
 }

@@ -4,6 +4,7 @@ ghost use Rattle.std.specs.Prelude.{◌≡◌, ◌≤◌, ◌<◌, ◌/◌, ◌*
 ghost use Rattle.eh_tables.specs.Tables as spec;
 
 use crate::entry::{Entry, read_entry};
+use crate::layout::RUNTIME_FUNCTION_SIZE;
 use crate::range::{RuntimeFunction, read_range};
 use crate::refusal::TableErr;
 use pe_image::ImageView;
@@ -27,7 +28,7 @@ impl<'image, 'bytes> Model for Tables<'image, 'bytes> {
 
 impl<'image, 'bytes> Tables<'image, 'bytes> {
     /// The table of an image, of which the directory alone is checked: it is 4-aligned, stored
-    /// whole, and its size is a multiple of 12. A directory of size 0 has no entries.
+    /// whole, and its size is that of whole entries. A directory of size 0 has no entries.
     #[tactic(auto, unfolding(crate::specs::Tables::directory))]
     pub fn of(image: &'image ImageView<'bytes>) -> Result<Tables<'image, 'bytes>, TableErr>
         ensures read { IfOk result
@@ -48,7 +49,7 @@ impl<'image, 'bytes> Tables<'image, 'bytes> {
         let Some(directory) = image.bytes(rva, at.size as u64) else {
             return Err(TableErr::Truncated { rva });
         };
-        if at.size % 12 != 0 {
+        if at.size as usize % RUNTIME_FUNCTION_SIZE != 0 {
             return Err(TableErr::Truncated { rva });
         }
         Ok(Tables { image, directory })
@@ -58,7 +59,7 @@ impl<'image, 'bytes> Tables<'image, 'bytes> {
     pub fn len(&self) -> u64
         ensures { result ≡ length self.now.ranges }
     {
-        (self.directory.len() / 12) as u64
+        (self.directory.len() / RUNTIME_FUNCTION_SIZE) as u64
     }
 
     /// The base of the image, from which its addresses count.
@@ -73,7 +74,7 @@ impl<'image, 'bytes> Tables<'image, 'bytes> {
         requires { index < length self.now.ranges }
         ensures { result ≡ slice_index_or self.now.ranges index spec.no_range }
     {
-        read_range(self.directory, 12 * index as usize)
+        read_range(self.directory, RUNTIME_FUNCTION_SIZE * index as usize)
     }
 
     /// The entry of an index, with its unwind info and those that this is chained to. The checks

@@ -8,9 +8,10 @@ ghost use Rattle.eh_tables.specs.Written as spec;
 
 use crate::code::{UnwindCode, UnwindOperation};
 use crate::layout::{
-    UNW_FLAG_CHAININFO, UNW_FLAG_EHANDLER, UNW_FLAG_UHANDLER, UNWIND_VERSION, UWOP_ALLOC_LARGE,
-    UWOP_ALLOC_SMALL, UWOP_PUSH_MACHFRAME, UWOP_PUSH_NONVOL, UWOP_SAVE_NONVOL,
-    UWOP_SAVE_NONVOL_FAR, UWOP_SAVE_XMM128, UWOP_SAVE_XMM128_FAR, UWOP_SET_FPREG,
+    RUNTIME_FUNCTION_SIZE, SCOPE_RECORD_SIZE, UNW_FLAG_CHAININFO, UNW_FLAG_EHANDLER,
+    UNW_FLAG_UHANDLER, UNWIND_VERSION, UWOP_ALLOC_LARGE, UWOP_ALLOC_SMALL, UWOP_PUSH_MACHFRAME,
+    UWOP_PUSH_NONVOL, UWOP_SAVE_NONVOL, UWOP_SAVE_NONVOL_FAR, UWOP_SAVE_XMM128,
+    UWOP_SAVE_XMM128_FAR, UWOP_SET_FPREG,
 };
 use crate::range::RuntimeFunction;
 use crate::scope::ScopeRecord;
@@ -133,11 +134,11 @@ fn code_bytes(framed: bool, code: &UnwindCode) -> CodeBytes
     }
 }
 
-/// The bytes of a row of a table.
-type FieldBytes = ArrayVec<u8, 16>;
+/// The bytes of a row of a table, of which a scope record is the longest.
+type FieldBytes = ArrayVec<u8, SCOPE_RECORD_SIZE>;
 
 fn put_field(out: &mut FieldBytes, value: u32)
-    requires { array_vec_len out.old + 4 ≤ 16 }
+    requires { array_vec_len out.old + 4 ≤ SCOPE_RECORD_SIZE }
     ensures items { out.new.items ≡ out.old.items ++ spec.u32 value }
     ensures len { array_vec_len out.new ≡ array_vec_len out.old + 4 }
 {
@@ -146,7 +147,7 @@ fn put_field(out: &mut FieldBytes, value: u32)
 
 fn range_bytes(range: &RuntimeFunction) -> FieldBytes
     ensures items { result.items ≡ spec.range_bytes range.now }
-    ensures len { array_vec_len result ≡ 12 }
+    ensures len { array_vec_len result ≡ RUNTIME_FUNCTION_SIZE }
 {
     let mut out = FieldBytes::new();
     put_field(&mut out, range.begin);
@@ -196,7 +197,7 @@ fn flags(trailer: Trailer) -> u8
 
 fn trailer_bytes(trailer: Trailer) -> FieldBytes
     ensures items { result.items ≡ spec.trailer_bytes trailer }
-    ensures fits { array_vec_len result ≤ 12 }
+    ensures fits { array_vec_len result ≤ RUNTIME_FUNCTION_SIZE }
 {
     match trailer {
         Trailer::Nothing => FieldBytes::new(),

@@ -9,6 +9,7 @@ use Rattle.pe_image.specs.Image.{Image}
 use Rattle.eh_tables.specs.declared.code.UnwindOperation.{UnwindOperation}
 use Rattle.eh_tables.specs.declared.code.UnwindOperation.TheVariants.{Push, Allocate, SetFrame, Save, SaveVector, MachineFrame}
 use Rattle.eh_tables.specs.declared.code.UnwindCode.{UnwindCode}
+use Rattle.eh_tables.specs.declared.layout.TheConstants.{EXCEPTION_EXECUTE_HANDLER}
 use Rattle.eh_tables.specs.declared.range.RuntimeFunction.{RuntimeFunction}
 use Rattle.eh_tables.specs.declared.refusal.TableErr.{TableErr}
 use Rattle.eh_tables.specs.declared.refusal.TableErr.TheVariants as refusals
@@ -64,7 +65,8 @@ code_line c = code_begin c ++ ended (operation_text c.operation)
 -- a jump of 0 means a `__finally`, and a handler of 1 for a filter that always accepts
 abbrev pub filter_text : ℕ → List ℕ
 filter_text handler_address =
-    if handler_address == 1 then codes " always" else codes " filter " ++ rva_text handler_address
+    if handler_address == EXCEPTION_EXECUTE_HANDLER then codes " always"
+    else codes " filter " ++ rva_text handler_address
 
 abbrev pub except_text : ℕ → ℕ → List ℕ
 except_text jump_target handler_address =

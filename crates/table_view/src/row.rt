@@ -5,7 +5,7 @@ ghost use Rattle.seh_io.specs.Text.{ended};
 ghost use Rattle.table_view.specs.View as spec;
 
 use crate::code::register_name;
-use eh_tables::{Info, RuntimeFunction, ScopeRecord};
+use eh_tables::{EXCEPTION_EXECUTE_HANDLER, Info, RuntimeFunction, ScopeRecord};
 use seh_io::line::Line;
 
 /// Adds an address.
@@ -140,7 +140,7 @@ fn put_filter(line: &mut Line, handler_address: u32)
     ensures value { line.new ≡ line.old ++ spec.filter_text handler_address }
     ensures len { length line.new ≤ 16 }
 {
-    if handler_address == 1 {
+    if handler_address == EXCEPTION_EXECUTE_HANDLER {
         line.text(b" always");
     } else {
         line.text(b" filter ");
