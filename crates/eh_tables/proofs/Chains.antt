@@ -7,7 +7,7 @@ use Rattle.pe_image.specs.Image.{Image}
 use Rattle.eh_tables.specs.declared.range.RuntimeFunction.{RuntimeFunction}
 use Rattle.eh_tables.specs.declared.refusal.TableErr.{TableErr}
 use Rattle.eh_tables.specs.declared.refusal.TableErr.TheVariants as refusals
-use Rattle.pe_image.specs.Answer.{◌>>=◌, unless, onto, prepend}
+use Rattle.seh_num.specs.Answers.{◌>>=◌, unless, onto, prepend}
 use Rattle.eh_tables.specs.Answer.{Table}
 use Rattle.eh_tables.specs.Infos.{Info, info}
 use Rattle.eh_tables.specs.Tables.{Entry, parents, entry}

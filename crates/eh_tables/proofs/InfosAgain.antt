@@ -15,7 +15,7 @@ use Rattle.eh_tables.specs.declared.refusal.TableErr.TheVariants as refusals
 use Rattle.eh_tables.specs.declared.unwind_info.Trailer.{Trailer}
 use Rattle.eh_tables.specs.declared.unwind_info.Trailer.TheVariants.{Nothing, Handler, Parent}
 use Rattle.eh_tables.specs.declared.unwind_info.UnwindInfo.{UnwindInfo}
-use Rattle.pe_image.specs.Answer.{◌>>=◌, unless, or_refused}
+use Rattle.seh_num.specs.Answers.{◌>>=◌, unless, or_refused}
 use Rattle.eh_tables.specs.Answer.{Table}
 use Rattle.eh_tables.specs.Codes as slots
 use Rattle.eh_tables.specs.Handler.{is_c_handler}

@@ -6,7 +6,7 @@ use Rattle.pe_image.specs.Field.{field}
 use Rattle.pe_image.specs.Image.{Image}
 use Rattle.eh_tables.specs.declared.range.RuntimeFunction.{RuntimeFunction}
 use Rattle.eh_tables.specs.declared.refusal.TableErr.{TableErr}
-use Rattle.pe_image.specs.Answer.{◌>>=◌, prepend}
+use Rattle.seh_num.specs.Answers.{◌>>=◌, prepend}
 use Rattle.eh_tables.specs.Answer.{Table}
 use Rattle.eh_tables.specs.Infos.{range_at}
 use Rattle.eh_tables.specs.Tables.{Entry, Tables, entry, ranges, ranges_in, no_range, end_before, entries, all_entries, passed, checked, or_none, IsWhole, directory, tables}

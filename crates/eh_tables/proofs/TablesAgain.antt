@@ -9,7 +9,7 @@ use Rattle.eh_tables.specs.declared.range.RuntimeFunction.{RuntimeFunction}
 use Rattle.eh_tables.specs.declared.scope.ScopeRecord.{ScopeRecord}
 use Rattle.eh_tables.specs.declared.refusal.TableErr.{TableErr}
 use Rattle.eh_tables.specs.declared.refusal.TableErr.TheVariants as refusals
-use Rattle.pe_image.specs.Answer.{◌>>=◌, unless, or_refused}
+use Rattle.seh_num.specs.Answers.{◌>>=◌, unless, or_refused}
 use Rattle.eh_tables.specs.Answer.{Table}
 use Rattle.eh_tables.specs.Infos.{range_at}
 use Rattle.eh_tables.specs.Scopes.{scope_record, rows, scope_records_in}

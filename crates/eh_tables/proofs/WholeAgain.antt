@@ -5,7 +5,7 @@ use Rattle.pe_image.specs.Image.{Image}
 use Rattle.eh_tables.specs.declared.layout.TheConstants.{MOST_PARENTS}
 use Rattle.eh_tables.specs.declared.range.RuntimeFunction.{RuntimeFunction}
 use Rattle.eh_tables.specs.declared.scope.ScopeRecord.{ScopeRecord}
-use Rattle.pe_image.specs.Answer.{◌>>=◌, prepend}
+use Rattle.seh_num.specs.Answers.{◌>>=◌, prepend}
 use Rattle.eh_tables.specs.Answer.{Table}
 use Rattle.eh_tables.specs.Infos.{Info, info}
 use Rattle.eh_tables.specs.Tables.{Entry, entry, entries, parents}

@@ -7,7 +7,7 @@ use Rattle.x64_machine.specs.Effect.{State}
 use Rattle.eh_tables.specs.Infos.{Info}
 use Rattle.eh_tables.specs.Tables.{Entry, Tables, entries_of, holding}
 use Rattle.virtual_unwind.specs.Contexts.{is_nonvolatile, get, rsp}
-use Rattle.pe_image.specs.Answer.{◌>>=◌}
+use Rattle.seh_num.specs.Answers.{◌>>=◌}
 use Rattle.virtual_unwind.specs.Undone.{Answer, popped}
 use Rattle.virtual_unwind.specs.CallerOf.{CallerFrame, distance, in_entry, of_entry, leaf, risen, rising, caller_in, caller_of}
 use Rattle.virtual_unwind.proofs.Registers.{get-context}

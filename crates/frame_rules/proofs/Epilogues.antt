@@ -18,7 +18,7 @@ use Rattle.x64_machine.specs.declared.context.Context.{Context}
 use Rattle.eh_tables.specs.declared.code.UnwindOperation.{UnwindOperation}
 use Rattle.eh_tables.specs.Infos.{Info}
 use Rattle.virtual_unwind.specs.Contexts.{is_nonvolatile, get, set, rsp, with_rsp, rsp_raised}
-use Rattle.pe_image.specs.Answer.{◌>>=◌}
+use Rattle.seh_num.specs.Answers.{◌>>=◌}
 use Rattle.virtual_unwind.specs.Undone.{Answer, word, popped}
 use Rattle.virtual_unwind.specs.Tail.{is_of, base_value, left_by, left}
 use Rattle.virtual_unwind.specs.CallerOf.{sets_frame}

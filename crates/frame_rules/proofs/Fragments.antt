@@ -7,7 +7,7 @@ use Rattle.x64_machine.specs.declared.context.Context.{Context}
 use Rattle.eh_tables.specs.Infos.{Info}
 use Rattle.eh_tables.specs.declared.code.UnwindCode.{UnwindCode}
 use Rattle.virtual_unwind.specs.Contexts.{get}
-use Rattle.pe_image.specs.Answer.{◌>>=◌}
+use Rattle.seh_num.specs.Answers.{◌>>=◌}
 use Rattle.virtual_unwind.specs.Undone.{Answer, Undo, operations, undone, returned}
 use Rattle.virtual_unwind.specs.Tail.{tail_at}
 use Rattle.virtual_unwind.specs.CallerOf.{found, base_if, has_frame, at_start, unwound, in_body, past_prologue, by_distance}

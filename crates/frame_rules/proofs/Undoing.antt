@@ -8,7 +8,7 @@ use Rattle.eh_tables.specs.declared.code.UnwindOperation.{UnwindOperation}
 use Rattle.eh_tables.specs.declared.code.UnwindOperation.TheVariants.{Push, Allocate, SetFrame, Save, SaveVector, MachineFrame}
 use Rattle.eh_tables.specs.Infos.{Info}
 use Rattle.virtual_unwind.specs.Contexts.{is_nonvolatile, get, set as with_register, rsp, with_rsp, rsp_raised}
-use Rattle.pe_image.specs.Answer.{◌>>=◌}
+use Rattle.seh_num.specs.Answers.{◌>>=◌}
 use Rattle.virtual_unwind.specs.Undone.{Answer, readable, word, below_frame, Undo, going, undone_one, undone, all_undone, returned, returned_or, popped}
 use Rattle.virtual_unwind.specs.CallerOf.{at_start}
 use Rattle.virtual_unwind.proofs.Registers.{get-set_same, get-set_other, get-rsp_same, get-rsp_other, length-set as kept-set}

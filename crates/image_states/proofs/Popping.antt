@@ -8,7 +8,7 @@ use Rattle.x64_instr.specs.declared.instruction.Instr.TheVariants as instrs
 use Rattle.x64_encode.specs.Chosen.{chosen, is_encodable}
 use Rattle.x64_encode.proofs.Lengths.{longest}
 use Rattle.x64_machine.specs.declared.context.Context.{Context}
-use Rattle.pe_image.specs.Answer.{◌>>=◌}
+use Rattle.seh_num.specs.Answers.{◌>>=◌}
 use Rattle.eh_tables.specs.Tables.{Entry}
 use Rattle.virtual_unwind.specs.Contexts.{rsp, rsp_raised}
 use Rattle.virtual_unwind.specs.CallerOf.{Functions, CallerFrame, distance, entry_of, of_entry, found, rising, risen, caller_in}

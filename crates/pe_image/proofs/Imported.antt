@@ -6,7 +6,8 @@ use Rattle.std.proofs.lemmas.Bool.{ne_eqb}
 use Rattle.pe_image.specs.declared.directory.DataDirectory.{DataDirectory}
 use Rattle.pe_image.specs.declared.refusal.ImageErr.{ImageErr}
 use Rattle.pe_image.specs.declared.refusal.ImageErr.TheVariants as refusals
-use Rattle.pe_image.specs.Answer.{◌>>=◌, or_refused, prepend, onto, Refuses}
+use Rattle.seh_num.specs.Answers.{◌>>=◌, or_refused, prepend, onto}
+use Rattle.pe_image.specs.Answer.{Refuses}
 use Rattle.pe_image.specs.Field.{field}
 use Rattle.pe_image.specs.Image.{Section, stored}
 use Rattle.pe_image.specs.Imports.{Import, import_at, next_entry, library, is_zero, lookups, entries_of, next_library, libraries, max_count, unless_none, imports_in}

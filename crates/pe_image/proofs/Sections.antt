@@ -6,7 +6,7 @@ use Rattle.host_layout.specs.declared.range.TheConstants.{PAGE}
 use Rattle.pe_image.specs.declared.refusal.ImageErr.{ImageErr}
 use Rattle.pe_image.specs.declared.refusal.ImageErr.TheVariants as refusals
 use Rattle.pe_image.specs.declared.table.SectionHeader.{SectionHeader}
-use Rattle.pe_image.specs.Answer.{◌>>=◌, unless}
+use Rattle.seh_num.specs.Answers.{◌>>=◌, unless}
 use Rattle.pe_image.specs.Image.{Section, IsPlacedAfter, AreAscending}
 use Rattle.pe_image.specs.Reading.{header_at, headers_from, is_laid_out, all_laid_out, section_of, sections_of}
 

@@ -3,7 +3,8 @@ use Rattle.std.proofs.Common.{◌≡◌, ℕ, List, Result, Ok, Err, ap, sym, su
 use Rattle.pe_image.specs.declared.directory.DataDirectory.{DataDirectory}
 use Rattle.pe_image.specs.declared.refusal.ImageErr.{ImageErr}
 use Rattle.pe_image.specs.declared.refusal.ImageErr.TheVariants as refusals
-use Rattle.pe_image.specs.Answer.{◌>>=◌, Refuses}
+use Rattle.seh_num.specs.Answers.{◌>>=◌}
+use Rattle.pe_image.specs.Answer.{Refuses}
 use Rattle.pe_image.specs.Image.{Section, Image}
 use Rattle.pe_image.specs.Imports.{Import, imports, imports_in}
 use Rattle.pe_image.specs.Reading.{image_base, entry_point, image_size, directory, headers, section_count, sections_at, image_end, headers_from, sections_of, image_with, outline, reading, IsRefused}

@@ -1,16 +1,7 @@
--- Answers with a refusal: the first refusal is the answer.
-use Rattle.std.specs.Prelude.{◌≡◌, Bool, true, false, Option, Some, None, Result, Ok, Err, List, ◌∷◌, ◌++◌}
+-- How a call's answer is a definition's.
+use Rattle.std.specs.Prelude.{◌≡◌, Result, Ok, Err}
 use Rattle.pe_image.specs.declared.refusal.ImageErr.{ImageErr}
 use Rattle.pe_image.specs.declared.refusal.ImageErr.TheVariants as refusals
-
-infixl 10 ◌>>=◌
-abbrev pub ◌>>=◌ : {A B E : Type 0} → Result A E → (A → Result B E) → Result B E
-(Ok x) >>= f = f x
-(Err e) >>= f = Err e
-
-abbrev pub unless : {E : Type 0} → Bool → E → Result Unit E
-unless true e = Ok tt
-unless false e = Err e
 
 -- A call answers what a definition gives, unless memory ran out.
 abbrev pub Refuses : {Y : Type 0} → ImageErr → Result Y ImageErr → Type 0
@@ -20,16 +11,3 @@ Refuses e given = given ≡ Err e
 abbrev pub Gives : {X Y : Type 0} → (X → Y) → Result X ImageErr → Result Y ImageErr → Type 0
 Gives view (Ok x) given = given ≡ Ok (view x)
 Gives view (Err e) given = Refuses e given
-
-abbrev pub or_refused : {A E : Type 0} → Option A → E → Result A E
-or_refused (Some x) e = Ok x
-or_refused None e = Err e
-
--- a list's answer after one element, and after others
-abbrev pub prepend : {A E : Type 0} → A → Result (List A) E → Result (List A) E
-prepend x (Ok xs) = Ok (x ∷ xs)
-prepend x (Err e) = Err e
-
-abbrev pub onto : {A E : Type 0} → List A → Result (List A) E → Result (List A) E
-onto xs (Ok ys) = Ok (xs ++ ys)
-onto xs (Err e) = Err e

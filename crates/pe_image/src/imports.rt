@@ -3,7 +3,8 @@
 ghost use Rattle.std.specs.Prelude.{◌≡◌, ◌≤◌, ◌<◌, ◌^◌, ℕ, length, option_map, IfOk, OnOk};
 ghost use Rattle.std.specs.Ordering.{nat_cmp};
 ghost use Rattle.std.specs.BTreeMap.{get};
-ghost use Rattle.pe_image.specs.Answer.{Gives, onto};
+ghost use Rattle.seh_num.specs.Answers.{onto};
+ghost use Rattle.pe_image.specs.Answer.{Gives};
 ghost use Rattle.pe_image.specs.Field.{field};
 ghost use Rattle.pe_image.specs.Image.{AreAscending, stored};
 ghost use Rattle.pe_image.specs.Bound.{bound_name};

@@ -12,7 +12,7 @@ use Rattle.pe_write.proofs.Below.{raw_below}
 use Rattle.pe_write.proofs.Front.{front_of, front_length, count_is, entry_is, base_is, size_is, sections_at_is, imports_is, exceptions_is, headers_pass}
 use Rattle.pe_write.proofs.Rows.{headers_read, rows, fields_length}
 use Rattle.pe_image.specs.declared.refusal.ImageErr.TheVariants as refusals
-use Rattle.pe_image.specs.Answer.{◌>>=◌, unless}
+use Rattle.seh_num.specs.Answers.{◌>>=◌, unless}
 use Rattle.pe_image.specs.Image.{Section, Image}
 use Rattle.pe_image.specs.Imports.{imports_of}
 use Rattle.pe_image.specs.Reading.{image_size, headers_from, is_laid_out, all_laid_out, section_of, sections_of, image_end, outline, reading, IsImage}

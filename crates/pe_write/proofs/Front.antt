@@ -4,7 +4,7 @@ use Rattle.std.proofs.lemmas.Bool.{and_from, le-leb, eq-eqb}
 use Rattle.pe_write.proofs.Rows.{four_is}
 use Rattle.pe_image.specs.declared.refusal.ImageErr.{ImageErr}
 use Rattle.pe_image.specs.declared.refusal.ImageErr.TheVariants as refusals
-use Rattle.pe_image.specs.Answer.{◌>>=◌, unless}
+use Rattle.seh_num.specs.Answers.{◌>>=◌, unless}
 use Rattle.pe_image.specs.Field.{field}
 use Rattle.pe_image.specs.Reading.{headers, signature_at, machine, section_count, optional_size, optional_at, magic, entry_point, image_base, image_size, directory_count, directories_at, sections_at, directory}
 use Rattle.pe_image.specs.Numbers.{u16, u32, u64, zeros}

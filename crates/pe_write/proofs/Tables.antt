@@ -6,7 +6,7 @@ use Rattle.byteorder.specs.Endian.{little_number}
 use Rattle.pe_image.specs.declared.refusal.ImageErr.{ImageErr}
 use Rattle.host_layout.specs.declared.imported.ImportedService.{ImportedService}
 use Rattle.host_layout.specs.declared.imported.ImportedService.TheVariants.{RaiseException, CSpecificHandler, LocalUnwind, Protect, Put}
-use Rattle.pe_image.specs.Answer.{onto}
+use Rattle.seh_num.specs.Answers.{onto}
 use Rattle.pe_image.specs.Field.{field}
 use Rattle.pe_image.specs.Image.{Section, section_at, stored_in, stored, whole}
 use Rattle.pe_image.specs.Imports.{Import, hinted, name_at, with_slot, unless_ordinal, import_at, library, is_zero, lookups, entries_of, libraries, max_count, imports_in}

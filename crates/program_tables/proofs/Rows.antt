@@ -2,7 +2,7 @@
 use Rattle.std.proofs.Common.{◌≡◌, ℕ, zero, suc, ◌+◌, ◌^◌, ◌<◌, ◌≤◌, Bool, true, List, [], ◌∷◌, length, get_or, Ok, refl, ap, ◌∙◌, arith}
 use Rattle.std.specs.List.{AllByRecursion}
 use Rattle.std.proofs.lemmas.Bool.{lt-ltb}
-use Rattle.pe_image.specs.Answer.{◌>>=◌, unless}
+use Rattle.seh_num.specs.Answers.{◌>>=◌, unless}
 use Rattle.eh_tables.specs.declared.refusal.TableErr.TheVariants as refusals
 use Rattle.eh_tables.specs.declared.scope.ScopeRecord.{ScopeRecord}
 use Rattle.eh_tables.specs.ReadAgain.{IsScopeRecord}

@@ -4,6 +4,8 @@
 //! "Numeric Data Types"; volume 2, MOVSX, MOVZX, DIV, IDIV) and of C's integer types as the
 //! Microsoft compiler lays them out (C reference, "Storage of basic types"). No call takes memory.
 //!
+//! `specs/Answers.antt` has what definitions above do with answers and refusals.
+//!
 //! Proved: each function is its exact number (`specs/Widths.antt`, where to begin, and
 //! `specs/Division.antt`).
 #![tactic(auto)]

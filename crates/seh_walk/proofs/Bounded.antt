@@ -12,7 +12,7 @@ use Rattle.eh_tables.specs.Tables.{Entry}
 use Rattle.virtual_unwind.specs.declared.refusal.UnwindErr.{UnwindErr}
 use Rattle.virtual_unwind.specs.Contexts as contexts
 use Rattle.virtual_unwind.specs.Contexts.{rsp, with_rsp, rsp_raised, kept_index, with_kept_at}
-use Rattle.pe_image.specs.Answer.{◌>>=◌}
+use Rattle.seh_num.specs.Answers.{◌>>=◌}
 use Rattle.virtual_unwind.specs.Undone.{Answer, Undo, readable, word, below_frame, undone_one, undone, all_undone, operations, popped, returned, returned_or}
 use Rattle.virtual_unwind.specs.Tail.{left, left_by, tail_at, base_value, constant}
 use Rattle.virtual_unwind.specs.CallerOf.{Functions, CallerFrame, found, unwound, at_start, distance, entry_of, of_entry, by_distance, past_prologue, run_by, rising, risen, caller_in}

@@ -6,7 +6,7 @@ use Rattle.flat_memory.specs.Memory.{Memory, first_refused, may_read}
 use Rattle.x64_machine.specs.declared.context.Context.{Context}
 use Rattle.x64_machine.specs.Contexts.{context_of}
 use Rattle.virtual_unwind.specs.Contexts.{rsp}
-use Rattle.pe_image.specs.Answer.{◌>>=◌}
+use Rattle.seh_num.specs.Answers.{◌>>=◌}
 use Rattle.virtual_unwind.specs.Undone.{Answer}
 use Rattle.virtual_unwind.specs.CallerOf.{Functions, CallerFrame, distance, entry_of, of_entry, rising, risen, caller_in}
 use Rattle.seh_records.specs.declared.dispatch.Kind.{Kind}

@@ -6,7 +6,7 @@ use Rattle.x64_instr.specs.declared.instruction.Instr.{Instr}
 use Rattle.x64_machine.specs.declared.context.Context.{Context}
 use Rattle.eh_tables.specs.Tables.{Entry}
 use Rattle.virtual_unwind.specs.Contexts.{rsp}
-use Rattle.pe_image.specs.Answer.{◌>>=◌}
+use Rattle.seh_num.specs.Answers.{◌>>=◌}
 use Rattle.virtual_unwind.specs.Undone.{Answer}
 use Rattle.virtual_unwind.specs.Tail.{tail_at}
 use Rattle.virtual_unwind.specs.CallerOf.{CallerFrame, found, distance, entry_of, of_entry, by_distance, past_prologue, rising, risen, caller_in, asked_in}

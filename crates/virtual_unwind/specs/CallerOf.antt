@@ -10,7 +10,7 @@ use Rattle.eh_tables.specs.Infos.{Info}
 use Rattle.eh_tables.specs.Tables.{Entry, Tables, entries_of, holding}
 use Rattle.virtual_unwind.specs.declared.refusal.UnwindErr.TheVariants.{Backward}
 use Rattle.virtual_unwind.specs.Contexts.{rsp}
-use Rattle.pe_image.specs.Answer.{◌>>=◌}
+use Rattle.seh_num.specs.Answers.{◌>>=◌}
 use Rattle.virtual_unwind.specs.Undone.{Answer, Undo, below_frame, operations, undone, all_undone, popped, returned}
 use Rattle.virtual_unwind.specs.Tail.{tail_at, left}
 

@@ -3,7 +3,7 @@ use Rattle.std.specs.Prelude.{ℕ, ◌+◌, ◌-◌, ◌*◌, ◌%◌, ◌^◌, 
 use Rattle.seh_num.specs.declared.width.Width.TheVariants.{W64}
 use Rattle.flat_memory.specs.declared.access.RefusedAccess.{RefusedAccess}
 use Rattle.flat_memory.specs.Memory.{Memory, loaded}
-use Rattle.pe_image.specs.Answer.{◌>>=◌}
+use Rattle.seh_num.specs.Answers.{◌>>=◌}
 use Rattle.x64_machine.specs.declared.context.Context.{Context}
 use Rattle.eh_tables.specs.declared.code.UnwindOperation.{UnwindOperation}
 use Rattle.eh_tables.specs.declared.code.UnwindOperation.TheVariants.{Push, Allocate, SetFrame, Save, SaveVector, MachineFrame}

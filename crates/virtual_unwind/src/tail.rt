@@ -1,7 +1,7 @@
 //! The trailing parts of a legal epilogue.
 
 ghost use Rattle.std.specs.Prelude.{◌≡◌, Ok, slice_index};
-ghost use Rattle.pe_image.specs.Answer as answers;
+ghost use Rattle.seh_num.specs.Answers as answers;
 ghost use Rattle.virtual_unwind.specs.Tail as spec;
 ghost use Rattle.virtual_unwind.specs.After as parts;
 ghost use Rattle.virtual_unwind.specs.After.{after};

@@ -1,5 +1,5 @@
 use Rattle.std.proofs.Common.{◌≡◌, ◌≤◌, ◌-◌, length}
-use Rattle.pe_image.specs.Answer.{onto}
+use Rattle.seh_num.specs.Answers.{onto}
 use Rattle.eh_tables.specs.Tables.{parents}
 use Rattle.eh_tables.proofs.entry.read_parents.Given as goal
 

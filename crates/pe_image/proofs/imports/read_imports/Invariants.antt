@@ -1,5 +1,5 @@
 use Rattle.std.proofs.Common.{◌≡◌, ◌+◌, ◌-◌, ◌*◌, length}
-use Rattle.pe_image.specs.Answer.{onto}
+use Rattle.seh_num.specs.Answers.{onto}
 use Rattle.pe_image.specs.Imports.{libraries, max_count}
 use Rattle.pe_image.specs.Names.{AreEnds}
 use Rattle.pe_image.proofs.imports.read_imports.Given as goal

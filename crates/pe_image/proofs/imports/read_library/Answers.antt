@@ -1,5 +1,5 @@
 use Rattle.std.proofs.Common.{◌≡◌, ◌+◌, ◌-◌, ◌*◌, ◌++◌, ◌∷◌, [], List, length, length-append, sym, ap, ◌∙◌, arith}
-use Rattle.pe_image.specs.Answer.{onto}
+use Rattle.seh_num.specs.Answers.{onto}
 use Rattle.pe_image.specs.Imports.{Import, import_at, library, max_count}
 use Rattle.pe_image.proofs.Imported.{refused_at, no_entries_left, entry_missing, entries_end, import_missing, import_passed}
 use Rattle.pe_image.proofs.imports.read_library.Goals as goal
