@@ -9,7 +9,7 @@ use Rattle.eh_tables.specs.declared.code.UnwindOperation.TheVariants.{Push, Allo
 use Rattle.eh_tables.specs.declared.code.UnwindCode.{UnwindCode}
 use Rattle.eh_tables.specs.Codes.{operation, code_before, codes, code_checked, in_order, checked}
 use Rattle.pe_image.specs.Numbers.{u16, u32}
-use Rattle.eh_tables.specs.Written.{slot, is_short, is_small, allocation, saving, operation_bytes, code_bytes, codes_bytes, Fits, AreFalling}
+use Rattle.eh_tables.specs.Written.{slot, is_short, is_small, allocation, saving, operation_bytes, code_bytes, codes_bytes, OperationFits, AreFalling}
 use Rattle.eh_tables.specs.ReadAgain.{IsOperation}
 use Rattle.eh_tables.proofs.TablesAgain.{four_is}
 
@@ -128,7 +128,7 @@ module _ (framed : Bool) (offset : ℕ) where
       (λ is. short framed offset UWOP_SAVE_XMM128 r (SaveVector r n) (omega arith) (n / 16) (λ rest. ap (λ m. Some (SaveVector r m, 1)) (sixteen_is n is)))
       (λ far. long framed offset UWOP_SAVE_XMM128_FAR r (SaveVector r n) (omega arith) n (λ rest. ap (λ m. Some (SaveVector r m, 2)) (four_is n lt)))
 
-  one_again : (o : UnwindOperation) → Fits framed o → IsOperation o → IsReadAs framed offset o (operation_bytes offset o)
+  one_again : (o : UnwindOperation) → OperationFits framed o → IsOperation o → IsReadAs framed offset o (operation_bytes offset o)
   one_again (Push r) fits is = pushed r
   one_again (Allocate n) fits is = allocated n is
   one_again SetFrame fits is = frame_set fits
@@ -139,19 +139,19 @@ module _ (framed : Bool) (offset : ℕ) where
 -- ---- all of them
 
 module _ (framed : Bool) where
-  pub codes_again : (cs : List UnwindCode) → AllByRecursion (λ c. Fits framed c.operation) cs → AllByRecursion (λ c. IsOperation c.operation) cs → codes framed 0 (codes_bytes cs) ≡ cs
+  pub codes_again : (cs : List UnwindCode) → AllByRecursion (λ c. OperationFits framed c.operation) cs → AllByRecursion (λ c. IsOperation c.operation) cs → codes framed 0 (codes_bytes cs) ≡ cs
   codes_again [] fits are = refl
   codes_again (c ∷ cs) fits are =
       (one_again framed c.offset c.operation fits.0 are.0).code (codes_bytes cs)
       ∙ ap (λ (t : List UnwindCode). c ∷ t) (codes_again cs fits.1 are.1)
 
-  pub order_again : (index : ℕ) (cs : List UnwindCode) (at last : ℕ) → AllByRecursion (λ c. Fits framed c.operation) cs → AllByRecursion (λ c. IsOperation c.operation) cs → AreFalling last cs
+  pub order_again : (index : ℕ) (cs : List UnwindCode) (at last : ℕ) → AllByRecursion (λ c. OperationFits framed c.operation) cs → AllByRecursion (λ c. IsOperation c.operation) cs → AreFalling last cs
       → checked index framed at last 0 (codes_bytes cs) ≡ Ok tt
   order_again index [] at last fits are falling = refl
   order_again index (c ∷ cs) at last fits are falling =
       (one_again framed c.offset c.operation fits.0 are.0).order (codes_bytes cs) index at last falling.0 (λ k. order_again index cs k c.offset fits.1 are.1 falling.1)
 
-  pub whole_slots : (cs : List UnwindCode) → AllByRecursion (λ c. Fits framed c.operation) cs → AllByRecursion (λ c. IsOperation c.operation) cs → length (codes_bytes cs) % 2 ≡ 0
+  pub whole_slots : (cs : List UnwindCode) → AllByRecursion (λ c. OperationFits framed c.operation) cs → AllByRecursion (λ c. IsOperation c.operation) cs → length (codes_bytes cs) % 2 ≡ 0
   whole_slots [] fits are = refl
   whole_slots (c ∷ cs) fits are =
       let first = (one_again framed c.offset c.operation fits.0 are.0).even in

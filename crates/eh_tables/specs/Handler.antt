@@ -30,8 +30,8 @@ plain_slot rva bytes =
     slot_if ((rva + JUMP_SIZE + extended (field 4 bytes DISPLACEMENT)) % 2 ^ 64) (is_jump bytes)
 
 -- 40 to 4F
-abbrev pub has_rex : List ℕ → Bool
-has_rex bytes = slice_index bytes 0 / 16 == REX
+abbrev pub begins_with_rex : List ℕ → Bool
+begins_with_rex bytes = slice_index bytes 0 / 16 == REX
 
 -- the slot that a jump at an address reads, without the prefix or with it
 abbrev pub after_rex : Image → ℕ → List ℕ → Bool → Option ℕ
@@ -42,7 +42,7 @@ after_rex image rva bytes false = plain_slot rva bytes
 
 abbrev pub jump_slot : Image → ℕ → Option ℕ
 jump_slot image rva =
-    option_and_then (λ bytes. after_rex image rva bytes (has_rex bytes))
+    option_and_then (λ bytes. after_rex image rva bytes (begins_with_rex bytes))
     (stored image.sections rva JUMP_SIZE)
 
 -- ---- the name that the slot is bound to

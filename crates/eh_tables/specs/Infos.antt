@@ -87,7 +87,8 @@ parent bytes = if is_chained bytes then Some (range_at bytes (slots_end bytes)) 
 -- ---- what an info says
 
 pub record Info : Type 0 where
-  pub bytes : List ℕ  -- header and slots as they are stored, with the one that makes their count even
+  -- header and slots as they are stored, with the one that makes their count even
+  pub bytes : List ℕ
   pub flags : ℕ
   pub prologue_size : ℕ
   pub frame_register : ℕ  -- 0 for none

@@ -2,7 +2,7 @@
 use Rattle.std.specs.Prelude.{◌≡◌, ℕ, ◌+◌, ◌-◌, ◌*◌, ◌/◌, ◌%◌, ◌<◌, ◌≤◌, Bool, true, false, ◌&&◌, ◌==◌, nat_lt, nat_le, if◌then◌else◌, List, [], ◌∷◌, ◌++◌, length, replicate}
 use Rattle.std.specs.List.{flat_map, AllByRecursion}
 pub use Rattle.pe_image.specs.Numbers.{u16, u32}
-use Rattle.eh_tables.specs.declared.layout.TheConstants.{UWOP_PUSH_NONVOL, UWOP_ALLOC_LARGE, UWOP_ALLOC_SMALL, UWOP_SET_FPREG, UWOP_SAVE_NONVOL, UWOP_SAVE_NONVOL_FAR, UWOP_SAVE_XMM128, UWOP_SAVE_XMM128_FAR, UWOP_PUSH_MACHFRAME, UNWIND_VERSION, UNW_FLAG_EHANDLER, UNW_FLAG_UHANDLER, UNW_FLAG_CHAININFO}
+use Rattle.eh_tables.specs.declared.layout.TheConstants.{MOST_SLOT_BYTES, UWOP_PUSH_NONVOL, UWOP_ALLOC_LARGE, UWOP_ALLOC_SMALL, UWOP_SET_FPREG, UWOP_SAVE_NONVOL, UWOP_SAVE_NONVOL_FAR, UWOP_SAVE_XMM128, UWOP_SAVE_XMM128_FAR, UWOP_PUSH_MACHFRAME, UNWIND_VERSION, UNW_FLAG_EHANDLER, UNW_FLAG_UHANDLER, UNW_FLAG_CHAININFO}
 use Rattle.eh_tables.specs.declared.code.UnwindOperation.{UnwindOperation}
 use Rattle.eh_tables.specs.declared.code.UnwindOperation.TheVariants.{Push, Allocate, SetFrame, Save, SaveVector, MachineFrame}
 use Rattle.eh_tables.specs.declared.code.UnwindCode.{UnwindCode}
@@ -89,13 +89,13 @@ unwind_bytes i =
 -- ---- what can be written
 
 -- each operand fits its field, and a frame is set only where there is a frame register
-abbrev pub Fits : Bool → UnwindOperation → Type 0
-Fits framed (Push r) = r < 16
-Fits framed (Allocate n) = Unit {0}
-Fits framed SetFrame = framed ≡ true
-Fits framed (Save r n) = r < 16
-Fits framed (SaveVector r n) = r < 16
-Fits framed (MachineFrame i) = i < 2
+abbrev pub OperationFits : Bool → UnwindOperation → Type 0
+OperationFits framed (Push r) = r < 16
+OperationFits framed (Allocate n) = Unit {0}
+OperationFits framed SetFrame = framed ≡ true
+OperationFits framed (Save r n) = r < 16
+OperationFits framed (SaveVector r n) = r < 16
+OperationFits framed (MachineFrame i) = i < 2
 
 -- no prologue offset is above the one before
 abbrev pub AreFalling : ℕ → List UnwindCode → Type 0
@@ -111,9 +111,9 @@ IsTrailer t = trailer_flags t ≡ 0 → t ≡ Nothing
 pub record CanBeWritten (i : UnwindInfo) : Type 0 where
   pub register : i.frame_register < 16
   pub offset : i.frame_offset % 16 ≡ 0
-  pub codes : AllByRecursion (λ c. Fits (is_framed i) c.operation) i.codes.items
+  pub codes : AllByRecursion (λ c. OperationFits (is_framed i) c.operation) i.codes.items
   pub order : AreFalling 255 i.codes.items
-  pub slots : length (codes_bytes i.codes.items) ≤ 510
+  pub slots : length (codes_bytes i.codes.items) ≤ MOST_SLOT_BYTES
   pub trailer : IsTrailer i.trailer
 
 -- ---- tables

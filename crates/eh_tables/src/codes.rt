@@ -6,8 +6,8 @@ ghost use Rattle.eh_tables.specs.Codes as spec;
 
 use crate::code::{UnwindCode, UnwindOperation};
 use crate::layout::{
-    UWOP_ALLOC_LARGE, UWOP_ALLOC_SMALL, UWOP_PUSH_MACHFRAME, UWOP_PUSH_NONVOL, UWOP_SAVE_NONVOL,
-    UWOP_SAVE_NONVOL_FAR, UWOP_SAVE_XMM128, UWOP_SAVE_XMM128_FAR, UWOP_SET_FPREG,
+    MOST_SLOT_BYTES, UWOP_ALLOC_LARGE, UWOP_ALLOC_SMALL, UWOP_PUSH_MACHFRAME, UWOP_PUSH_NONVOL,
+    UWOP_SAVE_NONVOL, UWOP_SAVE_NONVOL_FAR, UWOP_SAVE_XMM128, UWOP_SAVE_XMM128_FAR, UWOP_SET_FPREG,
 };
 use crate::refusal::TableErr;
 use pe_image::fields::u32_at;
@@ -146,7 +146,7 @@ fn check_from(
     operands: usize,
     slots: &[u8],
 ) -> Result<(), TableErr>
-    requires { 2 * slot + length slots.now ≤ 510 }
+    requires { 2 * slot + length slots.now ≤ MOST_SLOT_BYTES }
     ensures { result ≡ spec.checked index framed slot last operands slots.now }
 {
     match slots {
@@ -170,7 +170,7 @@ fn check_from(
 
 /// Checks the codes of an info's slots.
 pub fn check_codes(index: u64, framed: bool, slots: &[u8]) -> Result<(), TableErr>
-    requires { length slots.now ≤ 510 }
+    requires { length slots.now ≤ MOST_SLOT_BYTES }
     ensures { result ≡ spec.checked index framed 0 255 0 slots.now }
 {
     check_from(index, framed, 0, 255, 0, slots)

@@ -7,9 +7,9 @@ ghost use Rattle.eh_tables.specs.Infos as spec;
 use crate::codes::{Codes, check_codes};
 use crate::handler::is_c_handler;
 use crate::layout::{
-    COUNT_OF_CODES, FRAME_REGISTER_AND_OFFSET, HANDLER_SIZE, RUNTIME_FUNCTION_SIZE,
-    SCOPE_COUNT_SIZE, SCOPE_RECORD_SIZE, SIZE_OF_PROLOG, UNW_FLAG_CHAININFO, UNWIND_CODES,
-    UNWIND_VERSION, VERSION_AND_FLAGS,
+    COUNT_OF_CODES, FRAME_REGISTER_AND_OFFSET, HANDLER_SIZE, MOST_INFO_BYTES, MOST_SLOT_BYTES,
+    RUNTIME_FUNCTION_SIZE, SCOPE_COUNT_SIZE, SCOPE_RECORD_SIZE, SIZE_OF_PROLOG, UNW_FLAG_CHAININFO,
+    UNWIND_CODES, UNWIND_VERSION, VERSION_AND_FLAGS,
 };
 use crate::range::{RuntimeFunction, read_range};
 use crate::refusal::TableErr;
@@ -53,7 +53,7 @@ impl<'a> Info<'a> {
     /// Its header and slots as they are stored, with the slot that makes their count even.
     pub fn bytes(&self) -> &'a [u8]
         ensures value { result.now ≡ self.now.bytes }
-        ensures fits { length result.now ≤ 516 }
+        ensures fits { length result.now ≤ MOST_INFO_BYTES }
     {
         &self.bytes[..slots_end(self.bytes)]
     }
@@ -141,7 +141,7 @@ impl<'a> Info<'a> {
 fn slots_end(bytes: &[u8]) -> usize
     requires { 4 ≤ length bytes.now }
     ensures value { result ≡ spec.slots_end bytes.now }
-    ensures fits { result ≤ 516 }
+    ensures fits { result ≤ MOST_INFO_BYTES }
 {
     UNWIND_CODES + 4 * (bytes[COUNT_OF_CODES] as usize).div_ceil(2)
 }
@@ -150,7 +150,7 @@ fn slots_end(bytes: &[u8]) -> usize
 fn slots_of<'a>(bytes: &'a [u8]) -> &'a [u8]
     requires { spec.HasParts bytes.now }
     ensures value { result.now ≡ spec.slots_of bytes.now }
-    ensures fits { length result.now ≤ 510 }
+    ensures fits { length result.now ≤ MOST_SLOT_BYTES }
 {
     &bytes[UNWIND_CODES..UNWIND_CODES + 2 * bytes[COUNT_OF_CODES] as usize]
 }

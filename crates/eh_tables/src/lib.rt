@@ -28,7 +28,7 @@ pub use codes::Codes;
 pub use entry::Entry;
 pub use info::Info;
 pub use laws::read_again;
-pub use layout::EXCEPTION_EXECUTE_HANDLER;
+pub use layout::{EXCEPTION_EXECUTE_HANDLER, MOST_INFO_BYTES, MOST_SLOTS};
 pub use range::RuntimeFunction;
 pub use refusal::TableErr;
 pub use scope::{ScopeRecord, Scopes};

@@ -1,6 +1,7 @@
 //! Unwind infos to be written.
 
 use crate::code::UnwindCode;
+use crate::layout::MOST_SLOTS;
 use crate::range::RuntimeFunction;
 use arrayvec::ArrayVec;
 
@@ -33,7 +34,7 @@ pub struct UnwindInfo {
     /// How many bytes the frame register lies above the base of the frame: a multiple of 16.
     pub frame_offset: u8,
     /// The codes, from the prologue's end to its begin.
-    pub codes: ArrayVec<UnwindCode, 255>,
+    pub codes: ArrayVec<UnwindCode, MOST_SLOTS>,
     /// What follows them.
     pub trailer: Trailer,
 }

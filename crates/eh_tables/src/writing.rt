@@ -8,10 +8,10 @@ ghost use Rattle.eh_tables.specs.Written as spec;
 
 use crate::code::{UnwindCode, UnwindOperation};
 use crate::layout::{
-    RUNTIME_FUNCTION_SIZE, SCOPE_RECORD_SIZE, UNW_FLAG_CHAININFO, UNW_FLAG_EHANDLER,
-    UNW_FLAG_UHANDLER, UNWIND_VERSION, UWOP_ALLOC_LARGE, UWOP_ALLOC_SMALL, UWOP_PUSH_MACHFRAME,
-    UWOP_PUSH_NONVOL, UWOP_SAVE_NONVOL, UWOP_SAVE_NONVOL_FAR, UWOP_SAVE_XMM128,
-    UWOP_SAVE_XMM128_FAR, UWOP_SET_FPREG,
+    MOST_SLOT_BYTES, MOST_WHOLE_INFO_BYTES, RUNTIME_FUNCTION_SIZE, SCOPE_RECORD_SIZE,
+    UNW_FLAG_CHAININFO, UNW_FLAG_EHANDLER, UNW_FLAG_UHANDLER, UNWIND_VERSION, UWOP_ALLOC_LARGE,
+    UWOP_ALLOC_SMALL, UWOP_PUSH_MACHFRAME, UWOP_PUSH_NONVOL, UWOP_SAVE_NONVOL,
+    UWOP_SAVE_NONVOL_FAR, UWOP_SAVE_XMM128, UWOP_SAVE_XMM128_FAR, UWOP_SET_FPREG,
 };
 use crate::range::RuntimeFunction;
 use crate::scope::ScopeRecord;
@@ -23,7 +23,7 @@ use std::alloc::AllocError;
 /// The bytes of a code, and of an unwind info up to its end.
 type CodeBytes = ArrayVec<u8, 6>;
 
-type InfoBytes = ArrayVec<u8, 532>;
+type InfoBytes = ArrayVec<u8, MOST_WHOLE_INFO_BYTES>;
 
 /// A code's first slot.
 fn put_slot(out: &mut CodeBytes, offset: u8, op: u8, info: u8)
@@ -100,7 +100,7 @@ fn one_slot(offset: u8, op: u8, info: u8) -> CodeBytes
 
 /// A code in the shortest form that fits it.
 fn code_bytes(framed: bool, code: &UnwindCode) -> CodeBytes
-    requires { spec.Fits framed code.now.operation }
+    requires { spec.OperationFits framed code.now.operation }
     ensures { result.items ≡ spec.code_bytes code.now }
 {
     let offset = code.offset;
@@ -168,9 +168,9 @@ fn scope_record_bytes(row: &ScopeRecord) -> FieldBytes
 }
 
 /// The codes of an info.
-fn codes_bytes(framed: bool, codes: &[UnwindCode]) -> ArrayVec<u8, 510>
-    requires fits { AllByRecursion (λ c. spec.Fits framed c.operation) codes.now }
-    requires room { length (spec.codes_bytes codes.now) ≤ 510 }
+fn codes_bytes(framed: bool, codes: &[UnwindCode]) -> ArrayVec<u8, MOST_SLOT_BYTES>
+    requires fits { AllByRecursion (λ c. spec.OperationFits framed c.operation) codes.now }
+    requires room { length (spec.codes_bytes codes.now) ≤ MOST_SLOT_BYTES }
     ensures { result.items ≡ spec.codes_bytes codes.now }
 {
     let mut out = ArrayVec::new();
@@ -211,7 +211,7 @@ fn trailer_bytes(trailer: Trailer) -> FieldBytes
 }
 
 fn put_zeros(out: &mut InfoBytes, count: usize)
-    requires { array_vec_len out.old + count ≤ 532 }
+    requires { array_vec_len out.old + count ≤ MOST_WHOLE_INFO_BYTES }
     ensures items { out.new.items ≡ out.old.items ++ replicate count 0 }
     ensures len { array_vec_len out.new ≡ array_vec_len out.old + count }
 {

@@ -10,7 +10,7 @@ use Rattle.eh_tables.specs.declared.code.UnwindCode.{UnwindCode}
 use Rattle.eh_tables.specs.declared.code.UnwindOperation.TheVariants.{Allocate}
 use Rattle.eh_tables.specs.declared.unwind_info.Trailer.TheVariants.{Nothing}
 use Rattle.pe_image.specs.Numbers.{u16, u32}
-use Rattle.eh_tables.specs.Written.{CanBeWritten, Fits, AreFalling, codes_bytes, slot, is_small, is_short}
+use Rattle.eh_tables.specs.Written.{CanBeWritten, OperationFits, AreFalling, codes_bytes, slot, is_small, is_short}
 use Rattle.seh_num.specs.declared.width.Width.TheVariants.{W8, W64}
 use Rattle.x64_instr.specs.declared.instruction.Instr.{Instr}
 use Rattle.x64_encode.specs.Chosen.{is_signed, modrm, opcode_register}
@@ -130,7 +130,7 @@ pub can_be_written : (n size : ℕ) (codes : ArrayVec UnwindCode) → size < 256
 can_be_written n size codes small are = record {
   register = omega arith;
   offset = refl;
-  codes = subst (λ (cs : List UnwindCode). AllByRecursion (λ c. Fits false c.operation) cs) (sym are) (tt, tt);
+  codes = subst (λ (cs : List UnwindCode). AllByRecursion (λ c. OperationFits false c.operation) cs) (sym are) (tt, tt);
   order = subst (AreFalling 255) (sym are) (omega arith, tt);
   slots = subst (λ (cs : List UnwindCode). length (codes_bytes cs) ≤ 510) (sym are) (few size n (is_small n) (is_short 8 n));
   trailer = λ h. refl;
