@@ -7,7 +7,7 @@ use seh_num::width::Width;
 
 /// The conversion of an expression's value for its use (C11, 6.3, and 6.5.6 for pointers). It
 /// counts no step.
-#[derive(Clone, Copy, Debug, PartialEq, Eq)]
+#[derive(Clone, Copy)]
 pub enum Conversion {
     /// None: the number stays the same.
     Kept,
@@ -26,7 +26,7 @@ pub enum Conversion {
 }
 
 /// The width of an object in memory, and the signedness of its type.
-#[derive(Clone, Copy, Debug, PartialEq, Eq)]
+#[derive(Clone, Copy)]
 pub struct Access {
     /// How many bits it has.
     pub width: Width,
@@ -35,7 +35,7 @@ pub struct Access {
 }
 
 /// Postfix or prefix `++` and `--` (C11, 6.5.2.4 and 6.5.3.1).
-#[derive(Clone, Copy, Debug, PartialEq, Eq)]
+#[derive(Clone, Copy)]
 pub enum Fixity {
     /// `e++`: the value before the change.
     Postfix,

@@ -1,5 +1,5 @@
 /// The functions that every program may call without a definition (own).
-#[derive(Clone, Copy, Debug, PartialEq, Eq)]
+#[derive(Clone, Copy)]
 pub enum BuiltIn {
     /// `void put(long long)`: writes a number.
     Put,

@@ -1,5 +1,5 @@
 /// A field of the EXCEPTION_RECORD that a filter can read (Windows headers, `winnt.h`).
-#[derive(Clone, Copy, Debug, PartialEq, Eq)]
+#[derive(Clone, Copy)]
 pub enum Field {
     ExceptionCode,
     ExceptionFlags,

@@ -3,7 +3,7 @@
 use seh_num::width::Width;
 
 /// The sizes in which C computes: those of `int` and of `long long` (C11, 6.3.1.1).
-#[derive(Clone, Copy, Debug, PartialEq, Eq)]
+#[derive(Clone, Copy)]
 pub enum Size {
     /// 32 bits.
     Int,
@@ -12,14 +12,14 @@ pub enum Size {
 }
 
 /// Whether bits are read as an unsigned number or in two's complement (C11, 6.2.6.2).
-#[derive(Clone, Copy, Debug, PartialEq, Eq)]
+#[derive(Clone, Copy)]
 pub enum Signedness {
     Unsigned,
     Signed,
 }
 
 /// The relations of the relational and equality operators (C11, 6.5.8 and 6.5.9).
-#[derive(Clone, Copy, Debug, PartialEq, Eq)]
+#[derive(Clone, Copy)]
 pub enum Relation {
     Equal,
     NotEqual,
@@ -31,7 +31,7 @@ pub enum Relation {
 
 /// An operation that has a result for all operands. Overflow of signed numbers wraps modulo 2^32 or
 /// 2^64 (own: C11, 6.5, leaves it undefined).
-#[derive(Clone, Copy, Debug, PartialEq, Eq)]
+#[derive(Clone, Copy)]
 pub enum Pure {
     /// This number, whatever the operands are.
     Constant(u64),
@@ -67,7 +67,7 @@ pub enum Pure {
 }
 
 /// An operation on two operands, which may fault.
-#[derive(Clone, Copy, Debug, PartialEq, Eq)]
+#[derive(Clone, Copy)]
 pub enum Operation {
     Pure(Pure),
     /// The quotient, truncated toward zero (C11, 6.5.5). A zero divisor, and a signed quotient out

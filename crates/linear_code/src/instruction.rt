@@ -4,7 +4,7 @@ use c_operations::field::Field;
 use c_operations::operation::Operation;
 
 /// An instruction of linear code. Labels are numbers of instructions in the same body, from 0 on.
-#[derive(Clone, Copy, Debug, PartialEq, Eq)]
+#[derive(Clone, Copy)]
 pub enum Instruction {
     /// Two slots are read, and what the operation makes of them goes to a slot. A constant reads
     /// none.

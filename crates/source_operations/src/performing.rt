@@ -19,7 +19,7 @@ use seh_num::width::Width;
 use x64_memory::space::AddressSpace;
 
 /// What an operation comes to.
-#[derive(Clone, Copy, Debug, PartialEq, Eq)]
+#[derive(Clone, Copy)]
 pub enum Performed {
     Gives(u64),
     /// A fault, with its access: whether it was a write, and the address.
