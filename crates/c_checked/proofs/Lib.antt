@@ -1,2 +1,3 @@
 pub mod ExpressionTrees
 pub mod StatementTrees
+pub mod Items

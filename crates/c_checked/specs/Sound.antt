@@ -1,10 +1,13 @@
 -- What holds of an accepted program beside its shape: numbers name what is there, each operand has
 -- the size that its operator takes, jumps and the names of exceptions are where they mean
 -- something, filters and `__finally` blocks are numbered in their order.
-use Rattle.std.specs.Prelude.{◌≡◌, ℕ, ◌+◌, ◌^◌, Bool, true, false, ◌&&◌, ◌||◌, nat_lt, nat_le, nat_eq, if◌then◌else◌, List, [], ◌∷◌, ◌++◌, length, slice_get, Option, Some, None}
+use Rattle.std.specs.Prelude.{◌≡◌, ℕ, ◌+◌, ◌^◌, Bool, true, false, ◌&&◌, ◌||◌, nat_lt, nat_le}
+use Rattle.std.specs.Prelude.{nat_eq, if◌then◌else◌, List, [], ◌∷◌, ◌++◌, length, slice_get, Option}
+use Rattle.std.specs.Prelude.{Some, None}
 use Rattle.seh_num.specs.declared.width.Width.{Width}
 use Rattle.seh_num.specs.declared.width.Width.TheVariants.{W8, W16, W32, W64}
-use Rattle.seh_num.specs.declared.limit.TheConstants.{MOST_LOCALS, MOST_PARAMETERS, MOST_FUNCTIONS, MOST_GLOBALS, MOST_FUNCLETS}
+use Rattle.seh_num.specs.declared.limit.TheConstants.{MOST_LOCALS, MOST_PARAMETERS, MOST_FUNCTIONS}
+use Rattle.seh_num.specs.declared.limit.TheConstants.{MOST_GLOBALS, MOST_FUNCLETS}
 use Rattle.c_operations.specs.declared.field.Field.{Field}
 use Rattle.c_operations.specs.declared.field.Field.TheVariants as fields
 use Rattle.c_operations.specs.declared.operation.Operation.{Operation}
@@ -18,8 +21,11 @@ use Rattle.c_checked.specs.declared.expression.Conversion.TheVariants.{Kept, Ext
 use Rattle.c_operations.specs.declared.built_in.BuiltIn.{BuiltIn}
 use Rattle.c_operations.specs.declared.built_in.BuiltIn.TheVariants.{Put, Protect, RaiseException}
 use Rattle.c_checked.specs.Expression as nodes
-use Rattle.c_checked.specs.Expression.{Expression, On, Node, Lvalue, Local, Global, Indirection, Element, Arguments, Done, Next}
-use Rattle.c_checked.specs.Statement.{Declared, Filter, Always, Funclet, Statement, Declare, Block, Evaluate, If, IfElse, For, DoWhile, Return, Break, Continue, Leave, TryExcept, TryFinally, Statements, Empty, Then}
+use Rattle.c_checked.specs.Expression.{Expression, On, Node, Lvalue, Local, Global, Indirection}
+use Rattle.c_checked.specs.Expression.{Element, Arguments, Done, Next}
+use Rattle.c_checked.specs.Statement.{Declared, Filter, Always, Funclet, Statement, Declare, Block}
+use Rattle.c_checked.specs.Statement.{Evaluate, If, IfElse, For, DoWhile, Return, Break, Continue}
+use Rattle.c_checked.specs.Statement.{Leave, TryExcept, TryFinally, Statements, Empty, Then}
 use Rattle.c_checked.specs.Program.{Program, Function}
 
 -- what is around a part of a program: the functions; the sizes of the function's parameters and

@@ -1,11 +1,12 @@
 -- What expressions do, given what the tasks inside them do (C11, 6.5). Operands are evaluated from
 -- left to right.
-use Rattle.std.specs.Prelude.{ℕ, ◌+◌, ◌*◌, ◌%◌, Bool, true, false, not, nat_eq, if◌then◌else◌, List, [], ◌∷◌, ◌++◌, length, slice_get, get_or, take, replicate, pos, int_div, Option, Some, None}
+use Rattle.std.specs.Prelude.{ℕ, ◌+◌, ◌*◌, ◌%◌, Bool, true, false, not, nat_eq, if◌then◌else◌, List}
+use Rattle.std.specs.Prelude.{[], ◌∷◌, ◌++◌, length, slice_get, get_or, take, replicate, pos}
+use Rattle.std.specs.Prelude.{int_div, Option, Some, None, is_some}
 use Rattle.seh_num.specs.declared.width.Width.{Width}
 use Rattle.seh_num.specs.declared.width.Width.TheVariants.{W8, W16, W32, W64}
 use Rattle.seh_num.specs.declared.event.Event.TheVariants as events
 use Rattle.seh_num.specs.Widths.{low, signed, wrapped}
-use Rattle.flat_memory.specs.declared.protection.Rights.{Rights}
 use Rattle.flat_memory.specs.Memory.{protected, rights_asked}
 use Rattle.c_operations.specs.declared.field.Field.{Field}
 use Rattle.c_operations.specs.declared.field.Field.TheVariants as fields
@@ -24,12 +25,15 @@ use Rattle.c_operations.specs.declared.built_in.BuiltIn.TheVariants.{Put, Protec
 use Rattle.c_checked.specs.declared.expression.Fixity.{Fixity}
 use Rattle.c_checked.specs.declared.expression.Fixity.TheVariants.{Postfix, Prefix}
 use Rattle.c_checked.specs.Expression as nodes
-use Rattle.c_checked.specs.Expression.{Expression, On, Node, Lvalue, Local, Global, Indirection, Element, Arguments, Done, Next}
+use Rattle.c_checked.specs.Expression.{Expression, On, Node, Lvalue, Local, Global, Indirection}
+use Rattle.c_checked.specs.Expression.{Element, Arguments, Done, Next}
 use Rattle.c_checked.specs.Statement.{Statements, Empty, Then}
 use Rattle.c_checked.specs.Program.{Program, Function}
 use Rattle.c_model.specs.declared.ended.Ended.TheVariants.{Undefined}
 use Rattle.c_model.specs.Source.{is_reserved}
-use Rattle.c_model.specs.State.{Exception, State, Value, Normal, Returned, Target, End, Outcome, Gives, choose, local_of, set_local, set_memory, emit, deeper, with_value, and_then}
+use Rattle.c_model.specs.State.{Exception, State, Value, Normal, Returned, Target, End, Outcome}
+use Rattle.c_model.specs.State.{Gives, choose, local_of, set_local, set_memory, emit, deeper}
+use Rattle.c_model.specs.State.{with_value, and_then}
 use Rattle.c_model.specs.Tasks.{Context, Eval, Locate, Run, Raise, Retry, Does}
 
 -- ---- values
@@ -44,15 +48,15 @@ converted (Extend s from size) v = extended s from (width size) v
 converted (Scale s from by) v = low W64 (extended s from W64 v * by)
 
 -- the width of the numbers that represent values of a type of this width
-abbrev pub promoted : Width → Width
-promoted W8 = W32
-promoted W16 = W32
-promoted W32 = W32
-promoted W64 = W64
+abbrev pub value_width : Width → Width
+value_width W8 = W32
+value_width W16 = W32
+value_width W32 = W32
+value_width W64 = W64
 
 -- bytes that were read, as a value
 abbrev pub value_of : Access → ℕ → ℕ
-value_of access v = extended access.signedness access.width (promoted access.width) v
+value_of access v = extended access.signedness access.width (value_width access.width) v
 
 -- how many things of this size lie between two addresses, towards zero
 abbrev pub apart : ℕ → ℕ → ℕ → ℕ
@@ -169,10 +173,6 @@ enter does (Some f) vs context st =
       abnormal = false;
     })
     (record st { frames = st.frames ++ (vs ++ replicate (length f.locals) 0) ∷ [] })))
-
-abbrev pub is_some : Option Rights → Bool
-is_some None = false
-is_some (Some r) = true
 
 abbrev pub call_built_in : Does → BuiltIn → List ℕ → Context → State → Outcome
 call_built_in does Put vs context st =

@@ -1,5 +1,6 @@
 -- What a program means: what it shows within some steps, and how it ends.
-use Rattle.std.specs.Prelude.{ℕ, zero, suc, Bool, true, false, List, [], ◌∷◌, slice_get, ℤ, Option, Some, None}
+use Rattle.std.specs.Prelude.{ℕ, zero, suc, Bool, true, false, List, [], ◌∷◌, slice_get, ℤ, Option}
+use Rattle.std.specs.Prelude.{Some, None}
 use Rattle.seh_num.specs.declared.width.Width.TheVariants.{W32, W64}
 use Rattle.seh_num.specs.Widths.{signed, wrapped}
 use Rattle.seh_num.specs.Shown.{Shown}
@@ -9,10 +10,14 @@ use Rattle.c_checked.specs.Program.{Program, Function}
 use Rattle.c_model.specs.declared.ended.Ended.{Ended}
 use Rattle.c_model.specs.declared.ended.Ended.TheVariants.{Exit, Undefined, Deep}
 use Rattle.c_model.specs.Source.{first_memory}
-use Rattle.c_model.specs.State.{State, Value, End, Outcome, Gives, choose, deeper, with_value, and_then}
-use Rattle.c_model.specs.Tasks.{Context, Eval, Locate, Run, ForIteration, DoIteration, TryBody, Raise, RunFilter, RunFinally, Retry, Does, counted}
-use Rattle.c_model.specs.Expressions.{no_exception, operate, locate, all, ended_call, enter, expression}
-use Rattle.c_model.specs.Statements.{in_loop, landing, finally_after, statement, for_iteration, do_iteration}
+use Rattle.c_model.specs.State.{State, Value, End, Outcome, Gives, choose, deeper, with_value}
+use Rattle.c_model.specs.State.{and_then}
+use Rattle.c_model.specs.Tasks.{Context, Eval, Locate, Run, ForIteration, DoIteration, TryBody}
+use Rattle.c_model.specs.Tasks.{Raise, RunFilter, RunFinally, Retry, Does, counted}
+use Rattle.c_model.specs.Expressions.{no_exception, operate, locate, all, ended_call, enter}
+use Rattle.c_model.specs.Expressions.{expression}
+use Rattle.c_model.specs.Statements.{in_loop, landing, finally_after, statement, for_iteration}
+use Rattle.c_model.specs.Statements.{do_iteration}
 use Rattle.c_model.specs.Raises.{raise_event, search, run_filter, run_finally}
 use Rattle.c_model.specs.State.{emit}
 

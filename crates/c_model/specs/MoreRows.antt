@@ -2,7 +2,8 @@
 use Rattle.std.specs.Prelude.{◌≡◌, ◌+◌, ◌*◌, true, false, [], ◌∷◌, pos, negsuc, Some, None}
 use Rattle.seh_num.specs.declared.width.Width.TheVariants.{W8, W16, W32}
 use Rattle.seh_num.specs.declared.event.Event.TheVariants as events
-use Rattle.c_operations.specs.declared.field.Field.TheVariants.{NumberParameters, ExceptionInformation}
+use Rattle.c_operations.specs.declared.field.Field.TheVariants.{NumberParameters}
+use Rattle.c_operations.specs.declared.field.Field.TheVariants.{ExceptionInformation}
 use Rattle.c_operations.specs.declared.operation.Operation.TheVariants.{Pure, Remainder}
 use Rattle.c_operations.specs.declared.operation.Pure.TheVariants as pures
 use Rattle.c_operations.specs.declared.operation.Relation.TheVariants.{Less, Greater}
@@ -12,14 +13,21 @@ use Rattle.c_checked.specs.declared.expression.Access.{Access}
 use Rattle.c_checked.specs.declared.expression.Conversion.TheVariants.{Kept, Extend, Scale}
 use Rattle.c_operations.specs.declared.built_in.BuiltIn.TheVariants.{Put}
 use Rattle.c_checked.specs.declared.expression.Fixity.TheVariants.{Postfix, Prefix}
-use Rattle.c_checked.specs.Expression.{On, Constant, Read, Assign, CompoundAssign, Increment, Unary, Binary, PointerDifference, And, Or, Conditional, Comma, Call, CallBuiltIn, Information, Local, Indirection, Element, Done, Next, arguments}
-use Rattle.c_checked.specs.Statement.{Always, Funclet, Block, Evaluate, If, IfElse, For, DoWhile, Break, Continue, Declare, statements}
+use Rattle.c_checked.specs.Expression.{On, Constant, Read, Assign, CompoundAssign, Increment, Unary}
+use Rattle.c_checked.specs.Expression.{Binary, PointerDifference, And, Or, Conditional, Comma, Call}
+use Rattle.c_checked.specs.Expression.{CallBuiltIn, Information, Local, Indirection, Element, Done}
+use Rattle.c_checked.specs.Expression.{Next, arguments}
+use Rattle.c_checked.specs.Statement.{Always, Funclet, Block, Evaluate, If, IfElse, For, DoWhile}
+use Rattle.c_checked.specs.Statement.{Break, Continue, Declare, statements}
 use Rattle.c_checked.specs.Program.{Program}
 use Rattle.c_model.specs.declared.ended.Ended.TheVariants.{Undefined, Deep}
 use Rattle.c_model.specs.Meaning.{meaning}
-use Rattle.c_model.specs.Source.{first_data}
-use Rattle.c_model.specs.Short.{kept, long, unsigned_long, lit, address, minus, plus, subtract, divide, compare, equal, int, cast, local, evaluate, put, raise, protect, answer, except, finally, code_is, abnormal, function, main_alone, with_main}
-use Rattle.c_model.specs.Rows.{ended, unfinished, Shows, raised, landed, wrote, exit}
+use Rattle.host_layout.specs.declared.range.TheConstants.{FIRST_DATA}
+use Rattle.c_model.specs.Short.{kept, long, unsigned_long, lit, address, minus, plus, subtract}
+use Rattle.c_model.specs.Short.{divide, compare, equal, int, cast, local, evaluate, put, raise}
+use Rattle.c_model.specs.Short.{protect, answer, except, finally, code_is, abnormal, function}
+use Rattle.c_model.specs.Short.{main_alone, with_main}
+use Rattle.c_model.specs.Rows.{ended, unfinished, Shows, raised_event, landed_event, wrote, exit}
 
 -- ---- exceptions in one another
 
@@ -36,8 +44,8 @@ filter_asked_once =
 abbrev pub FilterAskedOnceUnderCollision : Type 0
 FilterAskedOnceUnderCollision =
     Shows filter_asked_once 100
-    (raised 0xE0000001 ∷ events.Filter 1 ∷ events.Answer (pos 0) ∷ events.Finally 2 true
-    ∷ raised 0xE0000002 ∷ landed 0xE0000002 ∷ wrote 1 ∷ []) (exit 0)
+    (raised_event 0xE0000001 ∷ events.Filter 1 ∷ events.Answer (pos 0) ∷ events.Finally 2 true
+    ∷ raised_event 0xE0000002 ∷ landed_event 0xE0000002 ∷ wrote 1 ∷ []) (exit 0)
 
 -- int main(void){ __try{ __try{ __try{ __try{ RaiseException(0xE0000001,0,0,0); } __finally{
 -- RaiseException(0xE0000002,0,0,0); } } __finally{ RaiseException(0xE0000003,0,0,0); } }
@@ -53,9 +61,10 @@ collided_twice =
 abbrev pub CollidedTwice : Type 0
 CollidedTwice =
     Shows collided_twice 100
-    (raised 0xE0000001 ∷ events.Filter 3 ∷ events.Answer (pos 0) ∷ events.Finally 1 true
-    ∷ raised 0xE0000002 ∷ events.Filter 3 ∷ events.Answer (pos 0) ∷ events.Finally 2 true
-    ∷ raised 0xE0000003 ∷ events.Filter 3 ∷ events.Answer (pos 1) ∷ landed 0xE0000003 ∷ wrote 3
+    (raised_event 0xE0000001 ∷ events.Filter 3 ∷ events.Answer (pos 0) ∷ events.Finally 1 true
+    ∷ raised_event 0xE0000002 ∷ events.Filter 3 ∷ events.Answer (pos 0) ∷ events.Finally 2 true
+    ∷ raised_event 0xE0000003 ∷ events.Filter 3 ∷ events.Answer (pos 1) ∷ landed_event 0xE0000003
+    ∷ wrote 3
     ∷ [])
     (exit 0)
 
@@ -76,8 +85,8 @@ target_in_outer_activation =
 abbrev pub TargetInOuterActivation : Type 0
 TargetInOuterActivation =
     Shows target_in_outer_activation 100
-    (raised 0xE0000001 ∷ events.Filter 1 ∷ events.Answer (pos 0) ∷ events.Filter 1
-    ∷ events.Answer (pos 1) ∷ events.Finally 2 true ∷ wrote 10 ∷ landed 0xE0000001 ∷ wrote 1
+    (raised_event 0xE0000001 ∷ events.Filter 1 ∷ events.Answer (pos 0) ∷ events.Filter 1
+    ∷ events.Answer (pos 1) ∷ events.Finally 2 true ∷ wrote 10 ∷ landed_event 0xE0000001 ∷ wrote 1
     ∷ events.Finally 2 false ∷ wrote 11 ∷ [])
     (exit 0)
 
@@ -102,7 +111,7 @@ abbrev pub TwoFiltersOfOneFault : Type 0
 TwoFiltersOfOneFault =
     Shows two_filters 100
     (events.Raise (record { 0 = 0xC0000005 }) false (Some (true, 8)) ∷ events.Filter 1
-    ∷ events.Answer (pos 0) ∷ events.Filter 2 ∷ events.Answer (pos 2) ∷ landed 0xC0000005
+    ∷ events.Answer (pos 0) ∷ events.Filter 2 ∷ events.Answer (pos 2) ∷ landed_event 0xC0000005
     ∷ wrote 2 ∷ [])
     (exit 0)
 
@@ -156,7 +165,7 @@ store_across_pages =
 abbrev pub StoreAcrossPages : Type 0
 StoreAcrossPages =
     Shows store_across_pages 100 (events.Raise (record { 0 = 0xC0000005 }) false
-    (Some (true, 0x20001000)) ∷ landed 0xC0000005 ∷ wrote 0 ∷ []) (exit 0)
+    (Some (true, 0x20001000)) ∷ landed_event 0xC0000005 ∷ wrote 0 ∷ []) (exit 0)
 
 -- int main(void){ __try{ put(*(char*)0x20000003); }
 -- __except(put(GetExceptionInformation()->ExceptionRecord->ExceptionInformation[1]), 1){ put(4); }
@@ -173,7 +182,7 @@ abbrev pub FaultAddressInFilter : Type 0
 FaultAddressInFilter =
     Shows fault_address 100
     (events.Raise (record { 0 = 0xC0000005 }) false (Some (false, 0x20000003)) ∷ events.Filter 1
-    ∷ wrote 536870915 ∷ events.Answer (pos 1) ∷ landed 0xC0000005 ∷ wrote 4 ∷ []) (exit 0)
+    ∷ wrote 536870915 ∷ events.Answer (pos 1) ∷ landed_event 0xC0000005 ∷ wrote 4 ∷ []) (exit 0)
 
 -- int main(void){ put(1); return *(int*)0x70000000; }
 abbrev pub reserved_access : Program
@@ -213,15 +222,15 @@ operators =
             local = 0;
             value = Some (On (Constant Int 127) (Extend Signed W8 Int));
           })
-          ∷ Declare (record { local = 1; value = Some (address first_data) })
+          ∷ Declare (record { local = 1; value = Some (address FIRST_DATA) })
           ∷ put (long (Increment Postfix (Local 0) Kept (Pure (pures.Add Int)) 1
           (Extend Signed W8 Int)))
           ∷ put (long (Read (Local 0)))
           ∷ evaluate (Assign (Indirection int (kept (Increment Prefix (Local 1) Kept
           (Pure (pures.Add Long)) 4 Kept))) (lit 5))
-          ∷ put (long (Read (Element int (address first_data)
+          ∷ put (long (Read (Element int (address FIRST_DATA)
           (On (Constant Int 1) (Scale Signed W32 4)))))
-          ∷ put (kept (PointerDifference 4 (local 1) (address first_data)))
+          ∷ put (kept (PointerDifference 4 (local 1) (address FIRST_DATA)))
           ∷ put (long (Or (kept (Read (Element int (local 1) (On (minus 1) (Scale Signed W32 4)))))
           (lit 0)))
           ∷ put (long (Conditional (kept (And (lit 1) (local 0))) (lit 3) (lit 4)))
@@ -321,9 +330,8 @@ endless_recursion =
 
 -- 4 steps lead to the first call, and 6 from each call to the next; the 1,000th would be the
 -- 1,001st activation
-abbrev pub DeepRecursion : Type 0
-DeepRecursion =
-    Shows deep_recursion 1000 (wrote 40 ∷ []) (exit 0)
-    × Shows endless_recursion 10000 [] (Deep 1001)
-    × Shows endless_recursion (4 + 6 * 999) [] (Deep 1001)
-    × (meaning endless_recursion (pos 0) (3 + 6 * 999) ≡ unfinished [])
+pub record DeepRecursion : Type 0 where
+  pub deep : Shows deep_recursion 1000 (wrote 40 ∷ []) (exit 0)
+  pub endless : Shows endless_recursion 10000 [] (Deep 1001)
+  pub at_the_last : Shows endless_recursion (4 + 6 * 999) [] (Deep 1001)
+  pub before : meaning endless_recursion (pos 0) (3 + 6 * 999) ≡ unfinished []

@@ -9,7 +9,8 @@ use Rattle.seh_num.specs.declared.code.TheConstants.{NONCONTINUABLE_EXCEPTION}
 use Rattle.c_checked.specs.Expression.{Expression}
 use Rattle.c_checked.specs.Statement.{Filter, Always, Funclet, Statements}
 use Rattle.c_model.specs.declared.ended.Ended.TheVariants.{Unhandled}
-use Rattle.c_model.specs.State.{Exception, State, Value, Normal, Target, End, Outcome, Gives, choose, emit, hold, let_go, deeper, with_value, and_then}
+use Rattle.c_model.specs.State.{Exception, State, Value, Normal, Target, End, Outcome, Gives}
+use Rattle.c_model.specs.State.{choose, emit, hold, let_go, deeper, with_value, and_then}
 use Rattle.c_model.specs.Tasks.{Handler, Context, Eval, Raise, RunFilter, Does}
 use Rattle.c_model.specs.Expressions.{all}
 

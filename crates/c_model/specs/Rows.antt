@@ -4,14 +4,18 @@ use Rattle.seh_num.specs.declared.event.Event.{Event}
 use Rattle.seh_num.specs.declared.event.Event.TheVariants as events
 use Rattle.seh_num.specs.Shown.{Shown}
 use Rattle.c_operations.specs.declared.operation.Size.TheVariants.{Int}
-use Rattle.c_checked.specs.Expression.{Constant, Read, Assign, Call, Global, Indirection, Done, Next}
+use Rattle.c_checked.specs.Expression.{Constant, Read, Assign, Call, Global, Indirection, Done}
+use Rattle.c_checked.specs.Expression.{Next}
 use Rattle.c_checked.specs.Statement.{Always, Funclet, If, Leave}
 use Rattle.c_checked.specs.Program.{Program}
 use Rattle.c_model.specs.declared.ended.Ended.{Ended}
 use Rattle.c_model.specs.declared.ended.Ended.TheVariants.{Exit, Unhandled}
 use Rattle.c_model.specs.Meaning.{meaning}
-use Rattle.c_model.specs.Source.{first_data}
-use Rattle.c_model.specs.Short.{kept, long, lit, minus, plus, subtract, multiply, divide, equal, int, pointer, cast, local, global, evaluate, put, raise, protect, answer, except, finally, code, code_is, abnormal, function, main_alone, with_main}
+use Rattle.host_layout.specs.declared.range.TheConstants.{FIRST_DATA}
+use Rattle.c_model.specs.Short.{kept, long, lit, minus, plus, subtract, multiply, divide, equal}
+use Rattle.c_model.specs.Short.{int, pointer, cast, local, global, evaluate, put, raise, protect}
+use Rattle.c_model.specs.Short.{answer, except, finally, code, code_is, abnormal, function}
+use Rattle.c_model.specs.Short.{main_alone, with_main}
 
 abbrev pub ended : List Event → Ended → Shown Ended
 ended es e = record { events = es; end = Some e }
@@ -22,11 +26,11 @@ unfinished es = record { events = es; end = None }
 abbrev pub Shows : Program → ℕ → List Event → Ended → Type 0
 Shows p n es e = meaning p (pos 0) n ≡ ended es e
 
-abbrev pub raised : ℕ → Event
-raised c = events.Raise (record { 0 = c }) false None
+abbrev pub raised_event : ℕ → Event
+raised_event c = events.Raise (record { 0 = c }) false None
 
-abbrev pub landed : ℕ → Event
-landed c = events.Except (record { 0 = c })
+abbrev pub landed_event : ℕ → Event
+landed_event c = events.Except (record { 0 = c })
 
 abbrev pub wrote : ℕ → Event
 wrote n = events.Put (pos n)
@@ -43,14 +47,13 @@ sum_and_return =
     main_alone (put (long (plus (lit 2) (kept (multiply (lit 3) (lit 4))))) ∷ answer (lit 7) ∷ [])
 
 -- 7 steps to the first event, and 2 more to the end
-abbrev pub SumAndReturn : Type 0
-SumAndReturn =
-    (meaning sum_and_return (pos 0) 0 ≡ unfinished [])
-    × (meaning sum_and_return (pos 0) 1 ≡ unfinished [])
-    × (meaning sum_and_return (pos 0) 6 ≡ unfinished [])
-    × (meaning sum_and_return (pos 0) 7 ≡ unfinished (wrote 14 ∷ []))
-    × (meaning sum_and_return (pos 0) 8 ≡ unfinished (wrote 14 ∷ []))
-    × Shows sum_and_return 9 (wrote 14 ∷ []) (exit 7)
+pub record SumAndReturn : Type 0 where
+  pub within_0 : meaning sum_and_return (pos 0) 0 ≡ unfinished []
+  pub within_1 : meaning sum_and_return (pos 0) 1 ≡ unfinished []
+  pub within_6 : meaning sum_and_return (pos 0) 6 ≡ unfinished []
+  pub within_7 : meaning sum_and_return (pos 0) 7 ≡ unfinished (wrote 14 ∷ [])
+  pub within_8 : meaning sum_and_return (pos 0) 8 ≡ unfinished (wrote 14 ∷ [])
+  pub within_9 : Shows sum_and_return 9 (wrote 14 ∷ []) (exit 7)
 
 -- int main(void){ __try{ *(int*)0 = 1; } __except(1){ put(GetExceptionCode()==0xC0000005); } return
 -- 0; }
@@ -62,7 +65,7 @@ null_store_caught =
 abbrev pub NullStoreCaught : Type 0
 NullStoreCaught =
     Shows null_store_caught 50 (events.Raise (record { 0 = 0xC0000005 }) false (Some (true, 0))
-    ∷ landed 0xC0000005 ∷ wrote 1 ∷ []) (exit 0)
+    ∷ landed_event 0xC0000005 ∷ wrote 1 ∷ []) (exit 0)
 
 -- int main(void){ __try{ __try{ RaiseException(0xE0000001,0,0,0); } __finally{
 -- put(AbnormalTermination()); } } __except(2){ put(3); } return 0; }
@@ -74,17 +77,18 @@ filter_then_finally =
 abbrev pub FilterThenFinally : Type 0
 FilterThenFinally =
     Shows filter_then_finally 50
-    (raised 0xE0000001 ∷ events.Filter 2 ∷ events.Answer (pos 2) ∷ events.Finally 1 true ∷ wrote 1
-    ∷ landed 0xE0000001 ∷ wrote 3 ∷ []) (exit 0)
+    (raised_event 0xE0000001 ∷ events.Filter 2 ∷ events.Answer (pos 2) ∷ events.Finally 1 true
+    ∷ wrote 1
+    ∷ landed_event 0xE0000001 ∷ wrote 3 ∷ []) (exit 0)
 
 -- int *p = 0x20000000; int f(void){ p = 0; protect((void*)0x20000000,2); return -1; } int
 -- main(void){ __try{ put(*p); } __except(f()){ put(9); } return 0; }
 abbrev pub continue_same_operand : Program
 continue_same_operand =
     with_main (0 ∷ 0 ∷ 0 ∷ 32 ∷ 0 ∷ 0 ∷ 0 ∷ 0 ∷ [])
-    (function [] [] (evaluate (Assign (Global pointer first_data) (long (Constant Int 0)))
+    (function [] [] (evaluate (Assign (Global pointer FIRST_DATA) (long (Constant Int 0)))
     ∷ protect 0x20000000 2 ∷ answer (kept (minus 1)) ∷ []) ∷ [])
-    (except (put (long (Read (Indirection int (kept (Read (Global pointer first_data)))))) ∷ [])
+    (except (put (long (Read (Indirection int (kept (Read (Global pointer FIRST_DATA)))))) ∷ [])
     (Funclet 1 (kept (Call 0 Done))) (put (long (Constant Int 9)) ∷ []) ∷ answer (lit 0)
     ∷ [])
 
@@ -113,8 +117,8 @@ ReturnAndLeaveFlags =
 abbrev pub division_faults : Program
 division_faults =
     with_main (0 ∷ 0 ∷ 0 ∷ 0 ∷ []) []
-    (evaluate (Assign (global first_data) (kept (subtract (kept (minus 2147483647)) (lit 1))))
-    ∷ except (finally (put (long (divide (kept (Read (global first_data))) (kept (minus 1)))) ∷ [])
+    (evaluate (Assign (global FIRST_DATA) (kept (subtract (kept (minus 2147483647)) (lit 1))))
+    ∷ except (finally (put (long (divide (kept (Read (global FIRST_DATA))) (kept (minus 1)))) ∷ [])
     1 (put (long (Constant Int 8)) ∷ []) ∷ []) (Funclet 2 (lit 0))
     (put (long (Constant Int 9)) ∷ [])
     ∷ answer (lit 0) ∷ [])
@@ -124,9 +128,10 @@ division_by_zero = main_alone (put (long (divide (lit 1) (lit 0))) ∷ answer (l
 
 abbrev pub DivisionFaultsUnhandled : Type 0
 DivisionFaultsUnhandled =
-    Shows division_faults 100 (raised 0xC0000095 ∷ events.Filter 2 ∷ events.Answer (pos 0) ∷ [])
+    Shows division_faults 100 (raised_event 0xC0000095 ∷ events.Filter 2 ∷ events.Answer (pos 0)
+    ∷ [])
     (unhandled 0xC0000095)
-    × Shows division_by_zero 50 (raised 0xC0000094 ∷ []) (unhandled 0xC0000094)
+    × Shows division_by_zero 50 (raised_event 0xC0000094 ∷ []) (unhandled 0xC0000094)
 
 -- int c; int bad(void){ c = c + 1; if (c == 1) RaiseException(0xE0000002,0,0,0); return 0; }
 -- int main(void){ __try{ __try{ RaiseException(0xE0000001,0,0,0); } __except(bad()){ put(8); } }
@@ -135,19 +140,19 @@ abbrev pub raise_in_filter : Program
 raise_in_filter =
     with_main (0 ∷ 0 ∷ 0 ∷ 0 ∷ [])
     (function [] []
-    (evaluate (Assign (global first_data) (kept (plus (kept (Read (global first_data))) (lit 1))))
-    ∷ If (kept (equal (kept (Read (global first_data))) (lit 1))) (raise 0xE0000002 0)
+    (evaluate (Assign (global FIRST_DATA) (kept (plus (kept (Read (global FIRST_DATA))) (lit 1))))
+    ∷ If (kept (equal (kept (Read (global FIRST_DATA))) (lit 1))) (raise 0xE0000002 0)
     ∷ answer (lit 0) ∷ [])
     ∷ [])
     (except (except (raise 0xE0000001 0 ∷ []) (Funclet 1 (kept (Call 0 Done)))
     (put (long (Constant Int 8)) ∷ []) ∷ []) (Funclet 2 (kept (code_is 0xE0000002)))
-    (put (long (Read (global first_data))) ∷ []) ∷ answer (lit 0) ∷ [])
+    (put (long (Read (global FIRST_DATA))) ∷ []) ∷ answer (lit 0) ∷ [])
 
 abbrev pub RaiseInFilter : Type 0
 RaiseInFilter =
     Shows raise_in_filter 100
-    (raised 0xE0000001 ∷ events.Filter 1 ∷ raised 0xE0000002 ∷ events.Filter 1
-    ∷ events.Answer (pos 0) ∷ events.Filter 2 ∷ events.Answer (pos 1) ∷ landed 0xE0000002
+    (raised_event 0xE0000001 ∷ events.Filter 1 ∷ raised_event 0xE0000002 ∷ events.Filter 1
+    ∷ events.Answer (pos 0) ∷ events.Filter 2 ∷ events.Answer (pos 1) ∷ landed_event 0xE0000002
     ∷ wrote 2 ∷ [])
     (exit 0)
 
@@ -164,8 +169,8 @@ raise_in_finally =
 abbrev pub RaiseInFinally : Type 0
 RaiseInFinally =
     Shows raise_in_finally 100
-    (raised 0xE0000001 ∷ events.Filter 2 ∷ events.Answer (pos 0) ∷ events.Finally 1 true
-    ∷ raised 0xE0000002 ∷ events.Filter 2 ∷ events.Answer (pos 1) ∷ landed 0xE0000002
+    (raised_event 0xE0000001 ∷ events.Filter 2 ∷ events.Answer (pos 0) ∷ events.Finally 1 true
+    ∷ raised_event 0xE0000002 ∷ events.Filter 2 ∷ events.Answer (pos 1) ∷ landed_event 0xE0000002
     ∷ wrote 2 ∷ [])
     (exit 0)
 
@@ -183,5 +188,5 @@ ContinueNoncontinuable =
     Shows continue_noncontinuable 100
     (events.Raise (record { 0 = 0xE0000003 }) true None ∷ events.Filter 1 ∷ events.Answer (negsuc 0)
     ∷ events.Raise (record { 0 = 0xC0000025 }) true None
-    ∷ events.Filter 1 ∷ events.Answer (pos 1) ∷ landed 0xC0000025 ∷ wrote 3 ∷ [])
+    ∷ events.Filter 1 ∷ events.Answer (pos 1) ∷ landed_event 0xC0000025 ∷ wrote 3 ∷ [])
     (exit 0)

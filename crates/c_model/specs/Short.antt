@@ -11,8 +11,11 @@ use Rattle.c_operations.specs.declared.operation.Signedness.TheVariants.{Signed,
 use Rattle.c_checked.specs.declared.expression.Access.{Access}
 use Rattle.c_checked.specs.declared.expression.Conversion.TheVariants.{Kept, Extend}
 use Rattle.c_operations.specs.declared.built_in.BuiltIn.TheVariants.{Put, Protect, RaiseException}
-use Rattle.c_checked.specs.Expression.{Expression, On, Node, Constant, Read, Unary, Binary, CallBuiltIn, ExceptionCode, AbnormalTermination, Lvalue, Local, Global, Done, Next, arguments}
-use Rattle.c_checked.specs.Statement.{Filter, Statement, Evaluate, Return, TryExcept, TryFinally, statements}
+use Rattle.c_checked.specs.Expression.{Expression, On, Node, Constant, Read, Unary, Binary}
+use Rattle.c_checked.specs.Expression.{CallBuiltIn, ExceptionCode, AbnormalTermination, Lvalue}
+use Rattle.c_checked.specs.Expression.{Local, Global, Done, Next, arguments}
+use Rattle.c_checked.specs.Statement.{Filter, Statement, Evaluate, Return, TryExcept, TryFinally}
+use Rattle.c_checked.specs.Statement.{statements}
 use Rattle.c_checked.specs.Program.{Program, Function}
 
 -- a value as it is, and an `int` as `long long` or as an address

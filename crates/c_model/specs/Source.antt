@@ -1,6 +1,8 @@
 -- The memory that a program begins with, and the addresses of which the language says nothing.
-use Rattle.std.specs.Prelude.{ℕ, ◌+◌, ◌-◌, ◌*◌, ◌/◌, Bool, false, not, ◌&&◌, ◌||◌, nat_le, nat_lt, if◌then◌else◌, List, length, get_or}
-use Rattle.host_layout.specs.declared.range.TheConstants.{GUARD_START, STACK_END, IMAGE_BASE, IMAGE_RANGE_END, PAGE, FIRST_DATA}
+use Rattle.std.specs.Prelude.{ℕ, ◌+◌, ◌-◌, ◌*◌, ◌/◌, Bool, false, not, ◌&&◌, ◌||◌, nat_le, nat_lt}
+use Rattle.std.specs.Prelude.{if◌then◌else◌, List, length, get_or}
+use Rattle.host_layout.specs.declared.range.TheConstants.{GUARD_START, STACK_END, IMAGE_BASE}
+use Rattle.host_layout.specs.declared.range.TheConstants.{IMAGE_RANGE_END, PAGE, FIRST_DATA}
 use Rattle.flat_memory.specs.declared.protection.Protection.{Protection}
 use Rattle.flat_memory.specs.declared.protection.Rights.{Rights}
 use Rattle.flat_memory.specs.declared.protection.Rights.TheVariants.{Nothing, ReadWrite}
@@ -9,15 +11,12 @@ use Rattle.flat_memory.specs.Memory.{Memory}
 abbrev pub is_between : ℕ → ℕ → ℕ → Bool
 is_between first end a = nat_le first a && nat_lt a end
 
-abbrev pub first_data : ℕ
-first_data = FIRST_DATA
-
 -- the end of the pages of the globals, of which there is one at least
 abbrev pub data_end : List ℕ → ℕ
-data_end globals = first_data + PAGE * ((length globals - 1) / PAGE + 1)
+data_end globals = FIRST_DATA + PAGE * ((length globals - 1) / PAGE + 1)
 
 abbrev pub is_data : List ℕ → ℕ → Bool
-is_data globals a = is_between first_data (data_end globals) a
+is_data globals a = is_between FIRST_DATA (data_end globals) a
 
 -- the stack with its guard, and the image's range without its data
 abbrev pub is_reserved : List ℕ → ℕ → Bool
@@ -33,5 +32,5 @@ abbrev pub first_memory : List ℕ → Memory
 first_memory globals =
     record {
       protection = λ a. if is_data globals a then plain_mode ReadWrite else plain_mode Nothing;
-      byte = λ a. if nat_lt a first_data then 0 else get_or globals (a - first_data) 0;
+      byte = λ a. if nat_lt a FIRST_DATA then 0 else get_or globals (a - FIRST_DATA) 0;
     }

@@ -1,11 +1,17 @@
 -- What statements do, given what the tasks inside them do (C11, 6.8; Microsoft C reference,
 -- "try-except statement", "try-finally statement").
-use Rattle.std.specs.Prelude.{ℕ, Bool, true, false, nat_eq, List, [], ◌∷◌, length, Option, Some, None}
+use Rattle.std.specs.Prelude.{ℕ, Bool, true, false, nat_eq, List, [], ◌∷◌, length, Option, Some}
+use Rattle.std.specs.Prelude.{None}
 use Rattle.seh_num.specs.declared.event.Event.TheVariants as events
 use Rattle.c_checked.specs.Expression.{Expression}
-use Rattle.c_checked.specs.Statement.{Declared, Filter, Statement, Declare, Block, Evaluate, If, IfElse, For, DoWhile, Return, Break, Continue, Leave, TryExcept, TryFinally}
-use Rattle.c_model.specs.State.{Exception, State, Normal, Returned, Broke, Continued, LeftTry, Target, End, Outcome, Gives, choose, set_local, emit, with_value, and_then}
-use Rattle.c_model.specs.Tasks.{Handler, Context, Eval, Run, ForIteration, DoIteration, TryBody, RunFinally, Does}
+use Rattle.c_checked.specs.Statement.{Declared, Filter, Statement, Declare, Block, Evaluate, If}
+use Rattle.c_checked.specs.Statement.{IfElse, For, DoWhile, Return, Break, Continue, Leave}
+use Rattle.c_checked.specs.Statement.{TryExcept, TryFinally}
+use Rattle.c_model.specs.State.{Exception, State, Normal, Returned, Broke, Continued, LeftTry}
+use Rattle.c_model.specs.State.{Target, End, Outcome, Gives, choose, set_local, emit, with_value}
+use Rattle.c_model.specs.State.{and_then}
+use Rattle.c_model.specs.Tasks.{Handler, Context, Eval, Run, ForIteration, DoIteration, TryBody}
+use Rattle.c_model.specs.Tasks.{RunFinally, Does}
 use Rattle.c_model.specs.Expressions.{all}
 
 -- continues with the value of an expression, and with a default where there is none

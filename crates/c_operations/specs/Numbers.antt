@@ -1,5 +1,6 @@
 -- Results of the operations without faults, as whole numbers modulo 2^32 or 2^64.
-use Rattle.std.specs.Prelude.{ℕ, ◌+◌, ◌-◌, ◌*◌, ◌/◌, ◌%◌, ◌^◌, Bool, not, nat_eq, nat_lt, if◌then◌else◌, int_lt, bit_and, bit_or, bit_xor}
+use Rattle.std.specs.Prelude.{ℕ, ◌+◌, ◌-◌, ◌*◌, ◌/◌, ◌%◌, ◌^◌, Bool, not, nat_eq, nat_lt}
+use Rattle.std.specs.Prelude.{if◌then◌else◌, int_lt, bit_and, bit_or, bit_xor}
 use Rattle.seh_num.specs.declared.width.Width.{Width}
 use Rattle.seh_num.specs.declared.width.Width.TheVariants.{W32, W64}
 use Rattle.seh_num.specs.Widths.{limit, half, low, signed, wrapped}

@@ -6,8 +6,10 @@ use Rattle.seh_num.specs.declared.division.DivFault.{DivFault}
 use Rattle.seh_num.specs.declared.division.DivFault.TheVariants as faults
 use Rattle.seh_num.specs.Widths.{bytes_of, low, signed, wrapped}
 use Rattle.seh_num.specs.Division.{divided_signed, divided_unsigned}
-use Rattle.seh_num.specs.declared.code.TheConstants.{ACCESS_VIOLATION, INTEGER_DIVIDE_BY_ZERO, INTEGER_OVERFLOW}
-use Rattle.flat_memory.specs.Memory.{Memory, first_refused, may_read, may_write, number_at, with_number, with_bytes}
+use Rattle.seh_num.specs.declared.code.TheConstants.{ACCESS_VIOLATION, INTEGER_DIVIDE_BY_ZERO}
+use Rattle.seh_num.specs.declared.code.TheConstants.{INTEGER_OVERFLOW}
+use Rattle.flat_memory.specs.Memory.{Memory, first_refused, may_read, may_write, number_at}
+use Rattle.flat_memory.specs.Memory.{with_number, with_bytes}
 use Rattle.c_operations.specs.declared.operation.Signedness.{Signedness}
 use Rattle.c_operations.specs.declared.operation.Signedness.TheVariants.{Unsigned, Signed}
 use Rattle.c_operations.specs.declared.operation.Operation.{Operation}
@@ -44,7 +46,8 @@ abbrev pub remainder : Signedness → Width → ℕ → ℕ → Memory → Outco
 remainder Signed w a b m = signed_part (λ x. x.1) w m (divided_signed w (signed w a) (signed w b))
 remainder Unsigned w a b m = unsigned_part (λ x. x.1) m (divided_unsigned w (low w a) (low w b))
 
--- ---- accesses: an access is undefined at its first reserved byte, else an access violation at its first byte that may not be accessed
+-- ---- accesses: an access is undefined at its first reserved byte, else an access violation at its
+-- first byte that may not be accessed
 
 abbrev pub unless_reserved : Option ℕ → Outcome → Outcome
 unless_reserved None outcome = outcome

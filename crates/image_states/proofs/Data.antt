@@ -4,7 +4,7 @@ use Rattle.std.specs.Prelude.{◌&&◌, ◌||◌, ◌⊎◌}
 use Rattle.std.specs.List.{AllByRecursion, flat_map}
 use Rattle.std.proofs.lemmas.Bool.{and_from, and_parts, and_left, and_right, or_left, lt-ltb, le-ltb, le-leb, lt-leb, ltb-true, leb-true, cases_lt, false≢true}
 use Rattle.std.proofs.lemmas.List.{get_or_past}
-use Rattle.host_layout.specs.declared.range.TheConstants.{GUARD_START, STACK_START, STACK_END, ARENA_START, ARENA_END, IMAGE_BASE, IMAGE_RANGE_END}
+use Rattle.host_layout.specs.declared.range.TheConstants.{GUARD_START, STACK_START, STACK_END, ARENA_START, ARENA_END, IMAGE_BASE, IMAGE_RANGE_END, FIRST_DATA}
 use Rattle.host_layout.specs.Ranges.{in_stack, in_guard, in_arena}
 use Rattle.flat_memory.specs.declared.protection.Protection.{Protection}
 use Rattle.flat_memory.specs.declared.protection.Rights.TheVariants.{Nothing, ReadWrite}
@@ -21,7 +21,7 @@ use Rattle.pe_write.proofs.Programs.{listed}
 use Rattle.host_model.specs.Loading.{section_of, section_mode, mode_in, byte_in, stored_byte, stack_mode, with_slots, mapped}
 use Rattle.host_model.specs.Slots.{IsBeside}
 use Rattle.host_model.proofs.Slots.{slots-beside}
-use Rattle.c_model.specs.Source.{is_between, first_data, data_end, is_data, is_reserved, plain_mode, first_memory}
+use Rattle.c_model.specs.Source.{is_between, data_end, is_data, is_reserved, plain_mode, first_memory}
 use Rattle.linear_code.specs.Program.{LinearProgram}
 use Rattle.linked_stack.specs.Records.{IsData}
 use Rattle.x64_templates.specs.Frames.{Agrees}
@@ -101,10 +101,10 @@ module _ (program : LinearProgram) (c : IsCompiled program) where
 
   -- ---- which section
 
-  data_there : (a : ℕ) → first_data ≤ a → a < data_end program.globals → section_of image_base a (sections_of p) ≡ Some globals
+  data_there : (a : ℕ) → FIRST_DATA ≤ a → a < data_end program.globals → section_of image_base a (sections_of p) ≡ Some globals
   data_there a le lt = here image_base a globals (text ∷ tables ∷ infos ∷ functions ∷ []) (covered image_base a globals (omega arith) (omega arith))
 
-  pub outside : (a : ℕ) → (a < first_data) ⊎ (IMAGE_RANGE_END ≤ a) → section_of image_base a (sections_of p) ≡ None
+  pub outside : (a : ℕ) → (a < FIRST_DATA) ⊎ (IMAGE_RANGE_END ≤ a) → section_of image_base a (sections_of p) ≡ None
   outside a (inl lt) =
       let l = low in
       past image_base a globals (text ∷ tables ∷ infos ∷ functions ∷ []) (below image_base a globals (omega arith))
@@ -153,12 +153,12 @@ module _ (program : LinearProgram) (c : IsCompiled program) where
   -- ---- what an address is to the source
 
   abbrev Place : ℕ → Type 0
-  Place a = ((first_data ≤ a) × (a < data_end program.globals)) ⊎ ((a < first_data) ⊎ (IMAGE_RANGE_END ≤ a))
+  Place a = ((FIRST_DATA ≤ a) × (a < data_end program.globals)) ⊎ ((a < FIRST_DATA) ⊎ (IMAGE_RANGE_END ≤ a))
 
   place_by : (a : ℕ) → (b : Bool) → is_data program.globals a ≡ b → (is_between IMAGE_BASE IMAGE_RANGE_END a && not (is_data program.globals a)) ≡ false → Place a
   place_by a true e off =
-      let q = and_parts (leb first_data a) (ltb a (data_end program.globals)) e in
-      inl (leb-true first_data a q.0, ltb-true a (data_end program.globals) q.1)
+      let q = and_parts (leb FIRST_DATA a) (ltb a (data_end program.globals)) e in
+      inl (leb-true FIRST_DATA a q.0, ltb-true a (data_end program.globals) q.1)
   place_by a false e off = elim (cases_lt a IMAGE_BASE) [
     | inl lt ↦ inr (inl (omega arith))
     | inr le ↦ elim (cases_lt a IMAGE_RANGE_END) [
@@ -196,32 +196,32 @@ module _ (program : LinearProgram) (c : IsCompiled program) where
       let le = h.0 in
       let lt = h.1 in
       let l = low in
-      let same : a - (image_base + 0x1000) ≡ a - first_data = omega arith in
+      let same : a - (image_base + 0x1000) ≡ a - FIRST_DATA = omega arith in
       stored_there a (inl (omega arith))
       ∙ ap (λ (o : Option Section). byte_in image_base o a) (data_there a h.0 h.1)
       ∙ data_raw (a - (image_base + 0x1000))
       ∙ ap (λ (i : ℕ). get_or program.globals i 0) same
-      ∙ sym (ap (λ (b : Bool). cond b 0 (get_or program.globals (a - first_data) 0)) (le-ltb a first_data h.0))
+      ∙ sym (ap (λ (b : Bool). cond b 0 (get_or program.globals (a - FIRST_DATA) 0)) (le-ltb a FIRST_DATA h.0))
   byte_by a (inr (inl lt)) =
       let l = low in
       stored_there a (inl (omega arith))
       ∙ ap (λ (o : Option Section). byte_in image_base o a) (outside a (inl lt))
-      ∙ sym (ap (λ (b : Bool). cond b 0 (get_or program.globals (a - first_data) 0)) (lt-ltb a first_data lt))
+      ∙ sym (ap (λ (b : Bool). cond b 0 (get_or program.globals (a - FIRST_DATA) 0)) (lt-ltb a FIRST_DATA lt))
   byte_by a (inr (inr le)) =
       let few = c.fits.globals in
       stored_there a (inr le)
       ∙ ap (λ (o : Option Section). byte_in image_base o a) (outside a (inr le))
-      ∙ sym (ap (λ (b : Bool). cond b 0 (get_or program.globals (a - first_data) 0)) (le-ltb a first_data (omega arith)) ∙ get_or_past program.globals (a - first_data) 0 (omega arith))
+      ∙ sym (ap (λ (b : Bool). cond b 0 (get_or program.globals (a - FIRST_DATA) 0)) (le-ltb a FIRST_DATA (omega arith)) ∙ get_or_past program.globals (a - FIRST_DATA) 0 (omega arith))
 
-  not_data : (a : ℕ) → (a < first_data) ⊎ (IMAGE_RANGE_END ≤ a) → is_data program.globals a ≡ false
-  not_data a (inl lt) = and_left (leb first_data a) (ltb a (data_end program.globals)) (lt-leb first_data a lt)
-  not_data a (inr le) = let few = c.fits.globals in and_right (leb first_data a) (ltb a (data_end program.globals)) (le-ltb a (data_end program.globals) (omega arith))
+  not_data : (a : ℕ) → (a < FIRST_DATA) ⊎ (IMAGE_RANGE_END ≤ a) → is_data program.globals a ≡ false
+  not_data a (inl lt) = and_left (leb FIRST_DATA a) (ltb a (data_end program.globals)) (lt-leb FIRST_DATA a lt)
+  not_data a (inr le) = let few = c.fits.globals in and_right (leb FIRST_DATA a) (ltb a (data_end program.globals)) (le-ltb a (data_end program.globals) (omega arith))
 
   mode_by : (a : ℕ) → is_between GUARD_START STACK_END a ≡ false → Place a → m.protection a ≡ (first_memory program.globals).protection a
   unfolding mapped
   mode_by a off (inl h) =
       ap (λ (o : Option Section). mode_in o a) (data_there a h.0 h.1)
-      ∙ sym (ap (λ (b : Bool). cond b (plain_mode ReadWrite) (plain_mode Nothing)) (and_from (leb first_data a) (ltb a (data_end program.globals)) (le-leb first_data a h.0) (lt-ltb a (data_end program.globals) h.1)))
+      ∙ sym (ap (λ (b : Bool). cond b (plain_mode ReadWrite) (plain_mode Nothing)) (and_from (leb FIRST_DATA a) (ltb a (data_end program.globals)) (le-leb FIRST_DATA a h.0) (lt-ltb a (data_end program.globals) h.1)))
   mode_by a off (inr h) =
       ap (λ (o : Option Section). mode_in o a) (outside a h)
       ∙ ap stack_mode (not_stack a off)

@@ -17,7 +17,7 @@ use Rattle.c_checked.specs.Program.{Program}
 use Rattle.c_model.specs.State.{Exception, State, Value, Outcome, Gives, set_memory, local_of, set_local, with_value, and_then}
 use Rattle.c_model.specs.Tasks.{Context, Eval, Raise, Retry}
 use Rattle.c_model.specs.Source.{is_reserved}
-use Rattle.c_model.specs.Expressions.{promoted, value_of, tried, operate, locate, load, read, write}
+use Rattle.c_model.specs.Expressions.{value_width, value_of, tried, operate, locate, load, read, write}
 use Rattle.c_model.specs.Meaning.{within}
 use Rattle.linear_code.specs.declared.slot.Slot.TheVariants.{Temporary}
 use Rattle.linear_code.specs.declared.instruction.Instruction.TheVariants.{Compute}
@@ -52,7 +52,7 @@ located_length (Global access n) temps a = length_push temps a
 located_length (Indirection access e) temps a = length_push temps a
 located_length (Element access e i) temps a = length_push temps a
 
-loaded_width : (w : Width) → width (size_of w) ≡ promoted w
+loaded_width : (w : Width) → width (size_of w) ≡ value_width w
 loaded_width W8 = refl
 loaded_width W16 = refl
 loaded_width W32 = refl

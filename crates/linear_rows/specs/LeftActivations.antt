@@ -10,7 +10,7 @@ use Rattle.c_checked.specs.Program.{Program}
 use Rattle.c_model.specs.declared.ended.Ended.{Ended}
 use Rattle.c_model.specs.declared.ended.Ended.TheVariants.{Deep}
 use Rattle.c_model.specs.Short.{kept, lit, subtract, local, evaluate, raise, answer, except, finally, function, with_main}
-use Rattle.c_model.specs.Rows.{ended, Shows, raised, landed, exit}
+use Rattle.c_model.specs.Rows.{ended, Shows, raised_event, landed_event, exit}
 use Rattle.linear_machine.specs.Run.{linear_meaning}
 use Rattle.seh_ir.specs.Lowered.{lowered}
 
@@ -43,6 +43,6 @@ BothShow p n es e = Shows p n es e × (linear_meaning (lowered p) (pos 0) (3 * n
 abbrev pub LeftActivations : Type 0
 LeftActivations =
     BothShow (left_activations 498) 12000
-    (raised 0xE0000001 ∷ events.Finally 1 true ∷ landed 0xE0000001 ∷ []) (exit 0)
-    × BothShow (left_activations 499) 12000 (raised 0xE0000001 ∷ events.Finally 1 true ∷ [])
+    (raised_event 0xE0000001 ∷ events.Finally 1 true ∷ landed_event 0xE0000001 ∷ []) (exit 0)
+    × BothShow (left_activations 499) 12000 (raised_event 0xE0000001 ∷ events.Finally 1 true ∷ [])
     (Deep 1001)

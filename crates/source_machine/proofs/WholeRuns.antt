@@ -1,5 +1,6 @@
 -- What was shown is the front of all that is shown.
-use Rattle.std.proofs.Common.{◌≡◌, ℕ, zero, suc, ◌+◌, ◌<◌, List, [], ◌++◌, refl, sym, ap, ◌∙◌, subst, arith, inl, inr}
+use Rattle.std.proofs.Common.{◌≡◌, ℕ, zero, suc, ◌+◌, ◌<◌, List, [], ◌++◌, refl, sym, ap, ◌∙◌}
+use Rattle.std.proofs.Common.{subst, arith, inl, inr}
 use Rattle.std.specs.Prelude.{true}
 use Rattle.std.proofs.lemmas.Bool.{cases_Bool}
 use Rattle.std.proofs.lemmas.List.{append_assoc, append-nil}
@@ -18,24 +19,30 @@ use Rattle.source_machine.proofs.Decreasing.{decreases}
 use Rattle.source_machine.proofs.Extending.{extends}
 
 front_trans : (es fs gs : List Event) → IsPrefixOf es fs → IsPrefixOf fs gs → IsPrefixOf es gs
-front_trans es fs gs p q = (p.0 ++ q.0, sym (append_assoc es p.0 q.0) ∙ ap (λ xs. xs ++ q.0) p.1 ∙ q.1)
+front_trans es fs gs p q =
+    (p.0 ++ q.0, sym (append_assoc es p.0 q.0) ∙ ap (λ xs. xs ++ q.0) p.1 ∙ q.1)
 
 -- a machine whose run is over has shown all
 over_shows : (program : Program) (m : Machine) (next : Next) → is_over next ≡ true
-    → IsPrefixOf m.state.events (state_of (reaches program (does program) m.handlers m.stack m.state next)).events
+    → IsPrefixOf m.state.events
+    (state_of (reaches program (does program) m.handlers m.stack m.state next)).events
 over_shows program m (Over how) e = ([], append-nil m.state.events)
 over_shows program m next e = cc
 
-within : (program : Program) (n : ℕ) (m : Machine) → distance m < n → IsPrefixOf m.state.events (state_of (comes_to program (does program) m)).events
+within : (program : Program) (n : ℕ) (m : Machine) → distance m < n
+    → IsPrefixOf m.state.events (state_of (comes_to program (does program) m)).events
 within program zero m near = absurd (omega arith)
 within program (suc n) m near =
     elim (cases_Bool (is_over m.next)) [
       | inl e ↦ over_shows program m m.next e
       | inr e ↦
           let less : distance (step program m) < distance m = decreases program m e in
-          let rest : IsPrefixOf (step program m).state.events (state_of (comes_to program (does program) (step program m))).events = within program n (step program m) (omega arith) in
+          let rest : IsPrefixOf (step program m).state.events
+          (state_of (comes_to program (does program) (step program m))).events =
+          within program n (step program m) (omega arith) in
           front_trans m.state.events (step program m).state.events _ (extends program m)
-          (subst (λ o. IsPrefixOf (step program m).state.events (state_of o).events) (keeps_meaning program m) rest)
+          (subst (λ o. IsPrefixOf (step program m).state.events (state_of o).events)
+          (keeps_meaning program m) rest)
     ]
 
 pub shows_before : ShowsBefore
@@ -43,11 +50,13 @@ shows_before program m = within program (suc (distance m)) m (omega arith)
 
 -- ---- many steps
 
-pub one_step_more : (program : Program) (k : ℕ) (m : Machine) → after program (suc k) m ≡ step program (after program k m)
+pub one_step_more : (program : Program) (k : ℕ) (m : Machine)
+    → after program (suc k) m ≡ step program (after program k m)
 one_step_more program zero m = refl
 one_step_more program (suc k) m = one_step_more program k (step program m)
 
 -- wherever a run has come, it comes to the same
-pub all_keep : (program : Program) (k : ℕ) (m : Machine) → comes_to program (does program) (after program k m) ≡ comes_to program (does program) m
+pub all_keep : (program : Program) (k : ℕ) (m : Machine)
+    → comes_to program (does program) (after program k m) ≡ comes_to program (does program) m
 all_keep program zero m = refl
 all_keep program (suc k) m = all_keep program k (step program m) ∙ keeps_meaning program m

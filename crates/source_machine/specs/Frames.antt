@@ -75,7 +75,7 @@ pub data OperandFrame : Type 0 where
 
 -- what waits for a place's address, or for a value on its way from or to a place
 pub data AssignmentFrame : Type 0 where
-  Reads : Lvalue → Place → AssignmentFrame
+  ReadsPlace : Lvalue → Place → AssignmentFrame
   Extends : Access → AssignmentFrame
   EvaluatesAssigned : Lvalue → Expression → Place → AssignmentFrame
   Assigns : Lvalue → ℕ → Place → AssignmentFrame

@@ -5,7 +5,9 @@ use Rattle.c_model.specs.State.{state_of}
 use Rattle.c_model.specs.Meaning.{does}
 use Rattle.c_model.specs.Laws.{IsPrefixOf}
 use Rattle.source_machine.specs.Frames as frames
-use Rattle.source_machine.specs.Frames.{OperandFrame, AssignmentFrame, StatementFrame, SequelFrame, Frame, Operand, Assignment, InStatement, Sequel, Body, EndsCall, Lands, Finishes, Next, Over, Give, Start, Begin}
+use Rattle.source_machine.specs.Frames.{OperandFrame, AssignmentFrame, StatementFrame, SequelFrame}
+use Rattle.source_machine.specs.Frames.{Frame, Operand, Assignment, InStatement, Sequel, Body}
+use Rattle.source_machine.specs.Frames.{EndsCall, Lands, Finishes, Next, Over, Give, Start, Begin}
 use Rattle.source_machine.specs.Machine.{Machine, step}
 use Rattle.source_machine.specs.Waiting.{comes_to}
 
@@ -19,7 +21,8 @@ abbrev pub is_over : Next → Bool
 is_over (Over how) = true
 is_over next = false
 
--- ---- how far a machine is from its end: what is done next, and each frame, is worth so much before the next task begins
+-- ---- how far a machine is from its end: what is done next, and each frame, is worth so much
+-- before the next task begins
 
 abbrev pub operand_worth : OperandFrame → ℕ
 operand_worth (frames.PassesArgument callee vs es p) = 5
@@ -29,7 +32,7 @@ operand_worth (frames.EvaluatesIfFalse f p) = 2
 operand_worth f = 1
 
 abbrev pub assignment_worth : AssignmentFrame → ℕ
-assignment_worth (frames.Reads l p) = 4
+assignment_worth (frames.ReadsPlace l p) = 4
 assignment_worth (frames.Extends access) = 1
 assignment_worth (frames.EvaluatesAssigned l e p) = 1
 assignment_worth (frames.Assigns l a p) = 3

@@ -1,5 +1,7 @@
 -- The machine, and its step.
-use Rattle.std.specs.Prelude.{ℕ, zero, suc, ◌+◌, ◌-◌, ◌++◌, Bool, true, false, nat_eq, nat_lt, List, [], ◌∷◌, length, take, replicate, get_or, slice_get, Option, Some, None}
+use Rattle.std.specs.Prelude.{ℕ, zero, suc, ◌+◌, ◌-◌, ◌++◌, Bool, true, false, nat_eq, nat_lt, List}
+use Rattle.std.specs.Prelude.{[], ◌∷◌, length, take, replicate, get_or, slice_get, Option, Some}
+use Rattle.std.specs.Prelude.{None, is_some}
 use Rattle.seh_num.specs.declared.width.Width.TheVariants.{W32, W64}
 use Rattle.seh_num.specs.declared.event.Event.TheVariants as events
 use Rattle.seh_num.specs.Widths.{signed}
@@ -14,15 +16,22 @@ use Rattle.c_checked.specs.Statement.{Filter, Always, Funclet, Statements, Decla
 use Rattle.c_checked.specs.Program.{Program, Function}
 use Rattle.c_model.specs.declared.ended.Ended.TheVariants.{Unhandled, Undefined, Deep}
 use Rattle.c_model.specs.Source.{is_reserved}
-use Rattle.c_model.specs.State.{Exception, State, Result, Value, Normal, Returned, Broke, Continued, LeftTry, Target, End, local_of, set_local, set_memory, emit, hold, let_go, depth}
+use Rattle.c_model.specs.State.{Exception, State, Result, Value, Normal, Returned, Broke, Continued}
+use Rattle.c_model.specs.State.{LeftTry, Target, End, local_of, set_local, set_memory, emit, hold}
+use Rattle.c_model.specs.State.{let_go, depth}
 use Rattle.c_model.specs.Tasks as tasks
 use Rattle.c_model.specs.Tasks.{Handler, Task}
-use Rattle.c_model.specs.Expressions.{of_test, no_exception, raised, is_some}
+use Rattle.c_model.specs.Expressions.{of_test, no_exception, raised}
 use Rattle.c_model.specs.Raises.{raise_event}
 use Rattle.c_model.specs.declared.depth.TheConstants.{DEEPEST, TOO_DEEP}
 use Rattle.source_machine.specs.Frames as frames
-use Rattle.source_machine.specs.Frames.{Place, Callee, ForLoop, Frame, Operand, Assignment, InStatement, Sequel, Body, EndsCall, Lands, Finishes, Next, Over, Give, Start, Begin, Plan, Then, Push}
-use Rattle.source_machine.specs.Plans.{node_plan, expression_plan, find_plan, pass_plan, operand_plan, assignment_plan, load_plan, store_plan, proceed_plan, declare_plan, evaluates, evaluated, for_body, statement_plan, in_statement_plan, sequel_plan, body_plan}
+use Rattle.source_machine.specs.Frames.{Place, Callee, ForLoop, Frame, Operand, Assignment}
+use Rattle.source_machine.specs.Frames.{InStatement, Sequel, Body, EndsCall, Lands, Finishes, Next}
+use Rattle.source_machine.specs.Frames.{Over, Give, Start, Begin, Plan, Then, Push}
+use Rattle.source_machine.specs.Plans.{node_plan, expression_plan, find_plan, pass_plan}
+use Rattle.source_machine.specs.Plans.{operand_plan, assignment_plan, load_plan, store_plan}
+use Rattle.source_machine.specs.Plans.{proceed_plan, declare_plan, evaluates, evaluated, for_body}
+use Rattle.source_machine.specs.Plans.{statement_plan, in_statement_plan, sequel_plan, body_plan}
 
 -- a state with the handlers around the place where it continues, outermost first; what waits,
 -- newest first; and what is done next

@@ -1,5 +1,6 @@
 -- What is done next where nothing but the program's text and a value decides it.
-use Rattle.std.specs.Prelude.{ℕ, ◌++◌, Bool, true, false, not, nat_eq, nat_lt, ◌^◌, List, [], ◌∷◌, Option, Some, None}
+use Rattle.std.specs.Prelude.{ℕ, ◌++◌, Bool, true, false, not, nat_eq, nat_lt, ◌^◌, List, [], ◌∷◌}
+use Rattle.std.specs.Prelude.{Option, Some, None}
 use Rattle.seh_num.specs.declared.width.Width.TheVariants.{W32}
 use Rattle.seh_num.specs.Widths.{low}
 use Rattle.c_operations.specs.declared.operation.Operation.TheVariants.{Load, Store}
@@ -8,16 +9,22 @@ use Rattle.c_operations.specs.declared.operation.Size.TheVariants.{Long}
 use Rattle.c_operations.specs.Numbers.{result_of}
 use Rattle.c_checked.specs.declared.expression.Access.{Access}
 use Rattle.c_checked.specs.Expression as nodes
-use Rattle.c_checked.specs.Expression.{Expression, On, Node, Lvalue, Local, Global, Indirection, Element, Arguments, Done, Next as Another}
+use Rattle.c_checked.specs.Expression.{Expression, On, Node, Lvalue, Local, Global, Indirection}
+use Rattle.c_checked.specs.Expression.{Element, Arguments, Done, Next as Another}
 use Rattle.c_checked.specs.Statement as statements
 use Rattle.c_checked.specs.Statement.{Statement, Statements, Empty, Then as Followed, Declared}
-use Rattle.c_model.specs.State.{Exception, Value, Normal, Returned, Broke, Continued, LeftTry, Target}
+use Rattle.c_model.specs.State.{Exception, Value, Normal, Returned, Broke, Continued, LeftTry}
+use Rattle.c_model.specs.State.{Target}
 use Rattle.c_model.specs.Tasks as tasks
 use Rattle.c_model.specs.Tasks.{Task}
-use Rattle.c_model.specs.Expressions.{of_test, converted, value_of, apart, incremented_value, field_of}
+use Rattle.c_model.specs.Expressions.{of_test, converted, value_of, apart, incremented_value}
+use Rattle.c_model.specs.Expressions.{field_of}
 use Rattle.c_model.specs.Raises.{noncontinuable}
 use Rattle.source_machine.specs.Frames as frames
-use Rattle.source_machine.specs.Frames.{Place, Callee, ForLoop, OperandFrame, AssignmentFrame, StatementFrame, SequelFrame, BodyFrame, Operand, Assignment, InStatement, Sequel, Body, Next, Give, Start, Plan, Then, Push}
+use Rattle.source_machine.specs.Frames.{Place, Callee, ForLoop, OperandFrame, AssignmentFrame}
+use Rattle.source_machine.specs.Frames.{StatementFrame, SequelFrame, BodyFrame, Operand, Assignment}
+use Rattle.source_machine.specs.Frames.{InStatement, Sequel, Body, Next, Give, Start, Plan, Then}
+use Rattle.source_machine.specs.Frames.{Push}
 
 -- ---- short forms
 
@@ -49,7 +56,7 @@ chosen false one other = other
 
 abbrev pub node_plan : Node → Place → Plan
 node_plan (nodes.Constant z n) p = gives n
-node_plan (nodes.Read l) p = assignment (frames.Reads l p) (frames.Find l p)
+node_plan (nodes.Read l) p = assignment (frames.ReadsPlace l p) (frames.Find l p)
 node_plan (nodes.AddressOf l) p = Then (locates l p)
 node_plan (nodes.Assign l e) p = assignment (frames.EvaluatesAssigned l e p) (locates l p)
 node_plan (nodes.CompoundAssign l before o e after) p =
@@ -119,7 +126,7 @@ operand_plan (frames.PassesArgument callee vs es p) v =
     Then (frames.Pass callee (vs ++ v ∷ []) es p)
 
 abbrev pub assignment_plan : AssignmentFrame → ℕ → Plan
-assignment_plan (frames.Reads l p) a = Then (frames.Fetch l a p)
+assignment_plan (frames.ReadsPlace l p) a = Then (frames.Fetch l a p)
 assignment_plan (frames.Extends access) v = gives (value_of access v)
 assignment_plan (frames.EvaluatesAssigned l e p) a =
     assignment (frames.Assigns l a p) (evaluates e p)

@@ -1,5 +1,6 @@
 -- What the machine comes to: what its next item means, through the frames that wait.
-use Rattle.std.specs.Prelude.{ℕ, zero, suc, ◌++◌, not, nat_eq, List, [], ◌∷◌, length, slice_get, Option, Some, None}
+use Rattle.std.specs.Prelude.{ℕ, zero, suc, ◌++◌, not, nat_eq, List, [], ◌∷◌, length, slice_get}
+use Rattle.std.specs.Prelude.{Option, Some, None}
 use Rattle.seh_num.specs.declared.width.Width.TheVariants.{W32}
 use Rattle.seh_num.specs.declared.event.Event.TheVariants as events
 use Rattle.seh_num.specs.Widths.{signed}
@@ -10,15 +11,22 @@ use Rattle.c_checked.specs.Program.{Program}
 use Rattle.c_checked.specs.Statement as statements
 use Rattle.c_checked.specs.Statement.{Statement}
 use Rattle.c_checked.specs.Expression.{Expression}
-use Rattle.c_model.specs.State.{State, Value, Normal, Returned, Outcome, Gives, choose, set_local, emit, let_go, with_value, and_then}
+use Rattle.c_model.specs.State.{State, Value, Normal, Returned, Outcome, Gives, choose, set_local}
+use Rattle.c_model.specs.State.{emit, let_go, with_value, and_then}
 use Rattle.c_model.specs.Tasks as tasks
 use Rattle.c_model.specs.Tasks.{Handler, Does}
-use Rattle.c_model.specs.Expressions.{of_test, converted, value_of, apart, incremented_value, locate, read, write, operate, each, all, ended_call, enter, call_built_in, node}
-use Rattle.c_model.specs.Statements.{optional, declare, declare_each, in_loop, landing, finally_after, statement}
+use Rattle.c_model.specs.Expressions.{of_test, converted, value_of, apart, incremented_value}
+use Rattle.c_model.specs.Expressions.{locate, read, write, operate, each, all, ended_call, enter}
+use Rattle.c_model.specs.Expressions.{call_built_in, node}
+use Rattle.c_model.specs.Statements.{optional, declare, declare_each, in_loop, landing}
+use Rattle.c_model.specs.Statements.{finally_after, statement}
 use Rattle.c_model.specs.Raises.{answered, search}
 use Rattle.c_model.specs.Meaning.{perform}
 use Rattle.source_machine.specs.Frames as frames
-use Rattle.source_machine.specs.Frames.{Place, context_at, Callee, ForLoop, OperandFrame, AssignmentFrame, StatementFrame, SequelFrame, BodyFrame, Frame, Operand, Assignment, InStatement, Sequel, Body, EndsCall, Lands, Finishes, Next, Over, Give, Start, Begin}
+use Rattle.source_machine.specs.Frames.{Place, context_at, Callee, ForLoop, OperandFrame}
+use Rattle.source_machine.specs.Frames.{AssignmentFrame, StatementFrame, SequelFrame, BodyFrame}
+use Rattle.source_machine.specs.Frames.{Frame, Operand, Assignment, InStatement, Sequel, Body}
+use Rattle.source_machine.specs.Frames.{EndsCall, Lands, Finishes, Next, Over, Give, Start, Begin}
 use Rattle.source_machine.specs.Plans.{for_task}
 use Rattle.source_machine.specs.Machine.{Machine, outside}
 
@@ -73,7 +81,7 @@ module _ (program : Program) (d : Does) where
       each d es (context_at hs p) st (λ ws st. call callee ((vs ++ v ∷ []) ++ ws) hs p st)
 
   abbrev pub assignment_meaning : List Handler → AssignmentFrame → ℕ → State → Outcome
-  assignment_meaning hs (frames.Reads l p) a st = read program d l a (context_at hs p) st
+  assignment_meaning hs (frames.ReadsPlace l p) a st = read program d l a (context_at hs p) st
   assignment_meaning hs (frames.Extends access) v st = Gives (Value (value_of access v)) st
   assignment_meaning hs (frames.EvaluatesAssigned l e p) a st =
       with_value (d (tasks.Eval e) (context_at hs p) st)

@@ -1,8 +1,7 @@
 -- The regions of the memory that a program begins with.
 use Rattle.std.specs.Prelude.{ℕ, true, false, List, [], ◌∷◌}
-use Rattle.host_layout.specs.declared.range.TheConstants.{ARENA_START, ARENA_END}
+use Rattle.host_layout.specs.declared.range.TheConstants.{ARENA_START, ARENA_END, FIRST_DATA}
 use Rattle.x64_memory.specs.declared.region.Region.{Region}
-use Rattle.c_model.specs.Source.{first_data}
 
 abbrev pub arena : Region
 arena =
@@ -10,7 +9,7 @@ arena =
 
 abbrev pub data_region : ℕ → Region
 data_region end =
-    record { start = first_data; end = end; read = true; write = true; execute = false }
+    record { start = FIRST_DATA; end = end; read = true; write = true; execute = false }
 
 abbrev pub regions : ℕ → List Region
 regions end = arena ∷ data_region end ∷ []

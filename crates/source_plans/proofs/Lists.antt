@@ -1,30 +1,32 @@
 -- What is in a list from an index on.
-use Rattle.std.proofs.Common.{◌≡◌, ℕ, suc, ◌+◌, ◌<◌, ◌≤◌, List, [], ◌∷◌, length, map, refl, sym, ap, ◌∙◌, arith, inl, inr, Some, None, add-one}
-use Rattle.std.specs.Prelude.{drop, get_or, slice_get, option_map}
+use Rattle.std.proofs.Common.{◌≡◌, ℕ, ◌+◌, ◌<◌, ◌≤◌, List, [], ◌∷◌, length, map, refl, sym, ap}
+use Rattle.std.proofs.Common.{◌∙◌, arith, inl, inr, Some, None}
+use Rattle.std.specs.Prelude.{get_or, slice_get, option_map}
 use Rattle.std.proofs.lemmas.Option.{slice_get_cases, slice_get_past, slice_get_read}
-use Rattle.std.proofs.Math.Seq.{drop-cons}
 use Rattle.std.proofs.Math.ListN.{drop_of_length-le}
+use Rattle.c_checked.proofs.Items.{next_of}
 use Rattle.c_checked.specs.declared.expression.Expr.{Expr}
 use Rattle.c_checked.specs.declared.statement.Declared.{Declared}
 use Rattle.c_checked.specs.declared.statement.Stmt.{Stmt}
 use Rattle.c_checked.specs.Expression.{Done, Next, expression, arguments}
-use Rattle.c_checked.specs.Statement.{Statements, Empty, Then, Block, statement, statements, declared}
-use Rattle.source_plans.specs.Views.{some_statement, statement_at, statements_from, declared_from, arguments_from}
-
-at_index : {X : Type 0} (xs : List X) (i : ℕ) (x : X) → i < length xs → x ≡ get_or xs i x → drop i xs ≡ x ∷ drop (i + 1) xs
-at_index xs i x lt e = drop-cons xs i x lt ∙ ap (λ y. y ∷ drop (suc i) xs) (sym e) ∙ ap (λ k. x ∷ drop k xs) (sym (add-one i))
+use Rattle.c_checked.specs.Statement.{Statements, Empty, Then, Block, statement, statements}
+use Rattle.c_checked.specs.Statement.{declared}
+use Rattle.source_plans.specs.Views.{some_statement, statement_at, statements_from, declared_from}
+use Rattle.source_plans.specs.Views.{arguments_from}
 
 -- ---- statements
 
 pub statements_past : (ss : List Stmt) (i : ℕ) → length ss ≤ i → statements_from ss i ≡ Empty
 statements_past ss i le = ap (λ xs. statements (map statement xs)) (drop_of_length-le ss le)
 
-pub statements_next : (ss : List Stmt) (i : ℕ) → i < length ss → statements_from ss i ≡ Then (statement_at ss i) (statements_from ss (i + 1))
+pub statements_next : (ss : List Stmt) (i : ℕ) → i < length ss
+    → statements_from ss i ≡ Then (statement_at ss i) (statements_from ss (i + 1))
 statements_next ss i lt =
     elim ((slice_get_cases ss i).1) [
       | inl w ↦
-          ap (λ xs. statements (map statement xs)) (at_index ss i w.0 lt (sym w.3))
-          ∙ ap (λ o. Then (some_statement (option_map statement o)) (statements_from ss (i + 1))) (sym w.2)
+          ap (λ xs. statements (map statement xs)) (next_of ss i w.0 lt (sym w.3))
+          ∙ ap (λ o. Then (some_statement (option_map statement o)) (statements_from ss (i + 1)))
+          (sym w.2)
       | inr w ↦ let past = w.0 in absurd (omega arith)
     ]
 
@@ -33,21 +35,25 @@ statements_next ss i lt =
 pub declared_past : (ds : List Declared) (i : ℕ) → length ds ≤ i → declared_from ds i ≡ []
 declared_past ds i le = ap (λ xs. map declared xs) (drop_of_length-le ds le)
 
-pub declared_next : (ds : List Declared) (i : ℕ) (d : Declared) → i < length ds → d ≡ get_or ds i d → declared_from ds i ≡ declared d ∷ declared_from ds (i + 1)
-declared_next ds i d lt e = ap (λ xs. map declared xs) (at_index ds i d lt e)
+pub declared_next : (ds : List Declared) (i : ℕ) (d : Declared) → i < length ds → d ≡ get_or ds i d
+    → declared_from ds i ≡ declared d ∷ declared_from ds (i + 1)
+declared_next ds i d lt e = ap (λ xs. map declared xs) (next_of ds i d lt e)
 
 -- ---- arguments
 
 pub arguments_past : (es : List Expr) (i : ℕ) → length es ≤ i → arguments_from es i ≡ Done
 arguments_past es i le = ap (λ xs. arguments (map expression xs)) (drop_of_length-le es le)
 
-pub arguments_next : (es : List Expr) (i : ℕ) (e : Expr) → i < length es → e ≡ get_or es i e → arguments_from es i ≡ Next (expression e) (arguments_from es (i + 1))
-arguments_next es i e lt h = ap (λ xs. arguments (map expression xs)) (at_index es i e lt h)
+pub arguments_next : (es : List Expr) (i : ℕ) (e : Expr) → i < length es → e ≡ get_or es i e
+    → arguments_from es i ≡ Next (expression e) (arguments_from es (i + 1))
+arguments_next es i e lt h = ap (λ xs. arguments (map expression xs)) (next_of es i e lt h)
 
 -- ---- a statement by its index
 
-pub statement_there : (ss : List Stmt) (i : ℕ) (s : Stmt) → i < length ss → s ≡ get_or ss i s → statement_at ss i ≡ statement s
-statement_there ss i s lt e = ap (λ o. some_statement (option_map statement o)) (slice_get_read ss (length ss) i s refl lt e)
+pub statement_there : (ss : List Stmt) (i : ℕ) (s : Stmt) → i < length ss → s ≡ get_or ss i s
+    → statement_at ss i ≡ statement s
+statement_there ss i s lt e =
+    ap (λ o. some_statement (option_map statement o)) (slice_get_read ss (length ss) i s refl lt e)
 
 pub statement_past : (ss : List Stmt) (i : ℕ) → length ss ≤ i → statement_at ss i ≡ Block Empty
 statement_past ss i le = ap (λ o. some_statement (option_map statement o)) (slice_get_past ss i le)

@@ -165,7 +165,7 @@ operand_frame_of (operands.PassesArgument callee vs es i p) =
     frames.PassesArgument (callee_of callee) vs.items (arguments_from es.now.items i) (place_of p)
 
 abbrev pub assignment_frame_of : AssignmentFrame → frames.AssignmentFrame
-assignment_frame_of (assignments.Reads l p) = frames.Reads (lvalue l.now) (place_of p)
+assignment_frame_of (assignments.Reads l p) = frames.ReadsPlace (lvalue l.now) (place_of p)
 assignment_frame_of (assignments.Extends access) = frames.Extends access
 assignment_frame_of (assignments.EvaluatesAssigned l e p) =
     frames.EvaluatesAssigned (lvalue l.now) (expression e.now.value) (place_of p)

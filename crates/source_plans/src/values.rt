@@ -73,8 +73,8 @@ pub fn converted(conversion: Conversion, value: u64) -> u64
 }
 
 /// The width of the numbers that represent values of a type of a width.
-fn promoted(width: Width) -> Width
-    ensures { result ≡ model.promoted width }
+fn value_width(width: Width) -> Width
+    ensures { result ≡ model.value_width width }
 {
     match width {
         Width::W64 => Width::W64,
@@ -89,7 +89,7 @@ pub fn value_of(access: Access, bytes: u64) -> u64
     extended(
         access.signedness,
         access.width,
-        promoted(access.width),
+        value_width(access.width),
         bytes,
     )
 }
