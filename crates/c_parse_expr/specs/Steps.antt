@@ -7,10 +7,10 @@ use Rattle.c_parse_expr.specs.declared.step.Step.TheVariants.{Index, Postfix, In
 use Rattle.c_parse_expr.specs.Operations.{with}
 
 abbrev pub step : Step → steps.Step
-step (Index at i) = steps.At at (expression i)
+step (Index at i) = steps.At at (expression i.value)
 step (Postfix op at) = steps.After op at
-step (Infix at op e) = with op at (expression e)
-step (Conditional at a b) = steps.Choose at (expression a) (expression b)
+step (Infix at op e) = with op at (expression e.value)
+step (Conditional at a b) = steps.Choose at (expression a.value) (expression b.value)
 
 -- the greatest height of its parts
 abbrev pub over : steps.Step → ℕ

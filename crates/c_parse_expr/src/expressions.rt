@@ -170,7 +170,8 @@ fn operated<'a>(
     match operation {
         Operation::Index => {
             let inner = enclosed(alloc, text, room, Punctuator::CloseBracket, tokens)?;
-            let (index, over, rest) = (inner.expr, inner.over, inner.rest);
+            let (over, rest) = (inner.over, inner.rest);
+            let index = Box::new(alloc, inner.expr)?;
             let step = Step::Index { at, index };
             Ok(ParsedStep { step, over, rest })
         }
@@ -181,7 +182,8 @@ fn operated<'a>(
         }
         Operation::Infix(operator) => {
             let value = expression(alloc, text, room, operator.right(), tokens)?;
-            let (right, over, rest) = (value.expr, value.over, value.rest);
+            let (over, rest) = (value.over, value.rest);
+            let right = Box::new(alloc, value.expr)?;
             let step = Step::Infix {
                 at,
                 operator,
@@ -210,11 +212,11 @@ fn chosen<'a>(
     ensures refused { IfErr result (λ e.
         RefusesAfterPunctuator e room operations.Conditional at text.now tokens.now) }
 {
-    let yes = enclosed(alloc, text, room, Punctuator::Colon, tokens)?;
-    let no = expression(alloc, text, room, CONDITIONAL, yes.rest)?;
-    let over = higher(yes.over, no.over);
-    let rest = no.rest;
-    let (yes, no) = (yes.expr, no.expr);
+    let first = enclosed(alloc, text, room, Punctuator::Colon, tokens)?;
+    let yes = Box::new(alloc, first.expr)?;
+    let second = expression(alloc, text, room, CONDITIONAL, first.rest)?;
+    let (over, rest) = (higher(first.over, second.over), second.rest);
+    let no = Box::new(alloc, second.expr)?;
     let step = Step::Conditional { at, yes, no };
     Ok(ParsedStep { step, over, rest })
 }
@@ -241,7 +243,11 @@ fn enclosed<'a>(
             let (expr, over) = (inner.expr, inner.over);
             Ok(Parsed { expr, over, rest })
         }
-        None => Err(unexpected(text, inner.rest)),
+        None => {
+            let rest = inner.rest;
+            drop(inner.expr);
+            Err(unexpected(text, rest))
+        }
     }
 }
 

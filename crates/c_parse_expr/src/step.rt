@@ -137,7 +137,7 @@ pub fn rank(expr: &Expr) -> u8
 pub enum Step {
     Index {
         at: u64,
-        index: Expr,
+        index: Box<Expr>,
     },
     Postfix {
         operator: Increment,
@@ -146,12 +146,12 @@ pub enum Step {
     Infix {
         at: u64,
         operator: Infix,
-        right: Expr,
+        right: Box<Expr>,
     },
     Conditional {
         at: u64,
-        yes: Expr,
-        no: Expr,
+        yes: Box<Expr>,
+        no: Box<Expr>,
     },
 }
 
@@ -194,20 +194,11 @@ pub fn unary(
 }
 
 /// The expression of an operator between two operands.
-fn between(
-    alloc: Global,
-    left: Box<Expr>,
-    at: u64,
-    operator: Infix,
-    right: Expr,
-) -> Result<Expr, ParseErr>
-    ensures applied { IfOk result (λ e.
-        expression e ≡ steps.apply (expression left.value)
-        (operations.with operator at (expression right))) }
-    ensures err { IfErr result (λ e. e ≡ Memory) }
+fn between(left: Box<Expr>, at: u64, operator: Infix, right: Box<Expr>) -> Expr
+    ensures { expression result ≡ steps.apply (expression left.value)
+        (operations.with operator at (expression right.value)) }
 {
-    let right = Box::new(alloc, right)?;
-    Ok(match operator {
+    match operator {
         Infix::Binary(operator) => Expr::Binary {
             left,
             at,
@@ -221,7 +212,7 @@ fn between(
             value: right,
         },
         Infix::Comma => Expr::Comma { left, at, right },
-    })
+    }
 }
 
 /// The expression of an operand and a step after it.
@@ -235,7 +226,7 @@ pub fn apply(alloc: Global, operand: Expr, following: Step) -> Result<Expr, Pars
         Step::Index { at, index } => Ok(Expr::Index {
             array: operand,
             at,
-            index: Box::new(alloc, index)?,
+            index,
         }),
         Step::Postfix { operator, at } => Ok(Expr::Postfix {
             operand,
@@ -246,12 +237,12 @@ pub fn apply(alloc: Global, operand: Expr, following: Step) -> Result<Expr, Pars
             at,
             operator,
             right,
-        } => between(alloc, operand, at, operator, right),
+        } => Ok(between(operand, at, operator, right)),
         Step::Conditional { at, yes, no } => Ok(Expr::Conditional {
             condition: operand,
             at,
-            yes: Box::new(alloc, yes)?,
-            no: Box::new(alloc, no)?,
+            yes,
+            no,
         }),
     }
 }

@@ -1,5 +1,5 @@
 -- Loops from their parts: what is read, and that nothing is at the front where a part is missing.
-use Rattle.std.proofs.Common.{◌≡◌, ◌≤◌, ◌+◌, ℕ, List, length, length-append, Option, Some, None, refl, sym, ap, subst, arith}
+use Rattle.std.proofs.Common.{◌≡◌, ◌≤◌, ◌+◌, ℕ, List, length-append, Option, Some, None, refl, sym, ap, subst, arith}
 use Rattle.c_lex.specs.declared.keyword.Keyword.TheVariants as keywords
 use Rattle.c_lex.specs.declared.punctuator.Punctuator.TheVariants as punctuators
 use Rattle.c_lex.specs.declared.token.Token.{Token}

@@ -67,13 +67,36 @@ pub fn if_of(alloc: Global, at: u64, condition: Expr, then: Stmt) -> Result<Stmt
         statement s ≡ trees.If at (expression condition) (statement then)) }
     ensures err { IfErr result (λ e. e ≡ Memory) }
 {
-    let then = Box::new(alloc, then)?;
-    Ok(Stmt::If {
-        at,
-        condition,
-        then,
-        otherwise: None,
-    })
+    match Box::new(alloc, then) {
+        Ok(then) => Ok(Stmt::If {
+            at,
+            condition,
+            then,
+            otherwise: None,
+        }),
+        Err(failed) => {
+            drop(condition);
+            Err(ParseErr::from(failed))
+        }
+    }
+}
+
+/// Two statements in boxes.
+fn both_boxed(alloc: Global, a: Stmt, b: Stmt) -> Result<(Box<Stmt>, Box<Stmt>), ParseErr>
+    ensures first { IfOk result (λ x. x.0.value ≡ a) }
+    ensures second { IfOk result (λ x. x.1.value ≡ b) }
+    ensures err { IfErr result (λ e. e ≡ Memory) }
+{
+    match Box::new(alloc, a) {
+        Ok(a) => {
+            let b = Box::new(alloc, b)?;
+            Ok((a, b))
+        }
+        Err(failed) => {
+            drop(b);
+            Err(ParseErr::from(failed))
+        }
+    }
 }
 
 /// An `if` with an `else`.
@@ -89,14 +112,18 @@ pub fn if_else_of(
         ≡ trees.IfElse at (expression condition) (statement then) (statement otherwise)) }
     ensures err { IfErr result (λ e. e ≡ Memory) }
 {
-    let then = Box::new(alloc, then)?;
-    let otherwise = Box::new(alloc, otherwise)?;
-    Ok(Stmt::If {
-        at,
-        condition,
-        then,
-        otherwise: Some(otherwise),
-    })
+    match both_boxed(alloc, then, otherwise) {
+        Ok((then, otherwise)) => Ok(Stmt::If {
+            at,
+            condition,
+            then,
+            otherwise: Some(otherwise),
+        }),
+        Err(refusal) => {
+            drop(condition);
+            Err(refusal)
+        }
+    }
 }
 
 /// A `while`.
@@ -105,12 +132,17 @@ pub fn while_of(alloc: Global, at: u64, condition: Expr, body: Stmt) -> Result<S
         statement s ≡ trees.While at (expression condition) (statement body)) }
     ensures err { IfErr result (λ e. e ≡ Memory) }
 {
-    let body = Box::new(alloc, body)?;
-    Ok(Stmt::While {
-        at,
-        condition,
-        body,
-    })
+    match Box::new(alloc, body) {
+        Ok(body) => Ok(Stmt::While {
+            at,
+            condition,
+            body,
+        }),
+        Err(failed) => {
+            drop(condition);
+            Err(ParseErr::from(failed))
+        }
+    }
 }
 
 /// A `do`; `at` is the place of its `while`.
@@ -119,12 +151,17 @@ pub fn do_of(alloc: Global, body: Stmt, at: u64, condition: Expr) -> Result<Stmt
         statement s ≡ trees.DoWhile (statement body) at (expression condition)) }
     ensures err { IfErr result (λ e. e ≡ Memory) }
 {
-    let body = Box::new(alloc, body)?;
-    Ok(Stmt::Do {
-        body,
-        at,
-        condition,
-    })
+    match Box::new(alloc, body) {
+        Ok(body) => Ok(Stmt::Do {
+            body,
+            at,
+            condition,
+        }),
+        Err(failed) => {
+            drop(condition);
+            Err(ParseErr::from(failed))
+        }
+    }
 }
 
 /// A `for`.
@@ -141,14 +178,21 @@ pub fn for_of(
         (option_map expression next) (statement body)) }
     ensures err { IfErr result (λ e. e ≡ Memory) }
 {
-    let body = Box::new(alloc, body)?;
-    Ok(Stmt::For {
-        at,
-        first,
-        condition,
-        next,
-        body,
-    })
+    match Box::new(alloc, body) {
+        Ok(body) => Ok(Stmt::For {
+            at,
+            first,
+            condition,
+            next,
+            body,
+        }),
+        Err(failed) => {
+            drop(first);
+            drop(condition);
+            drop(next);
+            Err(ParseErr::from(failed))
+        }
+    }
 }
 
 /// A `__try` with a filter; `at` is the place of `__except`.

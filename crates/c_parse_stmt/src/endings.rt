@@ -53,13 +53,27 @@ fn do_end<'a>(
     ensures refused { IfErr result (λ e. RefusesEnd Do (statement body) e text.now tokens.now) }
 {
     match word(Keyword::While, tokens) {
-        Some((at, following)) => {
-            let (condition, following) = condition(alloc, text, following)?;
-            let rest = expect(text, Punctuator::Semicolon, following)?;
-            let made = do_of(alloc, body, at, condition)?;
-            Ok((Ending::Whole(made), rest))
+        Some((at, following)) => match condition(alloc, text, following) {
+            Err(refusal) => {
+                drop(body);
+                Err(refusal)
+            }
+            Ok((condition, following)) => match expect(text, Punctuator::Semicolon, following) {
+                Err(refusal) => {
+                    drop(body);
+                    drop(condition);
+                    Err(refusal)
+                }
+                Ok(rest) => {
+                    let made = do_of(alloc, body, at, condition)?;
+                    Ok((Ending::Whole(made), rest))
+                }
+            },
+        },
+        None => {
+            drop(body);
+            Err(unexpected(text, tokens))
         }
-        None => Err(unexpected(text, tokens)),
     }
 }
 
@@ -127,13 +141,20 @@ fn except_clause<'a>(
         return Err(ParseErr::TooDeep { at });
     }
     let (filter, funclets, following) = filter(alloc, text, left.funclets, tokens)?;
-    let rest = expect(text, Punctuator::OpenBrace, following)?;
-    let locals = left.locals;
-    Ok((
-        Clause::Except { at, filter },
-        Left { locals, funclets },
-        rest,
-    ))
+    match expect(text, Punctuator::OpenBrace, following) {
+        Ok(rest) => {
+            let locals = left.locals;
+            Ok((
+                Clause::Except { at, filter },
+                Left { locals, funclets },
+                rest,
+            ))
+        }
+        Err(refusal) => {
+            drop(filter);
+            Err(refusal)
+        }
+    }
 }
 
 /// What follows `__finally`: the brace of its block.

@@ -255,6 +255,7 @@ pub fn filter<'a>(
                 return Ok((filter, funclets, rest));
             }
             if funclets == 0 {
+                drop(filter);
                 let (rest, _) = departure(text, tokens);
                 return Err(too_many_funclets(place(text, rest)));
             }

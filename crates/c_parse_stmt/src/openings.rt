@@ -218,16 +218,31 @@ fn for_head<'a>(
     }
     let following = expect(text, Punctuator::OpenParenthesis, tokens)?;
     let (first, locals, following) = for_initialiser(alloc, text, left.locals, following)?;
-    let (condition, following) = optional(alloc, text, 1, Punctuator::Semicolon, following)?;
-    let (next, rest) = optional(alloc, text, 1, Punctuator::CloseParenthesis, following)?;
-    let funclets = left.funclets;
-    let head = Head::For {
-        at,
-        first,
-        condition,
-        next,
-    };
-    Ok((Opening::Head(head), Left { locals, funclets }, rest))
+    match optional(alloc, text, 1, Punctuator::Semicolon, following) {
+        Err(refusal) => {
+            drop(first);
+            Err(refusal)
+        }
+        Ok((condition, following)) => {
+            match optional(alloc, text, 1, Punctuator::CloseParenthesis, following) {
+                Err(refusal) => {
+                    drop(first);
+                    drop(condition);
+                    Err(refusal)
+                }
+                Ok((next, rest)) => {
+                    let funclets = left.funclets;
+                    let head = Head::For {
+                        at,
+                        first,
+                        condition,
+                        next,
+                    };
+                    Ok((Opening::Head(head), Left { locals, funclets }, rest))
+                }
+            }
+        }
+    }
 }
 
 /// What follows `__try`: the brace of its block (Microsoft C reference, "try-except statement" and

@@ -168,8 +168,13 @@ pub fn condition<'a>(
 {
     let inner = expect(text, Punctuator::OpenParenthesis, tokens)?;
     let parsed = expression(alloc, text, MOST_EXPRESSIONS, COMMA, inner)?;
-    let rest = expect(text, Punctuator::CloseParenthesis, parsed.rest)?;
-    Ok((parsed.expr, rest))
+    match expect(text, Punctuator::CloseParenthesis, parsed.rest) {
+        Ok(rest) => Ok((parsed.expr, rest)),
+        Err(refusal) => {
+            drop(parsed.expr);
+            Err(refusal)
+        }
+    }
 }
 
 /// The expression, or nothing, up to a punctuator that ends it, and what follows the punctuator. At
@@ -195,8 +200,13 @@ pub fn optional<'a>(
                 return Err(no_room_for_expression(text, tokens));
             }
             let parsed = expression(alloc, text, MOST_EXPRESSIONS, COMMA, tokens)?;
-            let rest = expect(text, end, parsed.rest)?;
-            Ok((Some(parsed.expr), rest))
+            match expect(text, end, parsed.rest) {
+                Ok(rest) => Ok((Some(parsed.expr), rest)),
+                Err(refusal) => {
+                    drop(parsed.expr);
+                    Err(refusal)
+                }
+            }
         }
     }
 }

@@ -72,18 +72,31 @@ fn inside<'a>(
         ReadsAfterHead head text.now room left x.1 (statement x.0) tokens.now x.2.now) }
     ensures refused { IfErr result (λ e. RefusesAfterHead head e room left text.now tokens.now) }
 {
-    let (inner, left, following) = statement(alloc, text, room - 1, left, tokens)?;
-    let (ending, following) = read_ending(alloc, text, head, inner, following)?;
-    match ending {
-        Ending::Whole(made) => Ok((made, left, following)),
-        Ending::Else {
-            at,
-            condition,
-            then,
-        } => {
-            let (otherwise, left, rest) = statement(alloc, text, room - 1, left, following)?;
-            let made = if_else_of(alloc, at, condition, then, otherwise)?;
-            Ok((made, left, rest))
+    match statement(alloc, text, room - 1, left, tokens) {
+        Err(refusal) => {
+            drop(head);
+            Err(refusal)
+        }
+        Ok((inner, left, following)) => {
+            let (ending, following) = read_ending(alloc, text, head, inner, following)?;
+            match ending {
+                Ending::Whole(made) => Ok((made, left, following)),
+                Ending::Else {
+                    at,
+                    condition,
+                    then,
+                } => match statement(alloc, text, room - 1, left, following) {
+                    Err(refusal) => {
+                        drop(condition);
+                        drop(then);
+                        Err(refusal)
+                    }
+                    Ok((otherwise, left, rest)) => {
+                        let made = if_else_of(alloc, at, condition, then, otherwise)?;
+                        Ok((made, left, rest))
+                    }
+                },
+            }
         }
     }
 }
@@ -107,8 +120,13 @@ fn guarded<'a>(
 {
     let (body, left, following) = items(alloc, text, room, left, tokens)?;
     let (clause, left, following) = read_clause(alloc, text, room, left, following)?;
-    let (last, left, rest) = items(alloc, text, room, left, following)?;
-    Ok((try_of(body, clause, last), left, rest))
+    match items(alloc, text, room, left, following) {
+        Err(refusal) => {
+            drop(clause);
+            Err(refusal)
+        }
+        Ok((last, left, rest)) => Ok((try_of(body, clause, last), left, rest)),
+    }
 }
 
 /// The statement at the front as far as it goes (C11, 6.8), what is left of the counts after it,

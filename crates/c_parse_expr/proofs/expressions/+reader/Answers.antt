@@ -3,6 +3,7 @@ use Rattle.std.proofs.lemmas.Result.{err_from_is_err_and, IfOk-weaker, IfErr-wea
 use Rattle.c_lex.specs.declared.punctuator.Punctuator.{Punctuator}
 use Rattle.c_lex.specs.declared.punctuator.Punctuator.TheVariants as punctuators
 use Rattle.c_lex.specs.declared.token.Token.{Token}
+use Rattle.c_syntax.specs.declared.expression.Expr.{Expr}
 use Rattle.c_syntax.specs.Expression.{Expression, Call, Parentheses, Cast, expression, arguments, height, heights}
 use Rattle.c_syntax.specs.Expressions.{SpellsExpression, Derives}
 use Rattle.c_syntax.specs.Follow.{follows, Stops}
@@ -86,8 +87,8 @@ enclosed-returns-in_err-inner-clause-refused t c =
     let p = err_from_is_err_and c.from_residual.result c.from_residual.ensures.1 in
     rw (p.1, p.2) (placed_so c.in_err-inner.field-0.0 _ _ _ _ _ _ _ (enclosed_wraps c.args.close c.args.room c.args.text.now c.args.tokens.now c.requires.close) c.in_err-inner.ensures.refused)
 
-pub enclosed-returns-clause-refused : goal.enclosed-returns-clause-refused
-enclosed-returns-clause-refused t c =
+pub enclosed-returns-in-None-clause-refused : goal.enclosed-returns-in-None-clause-refused
+enclosed-returns-in-None-clause-refused t c =
     let x = c.in_ok-inner.inner.exact in
     let low = c.in_ok-inner.ensures.low in
     placed_as _ _ _ _ _ _ c.unexpected.ensures
@@ -148,19 +149,19 @@ step-returns-clause-refused t c =
     (λ y h. placed_so y _ _ _ _ _ _ _ (after_punctuator_wraps c.args.room e c.in-Some.punctuator c.in-Some-operation_of.operation c.in-Some.at text c.args.operand.now.rest.now c.in-Some.rest.now c.in-Some.ensures.found (sym c.in-Some-operation_of.ensures) (omega arith) (omega arith)) h)
     c.operated.ensures.refused
 
-pub chosen-returns-in_err-yes-clause-refused : goal.chosen-returns-in_err-yes-clause-refused
-chosen-returns-in_err-yes-clause-refused t c =
+pub chosen-returns-in_err-first-clause-refused : goal.chosen-returns-in_err-first-clause-refused
+chosen-returns-in_err-first-clause-refused t c =
     let p = err_from_is_err_and c.from_residual.result c.from_residual.ensures.1 in
-    rw (p.1, p.2) (placed_so c.in_err-yes.field-0.0 _ _ _ _ _ _ _ (first_branch_wraps c.args.room c.args.at c.args.text.now c.args.tokens.now) c.in_err-yes.ensures.refused)
+    rw (p.1, p.2) (placed_so c.in_err-first.field-0.0 _ _ _ _ _ _ _ (first_branch_wraps c.args.room c.args.at c.args.text.now c.args.tokens.now) c.in_err-first.ensures.refused)
 
-pub chosen-returns-in_err-no-clause-refused : goal.chosen-returns-in_err-no-clause-refused
-chosen-returns-in_err-no-clause-refused t c =
-    let p = err_from_is_err_and c.from_residual-in_err-no.result c.from_residual-in_err-no.ensures.1 in
-    let x = c.in_ok-yes.yes.exact in
-    let low = c.in_ok-yes.ensures.low in
-    rw (p.1, p.2) (placed_so c.in_err-no.field-0.0 _ _ _ _ _ _ _
-    (second_branch_wraps c.args.room c.args.at (expression c.in_ok-yes.yes.expr) c.args.text.now c.args.tokens.now c.in_ok-yes.yes.rest.now c.in_ok-yes.ensures.found (omega arith))
-    c.in_err-no.ensures.refused)
+pub chosen-returns-in_err-second-clause-refused : goal.chosen-returns-in_err-second-clause-refused
+chosen-returns-in_err-second-clause-refused t c =
+    let p = err_from_is_err_and c.from_residual-in_err-second.result c.from_residual-in_err-second.ensures.1 in
+    let x = c.in_ok-first.first.exact in
+    let low = c.in_ok-first.ensures.low in
+    rw (p.1, p.2) (placed_so c.in_err-second.field-0.0 _ _ _ _ _ _ _
+    (second_branch_wraps c.args.room c.args.at (expression c.in_ok-first.first.expr) c.args.text.now c.args.tokens.now c.in_ok-first.first.rest.now c.in_ok-first.ensures.found (omega arith))
+    c.in_err-second.ensures.refused)
 
 pub operated-returns-in_err-inner-in-Index-clause-refused : goal.operated-returns-in_err-inner-in-Index-clause-refused
 operated-returns-in_err-inner-in-Index-clause-refused t c =
@@ -179,17 +180,21 @@ operated-returns-in_err-value-in-Infix-clause-refused t c =
     rw (p.1, p.2) (subst (λ (o : Operation). Placed e (NoneAfterPunctuator c.args.room o) (HasAfterPunctuator c.args.room o c.args.at) c.args.text.now c.args.tokens.now) (sym c.in-Infix.is)
     (placed_so e _ _ _ _ _ _ _ (right_wraps c.args.room op c.args.at c.args.text.now c.args.tokens.now) h))
 
-pub operated-returns-in_ok-value-in-Infix-clause-found : goal.operated-returns-in_ok-value-in-Infix-clause-found
-operated-returns-in_ok-value-in-Infix-clause-found t c =
+pub operated-returns-in_ok-right-in-Infix-clause-found : goal.operated-returns-in_ok-right-in-Infix-clause-found
+operated-returns-in_ok-right-in-Infix-clause-found t c =
     let text = c.args.text.now in
     let op = c.in-Infix.operator in
+    let at = c.args.at in
     let k = c.in_ok-value-in-Infix in
+    let boxed = c.in_ok-right-in-Infix.right in
+    let same : boxed.value ≡ k.value.expr = c.in_ok-right-in-Infix.ensures.ok in
     let e = expression k.value.expr in
     let ts = c.args.tokens.now in
     let rest = k.value.rest.now in
     let q = c.right.ensures in
-    subst (λ (o : Operation). IsAfterPunctuator text o c.args.at (with op c.args.at e) ts rest) (sym c.in-Infix.is)
-    (right_after text op c.args.at e ts rest (subst (λ (l : ℕ). Derives text l e ts rest) q k.ensures.found) (subst (λ (l : ℕ). Stops l rest) q k.ensures.stops))
+    subst (λ (x : Expr). IsAfterPunctuator text c.args.operation at (with op at (expression x)) ts rest) (sym same)
+    (subst (λ (o : Operation). IsAfterPunctuator text o at (with op at e) ts rest) (sym c.in-Infix.is)
+    (right_after text op at e ts rest (subst (λ (l : ℕ). Derives text l e ts rest) q k.ensures.found) (subst (λ (l : ℕ). Stops l rest) q k.ensures.stops)))
 
 -- ---- operands
 

@@ -9,9 +9,8 @@ use Rattle.c_syntax.specs.Expression.{expression}
 use Rattle.c_syntax.specs.Statement.{Statement, IfElse, node, statement}
 use Rattle.c_parse_stmt.proofs.build.if_else_of.Goals as goal
 
-pub returns-clause-made : goal.returns-clause-made
+pub returns-in-Ok-clause-made : goal.returns-in-Ok-clause-made
 unfolding roll-Stmt Carrier.roll
-returns-clause-made c =
-    let k = c.in_ok-then in
-    let j = c.in_ok-otherwise in
-    ap statement (rolls-If c.args.at c.args.condition k.then (Some j.otherwise)) ∙ fold-roll-Stmt Statement node (If_F c.args.at c.args.condition k.then (Some j.otherwise)) ∙ ap (λ (s : Stmt). IfElse c.args.at (expression c.args.condition) (statement s) (statement j.otherwise.value)) k.ensures.ok ∙ ap (λ (s : Stmt). IfElse c.args.at (expression c.args.condition) (statement c.args.then) (statement s)) j.ensures.ok
+returns-in-Ok-clause-made c =
+    let k = c.in-Ok in
+    ap statement (rolls-If c.args.at c.args.condition k.then (Some k.otherwise)) ∙ fold-roll-Stmt Statement node (If_F c.args.at c.args.condition k.then (Some k.otherwise)) ∙ ap (λ (s : Stmt). IfElse c.args.at (expression c.args.condition) (statement s) (statement k.otherwise.value)) k.ensures.first ∙ ap (λ (s : Stmt). IfElse c.args.at (expression c.args.condition) (statement c.args.then) (statement s)) k.ensures.second

@@ -9,8 +9,8 @@ use Rattle.c_syntax.specs.Expression.{expression}
 use Rattle.c_syntax.specs.Statement.{Statement, If, node, statement}
 use Rattle.c_parse_stmt.proofs.build.if_of.Goals as goal
 
-pub returns-clause-made : goal.returns-clause-made
+pub returns-in-Ok-clause-made : goal.returns-in-Ok-clause-made
 unfolding roll-Stmt Carrier.roll
-returns-clause-made c =
-    let k = c.in_ok-then in
+returns-in-Ok-clause-made c =
+    let k = c.in-Ok in
     ap statement (rolls-If c.args.at c.args.condition k.then None) ∙ fold-roll-Stmt Statement node (If_F c.args.at c.args.condition k.then None) ∙ ap (λ (s : Stmt). If c.args.at (expression c.args.condition) (statement s)) k.ensures.ok

@@ -27,57 +27,52 @@ guarded-returns-in_err-clause-clause-refused t c =
     let ss = statements (map statement k.body.items) in
     rw (p.1, p.2) (λ ts h. c.in_err-clause.ensures.refused c.args.left ss ts (guards c.args.text.now c.args.room c.args.left k.left ss ts c.args.tokens.now k.following.now c.requires.some h k.ensures.found k.ensures.taken))
 
-pub guarded-returns-in_err-last-clause-refused : goal.guarded-returns-in_err-last-clause-refused
-guarded-returns-in_err-last-clause-refused t c =
-    let r = c.from_residual-in_err-last in
-    let p = err_from_is_err_and r.result r.ensures.1 in
+pub guarded-returns-in-Err-clause-refused : goal.guarded-returns-in-Err-clause-refused
+guarded-returns-in-Err-clause-refused t c =
     let k = c.in_ok-body in
     let ss = statements (map statement k.body.items) in
     let j = c.in_ok-clause in
-    rw (p.1, p.2) (λ ts h. placed c.in_err-last.field-0.0 _ _ _ _ c.args.text.now j.following.now ts (last_block c.args.room c.args.left k.left j.left ss j.clause c.args.text.now ts k.following.now j.following.now (guards c.args.text.now c.args.room c.args.left k.left ss ts c.args.tokens.now k.following.now c.requires.some h k.ensures.found k.ensures.taken) j.ensures.found) c.in_err-last.ensures.refused)
+    λ ts h. placed c.in-Err.refusal _ _ _ _ c.args.text.now j.following.now ts (last_block c.args.room c.args.left k.left j.left ss j.clause c.args.text.now ts k.following.now j.following.now (guards c.args.text.now c.args.room c.args.left k.left ss ts c.args.tokens.now k.following.now c.requires.some h k.ensures.found k.ensures.taken) j.ensures.found) c.in-Err.ensures.refused
 
-pub guarded-returns-clause-found : goal.guarded-returns-clause-found
-guarded-returns-clause-found t c =
+pub guarded-returns-in-Ok-clause-found : goal.guarded-returns-in-Ok-clause-found
+guarded-returns-in-Ok-clause-found t c =
     let k = c.in_ok-body in
     let ss = statements (map statement k.body.items) in
     let j = c.in_ok-clause in
-    let q = c.in_ok-last in
+    let q = c.in-Ok in
     λ ts h. rw c.try_of.ensures (guarded_found c.args.room c.args.left k.left j.left q.left ss (statements (map statement q.last.items)) j.clause c.args.text.now ts k.following.now j.following.now q.rest.now (guards c.args.text.now c.args.room c.args.left k.left ss ts c.args.tokens.now k.following.now c.requires.some h k.ensures.found k.ensures.taken) j.ensures.found q.ensures.found q.ensures.taken)
 
-pub inside-returns-in_err-inner-clause-refused : goal.inside-returns-in_err-inner-clause-refused
-inside-returns-in_err-inner-clause-refused t c =
-    let p = err_from_is_err_and c.from_residual.result c.from_residual.ensures.1 in
-    rw (p.1, p.2) (λ whole ts h. placed c.in_err-inner.field-0.0 _ _ _ _ c.args.text.now c.args.tokens.now ts (inner_fails c.args.head c.args.room (c.args.room - 1) whole c.args.left c.args.text.now ts c.args.tokens.now (omega arith) h) c.in_err-inner.ensures.refused)
+pub inside-returns-in-Err-clause-refused : goal.inside-returns-in-Err-clause-refused
+inside-returns-in-Err-clause-refused t c =
+    λ whole ts h. placed c.in-Err.refusal _ _ _ _ c.args.text.now c.args.tokens.now ts (inner_fails c.args.head c.args.room (c.args.room - 1) whole c.args.left c.args.text.now ts c.args.tokens.now (omega arith) h) c.in-Err.ensures.refused
 
-pub inside-returns-in_err-ending-clause-refused : goal.inside-returns-in_err-ending-clause-refused
-inside-returns-in_err-ending-clause-refused t c =
-    let r = c.from_residual-in_err-ending in
+pub inside-returns-in_err-ending-in-Ok-clause-refused : goal.inside-returns-in_err-ending-in-Ok-clause-refused
+inside-returns-in_err-ending-in-Ok-clause-refused t c =
+    let r = c.from_residual in
     let p = err_from_is_err_and r.result r.ensures.1 in
-    let k = c.in_ok-inner in
-    rw (p.1, p.2) (λ whole ts h. c.in_err-ending.ensures.refused c.args.room whole k.left ts (holds c.args.text.now c.args.room (c.args.room - 1) whole c.args.left k.left c.args.head (statement k.inner) ts c.args.tokens.now k.following.now (omega arith) h k.ensures.found))
+    let k = c.in-Ok in
+    rw (p.1, p.2) (λ whole ts h. c.in_err-ending-in-Ok.ensures.refused c.args.room whole k.left ts (holds c.args.text.now c.args.room (c.args.room - 1) whole c.args.left k.left c.args.head (statement k.inner) ts c.args.tokens.now k.following.now (omega arith) h k.ensures.found))
 
-pub inside-returns-in_err-otherwise-in-Else-clause-refused : goal.inside-returns-in_err-otherwise-in-Else-clause-refused
-inside-returns-in_err-otherwise-in-Else-clause-refused t c =
-    let r = c.from_residual-in_err-otherwise-in-Else in
-    let p = err_from_is_err_and r.result r.ensures.1 in
-    let k = c.in_ok-inner in
-    let i = c.in_ok-ending in
+pub inside-returns-in-Err-statement-clause-refused : goal.inside-returns-in-Err-statement-clause-refused
+inside-returns-in-Err-statement-clause-refused t c =
+    let k = c.in-Ok in
+    let i = c.in_ok-ending-in-Ok in
     let e = c.in-Else in
-    rw (p.1, p.2) (λ whole ts h. placed c.in_err-otherwise-in-Else.field-0.0 _ _ _ _ c.args.text.now i.following.now ts (otherwise_fails c.args.text.now c.args.room (c.args.room - 1) e.at whole c.args.left k.left c.args.head e.condition e.then (statement k.inner) i.ending ts c.args.tokens.now k.following.now i.following.now (omega arith) h k.ensures.found i.ensures.found e.is) c.in_err-otherwise-in-Else.ensures.refused)
+    λ whole ts h. placed c.in-Err-statement.refusal _ _ _ _ c.args.text.now i.following.now ts (otherwise_fails c.args.text.now c.args.room (c.args.room - 1) e.at whole c.args.left k.left c.args.head e.condition e.then (statement k.inner) i.ending ts c.args.tokens.now k.following.now i.following.now (omega arith) h k.ensures.found i.ensures.found e.is) c.in-Err-statement.ensures.refused
 
 pub inside-returns-in-Whole-clause-found : goal.inside-returns-in-Whole-clause-found
 inside-returns-in-Whole-clause-found t c =
-    let k = c.in_ok-inner in
-    let i = c.in_ok-ending in
+    let k = c.in-Ok in
+    let i = c.in_ok-ending-in-Ok in
     λ whole ts h. whole_found c.args.text.now c.args.room (c.args.room - 1) whole c.args.left k.left c.args.head c.in-Whole.made (statement k.inner) i.ending ts c.args.tokens.now k.following.now i.following.now (omega arith) h k.ensures.found i.ensures.found c.in-Whole.is
 
-pub inside-returns-in_ok-made-in-Else-clause-found : goal.inside-returns-in_ok-made-in-Else-clause-found
-inside-returns-in_ok-made-in-Else-clause-found t c =
-    let k = c.in_ok-inner in
-    let i = c.in_ok-ending in
+pub inside-returns-in_ok-made-in-Ok-statement-clause-found : goal.inside-returns-in_ok-made-in-Ok-statement-clause-found
+inside-returns-in_ok-made-in-Ok-statement-clause-found t c =
+    let k = c.in-Ok in
+    let i = c.in_ok-ending-in-Ok in
     let e = c.in-Else in
-    let q = c.in_ok-otherwise-in-Else in
-    λ whole ts h. rw c.in_ok-made-in-Else.ensures.made (otherwise_found c.args.text.now c.args.room (c.args.room - 1) e.at whole c.args.left k.left q.left c.args.head e.condition e.then (statement k.inner) (statement q.otherwise) i.ending ts c.args.tokens.now k.following.now i.following.now q.rest.now (omega arith) h k.ensures.found i.ensures.found e.is q.ensures.found)
+    let q = c.in-Ok-statement in
+    λ whole ts h. rw c.in_ok-made-in-Ok-statement.ensures.made (otherwise_found c.args.text.now c.args.room (c.args.room - 1) e.at whole c.args.left k.left q.left c.args.head e.condition e.then (statement k.inner) (statement q.otherwise) i.ending ts c.args.tokens.now k.following.now i.following.now q.rest.now (omega arith) h k.ensures.found i.ensures.found e.is q.ensures.found)
 
 pub item-returns-in-None-clause-refused : goal.item-returns-in-None-clause-refused
 item-returns-in-None-clause-refused t c =
