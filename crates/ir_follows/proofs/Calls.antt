@@ -3,6 +3,7 @@ use Rattle.std.proofs.Common.{◌≡◌, ◌≤◌, ℕ, suc, ◌+◌, List, [],
 use Rattle.std.proofs.lemmas.Bool.{eq-eqb}
 use Rattle.std.proofs.lemmas.List.{length_push, take_at, drop_at}
 use Rattle.std.specs.Prelude.{Bool, take, nat_eq, get_or, slice_get, if◌then◌else◌, Some, None}
+use Rattle.std.specs.Prelude.{is_some}
 use Rattle.seh_num.specs.declared.width.Width.TheVariants.{W64}
 use Rattle.c_checked.specs.Expression as nodes
 use Rattle.c_checked.specs.Expression.{Arguments, Done, Next}
@@ -38,7 +39,7 @@ use Rattle.c_operations.specs.declared.built_in.BuiltIn.TheVariants.{Put, Protec
 use Rattle.c_checked.specs.Program.{Function}
 use Rattle.c_model.specs.State.{Exception, set_memory, emit, and_then}
 use Rattle.c_model.specs.Tasks.{Raise}
-use Rattle.c_model.specs.Expressions.{is_some, raised, each, enter, call_built_in}
+use Rattle.c_model.specs.Expressions.{raised, each, enter, call_built_in}
 use Rattle.linear_code.specs.declared.instruction.Instruction.TheVariants.{Call, CallBuiltIn}
 use Rattle.linear_code.specs.Program.{LinearFunction}
 use Rattle.linear_machine.specs.Frames.{AfterCall, Waits, deeper, with_some, last_temporaries}

@@ -1,5 +1,6 @@
 -- What each instruction does.
 use Rattle.std.specs.Prelude.{ℕ, ◌-◌, Bool, true, false, nat_eq, List, [], ◌∷◌, ◌++◌, length, take, get_or, replicate, slice_get, Option, Some, None}
+use Rattle.std.specs.Prelude.{is_some}
 use Rattle.seh_num.specs.declared.width.Width.TheVariants.{W32, W64}
 use Rattle.seh_num.specs.declared.event.Event.{Event}
 use Rattle.seh_num.specs.declared.event.Event.TheVariants as events
@@ -20,7 +21,7 @@ use Rattle.linear_code.specs.declared.program.FuncletKind.TheVariants.{Filter, F
 use Rattle.linear_code.specs.Program.{LinearProgram, LinearFunction}
 use Rattle.c_model.specs.declared.ended.Ended.TheVariants as ends
 use Rattle.c_model.specs.Source.{is_reserved}
-use Rattle.c_model.specs.Expressions.{of_test, is_some, field_of, raised, no_exception}
+use Rattle.c_model.specs.Expressions.{of_test, field_of, raised, no_exception}
 use Rattle.linear_machine.specs.Frames.{BodyName, FunctionBody, FuncletBody, AfterCall, SameOperation, Item, Waits, Unwinds, Store, Configuration, Seen, Finished, Stuck, Next, pick, with_some, deeper, read, write, last_temporaries, at_label, forth, with_last}
 use Rattle.linear_machine.specs.Unwinding.{left_store, run_finally, unwind}
 use Rattle.linear_machine.specs.Searching.{raise, answer}

@@ -1,6 +1,6 @@
 -- The host's turns at `put` and at `protect`, and the steps of linear code that they match.
 use Rattle.std.proofs.Common.{◌≡◌, ℕ, zero, suc, ◌+◌, ◌%◌, ◌^◌, ◌<◌, ◌≤◌, Bool, true, false, cond, List, [], ◌∷◌, ◌++◌, length, drop, get_or, Some, None, Ok, Err, ℤ, refl, sym, ap, ◌∙◌, arith}
-use Rattle.std.specs.Prelude.{Result, slice_get, if◌then◌else◌}
+use Rattle.std.specs.Prelude.{Result, slice_get, if◌then◌else◌, is_some}
 use Rattle.std.proofs.lemmas.Bool.{eq-eqb}
 use Rattle.std.proofs.lemmas.List.{append-nil}
 use Rattle.std.proofs.lemmas.Option.{slice_get-get_or}
@@ -22,7 +22,7 @@ use Rattle.host_model.specs.Funclets.{arrived}
 use Rattle.host_model.specs.HostStep.{back, returned, answer_number, protecting, turned, turn}
 use Rattle.c_operations.specs.declared.built_in.BuiltIn.{BuiltIn}
 use Rattle.c_operations.specs.declared.built_in.BuiltIn.TheVariants.{Put, Protect}
-use Rattle.c_model.specs.Expressions.{of_test, is_some}
+use Rattle.c_model.specs.Expressions.{of_test}
 use Rattle.linear_code.specs.declared.slot.Slot.TheVariants.{Temporary}
 use Rattle.linear_code.specs.declared.instruction.Instruction.TheVariants as instructions
 use Rattle.linear_code.specs.Program.{LinearProgram}

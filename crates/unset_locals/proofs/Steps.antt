@@ -3,6 +3,7 @@
 use Rattle.std.proofs.Common.{◌≡◌, ℕ, ◌+◌, ◌-◌, List, [], ◌∷◌, ◌++◌, length, refl, sym, ap, subst, ◌∙◌, arith}
 use Rattle.std.proofs.lemmas.List.{length-drop, length-replicate}
 use Rattle.std.specs.Prelude.{Bool, true, false, nat_eq, take, drop, get_or, replicate, slice_get, if◌then◌else◌, Option, Some, None}
+use Rattle.std.specs.Prelude.{is_some}
 use Rattle.seh_num.specs.declared.event.Event.{Event}
 use Rattle.seh_num.specs.declared.event.Event.TheVariants as events
 use Rattle.seh_num.specs.declared.width.Width.TheVariants.{W32, W64}
@@ -14,7 +15,7 @@ use Rattle.c_operations.specs.declared.operation.Operation.{Operation}
 use Rattle.c_operations.specs.Performed.{Outcome, Gives, Raises, Undefined, performed}
 use Rattle.c_model.specs.declared.ended.Ended.TheVariants as ends
 use Rattle.c_model.specs.Source.{is_reserved}
-use Rattle.c_model.specs.Expressions.{of_test, is_some, field_of, raised, no_exception}
+use Rattle.c_model.specs.Expressions.{of_test, field_of, raised, no_exception}
 use Rattle.linear_code.specs.declared.slot.Slot.{Slot}
 use Rattle.linear_code.specs.declared.slot.Slot.TheVariants.{Local, Temporary}
 use Rattle.linear_code.specs.declared.instruction.Instruction.{Instruction}
