@@ -25,14 +25,22 @@ same_text (a ∷ v) (b ∷ w) e =
     let l : a ≡ b = grind (arith, nat_tests) in
     cc
 
-pub punctuators_only : (s : Punctuator) (w : List ℕ) → punctuator_of w ≡ Some s → w ≡ punctuators.spelling s
+pub punctuators_only : (s : Punctuator) (w : List ℕ) → punctuator_of w ≡ Some s
+    → w ≡ punctuators.spelling s
 unfolding punctuator_of
-punctuators_only s w e = same_text w (punctuators.spelling s) (found_passes (λ t. is_same w (punctuators.spelling t)) punctuators.punctuators s e)
+punctuators_only s w e =
+    same_text w (punctuators.spelling s)
+    (found_passes (λ t. is_same w (punctuators.spelling t)) punctuators.punctuators s e)
 
 pub keywords_only : (k : Keyword) (w : List ℕ) → keyword_of w ≡ Some k → w ≡ keywords.spelling k
 unfolding keyword_of
-keywords_only k w e = sym ((bytes_eq-Decides (keywords.spelling k) w).0 (found_passes (λ t. bytes_eq (keywords.spelling t) w) keywords.keywords k e))
+keywords_only k w e =
+    sym ((bytes_eq-Decides (keywords.spelling k) w).0
+    (found_passes (λ t. bytes_eq (keywords.spelling t) w) keywords.keywords k e))
 
-pub reserved_only : (r : Reserved) (w : List ℕ) → reserved_of w ≡ Some r → w ≡ reserved_words.spelling r
+pub reserved_only : (r : Reserved) (w : List ℕ) → reserved_of w ≡ Some r
+    → w ≡ reserved_words.spelling r
 unfolding reserved_of
-reserved_only r w e = sym ((bytes_eq-Decides (reserved_words.spelling r) w).0 (found_passes (λ t. bytes_eq (reserved_words.spelling t) w) reserved_words.reserved_words r e))
+reserved_only r w e =
+    sym ((bytes_eq-Decides (reserved_words.spelling r) w).0
+    (found_passes (λ t. bytes_eq (reserved_words.spelling t) w) reserved_words.reserved_words r e))

@@ -18,7 +18,8 @@ use Rattle.c_lex.specs.Identifiers.{is_letter, is_digit, is_identifier_byte, ide
 use Rattle.c_lex.specs.Comments.{is_space}
 use Rattle.c_lex.specs.Words.{punctuator, word_from, word}
 
-pub punctuators_spelled : (s : Punctuator) → word (punctuators.spelling s) ≡ Some (Lexeme (kinds.Punctuator s))
+pub punctuators_spelled : (s : Punctuator)
+    → word (punctuators.spelling s) ≡ Some (Lexeme (kinds.Punctuator s))
 unfolding word_from is_letter is_digit is_space punctuator punctuator_of
 punctuators_spelled s.OpenParenthesis = refl
 punctuators_spelled s = refl
@@ -28,7 +29,8 @@ unfolding word_from is_letter is_digit is_identifier_byte identifier_kind keywor
 keywords_spelled k.Break = refl
 keywords_spelled k = refl
 
-pub reserved_spelled : (r : Reserved) → word (reserved_words.spelling r) ≡ Some (Lexeme (kinds.Reserved r))
+pub reserved_spelled : (r : Reserved)
+    → word (reserved_words.spelling r) ≡ Some (Lexeme (kinds.Reserved r))
 unfolding word_from is_letter is_digit is_identifier_byte identifier_kind keyword_of reserved_of
 reserved_spelled r.Auto = refl
 reserved_spelled r = refl

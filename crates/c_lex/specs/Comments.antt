@@ -1,5 +1,6 @@
 -- White space and comments (C11, 6.4 and 6.4.9).
-use Rattle.std.specs.Prelude.{ℕ, Bool, ◌&&◌, ◌||◌, ◌==◌, not, nat_le, if◌then◌else◌, List, [], ◌∷◌, Option, Some, None}
+use Rattle.std.specs.Prelude.{ℕ, Bool, ◌&&◌, ◌||◌, ◌==◌, not, nat_le, if◌then◌else◌, List, [], ◌∷◌}
+use Rattle.std.specs.Prelude.{Option, Some, None}
 use Rattle.c_lex.specs.declared.word.Word.{Word}
 use Rattle.c_lex.specs.declared.word.Word.TheVariants.{Blank, Bad}
 use Rattle.c_lex.specs.declared.word.Fault.TheVariants.{OpenComment}

@@ -1,5 +1,6 @@
 -- Integer literals as they are read from the left.
-use Rattle.std.specs.Prelude.{ℕ, ◌+◌, ◌*◌, ◌||◌, ◌==◌, nat_lt, if◌then◌else◌, List, [], ◌∷◌, Option, None, option_map}
+use Rattle.std.specs.Prelude.{ℕ, ◌+◌, ◌*◌, ◌||◌, ◌==◌, nat_lt, if◌then◌else◌, List, [], ◌∷◌, Option}
+use Rattle.std.specs.Prelude.{None, option_map}
 use Rattle.c_lex.specs.declared.word.Word.{Word}
 use Rattle.c_lex.specs.Integers.{suffix_of, literal, digit}
 

@@ -1,9 +1,12 @@
 -- Integer literals (C11, 6.4.4.1).
-use Rattle.std.specs.Prelude.{ℕ, ◌+◌, ◌-◌, ◌*◌, ◌^◌, Bool, true, false, ◌&&◌, ◌||◌, ◌==◌, nat_le, nat_lt, if◌then◌else◌, List, [], ◌∷◌, length, Option, Some, None, option_map, find}
+use Rattle.std.specs.Prelude.{ℕ, ◌+◌, ◌-◌, ◌*◌, ◌^◌, Bool, true, false, ◌&&◌, ◌||◌, ◌==◌, nat_le}
+use Rattle.std.specs.Prelude.{nat_lt, if◌then◌else◌, List, [], ◌∷◌, length, Option, Some, None}
+use Rattle.std.specs.Prelude.{option_map, find}
 use Rattle.c_lex.specs.Longest.{span}
 use Rattle.c_lex.specs.declared.integer.Suffix.{Suffix}
 use Rattle.c_lex.specs.declared.token.IntegerType.{IntegerType}
-use Rattle.c_lex.specs.declared.token.IntegerType.TheVariants.{Int, Unsigned, LongLong, UnsignedLongLong}
+use Rattle.c_lex.specs.declared.token.IntegerType.TheVariants.{Int, Unsigned, LongLong}
+use Rattle.c_lex.specs.declared.token.IntegerType.TheVariants.{UnsignedLongLong}
 use Rattle.c_lex.specs.declared.token.Kind.TheVariants as kinds
 use Rattle.c_lex.specs.declared.word.Word.{Word}
 use Rattle.c_lex.specs.declared.word.Word.TheVariants.{Lexeme, Bad}

@@ -2,7 +2,11 @@
 use Rattle.std.specs.Prelude.{ℕ, List, [], ◌∷◌, Option, find, codes}
 use Rattle.std.specs.Str.{bytes_eq}
 use Rattle.c_lex.specs.declared.keyword.Keyword.{Keyword}
-use Rattle.c_lex.specs.declared.keyword.Keyword.TheVariants.{Break, Char, Continue, Do, Else, For, If, Int, Long, Return, Short, Signed, Unsigned, Void, While, Try, Except, Finally, Leave, GetExceptionInformation}
+use Rattle.c_lex.specs.declared.keyword.Keyword.TheVariants.{Break, Char, Continue, Do, Else, For}
+use Rattle.c_lex.specs.declared.keyword.Keyword.TheVariants.{If, Int, Long, Return, Short, Signed}
+use Rattle.c_lex.specs.declared.keyword.Keyword.TheVariants.{Unsigned, Void, While, Try, Except}
+use Rattle.c_lex.specs.declared.keyword.Keyword.TheVariants.{Finally, Leave}
+use Rattle.c_lex.specs.declared.keyword.Keyword.TheVariants.{GetExceptionInformation}
 
 abbrev pub spelling : Keyword → List ℕ
 spelling Break = codes "break"

@@ -1,5 +1,6 @@
 -- The longest word at the front of a text.
-use Rattle.std.specs.Prelude.{◌≡◌, ℕ, Bool, ◌&&◌, true, if◌then◌else◌, List, [], ◌∷◌, ◌++◌, Option, Some, None}
+use Rattle.std.specs.Prelude.{◌≡◌, ℕ, Bool, ◌&&◌, true, if◌then◌else◌, List, [], ◌∷◌, ◌++◌, Option}
+use Rattle.std.specs.Prelude.{Some, None}
 
 -- The text is a word and a rest: the word is an x, and with more of the rest it is nothing.
 pub record IsLongest {A : Type 0} (of : List ℕ → Option A) (text word rest : List ℕ)

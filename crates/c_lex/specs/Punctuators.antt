@@ -1,7 +1,24 @@
 -- Punctuators (C11, 6.4.6).
 use Rattle.std.specs.Prelude.{ℕ, Bool, true, false, ◌&&◌, ◌==◌, List, [], ◌∷◌, Option, find, codes}
 use Rattle.c_lex.specs.declared.punctuator.Punctuator.{Punctuator}
-use Rattle.c_lex.specs.declared.punctuator.Punctuator.TheVariants.{OpenParenthesis, CloseParenthesis, OpenBracket, CloseBracket, OpenBrace, CloseBrace, Semicolon, Comma, Question, Colon, Arrow, Assign, PlusAssign, MinusAssign, StarAssign, SlashAssign, PercentAssign, AmpersandAssign, BarAssign, CaretAssign, ShiftLeftAssign, ShiftRightAssign, BarBar, AmpersandAmpersand, Bar, Caret, Ampersand, Equal, NotEqual, Less, Greater, LessEqual, GreaterEqual, ShiftLeft, ShiftRight, Plus, Minus, Star, Slash, Percent, Exclamation, Tilde, PlusPlus, MinusMinus}
+use Rattle.c_lex.specs.declared.punctuator.Punctuator.TheVariants.{OpenParenthesis}
+use Rattle.c_lex.specs.declared.punctuator.Punctuator.TheVariants.{CloseParenthesis, OpenBracket}
+use Rattle.c_lex.specs.declared.punctuator.Punctuator.TheVariants.{CloseBracket, OpenBrace}
+use Rattle.c_lex.specs.declared.punctuator.Punctuator.TheVariants.{CloseBrace, Semicolon, Comma}
+use Rattle.c_lex.specs.declared.punctuator.Punctuator.TheVariants.{Question, Colon, Arrow, Assign}
+use Rattle.c_lex.specs.declared.punctuator.Punctuator.TheVariants.{PlusAssign, MinusAssign}
+use Rattle.c_lex.specs.declared.punctuator.Punctuator.TheVariants.{StarAssign, SlashAssign}
+use Rattle.c_lex.specs.declared.punctuator.Punctuator.TheVariants.{PercentAssign, AmpersandAssign}
+use Rattle.c_lex.specs.declared.punctuator.Punctuator.TheVariants.{BarAssign, CaretAssign}
+use Rattle.c_lex.specs.declared.punctuator.Punctuator.TheVariants.{ShiftLeftAssign}
+use Rattle.c_lex.specs.declared.punctuator.Punctuator.TheVariants.{ShiftRightAssign, BarBar}
+use Rattle.c_lex.specs.declared.punctuator.Punctuator.TheVariants.{AmpersandAmpersand, Bar, Caret}
+use Rattle.c_lex.specs.declared.punctuator.Punctuator.TheVariants.{Ampersand, Equal, NotEqual, Less}
+use Rattle.c_lex.specs.declared.punctuator.Punctuator.TheVariants.{Greater, LessEqual, GreaterEqual}
+use Rattle.c_lex.specs.declared.punctuator.Punctuator.TheVariants.{ShiftLeft, ShiftRight, Plus}
+use Rattle.c_lex.specs.declared.punctuator.Punctuator.TheVariants.{Minus, Star, Slash, Percent}
+use Rattle.c_lex.specs.declared.punctuator.Punctuator.TheVariants.{Exclamation, Tilde, PlusPlus}
+use Rattle.c_lex.specs.declared.punctuator.Punctuator.TheVariants.{MinusMinus}
 
 abbrev pub spelling : Punctuator → List ℕ
 spelling OpenParenthesis = codes "("

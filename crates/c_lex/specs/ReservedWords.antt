@@ -2,7 +2,11 @@
 use Rattle.std.specs.Prelude.{ℕ, List, [], ◌∷◌, Option, find, codes}
 use Rattle.std.specs.Str.{bytes_eq}
 use Rattle.c_lex.specs.declared.reserved.Reserved.{Reserved}
-use Rattle.c_lex.specs.declared.reserved.Reserved.TheVariants.{Auto, Case, Const, Default, Double, Enum, Extern, Float, Goto, Inline, Register, Restrict, Sizeof, Static, Struct, Switch, Typedef, Union, Volatile}
+use Rattle.c_lex.specs.declared.reserved.Reserved.TheVariants.{Auto, Case, Const, Default, Double}
+use Rattle.c_lex.specs.declared.reserved.Reserved.TheVariants.{Enum, Extern, Float, Goto, Inline}
+use Rattle.c_lex.specs.declared.reserved.Reserved.TheVariants.{Register, Restrict, Sizeof, Static}
+use Rattle.c_lex.specs.declared.reserved.Reserved.TheVariants.{Struct, Switch, Typedef, Union}
+use Rattle.c_lex.specs.declared.reserved.Reserved.TheVariants.{Volatile}
 
 abbrev pub spelling : Reserved → List ℕ
 spelling Auto = codes "auto"
