@@ -6,7 +6,8 @@ use Rattle.c_lex.specs.declared.token.Token.{Token}
 use Rattle.c_syntax.specs.declared.expression.Field.{Field}
 use Rattle.c_syntax.specs.declared.expression.Field.TheVariants as fields
 use Rattle.c_syntax.specs.Expression.{Information}
-use Rattle.c_syntax.specs.Expressions.{IsInteger, IsElement, IsIntroduced, IsField, SpellsExpression}
+use Rattle.c_syntax.specs.Expressions.{IsInteger, IsElement, IsIntroduced, IsField}
+use Rattle.c_syntax.specs.Expressions.{SpellsExpression}
 use Rattle.c_syntax.specs.Tokens.{HasPunctuator, HasWord}
 use Rattle.c_syntax.proofs.Fronts.{has_same, name_same}
 use Rattle.c_syntax.proofs.Once.{integer_same}
@@ -21,13 +22,16 @@ NoField text ts = (field : Field) (rest : List Token) → IsField text field ts 
 abbrev pub NoElement : List ℕ → List Token → Type 0
 NoElement text ts = (index at : ℕ) → Never (IsElement text index at) ts
 
-pub no_field : (text : List ℕ) (ts : List Token) → NoWord text (codes "ExceptionCode") ts → NoWord text (codes "ExceptionFlags") ts → NoWord text (codes "NumberParameters") ts → NoElement text ts → NoField text ts
+pub no_field : (text : List ℕ) (ts : List Token) → NoWord text (codes "ExceptionCode") ts
+    → NoWord text (codes "ExceptionFlags") ts → NoWord text (codes "NumberParameters") ts
+    → NoElement text ts → NoField text ts
 no_field text ts a b c d fields.Code rest h = a rest h
 no_field text ts a b c d fields.Flags rest h = b rest h
 no_field text ts a b c d fields.Count rest h = c rest h
 no_field text ts a b c d (fields.Information index at) rest h = d index at rest h
 
-word_same : (text word : List ℕ) (ts rest end : List Token) → HasWord text word ts rest → HasWord text word ts end → rest ≡ end
+word_same : (text word : List ℕ) (ts rest end : List Token) → HasWord text word ts rest
+    → HasWord text word ts end → rest ≡ end
 word_same text word ts rest end h g = (name_same h.0 g.0 ts ts rest end refl h.1 g.1).1
 
 abbrev IsElementWord : List ℕ → List Token → List Token → Type 0

@@ -5,7 +5,8 @@ use Rattle.c_syntax.specs.declared.operator.Arithmetic.{Arithmetic}
 use Rattle.c_syntax.specs.declared.operator.BinaryOperator.{BinaryOperator}
 use Rattle.c_syntax.specs.declared.operator.Increment.{Increment}
 use Rattle.c_syntax.specs.declared.operator.UnaryOperator.{UnaryOperator}
-use Rattle.c_syntax.specs.Operators.{binary_punctuator, assignment_punctuator, unary_punctuator, increment_punctuator}
+use Rattle.c_syntax.specs.Operators.{binary_punctuator, assignment_punctuator, unary_punctuator}
+use Rattle.c_syntax.specs.Operators.{increment_punctuator}
 use Rattle.c_syntax.specs.PunctuatorReaders.{binary_of, assignment_of, unary_of, increment_of}
 
 -- each operator is what its punctuator is

@@ -1,6 +1,7 @@
 -- The reader of types is exact.
 use Rattle.std.specs.Prelude.{option_map, IfSome}
-use Rattle.std.proofs.Common.{◌≡◌, ◌⊎◌, ℕ, zero, suc, ◌+◌, List, [], ◌∷◌, Option, Some, None, refl, sym, ap, ◌∙◌, subst, inl, inr, arith, length}
+use Rattle.std.proofs.Common.{◌≡◌, ◌⊎◌, ℕ, zero, suc, ◌+◌, List, [], ◌∷◌, Option, Some, None, refl}
+use Rattle.std.proofs.Common.{sym, ap, ◌∙◌, subst, inl, inr, arith, length}
 use Rattle.c_lex.specs.declared.keyword.Keyword.{Keyword}
 use Rattle.c_lex.specs.declared.keyword.Keyword.TheVariants as keywords
 use Rattle.c_lex.specs.declared.punctuator.Punctuator.{Punctuator}
@@ -15,45 +16,56 @@ use Rattle.c_syntax.specs.Tokens.{token, IsPunctuator, HasPunctuator, HasKeyword
 use Rattle.c_syntax.specs.Types.{IsOneOf, IsBase, AreStars}
 use Rattle.c_syntax.proofs.Fronts.{stars_once}
 use Rattle.c_parse_type.specs.Fronts.{after_keyword, keyword_of, after_punctuator, punctuator_of}
-use Rattle.c_parse_type.specs.Bases.{int_or, past_int, long_or, long, signed_or, unsigned_or, base_or, base, NoBase, NoStar}
+use Rattle.c_parse_type.specs.Bases.{int_or, past_int, long_or, long, signed_or, unsigned_or}
+use Rattle.c_parse_type.specs.Bases.{base_or, base, NoBase, NoStar}
 
 -- ---- fronts
 
 abbrev read_keyword : Keyword → List Token → Option (Keyword × List Token)
 read_keyword k ts = Some (k, ts)
 
-pub keyword_at : (k : Keyword) (ts rest : List Token) → HasKeyword k ts rest → after_keyword ts ≡ Some (k, rest)
+pub keyword_at : (k : Keyword) (ts rest : List Token) → HasKeyword k ts rest
+    → after_keyword ts ≡ Some (k, rest)
 keyword_at k ts rest h = ap after_keyword h.1.1
 
-of_kind : (kind : Kind) (start end : ℕ) (ts rest : List Token) (k : Keyword) → keyword_of kind ts ≡ Some (k, rest) → HasKeyword k (token kind start end ∷ ts) rest
+of_kind : (kind : Kind) (start end : ℕ) (ts rest : List Token) (k : Keyword)
+    → keyword_of kind ts ≡ Some (k, rest) → HasKeyword k (token kind start end ∷ ts) rest
 of_kind (kinds.Keyword j) start end ts rest k e =
     let p : ◌≡◌ {A = Keyword × List Token} (j, ts) (k, rest) = cc in
-    subst (λ (x : Keyword × List Token). HasKeyword x.0 (token (kinds.Keyword j) start end ∷ ts) x.1) p (start, (end, refl))
+    subst (λ (x : Keyword × List Token). HasKeyword x.0 (token (kinds.Keyword j) start end ∷ ts)
+    x.1) p (start, (end, refl))
 of_kind kind start end ts rest k e = absurd cc
 
-pub keyword_is : (ts rest : List Token) (k : Keyword) → after_keyword ts ≡ Some (k, rest) → HasKeyword k ts rest
+pub keyword_is : (ts rest : List Token) (k : Keyword) → after_keyword ts ≡ Some (k, rest)
+    → HasKeyword k ts rest
 keyword_is [] rest k e = absurd cc
 keyword_is (t ∷ ts) rest k e = of_kind t.kind t.start t.end ts rest k e
 
 abbrev read_punctuator : Punctuator → ℕ → List Token → Option (Punctuator × ℕ × List Token)
 read_punctuator s at ts = Some (s, at, ts)
 
-pub punctuator_at : (s : Punctuator) (at : ℕ) (ts rest : List Token) → IsPunctuator s at ts rest → after_punctuator ts ≡ Some (s, at, rest)
+pub punctuator_at : (s : Punctuator) (at : ℕ) (ts rest : List Token) → IsPunctuator s at ts rest
+    → after_punctuator ts ≡ Some (s, at, rest)
 punctuator_at s at ts rest h = ap after_punctuator h.1
 
-of_punctuator : (kind : Kind) (start end : ℕ) (ts rest : List Token) (s : Punctuator) (at : ℕ) → punctuator_of kind start ts ≡ Some (s, at, rest) → IsPunctuator s at (token kind start end ∷ ts) rest
+of_punctuator : (kind : Kind) (start end : ℕ) (ts rest : List Token) (s : Punctuator) (at : ℕ)
+    → punctuator_of kind start ts ≡ Some (s, at, rest)
+    → IsPunctuator s at (token kind start end ∷ ts) rest
 of_punctuator (kinds.Punctuator z) start end ts rest s at e =
     let p : ◌≡◌ {A = Punctuator × ℕ × List Token} (z, start, ts) (s, at, rest) = cc in
-    subst (λ (x : Punctuator × ℕ × List Token). IsPunctuator x.0 x.1 (token (kinds.Punctuator z) start end ∷ ts) x.2) p (end, refl)
+    subst (λ (x : Punctuator × ℕ × List Token). IsPunctuator x.0 x.1
+    (token (kinds.Punctuator z) start end ∷ ts) x.2) p (end, refl)
 of_punctuator kind start end ts rest s at e = absurd cc
 
-pub punctuator_is : (ts rest : List Token) (s : Punctuator) (at : ℕ) → after_punctuator ts ≡ Some (s, at, rest) → IsPunctuator s at ts rest
+pub punctuator_is : (ts rest : List Token) (s : Punctuator) (at : ℕ)
+    → after_punctuator ts ≡ Some (s, at, rest) → IsPunctuator s at ts rest
 punctuator_is [] rest s at e = absurd cc
 punctuator_is (t ∷ ts) rest s at e = of_punctuator t.kind t.start t.end ts rest s at e
 
 -- ---- nothing of a type is at the front
 
-still_int : (o : Option (Keyword × List Token)) (ts : List Token) → base_or o ≡ None → int_or o ts ≡ ts
+still_int : (o : Option (Keyword × List Token)) (ts : List Token) → base_or o ≡ None
+    → int_or o ts ≡ ts
 still_int (Some (keywords.Char, rest)) ts e = absurd cc
 still_int (Some (keywords.Int, rest)) ts e = absurd cc
 still_int (Some (keywords.Long, rest)) ts e = absurd cc
@@ -69,7 +81,8 @@ paired p ts = (p, ts)
 long_pair : (p : Base) {ts us : List Token} → ts ≡ us → paired p ts ≡ paired p us
 long_pair p e = ap (paired p) e
 
-still_long : (p w : Base) (o : Option (Keyword × List Token)) (ts : List Token) → base_or o ≡ None → after_keyword ts ≡ o → long_or p w o ts ≡ (p, ts)
+still_long : (p w : Base) (o : Option (Keyword × List Token)) (ts : List Token) → base_or o ≡ None
+    → after_keyword ts ≡ o → long_or p w o ts ≡ (p, ts)
 still_long p w (Some (keywords.Char, rest)) ts e q = absurd cc
 still_long p w (Some (keywords.Int, rest)) ts e q = absurd cc
 still_long p w (Some (keywords.Long, rest)) ts e q = absurd cc
@@ -79,7 +92,8 @@ still_long p w (Some (keywords.Unsigned, rest)) ts e q = absurd cc
 still_long p w (Some (keywords.Void, rest)) ts e q = absurd cc
 still_long p w o ts e q = long_pair p (rw q refl)
 
-still_signed : (o : Option (Keyword × List Token)) (ts : List Token) → base_or o ≡ None → signed_or o ts ≡ (bases.Int, ts)
+still_signed : (o : Option (Keyword × List Token)) (ts : List Token) → base_or o ≡ None
+    → signed_or o ts ≡ (bases.Int, ts)
 still_signed (Some (keywords.Char, rest)) ts e = absurd cc
 still_signed (Some (keywords.Int, rest)) ts e = absurd cc
 still_signed (Some (keywords.Long, rest)) ts e = absurd cc
@@ -89,7 +103,8 @@ still_signed (Some (keywords.Unsigned, rest)) ts e = absurd cc
 still_signed (Some (keywords.Void, rest)) ts e = absurd cc
 still_signed o ts e = refl
 
-still_unsigned : (o : Option (Keyword × List Token)) (ts : List Token) → base_or o ≡ None → unsigned_or o ts ≡ (bases.Unsigned, ts)
+still_unsigned : (o : Option (Keyword × List Token)) (ts : List Token) → base_or o ≡ None
+    → unsigned_or o ts ≡ (bases.Unsigned, ts)
 still_unsigned (Some (keywords.Char, rest)) ts e = absurd cc
 still_unsigned (Some (keywords.Int, rest)) ts e = absurd cc
 still_unsigned (Some (keywords.Long, rest)) ts e = absurd cc
@@ -104,57 +119,136 @@ still_unsigned o ts e = refl
 abbrev found : Base → List Token → Option (Base × List Token)
 found b ts = Some (b, ts)
 
-base_complete : (b : Base) (ts rest : List Token) → IsBase b ts rest → base rest ≡ None → base ts ≡ Some (b, rest)
-base_complete bases.Void ts rest (inl h) n = let e0 = keyword_at keywords.Void ts h.0 h.1 in rw e0 (ap (found bases.Void) h.2)
+base_complete : (b : Base) (ts rest : List Token) → IsBase b ts rest → base rest ≡ None
+    → base ts ≡ Some (b, rest)
+base_complete bases.Void ts rest (inl h) n = let e0 = keyword_at keywords.Void ts h.0 h.1 in
+    rw e0 (ap (found bases.Void) h.2)
 base_complete bases.Void ts rest (inr h) n = absurd h
-base_complete bases.Char ts rest (inl h) n = let e0 = keyword_at keywords.Char ts h.0 h.1 in rw e0 (ap (found bases.Char) h.2)
-base_complete bases.Char ts rest (inr (inl h)) n = let e0 = keyword_at keywords.Signed ts h.0 h.1 in let e1 = keyword_at keywords.Char h.0 h.2.0 h.2.1 in rw (e0, e1) (ap (found bases.Char) h.2.2)
+base_complete bases.Char ts rest (inl h) n = let e0 = keyword_at keywords.Char ts h.0 h.1 in
+    rw e0 (ap (found bases.Char) h.2)
+base_complete bases.Char ts rest (inr (inl h)) n = let e0 = keyword_at keywords.Signed ts h.0 h.1 in
+    let e1 = keyword_at keywords.Char h.0 h.2.0 h.2.1 in rw (e0, e1) (ap (found bases.Char) h.2.2)
 base_complete bases.Char ts rest (inr (inr h)) n = absurd h
-base_complete bases.UnsignedChar ts rest (inl h) n = let e0 = keyword_at keywords.Unsigned ts h.0 h.1 in let e1 = keyword_at keywords.Char h.0 h.2.0 h.2.1 in rw (e0, e1) (ap (found bases.UnsignedChar) h.2.2)
+base_complete bases.UnsignedChar ts rest (inl h) n = let e0 =
+    keyword_at keywords.Unsigned ts h.0 h.1 in let e1 = keyword_at keywords.Char h.0 h.2.0 h.2.1 in
+    rw (e0, e1) (ap (found bases.UnsignedChar) h.2.2)
 base_complete bases.UnsignedChar ts rest (inr h) n = absurd h
-base_complete bases.Short ts rest (inl h) n = let m : base h.0 ≡ None = ap base h.2 ∙ n in let e0 = keyword_at keywords.Short ts h.0 h.1 in let e1 = still_int (after_keyword h.0) h.0 m in rw (e0, e1) (ap (found bases.Short) h.2)
-base_complete bases.Short ts rest (inr (inl h)) n = let e0 = keyword_at keywords.Short ts h.0 h.1 in let e1 = keyword_at keywords.Int h.0 h.2.0 h.2.1 in rw (e0, e1) (ap (found bases.Short) h.2.2)
-base_complete bases.Short ts rest (inr (inr (inl h))) n = let m : base h.2.0 ≡ None = ap base h.2.2 ∙ n in let e0 = keyword_at keywords.Signed ts h.0 h.1 in let e1 = keyword_at keywords.Short h.0 h.2.0 h.2.1 in let e2 = still_int (after_keyword h.2.0) h.2.0 m in rw (e0, e1, e2) (ap (found bases.Short) h.2.2)
-base_complete bases.Short ts rest (inr (inr (inr (inl h)))) n = let e0 = keyword_at keywords.Signed ts h.0 h.1 in let e1 = keyword_at keywords.Short h.0 h.2.0 h.2.1 in let e2 = keyword_at keywords.Int h.2.0 h.2.2.0 h.2.2.1 in rw (e0, e1, e2) (ap (found bases.Short) h.2.2.2)
+base_complete bases.Short ts rest (inl h) n = let m : base h.0 ≡ None = ap base h.2 ∙ n in let e0 =
+    keyword_at keywords.Short ts h.0 h.1 in let e1 = still_int (after_keyword h.0) h.0 m in
+    rw (e0, e1) (ap (found bases.Short) h.2)
+base_complete bases.Short ts rest (inr (inl h)) n = let e0 = keyword_at keywords.Short ts h.0 h.1 in
+    let e1 = keyword_at keywords.Int h.0 h.2.0 h.2.1 in rw (e0, e1) (ap (found bases.Short) h.2.2)
+base_complete bases.Short ts rest (inr (inr (inl h))) n = let m : base h.2.0 ≡ None =
+    ap base h.2.2 ∙ n in let e0 = keyword_at keywords.Signed ts h.0 h.1 in let e1 =
+    keyword_at keywords.Short h.0 h.2.0 h.2.1 in let e2 = still_int (after_keyword h.2.0) h.2.0 m in
+    rw (e0, e1, e2) (ap (found bases.Short) h.2.2)
+base_complete bases.Short ts rest (inr (inr (inr (inl h)))) n = let e0 =
+    keyword_at keywords.Signed ts h.0 h.1 in let e1 = keyword_at keywords.Short h.0 h.2.0 h.2.1 in
+    let e2 = keyword_at keywords.Int h.2.0 h.2.2.0 h.2.2.1 in
+    rw (e0, e1, e2) (ap (found bases.Short) h.2.2.2)
 base_complete bases.Short ts rest (inr (inr (inr (inr h)))) n = absurd h
-base_complete bases.UnsignedShort ts rest (inl h) n = let m : base h.2.0 ≡ None = ap base h.2.2 ∙ n in let e0 = keyword_at keywords.Unsigned ts h.0 h.1 in let e1 = keyword_at keywords.Short h.0 h.2.0 h.2.1 in let e2 = still_int (after_keyword h.2.0) h.2.0 m in rw (e0, e1, e2) (ap (found bases.UnsignedShort) h.2.2)
-base_complete bases.UnsignedShort ts rest (inr (inl h)) n = let e0 = keyword_at keywords.Unsigned ts h.0 h.1 in let e1 = keyword_at keywords.Short h.0 h.2.0 h.2.1 in let e2 = keyword_at keywords.Int h.2.0 h.2.2.0 h.2.2.1 in rw (e0, e1, e2) (ap (found bases.UnsignedShort) h.2.2.2)
+base_complete bases.UnsignedShort ts rest (inl h) n = let m : base h.2.0 ≡ None =
+    ap base h.2.2 ∙ n in let e0 = keyword_at keywords.Unsigned ts h.0 h.1 in let e1 =
+    keyword_at keywords.Short h.0 h.2.0 h.2.1 in let e2 = still_int (after_keyword h.2.0) h.2.0 m in
+    rw (e0, e1, e2) (ap (found bases.UnsignedShort) h.2.2)
+base_complete bases.UnsignedShort ts rest (inr (inl h)) n = let e0 =
+    keyword_at keywords.Unsigned ts h.0 h.1 in let e1 = keyword_at keywords.Short h.0 h.2.0 h.2.1 in
+    let e2 = keyword_at keywords.Int h.2.0 h.2.2.0 h.2.2.1 in
+    rw (e0, e1, e2) (ap (found bases.UnsignedShort) h.2.2.2)
 base_complete bases.UnsignedShort ts rest (inr (inr h)) n = absurd h
-base_complete bases.Int ts rest (inl h) n = let e0 = keyword_at keywords.Int ts h.0 h.1 in rw e0 (ap (found bases.Int) h.2)
-base_complete bases.Int ts rest (inr (inl h)) n = let m : base h.0 ≡ None = ap base h.2 ∙ n in let e0 = keyword_at keywords.Signed ts h.0 h.1 in let e1 = still_signed (after_keyword h.0) h.0 m in rw (e0, e1) (ap (found bases.Int) h.2)
-base_complete bases.Int ts rest (inr (inr (inl h))) n = let e0 = keyword_at keywords.Signed ts h.0 h.1 in let e1 = keyword_at keywords.Int h.0 h.2.0 h.2.1 in rw (e0, e1) (ap (found bases.Int) h.2.2)
-base_complete bases.Int ts rest (inr (inr (inr (inl h)))) n = let m : base h.0 ≡ None = ap base h.2 ∙ n in let e0 = keyword_at keywords.Long ts h.0 h.1 in let e1 = still_long bases.Int bases.LongLong (after_keyword h.0) h.0 m refl in rw (e0, e1) (ap (found bases.Int) h.2)
-base_complete bases.Int ts rest (inr (inr (inr (inr (inl h))))) n = let e0 = keyword_at keywords.Long ts h.0 h.1 in let e1 = keyword_at keywords.Int h.0 h.2.0 h.2.1 in rw (e0, e1, e1) (ap (found bases.Int) h.2.2)
-base_complete bases.Int ts rest (inr (inr (inr (inr (inr (inl h)))))) n = let m : base h.2.0 ≡ None = ap base h.2.2 ∙ n in let e0 = keyword_at keywords.Signed ts h.0 h.1 in let e1 = keyword_at keywords.Long h.0 h.2.0 h.2.1 in let e2 = still_long bases.Int bases.LongLong (after_keyword h.2.0) h.2.0 m refl in rw (e0, e1, e2) (ap (found bases.Int) h.2.2)
-base_complete bases.Int ts rest (inr (inr (inr (inr (inr (inr (inl h))))))) n = let e0 = keyword_at keywords.Signed ts h.0 h.1 in let e1 = keyword_at keywords.Long h.0 h.2.0 h.2.1 in let e2 = keyword_at keywords.Int h.2.0 h.2.2.0 h.2.2.1 in rw (e0, e1, e2, e2) (ap (found bases.Int) h.2.2.2)
+base_complete bases.Int ts rest (inl h) n = let e0 = keyword_at keywords.Int ts h.0 h.1 in
+    rw e0 (ap (found bases.Int) h.2)
+base_complete bases.Int ts rest (inr (inl h)) n = let m : base h.0 ≡ None = ap base h.2 ∙ n in
+    let e0 = keyword_at keywords.Signed ts h.0 h.1 in let e1 =
+    still_signed (after_keyword h.0) h.0 m in rw (e0, e1) (ap (found bases.Int) h.2)
+base_complete bases.Int ts rest (inr (inr (inl h))) n = let e0 =
+    keyword_at keywords.Signed ts h.0 h.1 in let e1 = keyword_at keywords.Int h.0 h.2.0 h.2.1 in
+    rw (e0, e1) (ap (found bases.Int) h.2.2)
+base_complete bases.Int ts rest (inr (inr (inr (inl h)))) n = let m : base h.0 ≡ None =
+    ap base h.2 ∙ n in let e0 = keyword_at keywords.Long ts h.0 h.1 in let e1 =
+    still_long bases.Int bases.LongLong (after_keyword h.0) h.0 m refl in
+    rw (e0, e1) (ap (found bases.Int) h.2)
+base_complete bases.Int ts rest (inr (inr (inr (inr (inl h))))) n = let e0 =
+    keyword_at keywords.Long ts h.0 h.1 in let e1 = keyword_at keywords.Int h.0 h.2.0 h.2.1 in
+    rw (e0, e1, e1) (ap (found bases.Int) h.2.2)
+base_complete bases.Int ts rest (inr (inr (inr (inr (inr (inl h)))))) n =
+    let m : base h.2.0 ≡ None = ap base h.2.2 ∙ n in let e0 =
+    keyword_at keywords.Signed ts h.0 h.1 in let e1 = keyword_at keywords.Long h.0 h.2.0 h.2.1 in
+    let e2 = still_long bases.Int bases.LongLong (after_keyword h.2.0) h.2.0 m refl in
+    rw (e0, e1, e2) (ap (found bases.Int) h.2.2)
+base_complete bases.Int ts rest (inr (inr (inr (inr (inr (inr (inl h))))))) n = let e0 =
+    keyword_at keywords.Signed ts h.0 h.1 in let e1 = keyword_at keywords.Long h.0 h.2.0 h.2.1 in
+    let e2 = keyword_at keywords.Int h.2.0 h.2.2.0 h.2.2.1 in
+    rw (e0, e1, e2, e2) (ap (found bases.Int) h.2.2.2)
 base_complete bases.Int ts rest (inr (inr (inr (inr (inr (inr (inr h))))))) n = absurd h
-base_complete bases.Unsigned ts rest (inl h) n = let m : base h.0 ≡ None = ap base h.2 ∙ n in let e0 = keyword_at keywords.Unsigned ts h.0 h.1 in let e1 = still_unsigned (after_keyword h.0) h.0 m in rw (e0, e1) (ap (found bases.Unsigned) h.2)
-base_complete bases.Unsigned ts rest (inr (inl h)) n = let e0 = keyword_at keywords.Unsigned ts h.0 h.1 in let e1 = keyword_at keywords.Int h.0 h.2.0 h.2.1 in rw (e0, e1) (ap (found bases.Unsigned) h.2.2)
-base_complete bases.Unsigned ts rest (inr (inr (inl h))) n = let m : base h.2.0 ≡ None = ap base h.2.2 ∙ n in let e0 = keyword_at keywords.Unsigned ts h.0 h.1 in let e1 = keyword_at keywords.Long h.0 h.2.0 h.2.1 in let e2 = still_long bases.Unsigned bases.UnsignedLongLong (after_keyword h.2.0) h.2.0 m refl in rw (e0, e1, e2) (ap (found bases.Unsigned) h.2.2)
-base_complete bases.Unsigned ts rest (inr (inr (inr (inl h)))) n = let e0 = keyword_at keywords.Unsigned ts h.0 h.1 in let e1 = keyword_at keywords.Long h.0 h.2.0 h.2.1 in let e2 = keyword_at keywords.Int h.2.0 h.2.2.0 h.2.2.1 in rw (e0, e1, e2, e2) (ap (found bases.Unsigned) h.2.2.2)
+base_complete bases.Unsigned ts rest (inl h) n = let m : base h.0 ≡ None = ap base h.2 ∙ n in
+    let e0 = keyword_at keywords.Unsigned ts h.0 h.1 in let e1 =
+    still_unsigned (after_keyword h.0) h.0 m in rw (e0, e1) (ap (found bases.Unsigned) h.2)
+base_complete bases.Unsigned ts rest (inr (inl h)) n = let e0 =
+    keyword_at keywords.Unsigned ts h.0 h.1 in let e1 = keyword_at keywords.Int h.0 h.2.0 h.2.1 in
+    rw (e0, e1) (ap (found bases.Unsigned) h.2.2)
+base_complete bases.Unsigned ts rest (inr (inr (inl h))) n = let m : base h.2.0 ≡ None =
+    ap base h.2.2 ∙ n in let e0 = keyword_at keywords.Unsigned ts h.0 h.1 in let e1 =
+    keyword_at keywords.Long h.0 h.2.0 h.2.1 in let e2 =
+    still_long bases.Unsigned bases.UnsignedLongLong (after_keyword h.2.0) h.2.0 m refl in
+    rw (e0, e1, e2) (ap (found bases.Unsigned) h.2.2)
+base_complete bases.Unsigned ts rest (inr (inr (inr (inl h)))) n = let e0 =
+    keyword_at keywords.Unsigned ts h.0 h.1 in let e1 = keyword_at keywords.Long h.0 h.2.0 h.2.1 in
+    let e2 = keyword_at keywords.Int h.2.0 h.2.2.0 h.2.2.1 in
+    rw (e0, e1, e2, e2) (ap (found bases.Unsigned) h.2.2.2)
 base_complete bases.Unsigned ts rest (inr (inr (inr (inr h)))) n = absurd h
-base_complete bases.LongLong ts rest (inl h) n = let m : base h.2.0 ≡ None = ap base h.2.2 ∙ n in let e0 = keyword_at keywords.Long ts h.0 h.1 in let e1 = keyword_at keywords.Long h.0 h.2.0 h.2.1 in let e2 = still_int (after_keyword h.2.0) h.2.0 m in rw (e0, e1, e2) (ap (found bases.LongLong) h.2.2)
-base_complete bases.LongLong ts rest (inr (inl h)) n = let e0 = keyword_at keywords.Long ts h.0 h.1 in let e1 = keyword_at keywords.Long h.0 h.2.0 h.2.1 in let e2 = keyword_at keywords.Int h.2.0 h.2.2.0 h.2.2.1 in rw (e0, e1, e2) (ap (found bases.LongLong) h.2.2.2)
-base_complete bases.LongLong ts rest (inr (inr (inl h))) n = let m : base h.2.2.0 ≡ None = ap base h.2.2.2 ∙ n in let e0 = keyword_at keywords.Signed ts h.0 h.1 in let e1 = keyword_at keywords.Long h.0 h.2.0 h.2.1 in let e2 = keyword_at keywords.Long h.2.0 h.2.2.0 h.2.2.1 in let e3 = still_int (after_keyword h.2.2.0) h.2.2.0 m in rw (e0, e1, e2, e3) (ap (found bases.LongLong) h.2.2.2)
-base_complete bases.LongLong ts rest (inr (inr (inr (inl h)))) n = let e0 = keyword_at keywords.Signed ts h.0 h.1 in let e1 = keyword_at keywords.Long h.0 h.2.0 h.2.1 in let e2 = keyword_at keywords.Long h.2.0 h.2.2.0 h.2.2.1 in let e3 = keyword_at keywords.Int h.2.2.0 h.2.2.2.0 h.2.2.2.1 in rw (e0, e1, e2, e3) (ap (found bases.LongLong) h.2.2.2.2)
+base_complete bases.LongLong ts rest (inl h) n = let m : base h.2.0 ≡ None = ap base h.2.2 ∙ n in
+    let e0 = keyword_at keywords.Long ts h.0 h.1 in let e1 =
+    keyword_at keywords.Long h.0 h.2.0 h.2.1 in let e2 = still_int (after_keyword h.2.0) h.2.0 m in
+    rw (e0, e1, e2) (ap (found bases.LongLong) h.2.2)
+base_complete bases.LongLong ts rest (inr (inl h)) n = let e0 =
+    keyword_at keywords.Long ts h.0 h.1 in let e1 = keyword_at keywords.Long h.0 h.2.0 h.2.1 in
+    let e2 = keyword_at keywords.Int h.2.0 h.2.2.0 h.2.2.1 in
+    rw (e0, e1, e2) (ap (found bases.LongLong) h.2.2.2)
+base_complete bases.LongLong ts rest (inr (inr (inl h))) n = let m : base h.2.2.0 ≡ None =
+    ap base h.2.2.2 ∙ n in let e0 = keyword_at keywords.Signed ts h.0 h.1 in let e1 =
+    keyword_at keywords.Long h.0 h.2.0 h.2.1 in let e2 =
+    keyword_at keywords.Long h.2.0 h.2.2.0 h.2.2.1 in let e3 =
+    still_int (after_keyword h.2.2.0) h.2.2.0 m in
+    rw (e0, e1, e2, e3) (ap (found bases.LongLong) h.2.2.2)
+base_complete bases.LongLong ts rest (inr (inr (inr (inl h)))) n = let e0 =
+    keyword_at keywords.Signed ts h.0 h.1 in let e1 = keyword_at keywords.Long h.0 h.2.0 h.2.1 in
+    let e2 = keyword_at keywords.Long h.2.0 h.2.2.0 h.2.2.1 in let e3 =
+    keyword_at keywords.Int h.2.2.0 h.2.2.2.0 h.2.2.2.1 in
+    rw (e0, e1, e2, e3) (ap (found bases.LongLong) h.2.2.2.2)
 base_complete bases.LongLong ts rest (inr (inr (inr (inr h)))) n = absurd h
-base_complete bases.UnsignedLongLong ts rest (inl h) n = let m : base h.2.2.0 ≡ None = ap base h.2.2.2 ∙ n in let e0 = keyword_at keywords.Unsigned ts h.0 h.1 in let e1 = keyword_at keywords.Long h.0 h.2.0 h.2.1 in let e2 = keyword_at keywords.Long h.2.0 h.2.2.0 h.2.2.1 in let e3 = still_int (after_keyword h.2.2.0) h.2.2.0 m in rw (e0, e1, e2, e3) (ap (found bases.UnsignedLongLong) h.2.2.2)
-base_complete bases.UnsignedLongLong ts rest (inr (inl h)) n = let e0 = keyword_at keywords.Unsigned ts h.0 h.1 in let e1 = keyword_at keywords.Long h.0 h.2.0 h.2.1 in let e2 = keyword_at keywords.Long h.2.0 h.2.2.0 h.2.2.1 in let e3 = keyword_at keywords.Int h.2.2.0 h.2.2.2.0 h.2.2.2.1 in rw (e0, e1, e2, e3) (ap (found bases.UnsignedLongLong) h.2.2.2.2)
+base_complete bases.UnsignedLongLong ts rest (inl h) n = let m : base h.2.2.0 ≡ None =
+    ap base h.2.2.2 ∙ n in let e0 = keyword_at keywords.Unsigned ts h.0 h.1 in let e1 =
+    keyword_at keywords.Long h.0 h.2.0 h.2.1 in let e2 =
+    keyword_at keywords.Long h.2.0 h.2.2.0 h.2.2.1 in let e3 =
+    still_int (after_keyword h.2.2.0) h.2.2.0 m in
+    rw (e0, e1, e2, e3) (ap (found bases.UnsignedLongLong) h.2.2.2)
+base_complete bases.UnsignedLongLong ts rest (inr (inl h)) n = let e0 =
+    keyword_at keywords.Unsigned ts h.0 h.1 in let e1 = keyword_at keywords.Long h.0 h.2.0 h.2.1 in
+    let e2 = keyword_at keywords.Long h.2.0 h.2.2.0 h.2.2.1 in let e3 =
+    keyword_at keywords.Int h.2.2.0 h.2.2.2.0 h.2.2.2.1 in
+    rw (e0, e1, e2, e3) (ap (found bases.UnsignedLongLong) h.2.2.2.2)
 base_complete bases.UnsignedLongLong ts rest (inr (inr h)) n = absurd h
 
 -- ---- stars
 
-more_stars : (n : ℕ) (ts rest after : List Token) → AreStars n ts rest → HasPunctuator punctuators.Star rest after → AreStars (suc n) ts after
-more_stars zero ts rest after h g = (after, subst (λ (x : List Token). HasPunctuator punctuators.Star x after) (sym h) g, refl)
+more_stars : (n : ℕ) (ts rest after : List Token) → AreStars n ts rest
+    → HasPunctuator punctuators.Star rest after → AreStars (suc n) ts after
+more_stars zero ts rest after h g =
+    (after, subst (λ (x : List Token). HasPunctuator punctuators.Star x after) (sym h) g, refl)
 more_stars (suc n) ts rest after h g = (h.0, h.1, more_stars n h.0 rest after h.2 g)
 
-pub one_star : (n : ℕ) (ts rest after : List Token) → AreStars n ts rest → HasPunctuator punctuators.Star rest after → AreStars (n + 1) ts after
-one_star n ts rest after h g = let p : suc n ≡ n + 1 = omega arith in subst (λ (m : ℕ). AreStars m ts after) p (more_stars n ts rest after h g)
+pub one_star : (n : ℕ) (ts rest after : List Token) → AreStars n ts rest
+    → HasPunctuator punctuators.Star rest after → AreStars (n + 1) ts after
+one_star n ts rest after h g = let p : suc n ≡ n + 1 = omega arith in
+    subst (λ (m : ℕ). AreStars m ts after) p (more_stars n ts rest after h g)
 
-pub star_shorter : (ts rest : List Token) → HasPunctuator punctuators.Star ts rest → length ts ≡ suc (length rest)
+pub star_shorter : (ts rest : List Token) → HasPunctuator punctuators.Star ts rest
+    → length ts ≡ suc (length rest)
 star_shorter ts rest h = ap length h.1.1
 
-pub punctuator_shorter : (s : Punctuator) (at : ℕ) (ts rest : List Token) → IsPunctuator s at ts rest → length ts ≡ suc (length rest)
+pub punctuator_shorter : (s : Punctuator) (at : ℕ) (ts rest : List Token)
+    → IsPunctuator s at ts rest → length ts ≡ suc (length rest)
 punctuator_shorter s at ts rest h = ap length h.1
 
 -- ---- what is read is a type
@@ -164,7 +258,8 @@ prefixed k [] = []
 prefixed k (ks ∷ more) = (k ∷ ks) ∷ prefixed k more
 
 -- the keywords of one of these lists, after one keyword
-following : (k : Keyword) (kss : List (List Keyword)) (ts mid rest : List Token) → HasKeyword k ts mid → IsOneOf kss mid rest → IsOneOf (prefixed k kss) ts rest
+following : (k : Keyword) (kss : List (List Keyword)) (ts mid rest : List Token)
+    → HasKeyword k ts mid → IsOneOf kss mid rest → IsOneOf (prefixed k kss) ts rest
 following k [] ts mid rest h g = absurd g
 following k (ks ∷ more) ts mid rest h (inl g) = inl (mid, h, g)
 following k (ks ∷ more) ts mid rest h (inr g) = inr (following k more ts mid rest h g)
@@ -173,18 +268,30 @@ abbrev maybe_int : List (List Keyword)
 maybe_int = [] ∷ (keywords.Int ∷ []) ∷ []
 
 abbrev maybe_long : List (List Keyword)
-maybe_long = [] ∷ (keywords.Int ∷ []) ∷ (keywords.Long ∷ []) ∷ (keywords.Long ∷ keywords.Int ∷ []) ∷ []
+maybe_long = [] ∷ (keywords.Int ∷ []) ∷ (keywords.Long ∷ []) ∷ (keywords.Long ∷ keywords.Int ∷ [])
+    ∷ []
 
-int_read : (o : Option (Keyword × List Token)) (ts : List Token) → after_keyword ts ≡ o → IsOneOf maybe_int ts (int_or o ts)
-int_read (Some (keywords.Int, rest)) ts e = inr (inl (rest, keyword_is ts rest keywords.Int e, refl))
+int_read : (o : Option (Keyword × List Token)) (ts : List Token) → after_keyword ts ≡ o
+    → IsOneOf maybe_int ts (int_or o ts)
+int_read (Some (keywords.Int, rest)) ts e =
+    inr (inl (rest, keyword_is ts rest keywords.Int e, refl))
 int_read o ts e = inl refl
 
 -- `long` names the one base or the other
 record Longs (plain wide b : Base) (ts rest : List Token) : Type 0 where
-  read : ((b ≡ plain) × IsOneOf maybe_int ts rest) ⊎ ((b ≡ wide) × IsOneOf (prefixed keywords.Long maybe_int) ts rest)
+  read : ((b ≡ plain) × IsOneOf maybe_int ts rest)
+      ⊎ ((b ≡ wide) × IsOneOf (prefixed keywords.Long maybe_int) ts rest)
 
-long_read : (p w : Base) (o : Option (Keyword × List Token)) (ts : List Token) → after_keyword ts ≡ o → Longs p w (long_or p w o ts).0 ts (long_or p w o ts).1
-long_read p w (Some (keywords.Long, rest)) ts e = record { read = inr (refl, following keywords.Long maybe_int ts rest (past_int rest) (keyword_is ts rest keywords.Long e) (int_read (after_keyword rest) rest refl)) }
+long_read : (p w : Base) (o : Option (Keyword × List Token)) (ts : List Token)
+    → after_keyword ts ≡ o → Longs p w (long_or p w o ts).0 ts (long_or p w o ts).1
+long_read p w (Some (keywords.Long, rest)) ts e =
+    record {
+      read = inr (
+        refl,
+        following keywords.Long maybe_int ts rest (past_int rest)
+            (keyword_is ts rest keywords.Long e) (int_read (after_keyword rest) rest refl),
+      );
+    }
 long_read p w o ts e = record { read = inl (refl, int_read (after_keyword ts) ts refl) }
 
 -- Lists after keywords that were read, as spellings of a base.
@@ -196,12 +303,16 @@ short_puts ts rest (inl h) = inl h
 short_puts ts rest (inr (inl h)) = inr (inl h)
 short_puts ts rest (inr (inr h)) = absurd h
 
-signed_short_puts : Puts ((keywords.Signed ∷ keywords.Short ∷ []) ∷ (keywords.Signed ∷ keywords.Short ∷ keywords.Int ∷ []) ∷ []) bases.Short
+signed_short_puts : Puts
+    ((keywords.Signed ∷ keywords.Short ∷ [])
+    ∷ (keywords.Signed ∷ keywords.Short ∷ keywords.Int ∷ []) ∷ []) bases.Short
 signed_short_puts ts rest (inl h) = inr (inr (inl h))
 signed_short_puts ts rest (inr (inl h)) = inr (inr (inr (inl h)))
 signed_short_puts ts rest (inr (inr h)) = absurd h
 
-unsigned_short_puts : Puts ((keywords.Unsigned ∷ keywords.Short ∷ []) ∷ (keywords.Unsigned ∷ keywords.Short ∷ keywords.Int ∷ []) ∷ []) bases.UnsignedShort
+unsigned_short_puts : Puts
+    ((keywords.Unsigned ∷ keywords.Short ∷ [])
+    ∷ (keywords.Unsigned ∷ keywords.Short ∷ keywords.Int ∷ []) ∷ []) bases.UnsignedShort
 unsigned_short_puts ts rest (inl h) = inl h
 unsigned_short_puts ts rest (inr (inl h)) = inr (inl h)
 unsigned_short_puts ts rest (inr (inr h)) = absurd h
@@ -211,27 +322,38 @@ long_puts ts rest (inl h) = inr (inr (inr (inl h)))
 long_puts ts rest (inr (inl h)) = inr (inr (inr (inr (inl h))))
 long_puts ts rest (inr (inr h)) = absurd h
 
-long_long_puts : Puts ((keywords.Long ∷ keywords.Long ∷ []) ∷ (keywords.Long ∷ keywords.Long ∷ keywords.Int ∷ []) ∷ []) bases.LongLong
+long_long_puts : Puts
+    ((keywords.Long ∷ keywords.Long ∷ []) ∷ (keywords.Long ∷ keywords.Long ∷ keywords.Int ∷ [])
+    ∷ []) bases.LongLong
 long_long_puts ts rest (inl h) = inl h
 long_long_puts ts rest (inr (inl h)) = inr (inl h)
 long_long_puts ts rest (inr (inr h)) = absurd h
 
-signed_long_puts : Puts ((keywords.Signed ∷ keywords.Long ∷ []) ∷ (keywords.Signed ∷ keywords.Long ∷ keywords.Int ∷ []) ∷ []) bases.Int
+signed_long_puts : Puts
+    ((keywords.Signed ∷ keywords.Long ∷ []) ∷ (keywords.Signed ∷ keywords.Long ∷ keywords.Int ∷ [])
+    ∷ []) bases.Int
 signed_long_puts ts rest (inl h) = inr (inr (inr (inr (inr (inl h)))))
 signed_long_puts ts rest (inr (inl h)) = inr (inr (inr (inr (inr (inr (inl h))))))
 signed_long_puts ts rest (inr (inr h)) = absurd h
 
-signed_long_long_puts : Puts ((keywords.Signed ∷ keywords.Long ∷ keywords.Long ∷ []) ∷ (keywords.Signed ∷ keywords.Long ∷ keywords.Long ∷ keywords.Int ∷ []) ∷ []) bases.LongLong
+signed_long_long_puts : Puts
+    ((keywords.Signed ∷ keywords.Long ∷ keywords.Long ∷ [])
+    ∷ (keywords.Signed ∷ keywords.Long ∷ keywords.Long ∷ keywords.Int ∷ []) ∷ []) bases.LongLong
 signed_long_long_puts ts rest (inl h) = inr (inr (inl h))
 signed_long_long_puts ts rest (inr (inl h)) = inr (inr (inr (inl h)))
 signed_long_long_puts ts rest (inr (inr h)) = absurd h
 
-unsigned_long_puts : Puts ((keywords.Unsigned ∷ keywords.Long ∷ []) ∷ (keywords.Unsigned ∷ keywords.Long ∷ keywords.Int ∷ []) ∷ []) bases.Unsigned
+unsigned_long_puts : Puts
+    ((keywords.Unsigned ∷ keywords.Long ∷ [])
+    ∷ (keywords.Unsigned ∷ keywords.Long ∷ keywords.Int ∷ []) ∷ []) bases.Unsigned
 unsigned_long_puts ts rest (inl h) = inr (inr (inl h))
 unsigned_long_puts ts rest (inr (inl h)) = inr (inr (inr (inl h)))
 unsigned_long_puts ts rest (inr (inr h)) = absurd h
 
-unsigned_long_long_puts : Puts ((keywords.Unsigned ∷ keywords.Long ∷ keywords.Long ∷ []) ∷ (keywords.Unsigned ∷ keywords.Long ∷ keywords.Long ∷ keywords.Int ∷ []) ∷ []) bases.UnsignedLongLong
+unsigned_long_long_puts : Puts
+    ((keywords.Unsigned ∷ keywords.Long ∷ keywords.Long ∷ [])
+    ∷ (keywords.Unsigned ∷ keywords.Long ∷ keywords.Long ∷ keywords.Int ∷ []) ∷ [])
+    bases.UnsignedLongLong
 unsigned_long_long_puts ts rest (inl h) = inl h
 unsigned_long_long_puts ts rest (inr (inl h)) = inr (inl h)
 unsigned_long_long_puts ts rest (inr (inr h)) = absurd h
@@ -239,54 +361,108 @@ unsigned_long_long_puts ts rest (inr (inr h)) = absurd h
 as_base : (b c : Base) (ts rest : List Token) → c ≡ b → IsBase b ts rest → IsBase c ts rest
 as_base b c ts rest e h = subst (λ (x : Base). IsBase x ts rest) (sym e) h
 
-signed_read : (o : Option (Keyword × List Token)) (ts mid : List Token) → HasKeyword keywords.Signed ts mid → after_keyword mid ≡ o → IsBase (signed_or o mid).0 ts (signed_or o mid).1
-signed_read (Some (keywords.Char, rest)) ts mid h e = inr (inl (mid, h, (rest, keyword_is mid rest keywords.Char e, refl)))
-signed_read (Some (keywords.Int, rest)) ts mid h e = inr (inr (inl (mid, h, (rest, keyword_is mid rest keywords.Int e, refl))))
+signed_read : (o : Option (Keyword × List Token)) (ts mid : List Token)
+    → HasKeyword keywords.Signed ts mid → after_keyword mid ≡ o
+    → IsBase (signed_or o mid).0 ts (signed_or o mid).1
+signed_read (Some (keywords.Char, rest)) ts mid h e =
+    inr (inl (mid, h, (rest, keyword_is mid rest keywords.Char e, refl)))
+signed_read (Some (keywords.Int, rest)) ts mid h e =
+    inr (inr (inl (mid, h, (rest, keyword_is mid rest keywords.Int e, refl))))
 signed_read (Some (keywords.Long, rest)) ts mid h e =
     let r = long_read bases.Int bases.LongLong (after_keyword rest) rest refl in
     let k = keyword_is mid rest keywords.Long e in
     elim (r.read) [
-      | inl x ↦ as_base bases.Int (long bases.Int bases.LongLong rest).0 ts ((long bases.Int bases.LongLong rest).1) x.0 (signed_long_puts ts ((long bases.Int bases.LongLong rest).1) (following keywords.Signed (prefixed keywords.Long maybe_int) ts mid ((long bases.Int bases.LongLong rest).1) h (following keywords.Long maybe_int mid rest ((long bases.Int bases.LongLong rest).1) k x.1)))
-      | inr x ↦ as_base bases.LongLong (long bases.Int bases.LongLong rest).0 ts ((long bases.Int bases.LongLong rest).1) x.0 (signed_long_long_puts ts ((long bases.Int bases.LongLong rest).1) (following keywords.Signed (prefixed keywords.Long (prefixed keywords.Long maybe_int)) ts mid ((long bases.Int bases.LongLong rest).1) h (following keywords.Long (prefixed keywords.Long maybe_int) mid rest ((long bases.Int bases.LongLong rest).1) k x.1)))
+      | inl x ↦ as_base bases.Int (long bases.Int bases.LongLong rest).0 ts
+          ((long bases.Int bases.LongLong rest).1) x.0
+          (signed_long_puts ts ((long bases.Int bases.LongLong rest).1)
+          (following keywords.Signed (prefixed keywords.Long maybe_int) ts mid
+          ((long bases.Int bases.LongLong rest).1) h
+          (following keywords.Long maybe_int mid rest ((long bases.Int bases.LongLong rest).1) k
+          x.1)))
+      | inr x ↦ as_base bases.LongLong (long bases.Int bases.LongLong rest).0 ts
+          ((long bases.Int bases.LongLong rest).1) x.0
+          (signed_long_long_puts ts ((long bases.Int bases.LongLong rest).1)
+          (following keywords.Signed (prefixed keywords.Long (prefixed keywords.Long maybe_int)) ts
+          mid ((long bases.Int bases.LongLong rest).1) h
+          (following keywords.Long (prefixed keywords.Long maybe_int) mid rest
+          ((long bases.Int bases.LongLong rest).1) k x.1)))
     ]
-signed_read (Some (keywords.Short, rest)) ts mid h e = signed_short_puts ts (past_int rest) (following keywords.Signed (prefixed keywords.Short maybe_int) ts mid (past_int rest) h (following keywords.Short maybe_int mid rest (past_int rest) (keyword_is mid rest keywords.Short e) (int_read (after_keyword rest) rest refl)))
+signed_read (Some (keywords.Short, rest)) ts mid h e =
+    signed_short_puts ts (past_int rest)
+    (following keywords.Signed (prefixed keywords.Short maybe_int) ts mid (past_int rest) h
+    (following keywords.Short maybe_int mid rest (past_int rest)
+    (keyword_is mid rest keywords.Short e) (int_read (after_keyword rest) rest refl)))
 signed_read o ts mid h e = inr (inl (mid, h, refl))
 
-unsigned_read : (o : Option (Keyword × List Token)) (ts mid : List Token) → HasKeyword keywords.Unsigned ts mid → after_keyword mid ≡ o → IsBase (unsigned_or o mid).0 ts (unsigned_or o mid).1
-unsigned_read (Some (keywords.Char, rest)) ts mid h e = inl (mid, h, (rest, keyword_is mid rest keywords.Char e, refl))
-unsigned_read (Some (keywords.Int, rest)) ts mid h e = inr (inl (mid, h, (rest, keyword_is mid rest keywords.Int e, refl)))
+unsigned_read : (o : Option (Keyword × List Token)) (ts mid : List Token)
+    → HasKeyword keywords.Unsigned ts mid → after_keyword mid ≡ o
+    → IsBase (unsigned_or o mid).0 ts (unsigned_or o mid).1
+unsigned_read (Some (keywords.Char, rest)) ts mid h e =
+    inl (mid, h, (rest, keyword_is mid rest keywords.Char e, refl))
+unsigned_read (Some (keywords.Int, rest)) ts mid h e =
+    inr (inl (mid, h, (rest, keyword_is mid rest keywords.Int e, refl)))
 unsigned_read (Some (keywords.Long, rest)) ts mid h e =
     let r = long_read bases.Unsigned bases.UnsignedLongLong (after_keyword rest) rest refl in
     let k = keyword_is mid rest keywords.Long e in
     elim (r.read) [
-      | inl x ↦ as_base bases.Unsigned (long bases.Unsigned bases.UnsignedLongLong rest).0 ts ((long bases.Unsigned bases.UnsignedLongLong rest).1) x.0 (unsigned_long_puts ts ((long bases.Unsigned bases.UnsignedLongLong rest).1) (following keywords.Unsigned (prefixed keywords.Long maybe_int) ts mid ((long bases.Unsigned bases.UnsignedLongLong rest).1) h (following keywords.Long maybe_int mid rest ((long bases.Unsigned bases.UnsignedLongLong rest).1) k x.1)))
-      | inr x ↦ as_base bases.UnsignedLongLong (long bases.Unsigned bases.UnsignedLongLong rest).0 ts ((long bases.Unsigned bases.UnsignedLongLong rest).1) x.0 (unsigned_long_long_puts ts ((long bases.Unsigned bases.UnsignedLongLong rest).1) (following keywords.Unsigned (prefixed keywords.Long (prefixed keywords.Long maybe_int)) ts mid ((long bases.Unsigned bases.UnsignedLongLong rest).1) h (following keywords.Long (prefixed keywords.Long maybe_int) mid rest ((long bases.Unsigned bases.UnsignedLongLong rest).1) k x.1)))
+      | inl x ↦ as_base bases.Unsigned (long bases.Unsigned bases.UnsignedLongLong rest).0 ts
+          ((long bases.Unsigned bases.UnsignedLongLong rest).1) x.0
+          (unsigned_long_puts ts ((long bases.Unsigned bases.UnsignedLongLong rest).1)
+          (following keywords.Unsigned (prefixed keywords.Long maybe_int) ts mid
+          ((long bases.Unsigned bases.UnsignedLongLong rest).1) h
+          (following keywords.Long maybe_int mid rest
+          ((long bases.Unsigned bases.UnsignedLongLong rest).1) k x.1)))
+      | inr x ↦ as_base bases.UnsignedLongLong (long bases.Unsigned bases.UnsignedLongLong rest).0
+          ts ((long bases.Unsigned bases.UnsignedLongLong rest).1) x.0
+          (unsigned_long_long_puts ts ((long bases.Unsigned bases.UnsignedLongLong rest).1)
+          (following keywords.Unsigned (prefixed keywords.Long (prefixed keywords.Long maybe_int))
+          ts mid ((long bases.Unsigned bases.UnsignedLongLong rest).1) h
+          (following keywords.Long (prefixed keywords.Long maybe_int) mid rest
+          ((long bases.Unsigned bases.UnsignedLongLong rest).1) k x.1)))
     ]
-unsigned_read (Some (keywords.Short, rest)) ts mid h e = unsigned_short_puts ts (past_int rest) (following keywords.Unsigned (prefixed keywords.Short maybe_int) ts mid (past_int rest) h (following keywords.Short maybe_int mid rest (past_int rest) (keyword_is mid rest keywords.Short e) (int_read (after_keyword rest) rest refl)))
+unsigned_read (Some (keywords.Short, rest)) ts mid h e =
+    unsigned_short_puts ts (past_int rest)
+    (following keywords.Unsigned (prefixed keywords.Short maybe_int) ts mid (past_int rest) h
+    (following keywords.Short maybe_int mid rest (past_int rest)
+    (keyword_is mid rest keywords.Short e) (int_read (after_keyword rest) rest refl)))
 unsigned_read o ts mid h e = inl (mid, h, refl)
 
 abbrev Based : List Token → Option (Base × List Token) → Type 0
 Based ts None = Unit {0}
 Based ts (Some x) = IsBase x.0 ts x.1
 
-base_read : (o : Option (Keyword × List Token)) (ts : List Token) → after_keyword ts ≡ o → Based ts (base_or o)
+base_read : (o : Option (Keyword × List Token)) (ts : List Token) → after_keyword ts ≡ o
+    → Based ts (base_or o)
 base_read (Some (keywords.Char, rest)) ts e = inl (rest, keyword_is ts rest keywords.Char e, refl)
 base_read (Some (keywords.Int, rest)) ts e = inl (rest, keyword_is ts rest keywords.Int e, refl)
 base_read (Some (keywords.Long, rest)) ts e =
     let r = long_read bases.Int bases.LongLong (after_keyword rest) rest refl in
     let k = keyword_is ts rest keywords.Long e in
     elim (r.read) [
-      | inl x ↦ as_base bases.Int (long bases.Int bases.LongLong rest).0 ts ((long bases.Int bases.LongLong rest).1) x.0 (long_puts ts ((long bases.Int bases.LongLong rest).1) (following keywords.Long maybe_int ts rest ((long bases.Int bases.LongLong rest).1) k x.1))
-      | inr x ↦ as_base bases.LongLong (long bases.Int bases.LongLong rest).0 ts ((long bases.Int bases.LongLong rest).1) x.0 (long_long_puts ts ((long bases.Int bases.LongLong rest).1) (following keywords.Long (prefixed keywords.Long maybe_int) ts rest ((long bases.Int bases.LongLong rest).1) k x.1))
+      | inl x ↦ as_base bases.Int (long bases.Int bases.LongLong rest).0 ts
+          ((long bases.Int bases.LongLong rest).1) x.0
+          (long_puts ts ((long bases.Int bases.LongLong rest).1)
+          (following keywords.Long maybe_int ts rest ((long bases.Int bases.LongLong rest).1) k
+          x.1))
+      | inr x ↦ as_base bases.LongLong (long bases.Int bases.LongLong rest).0 ts
+          ((long bases.Int bases.LongLong rest).1) x.0
+          (long_long_puts ts ((long bases.Int bases.LongLong rest).1)
+          (following keywords.Long (prefixed keywords.Long maybe_int) ts rest
+          ((long bases.Int bases.LongLong rest).1) k x.1))
     ]
-base_read (Some (keywords.Short, rest)) ts e = short_puts ts (past_int rest) (following keywords.Short maybe_int ts rest (past_int rest) (keyword_is ts rest keywords.Short e) (int_read (after_keyword rest) rest refl))
-base_read (Some (keywords.Signed, rest)) ts e = signed_read (after_keyword rest) ts rest (keyword_is ts rest keywords.Signed e) refl
-base_read (Some (keywords.Unsigned, rest)) ts e = unsigned_read (after_keyword rest) ts rest (keyword_is ts rest keywords.Unsigned e) refl
+base_read (Some (keywords.Short, rest)) ts e =
+    short_puts ts (past_int rest) (following keywords.Short maybe_int ts rest (past_int rest)
+    (keyword_is ts rest keywords.Short e) (int_read (after_keyword rest) rest refl))
+base_read (Some (keywords.Signed, rest)) ts e =
+    signed_read (after_keyword rest) ts rest (keyword_is ts rest keywords.Signed e) refl
+base_read (Some (keywords.Unsigned, rest)) ts e =
+    unsigned_read (after_keyword rest) ts rest (keyword_is ts rest keywords.Unsigned e) refl
 base_read (Some (keywords.Void, rest)) ts e = inl (rest, keyword_is ts rest keywords.Void e, refl)
 base_read o ts e = tt
 
 pub base_sound : (ts : List Token) (x : Base × List Token) → base ts ≡ Some x → IsBase x.0 ts x.1
-base_sound ts x e = subst (λ (o : Option (Base × List Token)). Based ts o) e (base_read (after_keyword ts) ts refl)
+base_sound ts x e = subst (λ (o : Option (Base × List Token)). Based ts o) e
+    (base_read (after_keyword ts) ts refl)
 
 -- ---- whole types
 
@@ -304,46 +480,74 @@ none_read ts (Some x) e n = absurd (n x.0 x.1 (base_sound ts x e))
 pub no_base : (ts : List Token) → NoBase ts → base ts ≡ None
 no_base ts n = none_read ts (base ts) refl n
 
-pub base_only : (b : Base) (ts rest : List Token) → IsBase b ts rest → NoBase rest → base ts ≡ found b rest
+pub base_only : (b : Base) (ts rest : List Token) → IsBase b ts rest → NoBase rest
+    → base ts ≡ found b rest
 base_only b ts rest h n = base_complete b ts rest h (no_base rest n)
 
 -- a base is at the front of whatever one is read from
 base_begins : (b : Base) (ts rest : List Token) → IsBase b ts rest → base ts ≡ None → ⊥
-base_begins bases.Void ts rest (inl h) e = let k = ap base_or (keyword_at keywords.Void ts h.0 h.1) in cc
+base_begins bases.Void ts rest (inl h) e = let k =
+    ap base_or (keyword_at keywords.Void ts h.0 h.1) in cc
 base_begins bases.Void ts rest (inr h) e = absurd h
-base_begins bases.Char ts rest (inl h) e = let k = ap base_or (keyword_at keywords.Char ts h.0 h.1) in cc
-base_begins bases.Char ts rest (inr (inl h)) e = let k = ap base_or (keyword_at keywords.Signed ts h.0 h.1) in cc
+base_begins bases.Char ts rest (inl h) e = let k =
+    ap base_or (keyword_at keywords.Char ts h.0 h.1) in cc
+base_begins bases.Char ts rest (inr (inl h)) e = let k =
+    ap base_or (keyword_at keywords.Signed ts h.0 h.1) in cc
 base_begins bases.Char ts rest (inr (inr h)) e = absurd h
-base_begins bases.UnsignedChar ts rest (inl h) e = let k = ap base_or (keyword_at keywords.Unsigned ts h.0 h.1) in cc
+base_begins bases.UnsignedChar ts rest (inl h) e = let k =
+    ap base_or (keyword_at keywords.Unsigned ts h.0 h.1) in cc
 base_begins bases.UnsignedChar ts rest (inr h) e = absurd h
-base_begins bases.Short ts rest (inl h) e = let k = ap base_or (keyword_at keywords.Short ts h.0 h.1) in cc
-base_begins bases.Short ts rest (inr (inl h)) e = let k = ap base_or (keyword_at keywords.Short ts h.0 h.1) in cc
-base_begins bases.Short ts rest (inr (inr (inl h))) e = let k = ap base_or (keyword_at keywords.Signed ts h.0 h.1) in cc
-base_begins bases.Short ts rest (inr (inr (inr (inl h)))) e = let k = ap base_or (keyword_at keywords.Signed ts h.0 h.1) in cc
+base_begins bases.Short ts rest (inl h) e = let k =
+    ap base_or (keyword_at keywords.Short ts h.0 h.1) in cc
+base_begins bases.Short ts rest (inr (inl h)) e = let k =
+    ap base_or (keyword_at keywords.Short ts h.0 h.1) in cc
+base_begins bases.Short ts rest (inr (inr (inl h))) e = let k =
+    ap base_or (keyword_at keywords.Signed ts h.0 h.1) in cc
+base_begins bases.Short ts rest (inr (inr (inr (inl h)))) e = let k =
+    ap base_or (keyword_at keywords.Signed ts h.0 h.1) in cc
 base_begins bases.Short ts rest (inr (inr (inr (inr h)))) e = absurd h
-base_begins bases.UnsignedShort ts rest (inl h) e = let k = ap base_or (keyword_at keywords.Unsigned ts h.0 h.1) in cc
-base_begins bases.UnsignedShort ts rest (inr (inl h)) e = let k = ap base_or (keyword_at keywords.Unsigned ts h.0 h.1) in cc
+base_begins bases.UnsignedShort ts rest (inl h) e = let k =
+    ap base_or (keyword_at keywords.Unsigned ts h.0 h.1) in cc
+base_begins bases.UnsignedShort ts rest (inr (inl h)) e = let k =
+    ap base_or (keyword_at keywords.Unsigned ts h.0 h.1) in cc
 base_begins bases.UnsignedShort ts rest (inr (inr h)) e = absurd h
-base_begins bases.Int ts rest (inl h) e = let k = ap base_or (keyword_at keywords.Int ts h.0 h.1) in cc
-base_begins bases.Int ts rest (inr (inl h)) e = let k = ap base_or (keyword_at keywords.Signed ts h.0 h.1) in cc
-base_begins bases.Int ts rest (inr (inr (inl h))) e = let k = ap base_or (keyword_at keywords.Signed ts h.0 h.1) in cc
-base_begins bases.Int ts rest (inr (inr (inr (inl h)))) e = let k = ap base_or (keyword_at keywords.Long ts h.0 h.1) in cc
-base_begins bases.Int ts rest (inr (inr (inr (inr (inl h))))) e = let k = ap base_or (keyword_at keywords.Long ts h.0 h.1) in cc
-base_begins bases.Int ts rest (inr (inr (inr (inr (inr (inl h)))))) e = let k = ap base_or (keyword_at keywords.Signed ts h.0 h.1) in cc
-base_begins bases.Int ts rest (inr (inr (inr (inr (inr (inr (inl h))))))) e = let k = ap base_or (keyword_at keywords.Signed ts h.0 h.1) in cc
+base_begins bases.Int ts rest (inl h) e = let k = ap base_or (keyword_at keywords.Int ts h.0 h.1) in
+    cc
+base_begins bases.Int ts rest (inr (inl h)) e = let k =
+    ap base_or (keyword_at keywords.Signed ts h.0 h.1) in cc
+base_begins bases.Int ts rest (inr (inr (inl h))) e = let k =
+    ap base_or (keyword_at keywords.Signed ts h.0 h.1) in cc
+base_begins bases.Int ts rest (inr (inr (inr (inl h)))) e = let k =
+    ap base_or (keyword_at keywords.Long ts h.0 h.1) in cc
+base_begins bases.Int ts rest (inr (inr (inr (inr (inl h))))) e = let k =
+    ap base_or (keyword_at keywords.Long ts h.0 h.1) in cc
+base_begins bases.Int ts rest (inr (inr (inr (inr (inr (inl h)))))) e = let k =
+    ap base_or (keyword_at keywords.Signed ts h.0 h.1) in cc
+base_begins bases.Int ts rest (inr (inr (inr (inr (inr (inr (inl h))))))) e = let k =
+    ap base_or (keyword_at keywords.Signed ts h.0 h.1) in cc
 base_begins bases.Int ts rest (inr (inr (inr (inr (inr (inr (inr h))))))) e = absurd h
-base_begins bases.Unsigned ts rest (inl h) e = let k = ap base_or (keyword_at keywords.Unsigned ts h.0 h.1) in cc
-base_begins bases.Unsigned ts rest (inr (inl h)) e = let k = ap base_or (keyword_at keywords.Unsigned ts h.0 h.1) in cc
-base_begins bases.Unsigned ts rest (inr (inr (inl h))) e = let k = ap base_or (keyword_at keywords.Unsigned ts h.0 h.1) in cc
-base_begins bases.Unsigned ts rest (inr (inr (inr (inl h)))) e = let k = ap base_or (keyword_at keywords.Unsigned ts h.0 h.1) in cc
+base_begins bases.Unsigned ts rest (inl h) e = let k =
+    ap base_or (keyword_at keywords.Unsigned ts h.0 h.1) in cc
+base_begins bases.Unsigned ts rest (inr (inl h)) e = let k =
+    ap base_or (keyword_at keywords.Unsigned ts h.0 h.1) in cc
+base_begins bases.Unsigned ts rest (inr (inr (inl h))) e = let k =
+    ap base_or (keyword_at keywords.Unsigned ts h.0 h.1) in cc
+base_begins bases.Unsigned ts rest (inr (inr (inr (inl h)))) e = let k =
+    ap base_or (keyword_at keywords.Unsigned ts h.0 h.1) in cc
 base_begins bases.Unsigned ts rest (inr (inr (inr (inr h)))) e = absurd h
-base_begins bases.LongLong ts rest (inl h) e = let k = ap base_or (keyword_at keywords.Long ts h.0 h.1) in cc
-base_begins bases.LongLong ts rest (inr (inl h)) e = let k = ap base_or (keyword_at keywords.Long ts h.0 h.1) in cc
-base_begins bases.LongLong ts rest (inr (inr (inl h))) e = let k = ap base_or (keyword_at keywords.Signed ts h.0 h.1) in cc
-base_begins bases.LongLong ts rest (inr (inr (inr (inl h)))) e = let k = ap base_or (keyword_at keywords.Signed ts h.0 h.1) in cc
+base_begins bases.LongLong ts rest (inl h) e = let k =
+    ap base_or (keyword_at keywords.Long ts h.0 h.1) in cc
+base_begins bases.LongLong ts rest (inr (inl h)) e = let k =
+    ap base_or (keyword_at keywords.Long ts h.0 h.1) in cc
+base_begins bases.LongLong ts rest (inr (inr (inl h))) e = let k =
+    ap base_or (keyword_at keywords.Signed ts h.0 h.1) in cc
+base_begins bases.LongLong ts rest (inr (inr (inr (inl h)))) e = let k =
+    ap base_or (keyword_at keywords.Signed ts h.0 h.1) in cc
 base_begins bases.LongLong ts rest (inr (inr (inr (inr h)))) e = absurd h
-base_begins bases.UnsignedLongLong ts rest (inl h) e = let k = ap base_or (keyword_at keywords.Unsigned ts h.0 h.1) in cc
-base_begins bases.UnsignedLongLong ts rest (inr (inl h)) e = let k = ap base_or (keyword_at keywords.Unsigned ts h.0 h.1) in cc
+base_begins bases.UnsignedLongLong ts rest (inl h) e = let k =
+    ap base_or (keyword_at keywords.Unsigned ts h.0 h.1) in cc
+base_begins bases.UnsignedLongLong ts rest (inr (inl h)) e = let k =
+    ap base_or (keyword_at keywords.Unsigned ts h.0 h.1) in cc
 base_begins bases.UnsignedLongLong ts rest (inr (inr h)) e = absurd h
 
 pub read_none : (ts : List Token) → base ts ≡ None → NoBase ts
@@ -352,12 +556,17 @@ read_none ts e = λ b rest h. base_begins b ts rest h e
 pub stars_no_base : (n : ℕ) (ts rest : List Token) → AreStars n ts rest → NoBase rest → NoBase ts
 stars_no_base n ts rest h x = read_none ts (stars_none n ts rest h (no_base rest x))
 
-pub type_from : (mid rest end : List Token) (b : Base) (n : ℕ) (t : CType) {o : List Token} → found b mid ≡ found t.base o → AreStars n mid rest → NoStar rest → AreStars t.pointers o end → NoStar end → typed b n rest ≡ typed t.base t.pointers end
+pub type_from : (mid rest end : List Token) (b : Base) (n : ℕ) (t : CType) {o : List Token}
+    → found b mid ≡ found t.base o → AreStars n mid rest → NoStar rest → AreStars t.pointers o end
+    → NoStar end → typed b n rest ≡ typed t.base t.pointers end
 type_from mid rest end b n t {o = o} d a s h y =
     let f : ◌≡◌ {A = Base × List Token} (b, mid) (t.base, o) = cc in
-    let q = stars_once n t.pointers mid o rest end (ap (λ (z : Base × List Token). z.1) f) s y a h in
-    ap (λ (z : Base × List Token). typed z.0 n rest) f ∙ ap (λ (m : ℕ). typed t.base m rest) q.0 ∙ ap (λ (z : List Token). typed t.base t.pointers z) q.1
+    let q = stars_once n t.pointers mid o rest end (ap (λ (z : Base × List Token). z.1) f) s y a
+    h in
+    ap (λ (z : Base × List Token). typed z.0 n rest) f ∙ ap (λ (m : ℕ). typed t.base m rest) q.0
+    ∙ ap (λ (z : List Token). typed t.base t.pointers z) q.1
 
-pub found_so : {U : Type 0} (r : Option U) (f : U → Base × List Token) (ts : List Token) → option_map f r ≡ base ts → IfSome r (λ x. IsBase (f x).0 ts (f x).1)
+pub found_so : {U : Type 0} (r : Option U) (f : U → Base × List Token) (ts : List Token)
+    → option_map f r ≡ base ts → IfSome r (λ x. IsBase (f x).0 ts (f x).1)
 found_so None f ts e = tt
 found_so (Some x) f ts e = base_sound ts (f x) (sym e)

@@ -1,6 +1,7 @@
 -- There is one tree at most for a declaration, for a statement that no `else` follows, and for what
 -- a block holds.
-use Rattle.std.proofs.Common.{◌≡◌, ◌≤◌, ◌<◌, ℕ, Bool, true, false, IsTrue, IsFalse, List, [], ◌∷◌, Option, Some, None, refl, sym, ap, ◌∙◌, subst, arith}
+use Rattle.std.proofs.Common.{◌≡◌, ◌≤◌, ◌<◌, ℕ, Bool, true, false, IsTrue, IsFalse, List, [], ◌∷◌}
+use Rattle.std.proofs.Common.{Option, Some, None, refl, sym, ap, ◌∙◌, subst, arith}
 use Rattle.c_lex.specs.declared.keyword.Keyword.{Keyword}
 use Rattle.c_lex.specs.declared.keyword.Keyword.TheVariants as keywords
 use Rattle.c_lex.specs.declared.punctuator.Punctuator.{Punctuator}
@@ -14,15 +15,24 @@ use Rattle.c_syntax.specs.Expression.{Expression}
 use Rattle.c_syntax.specs.Expressions.{Derives}
 use Rattle.c_syntax.specs.Follow.{punctuator_follows, follows, Stops, NoElse, Closed, OneStatement}
 use Rattle.c_syntax.specs.Operators.{assignment, comma}
-use Rattle.c_syntax.specs.Statement.{Local, ForInitialiser, Declaring, Evaluating, Statement, Declare, Block, Evaluate, If, IfElse, While, DoWhile, For, Return, Break, Continue, Leave, TryExcept, TryFinally, Statements, Empty, Then}
-use Rattle.c_syntax.specs.Statements.{IsInitialiser, IsLocal, AreMoreLocals, AreLocals, IsDeclaration, IsOptional, IsCondition, IsForInitialiser, dangles, IsBlockItem, AreBlockItems}
+use Rattle.c_syntax.specs.Statement.{Local, ForInitialiser, Declaring, Evaluating, Statement}
+use Rattle.c_syntax.specs.Statement.{Declare, Block, Evaluate, If, IfElse, While, DoWhile, For}
+use Rattle.c_syntax.specs.Statement.{Return, Break, Continue, Leave, TryExcept, TryFinally}
+use Rattle.c_syntax.specs.Statement.{Statements, Empty, Then}
+use Rattle.c_syntax.specs.Statements.{IsInitialiser, IsLocal, AreMoreLocals, AreLocals}
+use Rattle.c_syntax.specs.Statements.{IsDeclaration, IsOptional, IsCondition, IsForInitialiser}
+use Rattle.c_syntax.specs.Statements.{dangles, IsBlockItem, AreBlockItems}
 use Rattle.c_syntax.specs.Tokens.{IsKeyword, IsIdentifier, HasPunctuator, HasKeyword}
-use Rattle.c_syntax.proofs.Fronts.{kind_same, has_same, keyword_same, name_same, punctuator_class, kind_class, front, base_front, base_once, NoType, NoStar, stars_once, stars_front}
+use Rattle.c_syntax.proofs.Fronts.{kind_same, has_same, keyword_same, name_same, punctuator_class}
+use Rattle.c_syntax.proofs.Fronts.{kind_class, front, base_front, base_once, NoType, NoStar}
+use Rattle.c_syntax.proofs.Fronts.{stars_once, stars_front}
 use Rattle.c_syntax.proofs.Spine.{follows_punctuator}
 use Rattle.c_syntax.proofs.Once.{one_expression, has_stops, expression_front, has_front}
 use Rattle.c_syntax.proofs.Separated.{more_stop, separated_once}
 
--- ---- what the first token begins: 0 an expression statement, 1 a declaration, 2 to 11 another statement
+-- ---- what the first token begins
+
+-- 0 an expression statement, 1 a declaration, 2 to 11 another statement
 
 abbrev pub keyword_begins : Keyword → ℕ
 keyword_begins keywords.Break = 8
@@ -129,46 +139,69 @@ typed_begins (t ∷ ts) h = kind_typed t.kind h
 -- ---- expressions between punctuators
 
 -- an expression up to a punctuator that ends it
-pub up_to : (text : List ℕ) (s : Punctuator) (e f : Expression) (ts us rest end r q : List Token) → ts ≡ us → comma < punctuator_follows s → Derives text comma e ts rest → Derives text comma f us end → HasPunctuator s rest r → HasPunctuator s end q → (e ≡ f) × (r ≡ q)
+pub up_to : (text : List ℕ) (s : Punctuator) (e f : Expression) (ts us rest end r q : List Token)
+    → ts ≡ us → comma < punctuator_follows s → Derives text comma e ts rest
+    → Derives text comma f us end → HasPunctuator s rest r → HasPunctuator s end q
+    → (e ≡ f) × (r ≡ q)
 up_to text s e f ts us rest end r q p l h g x y =
-    let k : Derives text comma f ts end = subst (λ (z : List Token). Derives text comma f z end) (sym p) g in
-    let a = one_expression text comma e f ts rest end h k (has_stops s rest r comma x l) (has_stops s end q comma y l) in
+    let k : Derives text comma f ts end = subst (λ (z : List Token). Derives text comma f z end)
+    (sym p) g in
+    let a = one_expression text comma e f ts rest end h k (has_stops s rest r comma x l)
+    (has_stops s end q comma y l) in
     (a.0, has_same s rest end r q a.1 x y)
 
-pub optional : (text : List ℕ) (s : Punctuator) (e f : Option Expression) (ts us rest end r q : List Token) → ts ≡ us → comma < punctuator_follows s → punctuator_class s ≡ 6 → IsOptional text e ts rest → IsOptional text f us end → HasPunctuator s rest r → HasPunctuator s end q → (e ≡ f) × (r ≡ q)
-optional text s None None ts us rest end r q p l c h g x y = (refl, has_same s rest end r q (sym h ∙ p ∙ g) x y)
+pub optional : (text : List ℕ) (s : Punctuator) (e f : Option Expression)
+    (ts us rest end r q : List Token) → ts ≡ us → comma < punctuator_follows s
+    → punctuator_class s ≡ 6 → IsOptional text e ts rest → IsOptional text f us end
+    → HasPunctuator s rest r → HasPunctuator s end q → (e ≡ f) × (r ≡ q)
+optional text s None None ts us rest end r q p l c h g x y =
+    (refl, has_same s rest end r q (sym h ∙ p ∙ g) x y)
 optional text s None (Some f) ts us rest end r q p l c h g x y =
-    let a = has_front s rest r x in let b = expression_front text f us end g.spells in let d = ap front h in let m = ap front p in absurd (omega arith)
+    let a = has_front s rest r x in let b = expression_front text f us end g.spells in let d =
+    ap front h in let m = ap front p in absurd (omega arith)
 optional text s (Some e) None ts us rest end r q p l c h g x y =
-    let a = has_front s end q y in let b = expression_front text e ts rest h.spells in let d = ap front g in let m = ap front p in absurd (omega arith)
-optional text s (Some e) (Some f) ts us rest end r q p l c h g x y = let a = up_to text s e f ts us rest end r q p l h g x y in (ap (λ (z : Expression). some z) a.0, a.1)
+    let a = has_front s end q y in let b = expression_front text e ts rest h.spells in let d =
+    ap front g in let m = ap front p in absurd (omega arith)
+optional text s (Some e) (Some f) ts us rest end r q p l c h g x y = let a =
+    up_to text s e f ts us rest end r q p l h g x y in (ap (λ (z : Expression). some z) a.0, a.1)
   where
     some : Expression → Option Expression
     some z = Some z
 
-pub condition : (text : List ℕ) (e f : Expression) (ts us rest end : List Token) → ts ≡ us → IsCondition text e ts rest → IsCondition text f us end → (e ≡ f) × (rest ≡ end)
+pub condition : (text : List ℕ) (e f : Expression) (ts us rest end : List Token) → ts ≡ us
+    → IsCondition text e ts rest → IsCondition text f us end → (e ≡ f) × (rest ≡ end)
 condition text e f ts us rest end p h g =
-    let a = has_same punctuators.OpenParenthesis ts us h.after_opening g.after_opening p h.opening g.opening in
-    up_to text punctuators.CloseParenthesis e f h.after_opening g.after_opening h.after_inner g.after_inner rest end a (omega arith) h.inner g.inner h.closing g.closing
+    let a = has_same punctuators.OpenParenthesis ts us h.after_opening g.after_opening p h.opening
+    g.opening in
+    up_to text punctuators.CloseParenthesis e f h.after_opening g.after_opening h.after_inner
+    g.after_inner rest end a (omega arith) h.inner g.inner h.closing g.closing
 
 -- ---- declarations
 
 abbrev present : Expression → Option Expression
 present e = Some e
 
-pub initialiser : (text : List ℕ) (e f : Option Expression) (ts us rest end : List Token) → ts ≡ us → Stops assignment rest → Stops assignment end → IsInitialiser text e ts rest → IsInitialiser text f us end → (e ≡ f) × (rest ≡ end)
+pub initialiser : (text : List ℕ) (e f : Option Expression) (ts us rest end : List Token) → ts ≡ us
+    → Stops assignment rest → Stops assignment end → IsInitialiser text e ts rest
+    → IsInitialiser text f us end → (e ≡ f) × (rest ≡ end)
 initialiser text None None ts us rest end p s z h g = (refl, sym h ∙ p ∙ g)
-initialiser text None (Some f) ts us rest end p s z h g = let a = follows_punctuator punctuators.Assign g.1.0 us g.0 assignment g.1.1 refl in let b = ap follows h in let c = ap follows p in absurd (omega arith)
-initialiser text (Some e) None ts us rest end p s z h g = let a = follows_punctuator punctuators.Assign h.1.0 ts h.0 assignment h.1.1 refl in let b = ap follows g in let c = ap follows p in absurd (omega arith)
+initialiser text None (Some f) ts us rest end p s z h (mid, (at, sign), value) = let a =
+    follows_punctuator punctuators.Assign at us mid assignment sign refl in let b = ap follows h in
+    let c = ap follows p in absurd (omega arith)
+initialiser text (Some e) None ts us rest end p s z (mid, (at, sign), value) g = let a =
+    follows_punctuator punctuators.Assign at ts mid assignment sign refl in let b = ap follows g in
+    let c = ap follows p in absurd (omega arith)
 initialiser text (Some e) (Some f) ts us rest end p s z h g =
     let a = has_same punctuators.Assign ts us h.0 g.0 p h.1 g.1 in
-    let k : Derives text assignment f h.0 end = subst (λ (x : List Token). Derives text assignment f x end) (sym a) g.2 in
+    let k : Derives text assignment f h.0 end =
+    subst (λ (x : List Token). Derives text assignment f x end) (sym a) g.2 in
     let b = one_expression text assignment e f h.0 rest end h.2 k s z in
     (ap present b.0, b.1)
 
 pub name_star : (name : Identifier) (ts rest : List Token) → IsIdentifier name ts rest → NoStar ts
 name_star name ts rest h = λ end g.
-    let q = kind_same kinds.Identifier (kinds.Punctuator punctuators.Star) name.start g.0 ts ts rest end refl (name.end, h) g.1 in
+    let q = kind_same kinds.Identifier (kinds.Punctuator punctuators.Star) name.start g.0 ts ts rest
+    end refl (name.end, h) g.1 in
     let e : kinds.Identifier ≡ kinds.Punctuator punctuators.Star = q.0 in cc
 
 pub name_type : (name : Identifier) (ts rest : List Token) → IsIdentifier name ts rest → NoType ts
@@ -177,47 +210,78 @@ name_type name ts rest h = λ e. let q : front ts ≡ 0 = ap front h in absurd (
 abbrev make : ℕ → Identifier → Option Expression → Local
 make n name e = record { pointers = n; name = name; initialiser = e }
 
-pub local : (text : List ℕ) (l m : Local) (ts us rest end : List Token) → ts ≡ us → Stops assignment rest → Stops assignment end → IsLocal text l ts rest → IsLocal text m us end → (l ≡ m) × (rest ≡ end)
+pub local : (text : List ℕ) (l m : Local) (ts us rest end : List Token) → ts ≡ us
+    → Stops assignment rest → Stops assignment end → IsLocal text l ts rest → IsLocal text m us end
+    → (l ≡ m) × (rest ≡ end)
 local text l m ts us rest end p s z h g =
-    let a = stars_once l.pointers m.pointers ts us h.after_stars g.after_stars p (name_star l.name h.after_stars h.after_name h.name) (name_star m.name g.after_stars g.after_name g.name) h.stars g.stars in
-    let b = name_same l.name m.name h.after_stars g.after_stars h.after_name g.after_name a.1 h.name g.name in
-    let c = initialiser text l.initialiser m.initialiser h.after_name g.after_name rest end b.1 s z h.initialiser g.initialiser in
-    (ap (λ (n : ℕ). make n l.name l.initialiser) a.0 ∙ ap (λ (n : Identifier). make m.pointers n l.initialiser) b.0 ∙ ap (λ (e : Option Expression). make m.pointers m.name e) c.0, c.1)
+    let a = stars_once l.pointers m.pointers ts us h.after_stars g.after_stars p
+    (name_star l.name h.after_stars h.after_name h.name)
+    (name_star m.name g.after_stars g.after_name g.name) h.stars g.stars in
+    let b = name_same l.name m.name h.after_stars g.after_stars h.after_name g.after_name a.1 h.name
+    g.name in
+    let c = initialiser text l.initialiser m.initialiser h.after_name g.after_name rest end b.1 s z
+    h.initialiser g.initialiser in (
+      ap (λ (n : ℕ). make n l.name l.initialiser) a.0
+          ∙ ap (λ (n : Identifier). make m.pointers n l.initialiser) b.0
+          ∙ ap (λ (e : Option Expression). make m.pointers m.name e) c.0,
+      c.1,
+    )
 
-pub locals_stop : (text : List ℕ) (ls : List Local) (ts rest : List Token) → AreMoreLocals text ls ts rest → Stops assignment ts
-locals_stop text ls ts rest h = more_stop (IsLocal text) punctuators.Semicolon ls ts rest (omega arith) h
+pub locals_stop : (text : List ℕ) (ls : List Local) (ts rest : List Token)
+    → AreMoreLocals text ls ts rest → Stops assignment ts
+locals_stop text ls ts rest h = more_stop (IsLocal text) punctuators.Semicolon ls ts rest
+    (omega arith) h
 
-pub locals : (text : List ℕ) (ls ms : List Local) (ts us rest end : List Token) → ts ≡ us → AreLocals text ls ts rest → AreLocals text ms us end → (ls ≡ ms) × (rest ≡ end)
+pub locals : (text : List ℕ) (ls ms : List Local) (ts us rest end : List Token) → ts ≡ us
+    → AreLocals text ls ts rest → AreLocals text ms us end → (ls ≡ ms) × (rest ≡ end)
 locals text ls ms ts us rest end p h g =
-    separated_once (IsLocal text) punctuators.Semicolon ls ms ts us rest end (local text) (omega arith) (λ e. cc) p h g
+    separated_once (IsLocal text) punctuators.Semicolon ls ms ts us rest end (local text)
+    (omega arith) (λ e. cc) p h g
 
-pub local_type : (text : List ℕ) (l : Local) (ts rest : List Token) → IsLocal text l ts rest → NoType ts
-local_type text l ts rest h = stars_front l.pointers ts h.after_stars (name_type l.name h.after_stars h.after_name h.name) h.stars
+pub local_type : (text : List ℕ) (l : Local) (ts rest : List Token) → IsLocal text l ts rest
+    → NoType ts
+local_type text l ts rest h =
+    stars_front l.pointers ts h.after_stars (name_type l.name h.after_stars h.after_name h.name)
+    h.stars
 
-pub locals_type : (text : List ℕ) (ls : List Local) (ts rest : List Token) → AreLocals text ls ts rest → NoType ts
+pub locals_type : (text : List ℕ) (ls : List Local) (ts rest : List Token)
+    → AreLocals text ls ts rest → NoType ts
 locals_type text [] ts rest h = absurd h
 locals_type text (l ∷ ls) ts rest h = local_type text l ts h.0 h.1
 
-pub declaration : (text : List ℕ) (b d : Base) (ls ms : List Local) (ts us rest end : List Token) → ts ≡ us → IsDeclaration text b ls ts rest → IsDeclaration text d ms us end → (b ≡ d) × (ls ≡ ms) × (rest ≡ end)
+pub declaration : (text : List ℕ) (b d : Base) (ls ms : List Local) (ts us rest end : List Token)
+    → ts ≡ us → IsDeclaration text b ls ts rest → IsDeclaration text d ms us end
+    → (b ≡ d) × (ls ≡ ms) × (rest ≡ end)
 declaration text b d ls ms ts us rest end p h g =
-    let x = base_once b d ts us h.0 g.0 p (locals_type text ls h.0 rest h.2) (locals_type text ms g.0 end g.2) h.1 g.1 in
+    let x = base_once b d ts us h.0 g.0 p (locals_type text ls h.0 rest h.2)
+    (locals_type text ms g.0 end g.2) h.1 g.1 in
     let y = locals text ls ms h.0 g.0 rest end x.1 h.2 g.2 in
     (x.0, y.0, y.1)
 
-pub optional_front : (text : List ℕ) (s : Punctuator) (e : Option Expression) (ts rest r : List Token) → punctuator_class s ≡ 6 → IsOptional text e ts rest → HasPunctuator s rest r → front ts ≤ 6
-optional_front text s None ts rest r c h x = let a = has_front s rest r x in let b = ap front h in omega arith
-optional_front text s (Some e) ts rest r c h x = let a = expression_front text e ts rest h.spells in omega arith
+pub optional_front : (text : List ℕ) (s : Punctuator) (e : Option Expression)
+    (ts rest r : List Token) → punctuator_class s ≡ 6 → IsOptional text e ts rest
+    → HasPunctuator s rest r → front ts ≤ 6
+optional_front text s None ts rest r c h x = let a = has_front s rest r x in let b = ap front h in
+    omega arith
+optional_front text s (Some e) ts rest r c h x = let a = expression_front text e ts rest h.spells in
+    omega arith
 
-pub first : (text : List ℕ) (f g : ForInitialiser) (ts us rest end : List Token) → ts ≡ us → IsForInitialiser text f ts rest → IsForInitialiser text g us end → (f ≡ g) × (rest ≡ end)
+pub first : (text : List ℕ) (f g : ForInitialiser) (ts us rest end : List Token) → ts ≡ us
+    → IsForInitialiser text f ts rest → IsForInitialiser text g us end → (f ≡ g) × (rest ≡ end)
 first text (Declaring b ls) (Declaring d ms) ts us rest end p h g =
     let a = declaration text b d ls ms ts us rest end p h g in
     (ap (λ (x : Base). Declaring x ls) a.0 ∙ ap (λ (x : List Local). Declaring d x) a.1, a.2)
 first text (Declaring b ls) (Evaluating f) ts us rest end p h g =
-    let a = base_front b ts h.0 h.1 in let c = optional_front text punctuators.Semicolon f us g.0 end refl g.1 g.2 in let d = ap front p in absurd (omega arith)
+    let a = base_front b ts h.0 h.1 in let c =
+    optional_front text punctuators.Semicolon f us g.0 end refl g.1 g.2 in let d = ap front p in
+    absurd (omega arith)
 first text (Evaluating e) (Declaring d ms) ts us rest end p h g =
-    let a = base_front d us g.0 g.1 in let c = optional_front text punctuators.Semicolon e ts h.0 rest refl h.1 h.2 in let b = ap front p in absurd (omega arith)
+    let a = base_front d us g.0 g.1 in let c =
+    optional_front text punctuators.Semicolon e ts h.0 rest refl h.1 h.2 in let b =
+    ap front p in absurd (omega arith)
 first text (Evaluating e) (Evaluating f) ts us rest end p h g =
-    let a = optional text punctuators.Semicolon e f ts us h.0 g.0 rest end p (omega arith) refl h.1 g.1 h.2 g.2 in
+    let a = optional text punctuators.Semicolon e f ts us h.0 g.0 rest end p (omega arith) refl h.1
+    g.1 h.2 g.2 in
     (ap (λ (x : Option Expression). Evaluating x) a.0, a.1)
 
 -- ---- first tokens of statements
@@ -238,47 +302,61 @@ item_class (Leave at) = 10
 item_class (TryExcept body at f handler) = 11
 item_class (TryFinally body at last) = 11
 
-optional_begins : (text : List ℕ) (e : Option Expression) (ts rest r : List Token) → IsOptional text e ts rest → HasPunctuator punctuators.Semicolon rest r → begins ts ≡ 0
-optional_begins text None ts rest r h x = ap begins (h ∙ x.1.1)
-optional_begins text (Some e) ts rest r h x = low_begins ts (expression_front text e ts rest h.spells)
+optional_begins : (text : List ℕ) (e : Option Expression) (ts rest r : List Token)
+    → IsOptional text e ts rest → HasPunctuator punctuators.Semicolon rest r → begins ts ≡ 0
+optional_begins text None ts rest r h (at, (last, split)) = ap begins (h ∙ split)
+optional_begins text (Some e) ts rest r h x =
+    low_begins ts (expression_front text e ts rest h.spells)
 
-pub item_begins : (text : List ℕ) (s : Statement) (ts rest : List Token) → IsBlockItem text s ts rest → begins ts ≡ item_class s
+pub item_begins : (text : List ℕ) (s : Statement) (ts rest : List Token)
+    → IsBlockItem text s ts rest → begins ts ≡ item_class s
 item_begins text (Declare base ls) ts rest h = typed_begins ts (base_front base ts h.0 h.1)
-item_begins text (Block ss) ts rest h = ap begins h.brace.1.1
+item_begins text (Block ss) ts rest h = let (at, (last, split)) = h.brace in ap begins split
 item_begins text (Evaluate e) ts rest h = optional_begins text e ts h.0 rest h.1 h.2
 item_begins text (If at c s) ts rest h = ap begins h.keyword.1
 item_begins text (IfElse at c s t) ts rest h = ap begins h.keyword.1
 item_begins text (While at c s) ts rest h = ap begins h.keyword.1
-item_begins text (DoWhile s at c) ts rest h = ap begins h.do_keyword.1.1
+item_begins text (DoWhile s at c) ts rest h = let (place, (last, split)) = h.do_keyword in
+    ap begins split
 item_begins text (For at f c n s) ts rest h = ap begins h.keyword.1
-item_begins text (Return at e) ts rest h = ap begins h.1.1
-item_begins text (Break at) ts rest h = ap begins h.1.1
-item_begins text (Continue at) ts rest h = ap begins h.1.1
-item_begins text (Leave at) ts rest h = ap begins h.1.1
-item_begins text (TryExcept body at f handler) ts rest h = ap begins h.try_keyword.1.1
-item_begins text (TryFinally body at last) ts rest h = ap begins h.try_keyword.1.1
+item_begins text (Return at e) ts rest (mid, (last, split), value) = ap begins split
+item_begins text (Break at) ts rest (mid, (last, split), semicolon) = ap begins split
+item_begins text (Continue at) ts rest (mid, (last, split), semicolon) = ap begins split
+item_begins text (Leave at) ts rest (mid, (last, split), semicolon) = ap begins split
+item_begins text (TryExcept body at f handler) ts rest h = let (place, (last, split)) =
+    h.try_keyword in ap begins split
+item_begins text (TryFinally body at last) ts rest h = let (place, (end, split)) = h.try_keyword in
+    ap begins split
 
 pub class_low : (s : Statement) → item_class s ≤ 11
 class_low (Declare base ls) = omega arith
 class_low s = omega arith
 
 pub no_else : (ts : List Token) → begins ts ≤ 11 → NoElse ts
-no_else ts h = λ end g. let e : begins ts ≡ 20 = ap begins g.1.1 in absurd (omega arith)
+no_else ts h = λ rest (at, (last, split)). let e : begins ts ≡ 20 = ap begins split in
+    absurd (omega arith)
 
 -- no `else` is after what is in a block
-pub items_else : (text : List ℕ) (ss : Statements) (ts rest : List Token) → AreBlockItems text ss ts rest → NoElse ts
+pub items_else : (text : List ℕ) (ss : Statements) (ts rest : List Token)
+    → AreBlockItems text ss ts rest → NoElse ts
 items_else text Empty ts rest h = λ end g.
-    let q = kind_same (kinds.Punctuator punctuators.CloseBrace) (kinds.Keyword keywords.Else) h.0 g.0 ts ts rest end refl h.1 g.1 in
+    let q = kind_same (kinds.Punctuator punctuators.CloseBrace) (kinds.Keyword keywords.Else) h.0
+    g.0 ts ts rest end refl h.1 g.1 in
     let e : kinds.Punctuator punctuators.CloseBrace ≡ kinds.Keyword keywords.Else = q.0 in cc
-items_else text (Then s ss) ts rest h = no_else ts (let a = item_begins text s ts h.0 h.1 in let b = class_low s in omega arith)
+items_else text (Then s ss) ts rest h =
+    no_else ts (let a = item_begins text s ts h.0 h.1 in let b = class_low s in omega arith)
 
-pub brace_begins : (ts rest : List Token) → HasPunctuator punctuators.CloseBrace ts rest → begins ts ≡ 20
-brace_begins ts rest h = ap begins h.1.1
+pub brace_begins : (ts rest : List Token) → HasPunctuator punctuators.CloseBrace ts rest
+    → begins ts ≡ 20
+brace_begins ts rest (at, (last, split)) = ap begins split
 
-pub place : (k : Keyword) (at to : ℕ) (ts us rest end : List Token) → ts ≡ us → IsKeyword k at ts rest → IsKeyword k to us end → (at ≡ to) × (rest ≡ end)
-place k at to ts us rest end p h g = let a = kind_same (kinds.Keyword k) (kinds.Keyword k) at to ts us rest end p h g in (a.1, a.2)
+pub place : (k : Keyword) (at to : ℕ) (ts us rest end : List Token) → ts ≡ us
+    → IsKeyword k at ts rest → IsKeyword k to us end → (at ≡ to) × (rest ≡ end)
+place k at to ts us rest end p h g = let a =
+    kind_same (kinds.Keyword k) (kinds.Keyword k) at to ts us rest end p h g in (a.1, a.2)
 
-pub word : (k : Keyword) (ts us rest end : List Token) → ts ≡ us → HasKeyword k ts rest → HasKeyword k us end → rest ≡ end
+pub word : (k : Keyword) (ts us rest end : List Token) → ts ≡ us → HasKeyword k ts rest
+    → HasKeyword k us end → rest ≡ end
 word k ts us rest end p h g = (keyword_same k k ts us rest end p h g).1
 
 pub absent : (s : Statement) (ts : List Token) → IsFalse (dangles s) → Closed s ts
@@ -291,17 +369,22 @@ absent s ts f = λ t. absurd (both (dangles s) t f)
 pub while_else : (at : ℕ) (ts rest : List Token) → IsKeyword keywords.While at ts rest → NoElse ts
 while_else at ts rest h = no_else ts (let a : begins ts ≡ 4 = ap begins h.1 in omega arith)
 
-pub else_at : (ts us rest : List Token) → ts ≡ us → HasKeyword keywords.Else us rest → HasKeyword keywords.Else ts rest
+pub else_at : (ts us rest : List Token) → ts ≡ us → HasKeyword keywords.Else us rest
+    → HasKeyword keywords.Else ts rest
 else_at ts us rest p h = subst (λ (x : List Token). HasKeyword keywords.Else x rest) (sym p) h
 
 -- statements that begin otherwise
-pub apart : (text : List ℕ) (s z : Statement) (ts us rest end : List Token) → ts ≡ us → IsBlockItem text s ts rest → IsBlockItem text z us end → (item_class s ≡ item_class z → ⊥) → ⊥
-apart text s z ts us rest end p h g n = n (sym (item_begins text s ts rest h) ∙ ap begins p ∙ item_begins text z us end g)
+pub apart : (text : List ℕ) (s z : Statement) (ts us rest end : List Token) → ts ≡ us
+    → IsBlockItem text s ts rest → IsBlockItem text z us end → (item_class s ≡ item_class z → ⊥) → ⊥
+apart text s z ts us rest end p h g n =
+    n (sym (item_begins text s ts rest h) ∙ ap begins p ∙ item_begins text z us end g)
 
 -- ---- statements
 
 mutual
-  pub same_item : (text : List ℕ) (s z : Statement) (ts us rest end : List Token) → ts ≡ us → IsBlockItem text s ts rest → IsBlockItem text z us end → Closed s rest → Closed z end → (s ≡ z) × (rest ≡ end)
+  pub same_item : (text : List ℕ) (s z : Statement) (ts us rest end : List Token) → ts ≡ us
+      → IsBlockItem text s ts rest → IsBlockItem text z us end → Closed s rest → Closed z end
+      → (s ≡ z) × (rest ≡ end)
   same_item text (Declare base ls) (Declare base' ls') ts us rest end p h g x y =
       let a = declaration text base base' ls ls' ts us rest end p h g in
       (ap (λ (x : Base). Declare x ls) a.0 ∙ ap (λ (x : List Local). Declare base' x) a.1, a.2)
@@ -309,80 +392,176 @@ mutual
       let a = has_same punctuators.OpenBrace ts us h.after_brace g.after_brace p h.brace g.brace in
       let b = same_items text ss ss' h.after_brace g.after_brace rest end a h.items g.items in
       (ap (λ (x : Statements). Block x) b.0, b.1)
-  same_item text (Evaluate e) (Declare base' ls') ts us rest end p h g x y = absurd (apart text (Evaluate e) (Declare base' ls') ts us rest end p h g (λ e. absurd (omega arith)))
-  same_item text (Evaluate e) (Block ss') ts us rest end p h g x y = absurd (apart text (Evaluate e) (Block ss') ts us rest end p h g (λ e. absurd (omega arith)))
+  same_item text (Evaluate e) (Declare base' ls') ts us rest end p h g x y =
+      absurd (apart text (Evaluate e) (Declare base' ls') ts us rest end p h g
+      (λ e. absurd (omega arith)))
+  same_item text (Evaluate e) (Block ss') ts us rest end p h g x y =
+      absurd (apart text (Evaluate e) (Block ss') ts us rest end p h g (λ e. absurd (omega arith)))
   same_item text (Evaluate e) (Evaluate e') ts us rest end p h g x y =
-      let a = optional text punctuators.Semicolon e e' ts us h.0 g.0 rest end p (omega arith) refl h.1 g.1 h.2 g.2 in
+      let a = optional text punctuators.Semicolon e e' ts us h.0 g.0 rest end p (omega arith) refl
+      h.1 g.1 h.2 g.2 in
       (ap (λ (x : Option Expression). Evaluate x) a.0, a.1)
-  same_item text (Evaluate e) (If at' c' s') ts us rest end p h g x y = absurd (apart text (Evaluate e) (If at' c' s') ts us rest end p h g (λ e. absurd (omega arith)))
-  same_item text (Evaluate e) (IfElse at' c' s' t') ts us rest end p h g x y = absurd (apart text (Evaluate e) (IfElse at' c' s' t') ts us rest end p h g (λ e. absurd (omega arith)))
-  same_item text (Evaluate e) (While at' c' s') ts us rest end p h g x y = absurd (apart text (Evaluate e) (While at' c' s') ts us rest end p h g (λ e. absurd (omega arith)))
-  same_item text (Evaluate e) (DoWhile s' at' c') ts us rest end p h g x y = absurd (apart text (Evaluate e) (DoWhile s' at' c') ts us rest end p h g (λ e. absurd (omega arith)))
-  same_item text (Evaluate e) (For at' f' c' n' s') ts us rest end p h g x y = absurd (apart text (Evaluate e) (For at' f' c' n' s') ts us rest end p h g (λ e. absurd (omega arith)))
-  same_item text (Evaluate e) (Return at' e') ts us rest end p h g x y = absurd (apart text (Evaluate e) (Return at' e') ts us rest end p h g (λ e. absurd (omega arith)))
-  same_item text (Evaluate e) (Break at') ts us rest end p h g x y = absurd (apart text (Evaluate e) (Break at') ts us rest end p h g (λ e. absurd (omega arith)))
-  same_item text (Evaluate e) (Continue at') ts us rest end p h g x y = absurd (apart text (Evaluate e) (Continue at') ts us rest end p h g (λ e. absurd (omega arith)))
-  same_item text (Evaluate e) (Leave at') ts us rest end p h g x y = absurd (apart text (Evaluate e) (Leave at') ts us rest end p h g (λ e. absurd (omega arith)))
-  same_item text (Evaluate e) (TryExcept body' at' f' handler') ts us rest end p h g x y = absurd (apart text (Evaluate e) (TryExcept body' at' f' handler') ts us rest end p h g (λ e. absurd (omega arith)))
-  same_item text (Evaluate e) (TryFinally body' at' last') ts us rest end p h g x y = absurd (apart text (Evaluate e) (TryFinally body' at' last') ts us rest end p h g (λ e. absurd (omega arith)))
+  same_item text (Evaluate e) (If at' c' s') ts us rest end p h g x y =
+      absurd (apart text (Evaluate e) (If at' c' s') ts us rest end p h g
+      (λ e. absurd (omega arith)))
+  same_item text (Evaluate e) (IfElse at' c' s' t') ts us rest end p h g x y =
+      absurd (apart text (Evaluate e) (IfElse at' c' s' t') ts us rest end p h g
+      (λ e. absurd (omega arith)))
+  same_item text (Evaluate e) (While at' c' s') ts us rest end p h g x y =
+      absurd (apart text (Evaluate e) (While at' c' s') ts us rest end p h g
+      (λ e. absurd (omega arith)))
+  same_item text (Evaluate e) (DoWhile s' at' c') ts us rest end p h g x y =
+      absurd (apart text (Evaluate e) (DoWhile s' at' c') ts us rest end p h g
+      (λ e. absurd (omega arith)))
+  same_item text (Evaluate e) (For at' f' c' n' s') ts us rest end p h g x y =
+      absurd (apart text (Evaluate e) (For at' f' c' n' s') ts us rest end p h g
+      (λ e. absurd (omega arith)))
+  same_item text (Evaluate e) (Return at' e') ts us rest end p h g x y =
+      absurd (apart text (Evaluate e) (Return at' e') ts us rest end p h g
+      (λ e. absurd (omega arith)))
+  same_item text (Evaluate e) (Break at') ts us rest end p h g x y =
+      absurd (apart text (Evaluate e) (Break at') ts us rest end p h g (λ e. absurd (omega arith)))
+  same_item text (Evaluate e) (Continue at') ts us rest end p h g x y =
+      absurd (apart text (Evaluate e) (Continue at') ts us rest end p h g
+      (λ e. absurd (omega arith)))
+  same_item text (Evaluate e) (Leave at') ts us rest end p h g x y =
+      absurd (apart text (Evaluate e) (Leave at') ts us rest end p h g (λ e. absurd (omega arith)))
+  same_item text (Evaluate e) (TryExcept body' at' f' handler') ts us rest end p h g x y =
+      absurd (apart text (Evaluate e) (TryExcept body' at' f' handler') ts us rest end p h g
+      (λ e. absurd (omega arith)))
+  same_item text (Evaluate e) (TryFinally body' at' last') ts us rest end p h g x y =
+      absurd (apart text (Evaluate e) (TryFinally body' at' last') ts us rest end p h g
+      (λ e. absurd (omega arith)))
   same_item text (If at c s) (If at' c' s') ts us rest end p h g x y =
-      let a = place keywords.If at at' ts us h.after_keyword g.after_keyword p h.keyword g.keyword in
-      let b = condition text c c' h.after_keyword g.after_keyword h.after_condition g.after_condition a.1 h.condition g.condition in
-      let d = same_item text s s' h.after_condition g.after_condition rest end b.1 h.body.item g.body.item (λ t. x refl) (λ t. y refl) in
-      (ap (λ (v : ℕ). If v c s) a.0 ∙ ap (λ (v : Expression). If at' v s) b.0 ∙ ap (λ (v : Statement). If at' c' v) d.0, d.1)
+      let a = place keywords.If at at' ts us h.after_keyword g.after_keyword p h.keyword
+      g.keyword in
+      let b = condition text c c' h.after_keyword g.after_keyword h.after_condition
+      g.after_condition a.1 h.condition g.condition in
+      let d = same_item text s s' h.after_condition g.after_condition rest end b.1 h.body.item
+      g.body.item (λ t. x refl) (λ t. y refl) in (
+        ap (λ (v : ℕ). If v c s) a.0 ∙ ap (λ (v : Expression). If at' v s) b.0
+            ∙ ap (λ (v : Statement). If at' c' v) d.0,
+        d.1,
+      )
   same_item text (If at c s) (IfElse at' c' s' t') ts us rest end p h g x y =
       let a = place keywords.If at at' ts us h.after_keyword g.after_if p h.keyword g.keyword in
-      let b = condition text c c' h.after_keyword g.after_if h.after_condition g.after_condition a.1 h.condition g.condition in
-      let d = same_item text s s' h.after_condition g.after_condition rest g.after_body b.1 h.body.item g.body.item (λ v. x refl) (absent s' g.after_body g.complete) in
+      let b = condition text c c' h.after_keyword g.after_if h.after_condition g.after_condition a.1
+      h.condition g.condition in
+      let d = same_item text s s' h.after_condition g.after_condition rest g.after_body b.1
+      h.body.item g.body.item (λ v. x refl) (absent s' g.after_body g.complete) in
       absurd (x refl g.after_else (else_at rest g.after_body g.after_else d.1 g.else_keyword))
   same_item text (IfElse at c s t) (If at' c' s') ts us rest end p h g x y =
       let a = place keywords.If at at' ts us h.after_if g.after_keyword p h.keyword g.keyword in
-      let b = condition text c c' h.after_if g.after_keyword h.after_condition g.after_condition a.1 h.condition g.condition in
-      let d = same_item text s s' h.after_condition g.after_condition h.after_body end b.1 h.body.item g.body.item (absent s h.after_body h.complete) (λ v. y refl) in
+      let b = condition text c c' h.after_if g.after_keyword h.after_condition g.after_condition a.1
+      h.condition g.condition in
+      let d = same_item text s s' h.after_condition g.after_condition h.after_body end b.1
+      h.body.item g.body.item (absent s h.after_body h.complete) (λ v. y refl) in
       absurd (y refl h.after_else (else_at end h.after_body h.after_else (sym d.1) h.else_keyword))
   same_item text (IfElse at c s t) (IfElse at' c' s' t') ts us rest end p h g x y =
       let a = place keywords.If at at' ts us h.after_if g.after_if p h.keyword g.keyword in
-      let b = condition text c c' h.after_if g.after_if h.after_condition g.after_condition a.1 h.condition g.condition in
-      let d = same_item text s s' h.after_condition g.after_condition h.after_body g.after_body b.1 h.body.item g.body.item (absent s h.after_body h.complete) (absent s' g.after_body g.complete) in
-      let w = word keywords.Else h.after_body g.after_body h.after_else g.after_else d.1 h.else_keyword g.else_keyword in
-      let e = same_item text t t' h.after_else g.after_else rest end w h.else_body.item g.else_body.item x y in
-      (ap (λ (v : ℕ). IfElse v c s t) a.0 ∙ ap (λ (v : Expression). IfElse at' v s t) b.0 ∙ ap (λ (v : Statement). IfElse at' c' v t) d.0 ∙ ap (λ (v : Statement). IfElse at' c' s' v) e.0, e.1)
+      let b = condition text c c' h.after_if g.after_if h.after_condition g.after_condition a.1
+      h.condition g.condition in
+      let d = same_item text s s' h.after_condition g.after_condition h.after_body g.after_body b.1
+      h.body.item g.body.item (absent s h.after_body h.complete)
+      (absent s' g.after_body g.complete) in
+      let w = word keywords.Else h.after_body g.after_body h.after_else g.after_else d.1
+      h.else_keyword g.else_keyword in
+      let e = same_item text t t' h.after_else g.after_else rest end w h.else_body.item
+      g.else_body.item x y in (
+        ap (λ (v : ℕ). IfElse v c s t) a.0 ∙ ap (λ (v : Expression). IfElse at' v s t) b.0
+            ∙ ap (λ (v : Statement). IfElse at' c' v t) d.0
+            ∙ ap (λ (v : Statement). IfElse at' c' s' v) e.0,
+        e.1,
+      )
   same_item text (While at c s) (While at' c' s') ts us rest end p h g x y =
-      let a = place keywords.While at at' ts us h.after_keyword g.after_keyword p h.keyword g.keyword in
-      let b = condition text c c' h.after_keyword g.after_keyword h.after_condition g.after_condition a.1 h.condition g.condition in
-      let d = same_item text s s' h.after_condition g.after_condition rest end b.1 h.body.item g.body.item x y in
-      (ap (λ (v : ℕ). While v c s) a.0 ∙ ap (λ (v : Expression). While at' v s) b.0 ∙ ap (λ (v : Statement). While at' c' v) d.0, d.1)
+      let a = place keywords.While at at' ts us h.after_keyword g.after_keyword p h.keyword
+      g.keyword in
+      let b = condition text c c' h.after_keyword g.after_keyword h.after_condition
+      g.after_condition a.1 h.condition g.condition in
+      let d = same_item text s s' h.after_condition g.after_condition rest end b.1 h.body.item
+      g.body.item x y in (
+        ap (λ (v : ℕ). While v c s) a.0 ∙ ap (λ (v : Expression). While at' v s) b.0
+            ∙ ap (λ (v : Statement). While at' c' v) d.0,
+        d.1,
+      )
   same_item text (DoWhile s at c) (DoWhile s' at' c') ts us rest end p h g x y =
       let a = word keywords.Do ts us h.after_do g.after_do p h.do_keyword g.do_keyword in
-      let d = same_item text s s' h.after_do g.after_do h.after_body g.after_body a h.body.item g.body.item (λ t. while_else at h.after_body h.after_while h.keyword) (λ t. while_else at' g.after_body g.after_while g.keyword) in
-      let b = place keywords.While at at' h.after_body g.after_body h.after_while g.after_while d.1 h.keyword g.keyword in
-      let e = condition text c c' h.after_while g.after_while h.after_condition g.after_condition b.1 h.condition g.condition in
-      (ap (λ (v : Statement). DoWhile v at c) d.0 ∙ ap (λ (v : ℕ). DoWhile s' v c) b.0 ∙ ap (λ (v : Expression). DoWhile s' at' v) e.0, has_same punctuators.Semicolon h.after_condition g.after_condition rest end e.1 h.semicolon g.semicolon)
+      let d = same_item text s s' h.after_do g.after_do h.after_body g.after_body a h.body.item
+      g.body.item (λ t. while_else at h.after_body h.after_while h.keyword)
+      (λ t. while_else at' g.after_body g.after_while g.keyword) in
+      let b = place keywords.While at at' h.after_body g.after_body h.after_while g.after_while d.1
+      h.keyword g.keyword in
+      let e = condition text c c' h.after_while g.after_while h.after_condition g.after_condition
+      b.1 h.condition g.condition in (
+        ap (λ (v : Statement). DoWhile v at c) d.0 ∙ ap (λ (v : ℕ). DoWhile s' v c) b.0
+            ∙ ap (λ (v : Expression). DoWhile s' at' v) e.0,
+        has_same punctuators.Semicolon
+            h.after_condition g.after_condition rest end e.1 h.semicolon g.semicolon,
+      )
   same_item text (For at f c n s) (For at' f' c' n' s') ts us rest end p h g x y =
-      let a = place keywords.For at at' ts us h.after_keyword g.after_keyword p h.keyword g.keyword in
-      let b = has_same punctuators.OpenParenthesis h.after_keyword g.after_keyword h.after_opening g.after_opening a.1 h.opening g.opening in
-      let d = first text f f' h.after_opening g.after_opening h.after_first g.after_first b h.first g.first in
-      let e = optional text punctuators.Semicolon c c' h.after_first g.after_first h.condition.0 g.condition.0 h.after_condition g.after_condition d.1 (omega arith) refl h.condition.1 g.condition.1 h.condition.2 g.condition.2 in
-      let i = optional text punctuators.CloseParenthesis n n' h.after_condition g.after_condition h.next.0 g.next.0 h.after_head g.after_head e.1 (omega arith) refl h.next.1 g.next.1 h.next.2 g.next.2 in
-      let j = same_item text s s' h.after_head g.after_head rest end i.1 h.body.item g.body.item x y in
-      (ap (λ (v : ℕ). For v f c n s) a.0 ∙ ap (λ (v : ForInitialiser). For at' v c n s) d.0 ∙ ap (λ (v : Option Expression). For at' f' v n s) e.0 ∙ ap (λ (v : Option Expression). For at' f' c' v s) i.0 ∙ ap (λ (v : Statement). For at' f' c' n' v) j.0, j.1)
-  same_item text (Return at e) (Declare base' ls') ts us rest end p h g x y = absurd (apart text (Return at e) (Declare base' ls') ts us rest end p h g (λ e. absurd (omega arith)))
-  same_item text (Return at e) (Block ss') ts us rest end p h g x y = absurd (apart text (Return at e) (Block ss') ts us rest end p h g (λ e. absurd (omega arith)))
-  same_item text (Return at e) (Evaluate e') ts us rest end p h g x y = absurd (apart text (Return at e) (Evaluate e') ts us rest end p h g (λ e. absurd (omega arith)))
-  same_item text (Return at e) (If at' c' s') ts us rest end p h g x y = absurd (apart text (Return at e) (If at' c' s') ts us rest end p h g (λ e. absurd (omega arith)))
-  same_item text (Return at e) (IfElse at' c' s' t') ts us rest end p h g x y = absurd (apart text (Return at e) (IfElse at' c' s' t') ts us rest end p h g (λ e. absurd (omega arith)))
-  same_item text (Return at e) (While at' c' s') ts us rest end p h g x y = absurd (apart text (Return at e) (While at' c' s') ts us rest end p h g (λ e. absurd (omega arith)))
-  same_item text (Return at e) (DoWhile s' at' c') ts us rest end p h g x y = absurd (apart text (Return at e) (DoWhile s' at' c') ts us rest end p h g (λ e. absurd (omega arith)))
-  same_item text (Return at e) (For at' f' c' n' s') ts us rest end p h g x y = absurd (apart text (Return at e) (For at' f' c' n' s') ts us rest end p h g (λ e. absurd (omega arith)))
+      let a = place keywords.For at at' ts us h.after_keyword g.after_keyword p h.keyword
+      g.keyword in
+      let b = has_same punctuators.OpenParenthesis h.after_keyword g.after_keyword h.after_opening
+      g.after_opening a.1 h.opening g.opening in
+      let d = first text f f' h.after_opening g.after_opening h.after_first g.after_first b h.first
+      g.first in
+      let e = optional text punctuators.Semicolon c c' h.after_first g.after_first h.condition.0
+      g.condition.0 h.after_condition g.after_condition d.1 (omega arith) refl h.condition.1
+      g.condition.1 h.condition.2 g.condition.2 in
+      let i = optional text punctuators.CloseParenthesis n n' h.after_condition g.after_condition
+      h.next.0 g.next.0 h.after_head g.after_head e.1 (omega arith) refl h.next.1 g.next.1
+      h.next.2 g.next.2 in
+      let j = same_item text s s' h.after_head g.after_head rest end i.1 h.body.item g.body.item x
+      y in (
+        ap (λ (v : ℕ). For v f c n s) a.0 ∙ ap (λ (v : ForInitialiser). For at' v c n s) d.0
+            ∙ ap (λ (v : Option Expression). For at' f' v n s) e.0
+            ∙ ap (λ (v : Option Expression). For at' f' c' v s) i.0
+            ∙ ap (λ (v : Statement). For at' f' c' n' v) j.0,
+        j.1,
+      )
+  same_item text (Return at e) (Declare base' ls') ts us rest end p h g x y =
+      absurd (apart text (Return at e) (Declare base' ls') ts us rest end p h g
+      (λ e. absurd (omega arith)))
+  same_item text (Return at e) (Block ss') ts us rest end p h g x y =
+      absurd (apart text (Return at e) (Block ss') ts us rest end p h g (λ e. absurd (omega arith)))
+  same_item text (Return at e) (Evaluate e') ts us rest end p h g x y =
+      absurd (apart text (Return at e) (Evaluate e') ts us rest end p h g
+      (λ e. absurd (omega arith)))
+  same_item text (Return at e) (If at' c' s') ts us rest end p h g x y =
+      absurd (apart text (Return at e) (If at' c' s') ts us rest end p h g
+      (λ e. absurd (omega arith)))
+  same_item text (Return at e) (IfElse at' c' s' t') ts us rest end p h g x y =
+      absurd (apart text (Return at e) (IfElse at' c' s' t') ts us rest end p h g
+      (λ e. absurd (omega arith)))
+  same_item text (Return at e) (While at' c' s') ts us rest end p h g x y =
+      absurd (apart text (Return at e) (While at' c' s') ts us rest end p h g
+      (λ e. absurd (omega arith)))
+  same_item text (Return at e) (DoWhile s' at' c') ts us rest end p h g x y =
+      absurd (apart text (Return at e) (DoWhile s' at' c') ts us rest end p h g
+      (λ e. absurd (omega arith)))
+  same_item text (Return at e) (For at' f' c' n' s') ts us rest end p h g x y =
+      absurd (apart text (Return at e) (For at' f' c' n' s') ts us rest end p h g
+      (λ e. absurd (omega arith)))
   same_item text (Return at e) (Return at' e') ts us rest end p h g x y =
-      let a = place keywords.Return at at' ts us h.0 g.0 p h.1 g.1 in
-      let b = optional text punctuators.Semicolon e e' h.0 g.0 h.2.0 g.2.0 rest end a.1 (omega arith) refl h.2.1 g.2.1 h.2.2 g.2.2 in
+      let (mid, word, (after, value, closed)) = h in
+      let (mid', word', (after', value', closed')) = g in
+      let a = place keywords.Return at at' ts us mid mid' p word word' in
+      let b = optional text punctuators.Semicolon e e' mid mid' after after' rest end a.1
+      (omega arith) refl value value' closed closed' in
       (ap (λ (v : ℕ). Return v e) a.0 ∙ ap (λ (v : Option Expression). Return at' v) b.0, b.1)
-  same_item text (Return at e) (Break at') ts us rest end p h g x y = absurd (apart text (Return at e) (Break at') ts us rest end p h g (λ e. absurd (omega arith)))
-  same_item text (Return at e) (Continue at') ts us rest end p h g x y = absurd (apart text (Return at e) (Continue at') ts us rest end p h g (λ e. absurd (omega arith)))
-  same_item text (Return at e) (Leave at') ts us rest end p h g x y = absurd (apart text (Return at e) (Leave at') ts us rest end p h g (λ e. absurd (omega arith)))
-  same_item text (Return at e) (TryExcept body' at' f' handler') ts us rest end p h g x y = absurd (apart text (Return at e) (TryExcept body' at' f' handler') ts us rest end p h g (λ e. absurd (omega arith)))
-  same_item text (Return at e) (TryFinally body' at' last') ts us rest end p h g x y = absurd (apart text (Return at e) (TryFinally body' at' last') ts us rest end p h g (λ e. absurd (omega arith)))
+  same_item text (Return at e) (Break at') ts us rest end p h g x y =
+      absurd (apart text (Return at e) (Break at') ts us rest end p h g (λ e. absurd (omega arith)))
+  same_item text (Return at e) (Continue at') ts us rest end p h g x y =
+      absurd (apart text (Return at e) (Continue at') ts us rest end p h g
+      (λ e. absurd (omega arith)))
+  same_item text (Return at e) (Leave at') ts us rest end p h g x y =
+      absurd (apart text (Return at e) (Leave at') ts us rest end p h g (λ e. absurd (omega arith)))
+  same_item text (Return at e) (TryExcept body' at' f' handler') ts us rest end p h g x y =
+      absurd (apart text (Return at e) (TryExcept body' at' f' handler') ts us rest end p h g
+      (λ e. absurd (omega arith)))
+  same_item text (Return at e) (TryFinally body' at' last') ts us rest end p h g x y =
+      absurd (apart text (Return at e) (TryFinally body' at' last') ts us rest end p h g
+      (λ e. absurd (omega arith)))
   same_item text (Break at) (Break at') ts us rest end p h g x y =
       let a = place keywords.Break at at' ts us h.0 g.0 p h.1 g.1 in
       (ap (λ (v : ℕ). Break v) a.0, has_same punctuators.Semicolon h.0 g.0 rest end a.1 h.2 g.2)
@@ -392,43 +571,80 @@ mutual
   same_item text (Leave at) (Leave at') ts us rest end p h g x y =
       let a = place keywords.Leave at at' ts us h.0 g.0 p h.1 g.1 in
       (ap (λ (v : ℕ). Leave v) a.0, has_same punctuators.Semicolon h.0 g.0 rest end a.1 h.2 g.2)
-  same_item text (TryExcept body at f handler) (TryExcept body' at' f' handler') ts us rest end p h g x y =
+  same_item text (TryExcept body at f handler) (TryExcept body' at' f' handler') ts us rest end p h
+      g x y =
       let a = word keywords.Try ts us h.after_try g.after_try p h.try_keyword g.try_keyword in
-      let b = has_same punctuators.OpenBrace h.after_try g.after_try h.body.after_brace g.body.after_brace a h.body.brace g.body.brace in
-      let c = same_items text body body' h.body.after_brace g.body.after_brace h.after_body g.after_body b h.body.items g.body.items in
-      let d = place keywords.Except at at' h.after_body g.after_body h.after_except g.after_except c.1 h.keyword g.keyword in
-      let e = condition text f f' h.after_except g.after_except h.after_filter g.after_filter d.1 h.filter g.filter in
-      let i = has_same punctuators.OpenBrace h.after_filter g.after_filter h.handler.after_brace g.handler.after_brace e.1 h.handler.brace g.handler.brace in
-      let j = same_items text handler handler' h.handler.after_brace g.handler.after_brace rest end i h.handler.items g.handler.items in
-      (ap (λ (v : Statements). TryExcept v at f handler) c.0 ∙ ap (λ (v : ℕ). TryExcept body' v f handler) d.0 ∙ ap (λ (v : Expression). TryExcept body' at' v handler) e.0 ∙ ap (λ (v : Statements). TryExcept body' at' f' v) j.0, j.1)
-  same_item text (TryExcept body at f handler) (TryFinally body' at' last') ts us rest end p h g x y =
+      let b = has_same punctuators.OpenBrace h.after_try g.after_try h.body.after_brace
+      g.body.after_brace a h.body.brace g.body.brace in
+      let c = same_items text body body' h.body.after_brace g.body.after_brace h.after_body
+      g.after_body b h.body.items g.body.items in
+      let d = place keywords.Except at at' h.after_body g.after_body h.after_except g.after_except
+      c.1 h.keyword g.keyword in
+      let e = condition text f f' h.after_except g.after_except h.after_filter g.after_filter d.1
+      h.filter g.filter in
+      let i = has_same punctuators.OpenBrace h.after_filter g.after_filter h.handler.after_brace
+      g.handler.after_brace e.1 h.handler.brace g.handler.brace in
+      let j = same_items text handler handler' h.handler.after_brace g.handler.after_brace rest end
+      i h.handler.items g.handler.items in (
+        ap (λ (v : Statements). TryExcept v at f handler) c.0
+            ∙ ap (λ (v : ℕ). TryExcept body' v f handler) d.0
+            ∙ ap (λ (v : Expression). TryExcept body' at' v handler) e.0
+            ∙ ap (λ (v : Statements). TryExcept body' at' f' v) j.0,
+        j.1,
+      )
+  same_item text (TryExcept body at f handler) (TryFinally body' at' last') ts us rest end p h g x
+      y =
       let a = word keywords.Try ts us h.after_try g.after_try p h.try_keyword g.try_keyword in
-      let b = has_same punctuators.OpenBrace h.after_try g.after_try h.body.after_brace g.body.after_brace a h.body.brace g.body.brace in
-      let c = same_items text body body' h.body.after_brace g.body.after_brace h.after_body g.after_body b h.body.items g.body.items in
-      let e : keywords.Except ≡ keywords.Finally = (keyword_same keywords.Except keywords.Finally h.after_body g.after_body h.after_except g.after_finally c.1 (at, h.keyword) (at', g.keyword)).0 in absurd cc
-  same_item text (TryFinally body at last) (TryExcept body' at' f' handler') ts us rest end p h g x y =
+      let b = has_same punctuators.OpenBrace h.after_try g.after_try h.body.after_brace
+      g.body.after_brace a h.body.brace g.body.brace in
+      let c = same_items text body body' h.body.after_brace g.body.after_brace h.after_body
+      g.after_body b h.body.items g.body.items in
+      let e : keywords.Except ≡ keywords.Finally =
+      (keyword_same keywords.Except keywords.Finally h.after_body g.after_body h.after_except
+      g.after_finally c.1 (at, h.keyword) (at', g.keyword)).0 in absurd cc
+  same_item text (TryFinally body at last) (TryExcept body' at' f' handler') ts us rest end p h g x
+      y =
       let a = word keywords.Try ts us h.after_try g.after_try p h.try_keyword g.try_keyword in
-      let b = has_same punctuators.OpenBrace h.after_try g.after_try h.body.after_brace g.body.after_brace a h.body.brace g.body.brace in
-      let c = same_items text body body' h.body.after_brace g.body.after_brace h.after_body g.after_body b h.body.items g.body.items in
-      let e : keywords.Finally ≡ keywords.Except = (keyword_same keywords.Finally keywords.Except h.after_body g.after_body h.after_finally g.after_except c.1 (at, h.keyword) (at', g.keyword)).0 in absurd cc
+      let b = has_same punctuators.OpenBrace h.after_try g.after_try h.body.after_brace
+      g.body.after_brace a h.body.brace g.body.brace in
+      let c = same_items text body body' h.body.after_brace g.body.after_brace h.after_body
+      g.after_body b h.body.items g.body.items in
+      let e : keywords.Finally ≡ keywords.Except =
+      (keyword_same keywords.Finally keywords.Except h.after_body g.after_body h.after_finally
+      g.after_except c.1 (at, h.keyword) (at', g.keyword)).0 in absurd cc
   same_item text (TryFinally body at last) (TryFinally body' at' last') ts us rest end p h g x y =
       let a = word keywords.Try ts us h.after_try g.after_try p h.try_keyword g.try_keyword in
-      let b = has_same punctuators.OpenBrace h.after_try g.after_try h.body.after_brace g.body.after_brace a h.body.brace g.body.brace in
-      let c = same_items text body body' h.body.after_brace g.body.after_brace h.after_body g.after_body b h.body.items g.body.items in
-      let d = place keywords.Finally at at' h.after_body g.after_body h.after_finally g.after_finally c.1 h.keyword g.keyword in
-      let i = has_same punctuators.OpenBrace h.after_finally g.after_finally h.last.after_brace g.last.after_brace d.1 h.last.brace g.last.brace in
-      let j = same_items text last last' h.last.after_brace g.last.after_brace rest end i h.last.items g.last.items in
-      (ap (λ (v : Statements). TryFinally v at last) c.0 ∙ ap (λ (v : ℕ). TryFinally body' v last) d.0 ∙ ap (λ (v : Statements). TryFinally body' at' v) j.0, j.1)
-  same_item text s z ts us rest end p h g x y = absurd (apart text s z ts us rest end p h g (λ e. absurd (omega arith)))
+      let b = has_same punctuators.OpenBrace h.after_try g.after_try h.body.after_brace
+      g.body.after_brace a h.body.brace g.body.brace in
+      let c = same_items text body body' h.body.after_brace g.body.after_brace h.after_body
+      g.after_body b h.body.items g.body.items in
+      let d = place keywords.Finally at at' h.after_body g.after_body h.after_finally
+      g.after_finally c.1 h.keyword g.keyword in
+      let i = has_same punctuators.OpenBrace h.after_finally g.after_finally h.last.after_brace
+      g.last.after_brace d.1 h.last.brace g.last.brace in
+      let j = same_items text last last' h.last.after_brace g.last.after_brace rest end i
+      h.last.items g.last.items in (
+        ap (λ (v : Statements). TryFinally v at last) c.0
+            ∙ ap (λ (v : ℕ). TryFinally body' v last) d.0
+            ∙ ap (λ (v : Statements). TryFinally body' at' v) j.0,
+        j.1,
+      )
+  same_item text s z ts us rest end p h g x y =
+      absurd (apart text s z ts us rest end p h g (λ e. absurd (omega arith)))
 
-  pub same_items : (text : List ℕ) (ss zs : Statements) (ts us rest end : List Token) → ts ≡ us → AreBlockItems text ss ts rest → AreBlockItems text zs us end → (ss ≡ zs) × (rest ≡ end)
-  same_items text Empty Empty ts us rest end p h g = (refl, has_same punctuators.CloseBrace ts us rest end p h g)
+  pub same_items : (text : List ℕ) (ss zs : Statements) (ts us rest end : List Token) → ts ≡ us
+      → AreBlockItems text ss ts rest → AreBlockItems text zs us end → (ss ≡ zs) × (rest ≡ end)
+  same_items text Empty Empty ts us rest end p h g =
+      (refl, has_same punctuators.CloseBrace ts us rest end p h g)
   same_items text Empty (Then z zs) ts us rest end p h g =
-      let a = brace_begins ts rest h in let b = item_begins text z us g.0 g.1 in let c = class_low z in let d = ap begins p in absurd (omega arith)
+      let a = brace_begins ts rest h in let b = item_begins text z us g.0 g.1 in let c =
+      class_low z in let d = ap begins p in absurd (omega arith)
   same_items text (Then s ss) Empty ts us rest end p h g =
-      let a = brace_begins us end g in let b = item_begins text s ts h.0 h.1 in let c = class_low s in let d = ap begins p in absurd (omega arith)
+      let a = brace_begins us end g in let b = item_begins text s ts h.0 h.1 in let c =
+      class_low s in let d = ap begins p in absurd (omega arith)
   same_items text (Then s ss) (Then z zs) ts us rest end p h g =
-      let a = same_item text s z ts us h.0 g.0 p h.1 g.1 (λ t. items_else text ss h.0 rest h.2) (λ t. items_else text zs g.0 end g.2) in
+      let a = same_item text s z ts us h.0 g.0 p h.1 g.1 (λ t. items_else text ss h.0 rest h.2)
+      (λ t. items_else text zs g.0 end g.2) in
       let b = same_items text ss zs h.0 g.0 rest end a.1 h.2 g.2 in
       (ap (λ (x : Statement). Then x ss) a.0 ∙ ap (λ (x : Statements). Then z x) b.0, b.1)
 

@@ -1,6 +1,7 @@
 -- What spells a phrase before a rest spells it before any other rest, and in any text that spells
 -- its names alike.
-use Rattle.std.proofs.Common.{◌≡◌, ◌≤◌, ◌<◌, ℕ, zero, suc, List, [], ◌∷◌, ◌++◌, codes, slice_range, refl, sym, ap, ◌∙◌, subst, append_assoc, inl, inr}
+use Rattle.std.proofs.Common.{◌≡◌, ◌≤◌, ◌<◌, ℕ, zero, suc, List, [], ◌∷◌, ◌++◌, codes, slice_range}
+use Rattle.std.proofs.Common.{refl, sym, ap, ◌∙◌, subst, append_assoc, inl, inr}
 use Rattle.std.specs.Str.{bytes_eq}
 use Rattle.c_lex.specs.declared.keyword.Keyword.{Keyword}
 use Rattle.c_lex.specs.declared.keyword.Keyword.TheVariants as keywords
@@ -15,14 +16,22 @@ use Rattle.c_syntax.specs.declared.expression.Field.{Field}
 use Rattle.c_syntax.specs.declared.expression.Field.TheVariants as fields
 use Rattle.c_syntax.specs.declared.expression.Literal.TheVariants as literals
 use Rattle.c_syntax.specs.declared.expression.Identifier.{Identifier}
-use Rattle.c_syntax.specs.Expression.{Expression, Constant, Variable, Information, Call, Parentheses, Index, Postfix, Prefix, Unary, Cast, Binary, Conditional, Assign, Comma, Arguments, Done, Next}
-use Rattle.c_syntax.specs.Expressions.{rank, literal_kind, IsInteger, OfLevel, TighterThan, IsApplied, IsContinued, IsIntroduced, IsElement, IsField, SpellsExpression, SpellsArguments, SpellsMoreArguments, Derives}
+use Rattle.c_syntax.specs.Expression.{Expression, Constant, Variable, Information, Call}
+use Rattle.c_syntax.specs.Expression.{Parentheses, Index, Postfix, Prefix, Unary, Cast, Binary}
+use Rattle.c_syntax.specs.Expression.{Conditional, Assign, Comma, Arguments, Done, Next}
+use Rattle.c_syntax.specs.Expressions.{rank, literal_kind, IsInteger, OfLevel, TighterThan}
+use Rattle.c_syntax.specs.Expressions.{IsApplied, IsContinued, IsIntroduced, IsElement, IsField}
+use Rattle.c_syntax.specs.Expressions.{SpellsExpression, SpellsArguments, SpellsMoreArguments}
+use Rattle.c_syntax.specs.Expressions.{Derives}
 use Rattle.c_syntax.specs.Faults.{Alike}
 use Rattle.c_syntax.specs.Limits as limits
-use Rattle.c_syntax.specs.Operators.{postfix, unary, cast, logical_or, conditional, assignment, comma, level, binary_punctuator, unary_punctuator, increment_punctuator, assignment_punctuator}
+use Rattle.c_syntax.specs.Operators.{postfix, unary, cast, logical_or, conditional, assignment}
+use Rattle.c_syntax.specs.Operators.{comma, level, binary_punctuator, unary_punctuator}
+use Rattle.c_syntax.specs.Operators.{increment_punctuator, assignment_punctuator}
 use Rattle.c_syntax.specs.Phrases.{IsEnclosed}
 use Rattle.c_syntax.specs.Steps.{Step, At, After, With, Choose, Set, And, Tail}
-use Rattle.c_syntax.specs.Tokens.{token, IsKind, IsPunctuator, IsIdentifier, HasPunctuator, HasKeyword, HasWord}
+use Rattle.c_syntax.specs.Tokens.{token, IsKind, IsPunctuator, IsIdentifier, HasPunctuator}
+use Rattle.c_syntax.specs.Tokens.{HasKeyword, HasWord}
 use Rattle.c_syntax.specs.Types.{spellings, AreKeywords, IsOneOf, IsBase, AreStars, IsType}
 use Rattle.c_syntax.proofs.Failing.{alike_inner}
 
@@ -30,10 +39,12 @@ use Rattle.c_syntax.proofs.Failing.{alike_inner}
 abbrev pub Phrase : Type 1
 Phrase = List ℕ → List Token → List Token → Type 0
 
-pub record Moves (R : List ℕ → List Token → List Token → Type 0) (text : List ℕ) (ts rest : List Token) : Type 0 where
+pub record Moves (R : List ℕ → List Token → List Token → Type 0) (text : List ℕ)
+    (ts rest : List Token) : Type 0 where
   pub front : List Token
   pub split : ts ≡ front ++ rest
-  pub again : (text' : List ℕ) (other : List Token) → Alike text text' ts → R text' (front ++ other) other
+  pub again : (text' : List ℕ) (other : List Token) → Alike text text' ts
+      → R text' (front ++ other) other
 
 -- ---- phrases in general
 
@@ -41,70 +52,112 @@ pub record Moves (R : List ℕ → List Token → List Token → Type 0) (text :
 abbrev pub Both : Phrase → Phrase → Phrase
 Both R S text ts rest = (mid : List Token) × R text ts mid × S text mid rest
 
-pub map : {R S : Phrase} {text : List ℕ} {ts rest : List Token} → Moves R text ts rest → ((text' : List ℕ) (us vs : List Token) → R text' us vs → S text' us vs) → Moves S text ts rest
-map m f = record { front = m.front; split = m.split; again = λ text' other a. f text' (m.front ++ other) other (m.again text' other a) }
+pub map : {R S : Phrase} {text : List ℕ} {ts rest : List Token} → Moves R text ts rest
+    → ((text' : List ℕ) (us vs : List Token) → R text' us vs → S text' us vs) → Moves S text ts rest
+map m f = record {
+  front = m.front;
+  split = m.split;
+  again = λ text' other a. f text' (m.front ++ other) other (m.again text' other a);
+}
 
 -- texts that spell a phrase and what follows alike spell what follows alike
-pub alike_after : {R : Phrase} {text : List ℕ} {ts rest : List Token} (text' : List ℕ) → Moves R text ts rest → Alike text text' ts → Alike text text' rest
-alike_after {text = text} {ts = ts} {rest = rest} text' m a = alike_inner text text' m.front rest ts m.split a
+pub alike_after : {R : Phrase} {text : List ℕ} {ts rest : List Token} (text' : List ℕ)
+    → Moves R text ts rest → Alike text text' ts → Alike text text' rest
+alike_after {text = text} {ts = ts} {rest = rest} text' m a =
+    alike_inner text text' m.front rest ts m.split a
 
-pub both : {R S : Phrase} {text : List ℕ} {ts mid rest : List Token} → Moves R text ts mid → Moves S text mid rest → Moves (Both R S) text ts rest
+pub both : {R S : Phrase} {text : List ℕ} {ts mid rest : List Token} → Moves R text ts mid
+    → Moves S text mid rest → Moves (Both R S) text ts rest
 both {R = R} {rest = rest} m n = record {
   front = m.front ++ n.front;
   split = m.split ∙ ap (λ z. m.front ++ z) n.split ∙ sym (append_assoc m.front n.front rest);
   again = λ text' other a. (
     n.front ++ other,
-    subst (λ z. R text' z (n.front ++ other)) (sym (append_assoc m.front n.front other)) (m.again text' (n.front ++ other) a),
+    subst (λ z. R text' z (n.front ++ other)) (sym (append_assoc m.front n.front other))
+        (m.again text' (n.front ++ other) a),
     n.again text' other (alike_after text' m a),
   );
 }
 
-pub nothing : (text : List ℕ) (ts rest : List Token) → ts ≡ rest → Moves (λ t us vs. us ≡ vs) text ts rest
+pub nothing : (text : List ℕ) (ts rest : List Token) → ts ≡ rest
+    → Moves (λ t us vs. us ≡ vs) text ts rest
 nothing text ts rest h = record { front = []; split = h; again = λ text' other a. refl }
 
-pub one_token : {R : Phrase} (t : Token) (text : List ℕ) (ts rest : List Token) → ts ≡ t ∷ rest → ((text' : List ℕ) (other : List Token) → slice_range text t.start t.end ≡ slice_range text' t.start t.end → R text' (t ∷ other) other) → Moves R text ts rest
-one_token t text ts rest h f = record { front = t ∷ []; split = h; again = λ text' other a. f text' other (subst (λ z. Alike text text' z) h a).0 }
+pub one_token : {R : Phrase} (t : Token) (text : List ℕ) (ts rest : List Token) → ts ≡ t ∷ rest
+    → ((text' : List ℕ) (other : List Token)
+    → slice_range text t.start t.end ≡ slice_range text' t.start t.end → R text' (t ∷ other) other)
+    → Moves R text ts rest
+one_token t text ts rest h f =
+    record {
+      front = t ∷ [];
+      split = h;
+      again = λ text' other a. f text' other
+          (subst (λ z. Alike text text' z) h a).0;
+    }
 
 -- ---- tokens
 
-pub kind : (k : Kind) (at : ℕ) (text : List ℕ) (ts rest : List Token) → IsKind k at ts rest → Moves (λ t. IsKind k at) text ts rest
-kind k at text ts rest h = one_token (token k at h.0) text ts rest h.1 (λ text' other a. (h.0, refl))
+pub kind : (k : Kind) (at : ℕ) (text : List ℕ) (ts rest : List Token) → IsKind k at ts rest
+    → Moves (λ t. IsKind k at) text ts rest
+kind k at text ts rest h =
+    one_token (token k at h.0) text ts rest h.1 (λ text' other a. (h.0, refl))
 
-pub has_punctuator : (s : Punctuator) (text : List ℕ) (ts rest : List Token) → HasPunctuator s ts rest → Moves (λ t. HasPunctuator s) text ts rest
-has_punctuator s text ts rest h = map (kind (kinds.Punctuator s) h.0 text ts rest h.1) (λ t us vs g. (h.0, g))
+pub has_punctuator : (s : Punctuator) (text : List ℕ) (ts rest : List Token)
+    → HasPunctuator s ts rest → Moves (λ t. HasPunctuator s) text ts rest
+has_punctuator s text ts rest h = map (kind (kinds.Punctuator s) h.0 text ts rest h.1)
+    (λ t us vs g. (h.0, g))
 
-pub has_keyword : (k : Keyword) (text : List ℕ) (ts rest : List Token) → HasKeyword k ts rest → Moves (λ t. HasKeyword k) text ts rest
-has_keyword k text ts rest h = map (kind (kinds.Keyword k) h.0 text ts rest h.1) (λ t us vs g. (h.0, g))
+pub has_keyword : (k : Keyword) (text : List ℕ) (ts rest : List Token) → HasKeyword k ts rest
+    → Moves (λ t. HasKeyword k) text ts rest
+has_keyword k text ts rest h =
+    map (kind (kinds.Keyword k) h.0 text ts rest h.1) (λ t us vs g. (h.0, g))
 
-pub name : (n : Identifier) (text : List ℕ) (ts rest : List Token) → IsIdentifier n ts rest → Moves (λ t. IsIdentifier n) text ts rest
-name n text ts rest h = one_token (token kinds.Identifier n.start n.end) text ts rest h (λ text' other a. refl)
+pub name : (n : Identifier) (text : List ℕ) (ts rest : List Token) → IsIdentifier n ts rest
+    → Moves (λ t. IsIdentifier n) text ts rest
+name n text ts rest h = one_token (token kinds.Identifier n.start n.end) text ts rest h
+    (λ text' other a. refl)
 
-pub has_word : (word : List ℕ) (text : List ℕ) (ts rest : List Token) → HasWord text word ts rest → Moves (λ t. HasWord t word) text ts rest
-has_word word text ts rest h = one_token (token kinds.Identifier h.0.start h.0.end) text ts rest h.1 (λ text' other a. (h.0, refl, sym a ∙ h.2))
+pub has_word : (word : List ℕ) (text : List ℕ) (ts rest : List Token) → HasWord text word ts rest
+    → Moves (λ t. HasWord t word) text ts rest
+has_word word text ts rest h = one_token (token kinds.Identifier h.0.start h.0.end) text ts rest h.1
+    (λ text' other a. (h.0, refl, sym a ∙ h.2))
 
-pub integer : (value at : ℕ) (text : List ℕ) (ts rest : List Token) → IsInteger value at ts rest → Moves (λ t. IsInteger value at) text ts rest
-integer value at text ts rest h = map (kind (kinds.Integer value h.0) at text ts rest h.1) (λ t us vs g. (h.0, g))
+pub integer : (value at : ℕ) (text : List ℕ) (ts rest : List Token) → IsInteger value at ts rest
+    → Moves (λ t. IsInteger value at) text ts rest
+integer value at text ts rest h = map (kind (kinds.Integer value h.0) at text ts rest h.1)
+    (λ t us vs g. (h.0, g))
 
 -- ---- types
 
-keywords_of : (ks : List Keyword) (text : List ℕ) (ts rest : List Token) → AreKeywords ks ts rest → Moves (λ t. AreKeywords ks) text ts rest
+keywords_of : (ks : List Keyword) (text : List ℕ) (ts rest : List Token) → AreKeywords ks ts rest
+    → Moves (λ t. AreKeywords ks) text ts rest
 keywords_of [] text ts rest h = nothing text ts rest h
-keywords_of (k ∷ ks) text ts rest h = map (both (has_keyword k text ts h.0 h.1) (keywords_of ks text h.0 rest h.2)) (λ t us vs g. (g.0, g.1, g.2))
+keywords_of (k ∷ ks) text ts rest h =
+    map (both (has_keyword k text ts h.0 h.1) (keywords_of ks text h.0 rest h.2))
+    (λ t us vs g. (g.0, g.1, g.2))
 
-one_of : (kss : List (List Keyword)) (text : List ℕ) (ts rest : List Token) → IsOneOf kss ts rest → Moves (λ t. IsOneOf kss) text ts rest
+one_of : (kss : List (List Keyword)) (text : List ℕ) (ts rest : List Token) → IsOneOf kss ts rest
+    → Moves (λ t. IsOneOf kss) text ts rest
 one_of [] text ts rest h = absurd h
 one_of (ks ∷ kss) text ts rest (inl h) = map (keywords_of ks text ts rest h) (λ t us vs g. inl g)
 one_of (ks ∷ kss) text ts rest (inr h) = map (one_of kss text ts rest h) (λ t us vs g. inr g)
 
-pub base : (b : Base) (text : List ℕ) (ts rest : List Token) → IsBase b ts rest → Moves (λ t. IsBase b) text ts rest
+pub base : (b : Base) (text : List ℕ) (ts rest : List Token) → IsBase b ts rest
+    → Moves (λ t. IsBase b) text ts rest
 base b text ts rest h = one_of (spellings b) text ts rest h
 
-pub stars : (n : ℕ) (text : List ℕ) (ts rest : List Token) → AreStars n ts rest → Moves (λ t. AreStars n) text ts rest
+pub stars : (n : ℕ) (text : List ℕ) (ts rest : List Token) → AreStars n ts rest
+    → Moves (λ t. AreStars n) text ts rest
 stars zero text ts rest h = nothing text ts rest h
-stars (suc n) text ts rest h = map (both (has_punctuator punctuators.Star text ts h.0 h.1) (stars n text h.0 rest h.2)) (λ t us vs g. (g.0, g.1, g.2))
+stars (suc n) text ts rest h =
+    map (both (has_punctuator punctuators.Star text ts h.0 h.1) (stars n text h.0 rest h.2))
+    (λ t us vs g. (g.0, g.1, g.2))
 
-pub type : (c : CType) (text : List ℕ) (ts rest : List Token) → IsType c ts rest → Moves (λ t. IsType c) text ts rest
-type c text ts rest h = map (both (base c.base text ts h.0 h.1) (stars c.pointers text h.0 rest h.2)) (λ t us vs g. (g.0, g.1, g.2))
+pub type : (c : CType) (text : List ℕ) (ts rest : List Token) → IsType c ts rest
+    → Moves (λ t. IsType c) text ts rest
+type c text ts rest h =
+    map (both (base c.base text ts h.0 h.1) (stars c.pointers text h.0 rest h.2))
+    (λ t us vs g. (g.0, g.1, g.2))
 
 -- ---- expressions
 
@@ -126,12 +179,12 @@ pub enclosed : {O R : Phrase} {text : List ℕ} {ts a b rest : List Token} (clos
     → Moves (λ t. IsEnclosed (O t) (R t) close) text ts rest
 enclosed {text = text} {b = b} {rest = rest} close opening m closing =
     map (both opening (both m (has_punctuator close text b rest closing)))
-    (λ t us vs g. record {
-      after_opening = g.0;
-      after_inner = g.2.0;
-      opening = g.1;
-      inner = g.2.1;
-      closing = g.2.2;
+    (λ t us vs (after_opening, opening, (after_inner, inner, closing)). record {
+      after_opening = after_opening;
+      after_inner = after_inner;
+      opening = opening;
+      inner = inner;
+      closing = closing;
     })
 
 applied : {R S : Phrase} {text : List ℕ} {ts mid rest : List Token} → Moves R text ts mid
@@ -220,12 +273,12 @@ mutual
       (both
       (has_punctuator punctuators.OpenParenthesis text h.after_name h.after_opening h.opening)
       (arguments es text h.after_opening rest h.arguments)))
-      (λ t us vs g. record {
-        after_name = g.0;
-        after_opening = g.2.0;
-        called = g.1;
-        opening = g.2.1;
-        arguments = g.2.2;
+      (λ t us vs (after_name, called, (after_opening, opening, arguments)). record {
+        after_name = after_name;
+        after_opening = after_opening;
+        called = called;
+        opening = opening;
+        arguments = arguments;
       })
   expression (Parentheses at e) text ts rest h =
       enclosed punctuators.CloseParenthesis
@@ -313,12 +366,12 @@ mutual
       (of_level assignment e h.element.fits
       (expression e text h.after_comma h.after_element h.element.spells))
       (more_arguments es text h.after_element rest h.others)))
-      (λ t us vs g. record {
-        after_comma = g.0;
-        after_element = g.2.0;
-        comma = g.1;
-        element = g.2.1;
-        others = g.2.2;
+      (λ t us vs (after_comma, comma, (after_element, element, others)). record {
+        after_comma = after_comma;
+        after_element = after_element;
+        comma = comma;
+        element = element;
+        others = others;
       })
 
 pub derives : (l : ℕ) (e : Expression) (text : List ℕ) (ts rest : List Token)
@@ -352,9 +405,13 @@ tail (And at f) text ts rest h =
 
 -- ---- filters
 
-pub accepts : (e : Expression) (text text' : List ℕ) (ts rest : List Token) → SpellsExpression text e ts rest → Alike text text' ts → limits.accepts text' e ≡ limits.accepts text e
+pub accepts : (e : Expression) (text text' : List ℕ) (ts rest : List Token)
+    → SpellsExpression text e ts rest → Alike text text' ts
+    → limits.accepts text' e ≡ limits.accepts text e
 accepts (Constant at (literals.Integer value integer_type)) text text' ts rest h a = refl
-accepts (Variable n) text text' ts rest h a = ap (λ z. bytes_eq z (codes "EXCEPTION_EXECUTE_HANDLER")) (sym (subst (λ z. Alike text text' z) h a).0)
+accepts (Variable n) text text' ts rest h a =
+    ap (λ z. bytes_eq z (codes "EXCEPTION_EXECUTE_HANDLER"))
+    (sym (subst (λ z. Alike text text' z) h a).0)
 accepts (Parentheses at e) text text' ts rest h a =
     accepts e text text' h.after_opening h.after_inner h.inner
     (subst (λ z. Alike text text' z) h.opening.1 a).1

@@ -1,5 +1,6 @@
 -- Each node of a tree takes a token that is no other's.
-use Rattle.std.proofs.Common.{◌≡◌, ◌≤◌, ◌<◌, ◌+◌, ℕ, zero, suc, Bool, true, false, List, [], ◌∷◌, length, Option, Some, None, refl, ap, arith, inl, inr}
+use Rattle.std.proofs.Common.{◌≡◌, ◌≤◌, ◌<◌, ◌+◌, ℕ, zero, suc, Bool, true, false, List, [], ◌∷◌}
+use Rattle.std.proofs.Common.{length, Option, Some, None, refl, ap, arith, inl, inr}
 use Rattle.c_lex.specs.declared.keyword.Keyword.{Keyword}
 use Rattle.c_lex.specs.declared.keyword.Keyword.TheVariants as keywords
 use Rattle.c_lex.specs.declared.punctuator.Punctuator.{Punctuator}
@@ -16,17 +17,34 @@ use Rattle.c_syntax.specs.declared.expression.Field.{Field}
 use Rattle.c_syntax.specs.declared.expression.Field.TheVariants as fields
 use Rattle.c_syntax.specs.declared.expression.Identifier.{Identifier}
 use Rattle.c_syntax.specs.declared.expression.Literal.{Literal}
-use Rattle.c_syntax.specs.Expression.{Expression, Constant, Variable, Information, Call, Parentheses, Index, Postfix, Prefix, Unary, Cast, Binary, Conditional, Assign, Comma, Arguments, Done, Next}
-use Rattle.c_syntax.specs.Expressions.{literal_kind, OfLevel, TighterThan, IsApplied, IsContinued, IsField, IsInformation, SpellsExpression, SpellsArguments, SpellsMoreArguments}
-use Rattle.c_syntax.specs.Nodes.{nodes, nodes_of_arguments, nodes_of_optional, nodes_of_locals, nodes_of_for_initialiser, nodes_of_statement, nodes_of_statements, nodes_of_initialiser, nodes_of_globals, nodes_of_external_declaration, nodes_of}
-use Rattle.c_syntax.specs.Operators.{binary_punctuator, unary_punctuator, increment_punctuator, assignment_punctuator}
+use Rattle.c_syntax.specs.Expression.{Expression, Constant, Variable, Information, Call}
+use Rattle.c_syntax.specs.Expression.{Parentheses, Index, Postfix, Prefix, Unary, Cast, Binary}
+use Rattle.c_syntax.specs.Expression.{Conditional, Assign, Comma, Arguments, Done, Next}
+use Rattle.c_syntax.specs.Expressions.{literal_kind, OfLevel, TighterThan, IsApplied, IsContinued}
+use Rattle.c_syntax.specs.Expressions.{IsField, IsInformation, SpellsExpression, SpellsArguments}
+use Rattle.c_syntax.specs.Expressions.{SpellsMoreArguments}
+use Rattle.c_syntax.specs.Nodes.{nodes, nodes_of_arguments, nodes_of_optional, nodes_of_locals}
+use Rattle.c_syntax.specs.Nodes.{nodes_of_for_initialiser, nodes_of_statement, nodes_of_statements}
+use Rattle.c_syntax.specs.Nodes.{nodes_of_initialiser, nodes_of_globals}
+use Rattle.c_syntax.specs.Nodes.{nodes_of_external_declaration, nodes_of}
+use Rattle.c_syntax.specs.Operators.{binary_punctuator, unary_punctuator, increment_punctuator}
+use Rattle.c_syntax.specs.Operators.{assignment_punctuator}
 use Rattle.c_syntax.specs.Phrases.{InTurn, IsEnclosed, IsAnother, AreMore, AreSeparated}
-use Rattle.c_syntax.specs.Program.{Initialiser, Single, Several, Global, ExternalDeclaration, Globals, Function}
+use Rattle.c_syntax.specs.Program.{Initialiser, Single, Several, Global, ExternalDeclaration}
+use Rattle.c_syntax.specs.Program.{Globals, Function}
 use Rattle.c_syntax.specs.Programs as programs
-use Rattle.c_syntax.specs.Programs.{IsLiteral, IsConstant, AreConstants, IsLength, IsGlobal, AreGlobals, IsParameter, AreParameters, IsExternalDeclaration, IsProgram}
-use Rattle.c_syntax.specs.Statement.{Local, ForInitialiser, Declaring, Evaluating, Statement, Declare, Block, Evaluate, If, IfElse, While, DoWhile, For, Return, Break, Continue, Leave, TryExcept, TryFinally, Statements, Empty, Then}
-use Rattle.c_syntax.specs.Statements.{IsInitialiser, IsLocal, AreLocals, IsDeclaration, IsOptional, IsUpTo, IsCondition, IsForInitialiser, IsStatement, IsBlock, IsConditional, IsJump, IsBlockItem, AreBlockItems}
-use Rattle.c_syntax.specs.Tokens.{Phrase, IsKind, IsPunctuator, IsKeyword, IsIdentifier, HasPunctuator, HasKeyword, HasWord}
+use Rattle.c_syntax.specs.Programs.{IsLiteral, IsConstant, AreConstants, IsLength, IsGlobal}
+use Rattle.c_syntax.specs.Programs.{AreGlobals, IsParameter, AreParameters, IsExternalDeclaration}
+use Rattle.c_syntax.specs.Programs.{IsProgram}
+use Rattle.c_syntax.specs.Statement.{Local, ForInitialiser, Declaring, Evaluating, Statement}
+use Rattle.c_syntax.specs.Statement.{Declare, Block, Evaluate, If, IfElse, While, DoWhile, For}
+use Rattle.c_syntax.specs.Statement.{Return, Break, Continue, Leave, TryExcept, TryFinally}
+use Rattle.c_syntax.specs.Statement.{Statements, Empty, Then}
+use Rattle.c_syntax.specs.Statements.{IsInitialiser, IsLocal, AreLocals, IsDeclaration, IsOptional}
+use Rattle.c_syntax.specs.Statements.{IsUpTo, IsCondition, IsForInitialiser, IsStatement, IsBlock}
+use Rattle.c_syntax.specs.Statements.{IsConditional, IsJump, IsBlockItem, AreBlockItems}
+use Rattle.c_syntax.specs.Tokens.{Phrase, IsKind, IsPunctuator, IsKeyword, IsIdentifier}
+use Rattle.c_syntax.specs.Tokens.{HasPunctuator, HasKeyword, HasWord}
 use Rattle.c_syntax.specs.Types.{spellings, AreKeywords, IsOneOf, IsBase, AreStars, IsType}
 
 -- A phrase takes at least so many tokens.
@@ -65,9 +83,13 @@ nothing = record { takes = λ ts rest h. let a = ap length h in omega arith }
 -- ---- phrases of phrases
 
 in_turn : {m n : ℕ} {R S : Phrase} → Takes m R → Takes n S → Takes (m + n) (InTurn R S)
-in_turn r s = record { takes = λ ts rest h. let a = r.takes ts h.0 h.1 in let b = s.takes h.0 rest h.2 in omega arith }
+in_turn r s = record {
+  takes = λ ts rest h. let a = r.takes ts h.0 h.1 in
+      let b = s.takes h.0 rest h.2 in omega arith;
+}
 
-enclosed : {m n : ℕ} {O R : Phrase} (close : Punctuator) → Takes m O → Takes n R → Takes (m + n + 1) (IsEnclosed O R close)
+enclosed : {m n : ℕ} {O R : Phrase} (close : Punctuator) → Takes m O → Takes n R
+    → Takes (m + n + 1) (IsEnclosed O R close)
 enclosed close o r = record {
   takes = λ ts rest h.
       let a = o.takes ts h.after_opening h.opening in
@@ -113,13 +135,18 @@ record Counts {A : Type 0} (Element : A → Phrase) (each : A → ℕ) (all : Li
   none : all [] ≡ 0
   more : (x : A) (xs : List A) → all (x ∷ xs) ≡ each x + all xs
 
-are_more : {A : Type 0} {Element : A → Phrase} {each : A → ℕ} {all : List A → ℕ} (end : Punctuator) (xs : List A) → Counts Element each all → Takes (all xs + 1) (AreMore Element end xs)
+are_more : {A : Type 0} {Element : A → Phrase} {each : A → ℕ} {all : List A → ℕ} (end : Punctuator)
+    (xs : List A) → Counts Element each all → Takes (all xs + 1) (AreMore Element end xs)
 are_more end [] c = let e = c.none in fewer (omega arith) (has_punctuator end)
-are_more end (x ∷ xs) c = let e = c.more x xs in fewer (omega arith) (another (c.element x) (are_more end xs c))
+are_more end (x ∷ xs) c = let e = c.more x xs in
+    fewer (omega arith) (another (c.element x) (are_more end xs c))
 
-are_separated : {A : Type 0} {Element : A → Phrase} {each : A → ℕ} {all : List A → ℕ} (end : Punctuator) (xs : List A) → Counts Element each all → Takes (all xs + 1) (AreSeparated Element end xs)
+are_separated : {A : Type 0} {Element : A → Phrase} {each : A → ℕ} {all : List A
+    → ℕ} (end : Punctuator) (xs : List A) → Counts Element each all
+    → Takes (all xs + 1) (AreSeparated Element end xs)
 are_separated end [] c = record { takes = λ ts rest h. absurd h }
-are_separated end (x ∷ xs) c = let e = c.more x xs in fewer (omega arith) (in_turn (c.element x) (are_more end xs c))
+are_separated end (x ∷ xs) c = let e = c.more x xs in
+    fewer (omega arith) (in_turn (c.element x) (are_more end xs c))
 
 -- ---- types
 
@@ -130,7 +157,8 @@ keywords_of (k ∷ ks) = fewer (omega arith) (in_turn (has_keyword k) (keywords_
 one_of : (kss : List (List Keyword)) → Takes 0 (IsOneOf kss)
 one_of [] = record { takes = λ ts rest h. absurd h }
 one_of (ks ∷ kss) = record {
-  takes = λ ts rest h. elim h as (λ x. 0 + length rest ≤ length ts) [ inl a ↦ (keywords_of ks).takes ts rest a | inr b ↦ (one_of kss).takes ts rest b ];
+  takes = λ ts rest h. elim h as (λ x. 0 + length rest ≤ length ts)
+      [ inl a ↦ (keywords_of ks).takes ts rest a | inr b ↦ (one_of kss).takes ts rest b ];
 }
 
 base : (b : Base) → Takes 0 (IsBase b)
@@ -152,7 +180,8 @@ field text fields.Count = has_word text _
 field text (fields.Information index at) = record {
   takes = λ ts rest h.
       let a = (has_word text _).takes ts h.after_word h.word in
-      let b = (has_punctuator punctuators.OpenBracket).takes h.after_word h.after_opening h.opening in
+      let b = (has_punctuator punctuators.OpenBracket).takes h.after_word h.after_opening
+      h.opening in
       let c = (kind _ at).takes h.after_opening h.after_index h.index.1 in
       let d = (has_punctuator punctuators.CloseBracket).takes h.after_index rest h.closing in
       omega arith;
@@ -163,11 +192,14 @@ information text at f = record {
   takes = λ ts rest h.
       let i = h.introduction in
       let a = (keyword keywords.GetExceptionInformation at).takes ts i.after_keyword i.keyword in
-      let b = (has_punctuator punctuators.OpenParenthesis).takes i.after_keyword i.after_opening i.opening in
-      let c = (has_punctuator punctuators.CloseParenthesis).takes i.after_opening i.after_closing i.closing in
+      let b = (has_punctuator punctuators.OpenParenthesis).takes i.after_keyword i.after_opening
+      i.opening in
+      let c = (has_punctuator punctuators.CloseParenthesis).takes i.after_opening i.after_closing
+      i.closing in
       let d = (has_punctuator punctuators.Arrow).takes i.after_closing i.after_arrow i.arrow in
       let e = (has_word text _).takes i.after_arrow i.after_record i.of_record in
-      let g = (has_punctuator punctuators.Arrow).takes i.after_record h.after_introduction i.last_arrow in
+      let g = (has_punctuator punctuators.Arrow).takes i.after_record h.after_introduction
+      i.last_arrow in
       let j = (field text f).takes h.after_introduction rest h.field in
       omega arith;
 }
@@ -180,23 +212,29 @@ mutual
   expression text (Call name es) = record {
     takes = λ ts rest h.
         let a = (identifier name).takes ts h.after_name h.called in
-        let b = (has_punctuator punctuators.OpenParenthesis).takes h.after_name h.after_opening h.opening in
+        let b = (has_punctuator punctuators.OpenParenthesis).takes h.after_name h.after_opening
+        h.opening in
         let c = (arguments text es).takes h.after_opening rest h.arguments in
         omega arith;
   }
   expression text (Parentheses at e) =
       fewer (omega arith)
-      (enclosed punctuators.CloseParenthesis (punctuator punctuators.OpenParenthesis at) (expression text e))
+      (enclosed punctuators.CloseParenthesis (punctuator punctuators.OpenParenthesis at)
+      (expression text e))
   expression text (Index e at i) =
       fewer (omega arith)
       (continued (of_level _ e (expression text e))
-      (enclosed punctuators.CloseBracket (punctuator punctuators.OpenBracket at) (expression text i)))
+      (enclosed punctuators.CloseBracket (punctuator punctuators.OpenBracket at)
+      (expression text i)))
   expression text (Postfix e op at) =
-      fewer (omega arith) (continued (of_level _ e (expression text e)) (punctuator (increment_punctuator op) at))
+      fewer (omega arith) (continued (of_level _ e (expression text e))
+      (punctuator (increment_punctuator op) at))
   expression text (Prefix at op e) =
-      fewer (omega arith) (applied (punctuator (increment_punctuator op) at) (of_level _ e (expression text e)))
+      fewer (omega arith) (applied (punctuator (increment_punctuator op) at)
+      (of_level _ e (expression text e)))
   expression text (Unary at op e) =
-      fewer (omega arith) (applied (punctuator (unary_punctuator op) at) (of_level _ e (expression text e)))
+      fewer (omega arith) (applied (punctuator (unary_punctuator op) at)
+      (of_level _ e (expression text e)))
   expression text (Cast at to e) =
       fewer (omega arith)
       (applied
@@ -220,7 +258,8 @@ mutual
       (continued (of_level _ e (expression text e))
       (applied (punctuator punctuators.Comma at) (of_level _ f (expression text f))))
 
-  arguments : (text : List ℕ) (es : Arguments) → Takes (nodes_of_arguments es) (SpellsArguments text es)
+  arguments : (text : List ℕ) (es : Arguments)
+      → Takes (nodes_of_arguments es) (SpellsArguments text es)
   arguments text Done = fewer (omega arith) (has_punctuator punctuators.CloseParenthesis)
   arguments text (Next e es) = record {
     takes = λ ts rest h.
@@ -229,7 +268,8 @@ mutual
         omega arith;
   }
 
-  more_arguments : (text : List ℕ) (es : Arguments) → Takes (nodes_of_arguments es) (SpellsMoreArguments text es)
+  more_arguments : (text : List ℕ) (es : Arguments)
+      → Takes (nodes_of_arguments es) (SpellsMoreArguments text es)
   more_arguments text Done = fewer (omega arith) (has_punctuator punctuators.CloseParenthesis)
   more_arguments text (Next e es) =
       fewer (omega arith) (another (of_level _ e (expression text e)) (more_arguments text es))
@@ -238,7 +278,8 @@ optional : (text : List ℕ) (e : Option Expression) → Takes (nodes_of_optiona
 optional text None = nothing
 optional text (Some e) = of_level _ e (expression text e)
 
-up_to : (text : List ℕ) (end : Punctuator) (e : Option Expression) → Takes (nodes_of_optional e + 1) (IsUpTo text end e)
+up_to : (text : List ℕ) (end : Punctuator) (e : Option Expression)
+    → Takes (nodes_of_optional e + 1) (IsUpTo text end e)
 up_to text end e = in_turn (optional text e) (has_punctuator end)
 
 condition : (text : List ℕ) (e : Expression) → Takes (nodes e) (IsCondition text e)
@@ -249,10 +290,12 @@ condition text e =
 
 -- ---- declarations
 
-initialiser : (text : List ℕ) (e : Option Expression) → Takes (nodes_of_optional e) (IsInitialiser text e)
+initialiser : (text : List ℕ) (e : Option Expression)
+    → Takes (nodes_of_optional e) (IsInitialiser text e)
 initialiser text None = nothing
 initialiser text (Some e) =
-    fewer (omega arith) (in_turn (has_punctuator punctuators.Assign) (of_level _ e (expression text e)))
+    fewer (omega arith) (in_turn (has_punctuator punctuators.Assign)
+    (of_level _ e (expression text e)))
 
 local : (text : List ℕ) (l : Local) → Takes (1 + nodes_of_optional l.initialiser) (IsLocal text l)
 local text l = record {
@@ -268,12 +311,14 @@ locals text ls =
     are_separated {all = nodes_of_locals} punctuators.Semicolon ls
     (record { element = local text; none = refl; more = λ x xs. omega arith })
 
-declaration : (text : List ℕ) (b : Base) (ls : List Local) → Takes (nodes_of_locals ls + 1) (IsDeclaration text b ls)
+declaration : (text : List ℕ) (b : Base) (ls : List Local)
+    → Takes (nodes_of_locals ls + 1) (IsDeclaration text b ls)
 declaration text b ls = fewer (omega arith) (in_turn (base b) (locals text ls))
 
 -- ---- statements
 
-first : (text : List ℕ) (f : ForInitialiser) → Takes (nodes_of_for_initialiser f) (IsForInitialiser text f)
+first : (text : List ℕ) (f : ForInitialiser)
+    → Takes (nodes_of_for_initialiser f) (IsForInitialiser text f)
 first text (Declaring b ls) = fewer (omega arith) (declaration text b ls)
 first text (Evaluating e) = fewer (omega arith) (up_to text punctuators.Semicolon e)
 
@@ -291,7 +336,8 @@ block items = record {
 stated : {n : ℕ} {Item : Phrase} (s : Statement) → Takes n Item → Takes n (IsStatement s Item)
 stated s item = record { takes = λ ts rest h. item.takes ts rest h.item }
 
-conditional : {m n : ℕ} {Condition Body : Phrase} (k : Keyword) (at : ℕ) → Takes m Condition → Takes n Body → Takes (1 + m + n) (IsConditional k at Condition Body)
+conditional : {m n : ℕ} {Condition Body : Phrase} (k : Keyword) (at : ℕ) → Takes m Condition
+    → Takes n Body → Takes (1 + m + n) (IsConditional k at Condition Body)
 conditional k at c body = record {
   takes = λ ts rest h.
       let a = (keyword k at).takes ts h.after_keyword h.keyword in
@@ -305,7 +351,8 @@ mutual
   item text (Declare b ls) = fewer (omega arith) (declaration text b ls)
   item text (Block ss) = fewer (omega arith) (block (items text ss))
   item text (Evaluate e) = fewer (omega arith) (up_to text punctuators.Semicolon e)
-  item text (If at c s) = fewer (omega arith) (conditional keywords.If at (condition text c) (stated s (item text s)))
+  item text (If at c s) =
+      fewer (omega arith) (conditional keywords.If at (condition text c) (stated s (item text s)))
   item text (IfElse at c s t) = record {
     takes = λ ts rest h.
         let a = (keyword keywords.If at).takes ts h.after_if h.keyword in
@@ -315,7 +362,9 @@ mutual
         let f = (item text t).takes h.after_else rest h.else_body.item in
         omega arith;
   }
-  item text (While at c s) = fewer (omega arith) (conditional keywords.While at (condition text c) (stated s (item text s)))
+  item text (While at c s) =
+      fewer (omega arith) (conditional keywords.While at (condition text c)
+      (stated s (item text s)))
   item text (DoWhile s at c) = record {
     takes = λ ts rest h.
         let a = (has_keyword keywords.Do).takes ts h.after_do h.do_keyword in
@@ -328,15 +377,19 @@ mutual
   item text (For at f c n s) = record {
     takes = λ ts rest h.
         let a = (keyword keywords.For at).takes ts h.head.after_keyword h.keyword in
-        let b = (has_punctuator punctuators.OpenParenthesis).takes h.head.after_keyword h.after_opening h.opening in
+        let b = (has_punctuator punctuators.OpenParenthesis).takes h.head.after_keyword
+        h.after_opening h.opening in
         let d = (first text f).takes h.after_opening h.after_first h.first in
-        let e = (up_to text punctuators.Semicolon c).takes h.after_first h.head.after_condition h.condition in
-        let g = (up_to text punctuators.CloseParenthesis n).takes h.head.after_condition h.after_head h.next in
+        let e = (up_to text punctuators.Semicolon c).takes h.after_first h.head.after_condition
+        h.condition in
+        let g = (up_to text punctuators.CloseParenthesis n).takes h.head.after_condition
+        h.after_head h.next in
         let i = (item text s).takes h.after_head rest h.body.item in
         omega arith;
   }
   item text (Return at e) =
-      fewer (omega arith) (in_turn (keyword keywords.Return at) (up_to text punctuators.Semicolon e))
+      fewer (omega arith) (in_turn (keyword keywords.Return at)
+      (up_to text punctuators.Semicolon e))
   item text (Break at) = jump keywords.Break at
   item text (Continue at) = jump keywords.Continue at
   item text (Leave at) = jump keywords.Leave at
@@ -383,7 +436,8 @@ constants cs =
 
 given : (i : Option Initialiser) → Takes (nodes_of_initialiser i) (programs.IsInitialiser i)
 given None = nothing
-given (Some (Single c)) = fewer (omega arith) (in_turn (has_punctuator punctuators.Assign) (constant c))
+given (Some (Single c)) =
+    fewer (omega arith) (in_turn (has_punctuator punctuators.Assign) (constant c))
 given (Some (Several at cs)) = record {
   takes = λ ts rest h.
       let a = (has_punctuator punctuators.Assign).takes ts h.after_assign h.assign in
@@ -426,9 +480,11 @@ parameters : (ps : List Parameter) → Takes (length ps) (AreParameters ps)
 parameters [] = record { takes = no_parameters }
   where
     no_parameters : (ts rest : List Token) → AreParameters [] ts rest → 0 + length rest ≤ length ts
-    no_parameters ts rest (inl h) = let a = (has_punctuator punctuators.CloseParenthesis).takes ts rest h in omega arith
+    no_parameters ts rest (inl h) = let a =
+        (has_punctuator punctuators.CloseParenthesis).takes ts rest h in omega arith
     no_parameters ts rest (inr h) =
-        let a = (in_turn (has_keyword keywords.Void) (has_punctuator punctuators.CloseParenthesis)).takes ts rest h in
+        let a = (in_turn (has_keyword keywords.Void)
+        (has_punctuator punctuators.CloseParenthesis)).takes ts rest h in
         omega arith
 parameters (p ∷ ps) =
     fewer (omega arith)
@@ -437,20 +493,24 @@ parameters (p ∷ ps) =
 
 -- ---- programs
 
-pub external_declaration : (text : List ℕ) (x : ExternalDeclaration) → Takes (1 + nodes_of_external_declaration x) (IsExternalDeclaration text x)
+pub external_declaration : (text : List ℕ) (x : ExternalDeclaration)
+    → Takes (1 + nodes_of_external_declaration x) (IsExternalDeclaration text x)
 external_declaration text (Globals b gs) = fewer (omega arith) (in_turn (base b) (globals gs))
 external_declaration text (Function t name ps body) = record {
   takes = λ ts rest h.
       let a = (type t).takes ts h.after_type h.returns in
       let b = (identifier name).takes h.after_type h.after_name h.name in
-      let c = (has_punctuator punctuators.OpenParenthesis).takes h.after_name h.after_parenthesis h.parenthesis in
+      let c = (has_punctuator punctuators.OpenParenthesis).takes h.after_name h.after_parenthesis
+      h.parenthesis in
       let d = (parameters ps).takes h.after_parenthesis h.after_parameters h.parameters in
       let e = (block (items text body)).takes h.after_parameters rest h.body in
       omega arith;
 }
 
 -- A program has no more nodes than tokens.
-pub program : (text : List ℕ) (xs : List ExternalDeclaration) (ts : List Token) → IsProgram text xs ts → nodes_of xs ≤ length ts
+pub program : (text : List ℕ) (xs : List ExternalDeclaration) (ts : List Token)
+    → IsProgram text xs ts → nodes_of xs ≤ length ts
 program text [] ts h = omega arith
 program text (x ∷ xs) ts h =
-    let a = (external_declaration text x).takes ts h.0 h.1 in let b = program text xs h.0 h.2 in omega arith
+    let a = (external_declaration text x).takes ts h.0 h.1 in let b = program text xs h.0 h.2 in
+    omega arith

@@ -1,5 +1,6 @@
 -- A step and what follows it are found by where it begins, and so are the steps after an operand.
-use Rattle.std.proofs.Common.{◌≡◌, ◌≤◌, ◌<◌, ◌-◌, ℕ, List, [], ◌∷◌, Option, refl, sym, ap, ◌∙◌, subst, arith}
+use Rattle.std.proofs.Common.{◌≡◌, ◌≤◌, ◌<◌, ◌-◌, ℕ, List, [], ◌∷◌, Option, refl, sym, ap, ◌∙◌}
+use Rattle.std.proofs.Common.{subst, arith}
 use Rattle.c_lex.specs.declared.punctuator.Punctuator.{Punctuator}
 use Rattle.c_lex.specs.declared.punctuator.Punctuator.TheVariants as punctuators
 use Rattle.c_lex.specs.declared.token.Token.{Token}
@@ -7,19 +8,26 @@ use Rattle.c_syntax.specs.declared.operator.Arithmetic.{Arithmetic}
 use Rattle.c_syntax.specs.declared.operator.BinaryOperator.{BinaryOperator}
 use Rattle.c_syntax.specs.declared.operator.Increment.{Increment}
 use Rattle.c_syntax.specs.declared.operator.Increment.TheVariants as increments
-use Rattle.c_syntax.specs.Expression.{Expression, Constant, Variable, Information, Call, Parentheses, Index, Postfix, Prefix, Unary, Cast, Binary, Conditional, Assign, Comma, height}
+use Rattle.c_syntax.specs.Expression.{Expression, Constant, Variable, Information, Call}
+use Rattle.c_syntax.specs.Expression.{Parentheses, Index, Postfix, Prefix, Unary, Cast, Binary}
+use Rattle.c_syntax.specs.Expression.{Conditional, Assign, Comma, height}
 use Rattle.c_syntax.specs.Expressions.{rank, TighterThan, SpellsExpression, Derives}
 use Rattle.c_syntax.specs.Follow.{punctuator_follows, follows, Stops}
-use Rattle.c_syntax.specs.Operators.{conditional, assignment, comma, level, binary_punctuator, increment_punctuator, assignment_punctuator}
+use Rattle.c_syntax.specs.Operators.{conditional, assignment, comma, level, binary_punctuator}
+use Rattle.c_syntax.specs.Operators.{increment_punctuator, assignment_punctuator}
 use Rattle.c_syntax.specs.Tokens.{HasPunctuator}
 use Rattle.c_syntax.specs.Steps.{Step, At, After, With, Choose, Set, And, apply, Tail, Run, Closes}
-use Rattle.c_syntax.proofs.Spine.{levels, follows_punctuator, step_follows, closes, run_reach, run_rank, run_height}
-use Rattle.c_syntax.proofs.Fronts.{punctuator_same, has_same, same_binary, same_increment, same_assignment}
+use Rattle.c_syntax.proofs.Spine.{levels, follows_punctuator, step_follows, closes, run_reach}
+use Rattle.c_syntax.proofs.Spine.{run_rank, run_height}
+use Rattle.c_syntax.proofs.Fronts.{punctuator_same, has_same, same_binary, same_increment}
+use Rattle.c_syntax.proofs.Fronts.{same_assignment}
 
 -- ---- of lower expressions
 
 abbrev pub Below : List ℕ → ℕ → Type 0
-Below text n = (l : ℕ) (e f : Expression) (ts rest end : List Token) → height e < n → Derives text l e ts rest → Derives text l f ts end → Stops l rest → Stops l end → (e ≡ f) × (rest ≡ end)
+Below text n = (l : ℕ) (e f : Expression) (ts rest end : List Token) → height e < n
+    → Derives text l e ts rest → Derives text l f ts end → Stops l rest → Stops l end
+    → (e ≡ f) × (rest ≡ end)
 
 pub rank_low : (e : Expression) → rank e ≤ comma
 rank_low (Binary a at op b) = let x = (levels op).1 in omega arith
@@ -46,8 +54,10 @@ tighter text l op e ts rest p h =
     let fits = h.fits in
     record { fits = omega arith; spells = h.spells }
 
-pub has_stops : (s : Punctuator) (ts rest : List Token) (l : ℕ) → HasPunctuator s ts rest → l < punctuator_follows s → Stops l ts
-has_stops s ts rest l h q = let p = follows_punctuator s h.0 ts rest (punctuator_follows s) h.1 refl in omega arith
+pub has_stops : (s : Punctuator) (ts rest : List Token) (l : ℕ) → HasPunctuator s ts rest
+    → l < punctuator_follows s → Stops l ts
+has_stops s ts rest l h q = let p =
+    follows_punctuator s h.0 ts rest (punctuator_follows s) h.1 refl in omega arith
 
 -- ---- steps
 
@@ -56,7 +66,10 @@ bracket_not increments.Increment e = cc
 bracket_not increments.Decrement e = cc
 
 -- a step and what follows it are found by where it begins
-pub same_tail : (text : List ℕ) (n : ℕ) (left left' : Expression) (s s' : Step) (ts rest end : List Token) → Below text n → height (apply left s) ≤ n → Closes (apply left s) rest → Closes (apply left s') end → Tail text s ts rest → Tail text s' ts end → (s ≡ s') × (rest ≡ end)
+pub same_tail : (text : List ℕ) (n : ℕ) (left left' : Expression) (s s' : Step)
+    (ts rest end : List Token) → Below text n → height (apply left s) ≤ n
+    → Closes (apply left s) rest → Closes (apply left s') end → Tail text s ts rest
+    → Tail text s' ts end → (s ≡ s') × (rest ≡ end)
 same_tail text n left left' (At at i) (At to j) ts rest end u low r z h g =
     let a = punctuator_same punctuators.OpenBracket punctuators.OpenBracket at to ts ts
     h.after_opening g.after_opening refl h.opening g.opening in
@@ -65,23 +78,40 @@ same_tail text n left left' (At at i) (At to j) ts rest end u low r z h g =
     (has_stops punctuators.CloseBracket h.after_inner rest comma h.closing (omega arith))
     (has_stops punctuators.CloseBracket g.after_inner end comma g.closing (omega arith)) in (
       ap (λ (x : ℕ). At x i) a.1 ∙ ap (λ (x : Expression). At to x) b.0,
-      has_same punctuators.CloseBracket h.after_inner g.after_inner rest end b.1 h.closing g.closing,
+      has_same punctuators.CloseBracket h.after_inner g.after_inner rest end b.1 h.closing
+          g.closing,
     )
 same_tail text n left left' (At at i) (After op' to) ts rest end u low r z h g =
     absurd (bracket_not op'
     (punctuator_same (increment_punctuator op') punctuators.OpenBracket to at ts ts end
     h.after_opening refl g h.opening).0)
-same_tail text n left left' (At at i) (With to op' f') ts rest end u low r z h g = let p = step_follows text left (At at i) ts rest h in let q = step_follows text left' (With to op' f') ts end g in let x' = (levels op').0 in let y' = (levels op').1 in absurd (omega arith)
+same_tail text n left left' (At at i) (With to op' f') ts rest end u low r z h g = let p =
+    step_follows text left (At at i) ts rest h in let q =
+    step_follows text left' (With to op' f') ts end g in let x' = (levels op').0 in let y' =
+    (levels op').1 in absurd (omega arith)
 same_tail text n left left' (After op at) (At to j) ts rest end u low r z h g =
     absurd (bracket_not op
     (punctuator_same (increment_punctuator op) punctuators.OpenBracket at to ts ts rest
     g.after_opening refl h g.opening).0)
 same_tail text n left left' (After op at) (After op' to) ts rest end u low r z h g =
-    let a = punctuator_same (increment_punctuator op) (increment_punctuator op') at to ts ts rest end refl h g in
-    (ap (λ (x : Increment). After x at) (same_increment op op' a.0) ∙ ap (λ (x : ℕ). After op' x) a.1, a.2)
-same_tail text n left left' (After op at) (With to op' f') ts rest end u low r z h g = let p = step_follows text left (After op at) ts rest h in let q = step_follows text left' (With to op' f') ts end g in let x' = (levels op').0 in let y' = (levels op').1 in absurd (omega arith)
-same_tail text n left left' (With at op f) (At to j) ts rest end u low r z h g = let p = step_follows text left (With at op f) ts rest h in let q = step_follows text left' (At to j) ts end g in let x = (levels op).0 in let y = (levels op).1 in absurd (omega arith)
-same_tail text n left left' (With at op f) (After op' to) ts rest end u low r z h g = let p = step_follows text left (With at op f) ts rest h in let q = step_follows text left' (After op' to) ts end g in let x = (levels op).0 in let y = (levels op).1 in absurd (omega arith)
+    let a = punctuator_same (increment_punctuator op) (increment_punctuator op') at to ts ts rest
+    end refl h g in (
+      ap (λ (x : Increment). After x at) (same_increment op op' a.0)
+          ∙ ap (λ (x : ℕ). After op' x) a.1,
+      a.2,
+    )
+same_tail text n left left' (After op at) (With to op' f') ts rest end u low r z h g = let p =
+    step_follows text left (After op at) ts rest h in let q =
+    step_follows text left' (With to op' f') ts end g in let x' = (levels op').0 in let y' =
+    (levels op').1 in absurd (omega arith)
+same_tail text n left left' (With at op f) (At to j) ts rest end u low r z h g = let p =
+    step_follows text left (With at op f) ts rest h in let q =
+    step_follows text left' (At to j) ts end g in let x = (levels op).0 in let y = (levels op).1 in
+    absurd (omega arith)
+same_tail text n left left' (With at op f) (After op' to) ts rest end u low r z h g = let p =
+    step_follows text left (With at op f) ts rest h in let q =
+    step_follows text left' (After op' to) ts end g in let x = (levels op).0 in let y =
+    (levels op).1 in absurd (omega arith)
 same_tail text n left left' (With at op f) (With to op' f') ts rest end u low r z h g =
     let a = punctuator_same (binary_punctuator op) (binary_punctuator op') at to ts ts
     h.after_operator g.after_operator refl h.operator g.operator in
@@ -91,12 +121,27 @@ same_tail text n left left' (With at op f) (With to op' f') ts rest end u low r 
     let b = part text n (level op - 1) f f' h.after_operator g.after_operator rest end u a.2
     (omega arith) (tighter text (level op) op f h.after_operator rest refl h.operand)
     (tighter text (level op) op' f' g.after_operator end v g.operand) (omega arith)
-    (omega arith) in
-    (ap (λ (y : ℕ). With y op f) a.1 ∙ ap (λ (y : BinaryOperator). With to y f) q ∙ ap (λ (y : Expression). With to op' y) b.0, b.1)
-same_tail text n left left' (With at op f) (Choose to f' g'') ts rest end u low r z h g = let p = step_follows text left (With at op f) ts rest h in let q = step_follows text left' (Choose to f' g'') ts end g in let x = (levels op).0 in let y = (levels op).1 in absurd (omega arith)
-same_tail text n left left' (With at op f) (Set to op' f') ts rest end u low r z h g = let p = step_follows text left (With at op f) ts rest h in let q = step_follows text left' (Set to op' f') ts end g in let x = (levels op).0 in let y = (levels op).1 in absurd (omega arith)
-same_tail text n left left' (With at op f) (And to f') ts rest end u low r z h g = let p = step_follows text left (With at op f) ts rest h in let q = step_follows text left' (And to f') ts end g in let x = (levels op).0 in let y = (levels op).1 in absurd (omega arith)
-same_tail text n left left' (Choose at f g') (With to op' f') ts rest end u low r z h g = let p = step_follows text left (Choose at f g') ts rest h in let q = step_follows text left' (With to op' f') ts end g in let x' = (levels op').0 in let y' = (levels op').1 in absurd (omega arith)
+    (omega arith) in (
+      ap (λ (y : ℕ). With y op f) a.1 ∙ ap (λ (y : BinaryOperator). With to y f) q
+          ∙ ap (λ (y : Expression). With to op' y) b.0,
+      b.1,
+    )
+same_tail text n left left' (With at op f) (Choose to f' g'') ts rest end u low r z h g = let p =
+    step_follows text left (With at op f) ts rest h in let q =
+    step_follows text left' (Choose to f' g'') ts end g in let x = (levels op).0 in let y =
+    (levels op).1 in absurd (omega arith)
+same_tail text n left left' (With at op f) (Set to op' f') ts rest end u low r z h g = let p =
+    step_follows text left (With at op f) ts rest h in let q =
+    step_follows text left' (Set to op' f') ts end g in let x = (levels op).0 in let y =
+    (levels op).1 in absurd (omega arith)
+same_tail text n left left' (With at op f) (And to f') ts rest end u low r z h g = let p =
+    step_follows text left (With at op f) ts rest h in let q =
+    step_follows text left' (And to f') ts end g in let x = (levels op).0 in let y =
+    (levels op).1 in absurd (omega arith)
+same_tail text n left left' (Choose at f g') (With to op' f') ts rest end u low r z h g = let p =
+    step_follows text left (Choose at f g') ts rest h in let q =
+    step_follows text left' (With to op' f') ts end g in let x' = (levels op').0 in let y' =
+    (levels op').1 in absurd (omega arith)
 same_tail text n left left' (Choose at f g') (Choose to f' g'') ts rest end u low r z h g =
     let a = punctuator_same punctuators.Question punctuators.Question at to ts ts
     h.operator.after_opening g.operator.after_opening refl h.operator.opening
@@ -110,26 +155,43 @@ same_tail text n left left' (Choose at f g') (Choose to f' g'') ts rest end u lo
     let c = has_same punctuators.Colon h.operator.after_inner g.operator.after_inner
     h.after_operator g.after_operator b.1 h.operator.closing g.operator.closing in
     let d = part text n conditional g' g'' h.after_operator g.after_operator rest end u c
-    (omega arith) h.operand g.operand r z in
-    (ap (λ (x : ℕ). Choose x f g') a.1 ∙ ap (λ (x : Expression). Choose to x g') b.0 ∙ ap (λ (x : Expression). Choose to f' x) d.0, d.1)
-same_tail text n left left' (Set at op f) (With to op' f') ts rest end u low r z h g = let p = step_follows text left (Set at op f) ts rest h in let q = step_follows text left' (With to op' f') ts end g in let x' = (levels op').0 in let y' = (levels op').1 in absurd (omega arith)
+    (omega arith) h.operand g.operand r z in (
+      ap (λ (x : ℕ). Choose x f g') a.1 ∙ ap (λ (x : Expression). Choose to x g') b.0
+          ∙ ap (λ (x : Expression). Choose to f' x) d.0,
+      d.1,
+    )
+same_tail text n left left' (Set at op f) (With to op' f') ts rest end u low r z h g = let p =
+    step_follows text left (Set at op f) ts rest h in let q =
+    step_follows text left' (With to op' f') ts end g in let x' = (levels op').0 in let y' =
+    (levels op').1 in absurd (omega arith)
 same_tail text n left left' (Set at op f) (Set to op' f') ts rest end u low r z h g =
     let a = punctuator_same (assignment_punctuator op) (assignment_punctuator op') at to ts ts
     h.after_operator g.after_operator refl h.operator g.operator in
     let q = same_assignment op op' a.0 in
     let b = part text n assignment f f' h.after_operator g.after_operator rest end u a.2
-    (omega arith) h.operand g.operand r z in
-    (ap (λ (y : ℕ). Set y op f) a.1 ∙ ap (λ (y : Option Arithmetic). Set to y f) q ∙ ap (λ (y : Expression). Set to op' y) b.0, b.1)
-same_tail text n left left' (And at f) (With to op' f') ts rest end u low r z h g = let p = step_follows text left (And at f) ts rest h in let q = step_follows text left' (With to op' f') ts end g in let x' = (levels op').0 in let y' = (levels op').1 in absurd (omega arith)
+    (omega arith) h.operand g.operand r z in (
+      ap (λ (y : ℕ). Set y op f) a.1 ∙ ap (λ (y : Option Arithmetic). Set to y f) q
+          ∙ ap (λ (y : Expression). Set to op' y) b.0,
+      b.1,
+    )
+same_tail text n left left' (And at f) (With to op' f') ts rest end u low r z h g = let p =
+    step_follows text left (And at f) ts rest h in let q =
+    step_follows text left' (With to op' f') ts end g in let x' = (levels op').0 in let y' =
+    (levels op').1 in absurd (omega arith)
 same_tail text n left left' (And at f) (And to f') ts rest end u low r z h g =
     let a = punctuator_same punctuators.Comma punctuators.Comma at to ts ts h.after_operator
     g.after_operator refl h.operator g.operator in
     let b = part text n assignment f f' h.after_operator g.after_operator rest end u a.2
     (omega arith) h.operand g.operand r z in
     (ap (λ (y : ℕ). And y f) a.1 ∙ ap (λ (y : Expression). And to y) b.0, b.1)
-same_tail text n left left' s s' ts rest end u low r z h g = let p = step_follows text left s ts rest h in let q = step_follows text left' s' ts end g in absurd (omega arith)
+same_tail text n left left' s s' ts rest end u low r z h g = let p =
+    step_follows text left s ts rest h in let q = step_follows text left' s' ts end g in
+    absurd (omega arith)
 
-pub same_run : (text : List ℕ) (n l : ℕ) (left : Expression) (steps steps' : List Step) (ts : List Token) (e f : Expression) (rest end : List Token) → Below text n → height e ≤ n → rank e ≤ l → rank f ≤ l → Stops l rest → Stops l end → Run text left steps ts e rest → Run text left steps' ts f end → (e ≡ f) × (rest ≡ end)
+pub same_run : (text : List ℕ) (n l : ℕ) (left : Expression) (steps steps' : List Step)
+    (ts : List Token) (e f : Expression) (rest end : List Token) → Below text n → height e ≤ n
+    → rank e ≤ l → rank f ≤ l → Stops l rest → Stops l end → Run text left steps ts e rest
+    → Run text left steps' ts f end → (e ≡ f) × (rest ≡ end)
 same_run text n l left [] [] ts e f rest end u low a b s z h g = (sym h.0 ∙ g.0, sym h.1 ∙ g.1)
 same_run text n l left [] (y ∷ steps') ts e f rest end u low a b s z h g =
     let p = ap follows h.1 in

@@ -5,7 +5,8 @@ use Rattle.c_lex.specs.declared.token.Token.{Token}
 use Rattle.c_syntax.specs.Expression.{Expression}
 use Rattle.c_syntax.specs.Expressions.{rank, OfLevel, TighterThan, IsApplied, IsContinued}
 use Rattle.c_syntax.specs.Phrases.{IsEnclosed}
-use Rattle.c_syntax.specs.Rows.{Differences, Product, CastOfElement, Choices, Assignments, TwoArguments, NearestIf, NoOtherIf}
+use Rattle.c_syntax.specs.Rows.{Differences, Product, CastOfElement, Choices, Assignments}
+use Rattle.c_syntax.specs.Rows.{TwoArguments, NearestIf, NoOtherIf}
 use Rattle.c_syntax.specs.Tokens.{Phrase, IsPunctuator, HasPunctuator}
 
 -- ---- what derivations are made of

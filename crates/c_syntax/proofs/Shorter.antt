@@ -2,12 +2,17 @@
 use Rattle.std.proofs.Common.{◌≤◌, ◌<◌, ℕ, List, ◌∷◌, length, arith}
 use Rattle.c_lex.specs.declared.token.Token.{Token}
 use Rattle.c_syntax.specs.declared.declaration.Constant.{Constant as Constant'}
-use Rattle.c_syntax.specs.Expression.{Expression, Constant, Variable, Information, Call, Parentheses, Index, Postfix, Prefix, Unary, Cast, Binary, Conditional, Assign, Comma}
+use Rattle.c_syntax.specs.Expression.{Expression, Constant, Variable, Information, Call}
+use Rattle.c_syntax.specs.Expression.{Parentheses, Index, Postfix, Prefix, Unary, Cast, Binary}
+use Rattle.c_syntax.specs.Expression.{Conditional, Assign, Comma}
 use Rattle.c_syntax.specs.Expressions.{SpellsExpression}
-use Rattle.c_syntax.specs.Nodes.{nodes, nodes_of_statement, nodes_of_globals, nodes_of_external_declaration}
+use Rattle.c_syntax.specs.Nodes.{nodes, nodes_of_statement, nodes_of_globals}
+use Rattle.c_syntax.specs.Nodes.{nodes_of_external_declaration}
 use Rattle.c_syntax.specs.Program.{Global, ExternalDeclaration, Globals, Function}
 use Rattle.c_syntax.specs.Programs.{IsConstant, IsGlobal, IsExternalDeclaration}
-use Rattle.c_syntax.specs.Statement.{Statement, Declare, Block, Evaluate, If, IfElse, While, DoWhile, For, Return, Break, Continue, Leave, TryExcept, TryFinally}
+use Rattle.c_syntax.specs.Statement.{Statement, Declare, Block, Evaluate, If, IfElse, While}
+use Rattle.c_syntax.specs.Statement.{DoWhile, For, Return, Break, Continue, Leave, TryExcept}
+use Rattle.c_syntax.specs.Statement.{TryFinally}
 use Rattle.c_syntax.specs.Statements.{IsBlockItem}
 use Rattle.c_syntax.proofs.Nodes as counted
 
@@ -15,7 +20,8 @@ some_nodes : (e : Expression) → 1 ≤ nodes e
 some_nodes (Constant at literal) = omega arith
 some_nodes e = omega arith
 
-pub expression : (text : List ℕ) (e : Expression) (ts rest : List Token) → SpellsExpression text e ts rest → length rest < length ts
+pub expression : (text : List ℕ) (e : Expression) (ts rest : List Token)
+    → SpellsExpression text e ts rest → length rest < length ts
 expression text e ts rest h =
     let a = some_nodes e in let b = (counted.expression text e).takes ts rest h in omega arith
 
@@ -23,16 +29,20 @@ some_nodes_of_statement : (s : Statement) → 1 ≤ nodes_of_statement s
 some_nodes_of_statement (Declare b ls) = omega arith
 some_nodes_of_statement s = omega arith
 
-pub item : (text : List ℕ) (s : Statement) (ts rest : List Token) → IsBlockItem text s ts rest → length rest < length ts
+pub item : (text : List ℕ) (s : Statement) (ts rest : List Token) → IsBlockItem text s ts rest
+    → length rest < length ts
 item text s ts rest h =
-    let a = some_nodes_of_statement s in let b = (counted.item text s).takes ts rest h in omega arith
+    let a = some_nodes_of_statement s in let b = (counted.item text s).takes ts rest h in
+    omega arith
 
-pub constant : (c : Constant') (ts rest : List Token) → IsConstant c ts rest → length rest < length ts
+pub constant : (c : Constant') (ts rest : List Token) → IsConstant c ts rest
+    → length rest < length ts
 constant c ts rest h = let a = (counted.constant c).takes ts rest h in omega arith
 
 pub global : (g : Global) (ts rest : List Token) → IsGlobal g ts rest → length rest < length ts
 global g ts rest h = let a = (counted.global g).takes ts rest h in omega arith
 
-pub external_declaration : (text : List ℕ) (x : ExternalDeclaration) (ts rest : List Token) → IsExternalDeclaration text x ts rest → length rest < length ts
+pub external_declaration : (text : List ℕ) (x : ExternalDeclaration) (ts rest : List Token)
+    → IsExternalDeclaration text x ts rest → length rest < length ts
 external_declaration text x ts rest h =
     let a = (counted.external_declaration text x).takes ts rest h in omega arith

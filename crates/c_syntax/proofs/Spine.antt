@@ -1,5 +1,6 @@
 -- An expression is its first operand and the steps after it, from left to right.
-use Rattle.std.proofs.Common.{◌≡◌, ◌≤◌, ◌<◌, ◌-◌, ℕ, List, [], ◌∷◌, ◌++◌, Option, Some, None, refl, sym, ap, ◌∙◌, subst, arith}
+use Rattle.std.proofs.Common.{◌≡◌, ◌≤◌, ◌<◌, ◌-◌, ℕ, List, [], ◌∷◌, ◌++◌, Option, Some, None, refl}
+use Rattle.std.proofs.Common.{sym, ap, ◌∙◌, subst, arith}
 use Rattle.c_lex.specs.declared.punctuator.Punctuator.{Punctuator}
 use Rattle.c_lex.specs.declared.punctuator.Punctuator.TheVariants as punctuators
 use Rattle.c_lex.specs.declared.token.Kind.{Kind}
@@ -13,11 +14,18 @@ use Rattle.c_syntax.specs.declared.operator.BinaryOperator.{BinaryOperator}
 use Rattle.c_syntax.specs.declared.operator.BinaryOperator.TheVariants as binary
 use Rattle.c_syntax.specs.declared.operator.Increment.{Increment}
 use Rattle.c_syntax.specs.declared.operator.Increment.TheVariants as increments
-use Rattle.c_syntax.specs.Expression.{Expression, Constant, Variable, Information, Call, Parentheses, Index, Postfix, Prefix, Unary, Cast, Binary, Conditional, Assign, Comma, height}
+use Rattle.c_syntax.specs.Expression.{Expression, Constant, Variable, Information, Call}
+use Rattle.c_syntax.specs.Expression.{Parentheses, Index, Postfix, Prefix, Unary, Cast, Binary}
+use Rattle.c_syntax.specs.Expression.{Conditional, Assign, Comma, height}
 use Rattle.c_syntax.specs.Expressions.{rank, IsContinued, SpellsExpression, Derives}
 use Rattle.c_syntax.specs.Follow.{punctuator_follows, kind_follows, follows, Stops}
-use Rattle.c_syntax.specs.Operators.{primary, postfix, unary, cast, logical_or, conditional, assignment, comma, level, level_of_arithmetic, level_of_comparison, binary_punctuator, punctuator_of_arithmetic, punctuator_of_comparison, increment_punctuator, assignment_punctuator}
-use Rattle.c_syntax.specs.Steps.{Step, At, After, With, Choose, Set, And, apply, bound, Tail, Run, IsHead, Closes}
+use Rattle.c_syntax.specs.Operators.{primary, postfix, unary, cast, logical_or, conditional}
+use Rattle.c_syntax.specs.Operators.{assignment, comma, level, level_of_arithmetic}
+use Rattle.c_syntax.specs.Operators.{level_of_comparison, binary_punctuator}
+use Rattle.c_syntax.specs.Operators.{punctuator_of_arithmetic, punctuator_of_comparison}
+use Rattle.c_syntax.specs.Operators.{increment_punctuator, assignment_punctuator}
+use Rattle.c_syntax.specs.Steps.{Step, At, After, With, Choose, Set, And, apply, bound, Tail, Run}
+use Rattle.c_syntax.specs.Steps.{IsHead, Closes}
 use Rattle.c_syntax.specs.Tokens.{IsPunctuator}
 
 pub record Spine (text : List ℕ) (e : Expression) (ts end : List Token) : Type 0 where
@@ -115,10 +123,12 @@ assignment_follows (Some arithmetic.Multiply) = refl
 assignment_follows op = refl
 
 -- the level of a step is that of the punctuator with which it begins
-pub follows_punctuator : (s : Punctuator) (at : ℕ) (ts rest : List Token) (l : ℕ) → IsPunctuator s at ts rest → punctuator_follows s ≡ l → follows ts ≡ l
+pub follows_punctuator : (s : Punctuator) (at : ℕ) (ts rest : List Token) (l : ℕ)
+    → IsPunctuator s at ts rest → punctuator_follows s ≡ l → follows ts ≡ l
 follows_punctuator s at ts rest l h p = ap follows h.1 ∙ p
 
-pub step_follows : (text : List ℕ) (e : Expression) (s : Step) (ts rest : List Token) → Tail text s ts rest → follows ts ≡ rank (apply e s)
+pub step_follows : (text : List ℕ) (e : Expression) (s : Step) (ts rest : List Token)
+    → Tail text s ts rest → follows ts ≡ rank (apply e s)
 step_follows text e (At at i) ts rest h =
     follows_punctuator punctuators.OpenBracket at ts h.after_opening postfix h.opening refl
 step_follows text e (After op at) ts rest h =
@@ -252,18 +262,22 @@ pub bound_low : (s : Step) (e : Expression) → bound s ≤ rank (apply e s)
 bound_low s e = (wide_step s e).low
 
 -- what ends an expression ends its operands
-pub run_reach : (text : List ℕ) (left : Expression) (steps : List Step) (ts : List Token) (e : Expression) (end : List Token) (l : ℕ) → Run text left steps ts e end → rank e ≤ l → Stops l end → reach left < follows ts
+pub run_reach : (text : List ℕ) (left : Expression) (steps : List Step) (ts : List Token)
+    (e : Expression) (end : List Token) (l : ℕ) → Run text left steps ts e end → rank e ≤ l
+    → Stops l end → reach left < follows ts
 run_reach text left [] ts e end l r h s =
     let p : rank left ≡ rank e = ap rank r.0 in
     let q : follows ts ≡ follows end = ap follows r.1 in
-    let x : reach left < follows end = reaches left l (follows end) (omega arith) (wide_end l end s) in omega arith
+    let x : reach left < follows end =
+    reaches left l (follows end) (omega arith) (wide_end l end s) in omega arith
 run_reach text left (x ∷ steps) ts e end l r h s =
     let q : follows ts ≡ rank (apply left x) = step_follows text left x ts r.after_step r.step in
     let y : reach left < rank (apply left x) =
     reaches left (bound x) (rank (apply left x)) r.fits (wide_step x left) in
     omega arith
 
-pub run_rank : (text : List ℕ) (left : Expression) (steps : List Step) (ts : List Token) (e : Expression) (end : List Token) → Run text left steps ts e end → rank left ≤ rank e
+pub run_rank : (text : List ℕ) (left : Expression) (steps : List Step) (ts : List Token)
+    (e : Expression) (end : List Token) → Run text left steps ts e end → rank left ≤ rank e
 run_rank text left [] ts e end r = let p : rank left ≡ rank e = ap rank r.0 in omega arith
 run_rank text left (x ∷ steps) ts e end r =
     let a = run_rank text (apply left x) steps r.after_step e end r.others in
@@ -275,7 +289,8 @@ step_height : (s : Step) (e : Expression) → height e ≤ height (apply e s)
 step_height (At at i) e = omega arith
 step_height s e = omega arith
 
-pub run_height : (text : List ℕ) (left : Expression) (steps : List Step) (ts : List Token) (e : Expression) (end : List Token) → Run text left steps ts e end → height left ≤ height e
+pub run_height : (text : List ℕ) (left : Expression) (steps : List Step) (ts : List Token)
+    (e : Expression) (end : List Token) → Run text left steps ts e end → height left ≤ height e
 run_height text left [] ts e end r = let p : height left ≡ height e = ap height r.0 in omega arith
 run_height text left (x ∷ steps) ts e end r =
     let a = run_height text (apply left x) steps r.after_step e end r.others in

@@ -4,9 +4,11 @@ use Rattle.c_lex.specs.declared.token.Kind.{Kind}
 use Rattle.c_lex.specs.declared.token.Kind.TheVariants as kinds
 use Rattle.c_lex.specs.declared.token.Token.{Token}
 use Rattle.c_syntax.specs.declared.expression.Identifier.{Identifier}
-use Rattle.c_syntax.specs.Expression.{Expression, Constant, Variable, Information, Call, Parentheses, Index, Postfix, Prefix, Unary, Cast, Binary, Conditional, Assign, Comma, start}
+use Rattle.c_syntax.specs.Expression.{Expression, Constant, Variable, Information, Call}
+use Rattle.c_syntax.specs.Expression.{Parentheses, Index, Postfix, Prefix, Unary, Cast, Binary}
+use Rattle.c_syntax.specs.Expression.{Conditional, Assign, Comma, start}
 use Rattle.c_syntax.specs.Expressions.{SpellsExpression}
-use Rattle.c_syntax.specs.Follow.{StartsAt, Begins}
+use Rattle.c_syntax.specs.Follow.{StartsAt, ExpressionStart}
 use Rattle.c_syntax.specs.Tokens.{token, IsKind, IsIdentifier}
 
 by_kind : (k : Kind) (at : ℕ) (ts rest : List Token) → IsKind k at ts rest → StartsAt at ts
@@ -35,5 +37,5 @@ starts text (Conditional c at a b) ts rest h = starts text c ts h.after_operand 
 starts text (Assign a at op b) ts rest h = starts text a ts h.after_operand h.operand.spells
 starts text (Comma a at b) ts rest h = starts text a ts h.after_operand h.operand.spells
 
-pub begins : Begins
+pub begins : ExpressionStart
 begins text l e ts rest h = starts text e ts rest h.spells

@@ -19,10 +19,15 @@ use Rattle.c_syntax.specs.declared.expression.Field.TheVariants as fields
 use Rattle.c_syntax.specs.declared.expression.Identifier.{Identifier}
 use Rattle.c_syntax.specs.declared.expression.Literal.{Literal}
 use Rattle.c_syntax.specs.declared.expression.Literal.TheVariants as literals
-use Rattle.c_syntax.specs.Expression.{Expression, Constant, Variable, Information, Call, Parentheses, Index, Postfix, Prefix, Unary, Cast, Binary, Conditional, Assign, Comma, Arguments, Done, Next}
-use Rattle.c_syntax.specs.Operators.{primary, postfix, unary, cast, logical_or, conditional, assignment, comma, level, binary_punctuator, unary_punctuator, increment_punctuator, assignment_punctuator}
+use Rattle.c_syntax.specs.Expression.{Expression, Constant, Variable, Information, Call}
+use Rattle.c_syntax.specs.Expression.{Parentheses, Index, Postfix, Prefix, Unary, Cast, Binary}
+use Rattle.c_syntax.specs.Expression.{Conditional, Assign, Comma, Arguments, Done, Next}
+use Rattle.c_syntax.specs.Operators.{primary, postfix, unary, cast, logical_or, conditional}
+use Rattle.c_syntax.specs.Operators.{assignment, comma, level, binary_punctuator, unary_punctuator}
+use Rattle.c_syntax.specs.Operators.{increment_punctuator, assignment_punctuator}
 use Rattle.c_syntax.specs.Phrases.{IsEnclosed, IsAnother}
-use Rattle.c_syntax.specs.Tokens.{Phrase, IsKind, IsPunctuator, IsKeyword, IsIdentifier, HasPunctuator, HasWord}
+use Rattle.c_syntax.specs.Tokens.{Phrase, IsKind, IsPunctuator, IsKeyword, IsIdentifier}
+use Rattle.c_syntax.specs.Tokens.{HasPunctuator, HasWord}
 use Rattle.c_syntax.specs.Types.{IsType}
 
 -- the level of the production at the top

@@ -9,7 +9,8 @@ use Rattle.c_syntax.specs.declared.level.TheConstants as levels
 use Rattle.c_syntax.specs.Expression.{Expression, start}
 use Rattle.c_lex.specs.declared.keyword.Keyword.TheVariants as keywords
 use Rattle.c_syntax.specs.Expressions.{Derives}
-use Rattle.c_syntax.specs.Operators.{primary, postfix, logical_or, conditional, assignment, comma, never}
+use Rattle.c_syntax.specs.Operators.{primary, postfix, logical_or, conditional, assignment, comma}
+use Rattle.c_syntax.specs.Operators.{never}
 use Rattle.c_syntax.specs.Statement.{Statement}
 use Rattle.c_syntax.specs.Statements.{dangles, IsBlockItem}
 use Rattle.c_syntax.specs.Tokens.{HasKeyword}
@@ -93,8 +94,8 @@ pub record StartsAt (at : ℕ) (ts : List Token) : Type 0 where
   pub starts : first.start ≡ at
 
 -- The start of an expression is the place of its first token.
-abbrev pub Begins : Type 0
-Begins =
+abbrev pub ExpressionStart : Type 0
+ExpressionStart =
     (text : List ℕ) (l : ℕ) (e : Expression) (ts rest : List Token) → Derives text l e ts rest
     → StartsAt (start e) ts
 

@@ -1,5 +1,6 @@
 -- What is counted of a program, and the limits of the counts.
-use Rattle.std.specs.Prelude.{◌≤◌, ℕ, zero, suc, ◌+◌, ◌*◌, ◌/◌, max, Bool, false, cond, nat_eq, List, [], ◌∷◌, ◌++◌, length, Option, Some, None, codes, slice_range}
+use Rattle.std.specs.Prelude.{◌≤◌, ℕ, zero, suc, ◌+◌, ◌*◌, ◌/◌, max, Bool, false, cond, nat_eq}
+use Rattle.std.specs.Prelude.{List, [], ◌∷◌, ◌++◌, length, Option, Some, None, codes, slice_range}
 use Rattle.std.specs.Str.{bytes_eq}
 use Rattle.c_syntax.specs.declared.declaration.Length.{Length}
 use Rattle.c_syntax.specs.declared.declaration.Parameter.{Parameter}
@@ -8,10 +9,17 @@ use Rattle.c_syntax.specs.declared.expression.Base.TheVariants as bases
 use Rattle.c_syntax.specs.declared.expression.Literal.TheVariants as literals
 use Rattle.c_syntax.specs.declared.limit.Count.{Count}
 use Rattle.c_syntax.specs.declared.limit.Count.TheVariants as counts
-use Rattle.c_syntax.specs.declared.limit.TheConstants.{MOST_EXPRESSIONS, MOST_STATEMENTS, MOST_LOCALS, MOST_PARAMETERS, MOST_FUNCTIONS, MOST_GLOBALS, MOST_FUNCLETS}
-use Rattle.c_syntax.specs.Expression.{Expression, Constant, Variable, Information, Call, Parentheses, Index, Postfix, Prefix, Unary, Cast, Binary, Conditional, Assign, Comma, height}
+use Rattle.c_syntax.specs.declared.limit.TheConstants.{MOST_EXPRESSIONS, MOST_STATEMENTS}
+use Rattle.c_syntax.specs.declared.limit.TheConstants.{MOST_LOCALS, MOST_PARAMETERS, MOST_FUNCTIONS}
+use Rattle.c_syntax.specs.declared.limit.TheConstants.{MOST_GLOBALS, MOST_FUNCLETS}
+use Rattle.c_syntax.specs.Expression.{Expression, Constant, Variable, Information, Call}
+use Rattle.c_syntax.specs.Expression.{Parentheses, Index, Postfix, Prefix, Unary, Cast, Binary}
+use Rattle.c_syntax.specs.Expression.{Conditional, Assign, Comma, height}
 use Rattle.c_syntax.specs.Program.{Global, ExternalDeclaration, Globals, Function}
-use Rattle.c_syntax.specs.Statement.{Local, ForInitialiser, Declaring, Evaluating, Statement, Declare, Block, Evaluate, If, IfElse, While, DoWhile, For, Return, Break, Continue, Leave, TryExcept, TryFinally, Statements, Empty, Then}
+use Rattle.c_syntax.specs.Statement.{Local, ForInitialiser, Declaring, Evaluating, Statement}
+use Rattle.c_syntax.specs.Statement.{Declare, Block, Evaluate, If, IfElse, While, DoWhile, For}
+use Rattle.c_syntax.specs.Statement.{Return, Break, Continue, Leave, TryExcept, TryFinally}
+use Rattle.c_syntax.specs.Statement.{Statements, Empty, Then}
 
 -- ---- expressions around a node: the greatest height
 

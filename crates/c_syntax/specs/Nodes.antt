@@ -1,9 +1,15 @@
 -- How many nodes a program has: each expression, statement, declarator, parameter, constant of an
 -- initialiser and function is one.
 use Rattle.std.specs.Prelude.{ℕ, ◌+◌, List, [], ◌∷◌, length, Option, Some, None}
-use Rattle.c_syntax.specs.Expression.{Expression, Constant, Variable, Information, Call, Parentheses, Index, Postfix, Prefix, Unary, Cast, Binary, Conditional, Assign, Comma, Arguments, Done, Next}
-use Rattle.c_syntax.specs.Program.{Initialiser, Single, Several, Global, ExternalDeclaration, Globals, Function}
-use Rattle.c_syntax.specs.Statement.{Local, ForInitialiser, Declaring, Evaluating, Statement, Declare, Block, Evaluate, If, IfElse, While, DoWhile, For, Return, Break, Continue, Leave, TryExcept, TryFinally, Statements, Empty, Then}
+use Rattle.c_syntax.specs.Expression.{Expression, Constant, Variable, Information, Call}
+use Rattle.c_syntax.specs.Expression.{Parentheses, Index, Postfix, Prefix, Unary, Cast, Binary}
+use Rattle.c_syntax.specs.Expression.{Conditional, Assign, Comma, Arguments, Done, Next}
+use Rattle.c_syntax.specs.Program.{Initialiser, Single, Several, Global, ExternalDeclaration}
+use Rattle.c_syntax.specs.Program.{Globals, Function}
+use Rattle.c_syntax.specs.Statement.{Local, ForInitialiser, Declaring, Evaluating, Statement}
+use Rattle.c_syntax.specs.Statement.{Declare, Block, Evaluate, If, IfElse, While, DoWhile, For}
+use Rattle.c_syntax.specs.Statement.{Return, Break, Continue, Leave, TryExcept, TryFinally}
+use Rattle.c_syntax.specs.Statement.{Statements, Empty, Then}
 
 -- ---- expressions
 

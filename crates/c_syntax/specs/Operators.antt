@@ -4,9 +4,13 @@ use Rattle.c_lex.specs.declared.punctuator.Punctuator.{Punctuator}
 use Rattle.c_lex.specs.declared.punctuator.Punctuator.TheVariants as punctuators
 use Rattle.c_syntax.specs.declared.level.TheConstants as levels
 use Rattle.c_syntax.specs.declared.operator.Arithmetic.{Arithmetic}
-use Rattle.c_syntax.specs.declared.operator.Arithmetic.TheVariants.{Multiply, Divide, Remainder, Add, Subtract, ShiftLeft, ShiftRight, And, ExclusiveOr, Or}
+use Rattle.c_syntax.specs.declared.operator.Arithmetic.TheVariants.{Multiply, Divide, Remainder}
+use Rattle.c_syntax.specs.declared.operator.Arithmetic.TheVariants.{Add, Subtract, ShiftLeft}
+use Rattle.c_syntax.specs.declared.operator.Arithmetic.TheVariants.{ShiftRight, And, ExclusiveOr}
+use Rattle.c_syntax.specs.declared.operator.Arithmetic.TheVariants.{Or}
 use Rattle.c_syntax.specs.declared.operator.Comparison.{Comparison}
-use Rattle.c_syntax.specs.declared.operator.Comparison.TheVariants.{Less, Greater, LessEqual, GreaterEqual, Equal, NotEqual}
+use Rattle.c_syntax.specs.declared.operator.Comparison.TheVariants.{Less, Greater, LessEqual}
+use Rattle.c_syntax.specs.declared.operator.Comparison.TheVariants.{GreaterEqual, Equal, NotEqual}
 use Rattle.c_syntax.specs.declared.operator.BinaryOperator.{BinaryOperator}
 use Rattle.c_syntax.specs.declared.operator.BinaryOperator.TheVariants as binary
 use Rattle.c_syntax.specs.declared.operator.UnaryOperator.{UnaryOperator}

@@ -12,10 +12,12 @@ use Rattle.c_syntax.specs.declared.expression.Identifier.{Identifier}
 use Rattle.c_syntax.specs.declared.expression.Literal.{Literal}
 use Rattle.c_syntax.specs.Expressions.{literal_kind, IsInteger}
 use Rattle.c_syntax.specs.Phrases.{InTurn, IsEnclosed, AreMore, AreSeparated}
-use Rattle.c_syntax.specs.Program.{Initialiser, Single, Several, Global, ExternalDeclaration, Globals, Function}
+use Rattle.c_syntax.specs.Program.{Initialiser, Single, Several, Global, ExternalDeclaration}
+use Rattle.c_syntax.specs.Program.{Globals, Function}
 use Rattle.c_syntax.specs.Statement.{Statements}
 use Rattle.c_syntax.specs.Statements.{IsBlock, AreBlockItems}
-use Rattle.c_syntax.specs.Tokens.{Phrase, IsKind, IsPunctuator, IsIdentifier, HasPunctuator, HasKeyword}
+use Rattle.c_syntax.specs.Tokens.{Phrase, IsKind, IsPunctuator, IsIdentifier, HasPunctuator}
+use Rattle.c_syntax.specs.Tokens.{HasKeyword}
 use Rattle.c_syntax.specs.Types.{IsBase, AreStars, IsType}
 
 -- ---- globals

@@ -12,7 +12,8 @@ use Rattle.c_syntax.specs.declared.operator.BinaryOperator.TheVariants as binary
 use Rattle.c_syntax.specs.declared.operator.UnaryOperator.TheVariants as unary
 use Rattle.c_syntax.specs.declared.expression.Base.TheVariants as bases
 use Rattle.c_syntax.specs.declared.expression.Identifier.{Identifier}
-use Rattle.c_syntax.specs.Expression.{Expression, Variable, Index, Unary, Cast, Call, Binary, Conditional, Assign, Next, Done}
+use Rattle.c_syntax.specs.Expression.{Expression, Variable, Index, Unary, Cast, Call, Binary}
+use Rattle.c_syntax.specs.Expression.{Conditional, Assign, Next, Done}
 use Rattle.c_syntax.specs.Expressions.{Derives}
 use Rattle.c_syntax.specs.Operators.{comma}
 use Rattle.c_syntax.specs.Statement.{If, IfElse, Evaluate}

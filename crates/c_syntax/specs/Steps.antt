@@ -5,10 +5,14 @@ use Rattle.c_lex.specs.declared.token.Token.{Token}
 use Rattle.c_syntax.specs.declared.operator.Arithmetic.{Arithmetic}
 use Rattle.c_syntax.specs.declared.operator.BinaryOperator.{BinaryOperator}
 use Rattle.c_syntax.specs.declared.operator.Increment.{Increment}
-use Rattle.c_syntax.specs.Expression.{Expression, Constant, Variable, Information, Call, Parentheses, Index, Postfix, Prefix, Unary, Cast, Binary, Conditional, Assign, Comma}
+use Rattle.c_syntax.specs.Expression.{Expression, Constant, Variable, Information, Call}
+use Rattle.c_syntax.specs.Expression.{Parentheses, Index, Postfix, Prefix, Unary, Cast, Binary}
+use Rattle.c_syntax.specs.Expression.{Conditional, Assign, Comma}
 use Rattle.c_syntax.specs.Expressions.{rank, TighterThan, IsApplied, SpellsExpression, Derives}
 use Rattle.c_syntax.specs.Follow.{follows}
-use Rattle.c_syntax.specs.Operators.{primary, postfix, unary, cast, logical_or, conditional, assignment, comma, level, binary_punctuator, increment_punctuator, assignment_punctuator}
+use Rattle.c_syntax.specs.Operators.{primary, postfix, unary, cast, logical_or, conditional}
+use Rattle.c_syntax.specs.Operators.{assignment, comma, level, binary_punctuator}
+use Rattle.c_syntax.specs.Operators.{increment_punctuator, assignment_punctuator}
 use Rattle.c_syntax.specs.Phrases.{IsEnclosed}
 use Rattle.c_syntax.specs.Tokens.{Phrase, IsPunctuator}
 

@@ -5,7 +5,9 @@ use Rattle.c_lex.specs.declared.keyword.Keyword.TheVariants as keywords
 use Rattle.c_lex.specs.declared.punctuator.Punctuator.TheVariants as punctuators
 use Rattle.c_lex.specs.declared.token.Token.{Token}
 use Rattle.c_syntax.specs.declared.expression.Base.{Base}
-use Rattle.c_syntax.specs.declared.expression.Base.TheVariants.{Void, Char, UnsignedChar, Short, UnsignedShort, Int, Unsigned, LongLong, UnsignedLongLong}
+use Rattle.c_syntax.specs.declared.expression.Base.TheVariants.{Void, Char, UnsignedChar, Short}
+use Rattle.c_syntax.specs.declared.expression.Base.TheVariants.{UnsignedShort, Int, Unsigned}
+use Rattle.c_syntax.specs.declared.expression.Base.TheVariants.{LongLong, UnsignedLongLong}
 use Rattle.c_syntax.specs.declared.expression.CType.{CType}
 use Rattle.c_syntax.specs.Tokens.{HasKeyword, HasPunctuator}
 

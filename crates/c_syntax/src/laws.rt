@@ -1,6 +1,6 @@
 //! What holds of every program, and trees of short texts.
 
-ghost use Rattle.c_syntax.specs.Follow.{OneExpression, OneStatement, Begins};
+ghost use Rattle.c_syntax.specs.Follow.{OneExpression, OneStatement, ExpressionStart};
 ghost use Rattle.c_syntax.specs.Programs.{OneProgram};
 ghost use Rattle.c_syntax.specs.Viable.{OneFirstFault, NoFaultInProgram};
 ghost use Rattle.c_syntax.specs.Rows.{Differences, Product, CastOfElement, Choices, Assignments, TwoArguments, NearestIf, NoOtherIf};
@@ -13,7 +13,7 @@ pub fn laws()
     ensures one_program { OneProgram }
     ensures one_statement { OneStatement }
     ensures one_expression { OneExpression }
-    ensures begins { Begins }
+    ensures start { ExpressionStart }
     ensures one_first_fault { OneFirstFault }
     ensures no_fault_in_program { NoFaultInProgram }
 {}

@@ -1,4 +1,6 @@
-use Rattle.c_parse_atom.proofs.Introduced.{if_none, Nowhere, after_keyword, after_opening, after_closing, after_arrow, after_record, no_opening, no_closing, no_arrow, no_record, no_last_arrow}
+use Rattle.c_parse_atom.proofs.Introduced.{if_none, Nowhere, after_keyword, after_opening}
+use Rattle.c_parse_atom.proofs.Introduced.{after_closing, after_arrow, after_record, no_opening}
+use Rattle.c_parse_atom.proofs.Introduced.{no_closing, no_arrow, no_record, no_last_arrow}
 use Rattle.c_parse_atom.proofs.information.introduced.Goals as goal
 
 pub returns-in_err-at-clause-none : goal.returns-in_err-at-clause-none

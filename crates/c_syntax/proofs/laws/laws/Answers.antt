@@ -6,4 +6,11 @@ use Rattle.c_syntax.proofs.Starts.{begins}
 use Rattle.c_syntax.proofs.laws.laws.Goals as goal
 
 pub returns : goal.returns
-returns c = record { one_program = one_program; one_statement = one_statement; one_expression = one_expression; begins = begins; one_first_fault = one_first_fault; no_fault_in_program = no_fault_in_program }
+returns c = record {
+  one_program = one_program;
+  one_statement = one_statement;
+  one_expression = one_expression;
+  start = begins;
+  one_first_fault = one_first_fault;
+  no_fault_in_program = no_fault_in_program;
+}
