@@ -23,6 +23,7 @@ use Rattle.virtual_unwind.specs.CallerOf.{Functions, entry_of}
 use Rattle.seh_records.specs.declared.dispatch.Kind.{Kind}
 use Rattle.seh_records.specs.declared.dispatch.Kind.TheVariants.{Search, ExceptionUnwind, LocalUnwind}
 use Rattle.seh_records.specs.declared.dispatch.DispatchRecord.{DispatchRecord}
+use Rattle.seh_records.specs.declared.dispatch.TheConstants.{EXCEPTION_NONCONTINUABLE}
 use Rattle.seh_records.specs.Record.{placed, misplaced, return_address_at, place_below}
 use Rattle.seh_records.specs.declared.layout.TheConstants.{POINTERS_AT}
 use Rattle.seh_walk.specs.Walk.{stop_cause, filter_return, finally_return, is_search, walk_in, steps}
@@ -193,7 +194,8 @@ raising t s code flags access saved =
 -- bit 0 of the flags makes it noncontinuable
 abbrev pub raised : Functions → State → Code → ℕ → Option (Bool × ℕ) → Cpu → Turn
 raised t s code flags access saved =
-    with_event (events.Raise code (flags == 1) access) (raising t s code flags access saved)
+    with_event (events.Raise code (flags == EXCEPTION_NONCONTINUABLE) access)
+    (raising t s code flags access saved)
 
 -- a local unwind, to a target of a frame
 abbrev pub to_target : Cpu → ℕ → ℕ → DispatchRecord
@@ -218,7 +220,7 @@ abbrev pub again : DispatchRecord → DispatchRecord
 again r =
     begun (record r {
       code = noncontinuable;
-      flags = 1;
+      flags = EXCEPTION_NONCONTINUABLE;
       count = 0;
       parameters = replicate EXCEPTION_MAXIMUM_PARAMETERS 0;
       target_frame = 0;

@@ -18,13 +18,16 @@ use seh_num::event::Event;
 use seh_num::extension::sign_extend;
 use seh_num::size::EXCEPTION_MAXIMUM_PARAMETERS;
 use seh_num::width::Width;
-use seh_records::dispatch::Kind;
+use seh_records::dispatch::{EXCEPTION_NONCONTINUABLE, Kind};
 use seh_records::{DispatchRecord, fetch, rewrite};
 use seh_walk::asked::skipped;
 use seh_walk::stop_cause::StopCause;
 use x64_instr::register::Reg;
 use x64_machine::cpu::Cpu;
 use x64_memory::space::AddressSpace;
+
+/// The answers from here on are below 0: the signed numbers of 32 bits whose top bit is set.
+const FIRST_NEGATIVE: u32 = 0x8000_0000;
 
 fn bad(at: u64) -> Outcome
     ensures { result ≡ bad_record at }
@@ -40,7 +43,7 @@ fn again(dispatch: &DispatchRecord) -> DispatchRecord
 {
     let mut new = *dispatch;
     new.code = NONCONTINUABLE_EXCEPTION;
-    new.flags = 1;
+    new.flags = EXCEPTION_NONCONTINUABLE;
     new.count = 0;
     new.parameters = [0; EXCEPTION_MAXIMUM_PARAMETERS];
     new.target_frame = 0;
@@ -162,7 +165,7 @@ fn answer<S: AddressSpace>(
     if value == 0 {
         return quiet(search_on(tables, cpu, space, at, dispatch));
     }
-    if value >= 0x8000_0000 {
+    if value >= FIRST_NEGATIVE {
         return continue_execution(tables, cpu, space, at, dispatch);
     }
     quiet(jump(tables, cpu, space, at, dispatch))

@@ -23,6 +23,7 @@ use seh_search::searching::search;
 use seh_unwind::unwind_result::UnwindResult;
 use seh_unwind::unwinding::unwind;
 use seh_walk::stop_cause::StopCause;
+use x64_instr::register::Reg;
 use x64_machine::context::Context;
 use x64_machine::cpu::{Cpu, Flags};
 use x64_memory::space::AddressSpace;
@@ -80,9 +81,9 @@ fn enter<S: AddressSpace>(
 {
     let below = at.wrapping_sub(8);
     let _ = space.store(below, Width::W64, back);
-    cpu.registers[1] = first;
-    cpu.registers[2] = frame;
-    cpu.registers[4] = below;
+    cpu.registers[Reg::Rcx as usize] = first;
+    cpu.registers[Reg::Rdx as usize] = frame;
+    cpu.registers[Reg::Rsp as usize] = below;
     cpu.rip = handler;
 }
 
@@ -279,7 +280,7 @@ pub fn raise<S: AddressSpace>(
         (state cpu.old (S.memory space.old)) code flags access saved.now }
 {
     let dispatch = new_record(Kind::Search, code, flags, access, saved);
-    match place(space, saved.registers[4], &dispatch) {
+    match place(space, saved.registers[Reg::Rsp as usize], &dispatch) {
         Err(guard) => Outcome::Ends(RunEnd::StackLimit {
             address: guard.address,
         }),
@@ -311,7 +312,7 @@ pub fn unwind_locally<S: AddressSpace>(
         (functions_of tables.now) (state cpu.old (S.memory space.old)) frame target saved.now }
 {
     let dispatch = to_target(saved, frame, target);
-    match place(space, saved.registers[4], &dispatch) {
+    match place(space, saved.registers[Reg::Rsp as usize], &dispatch) {
         Err(guard) => Outcome::Ends(RunEnd::StackLimit {
             address: guard.address,
         }),

@@ -22,6 +22,7 @@ use seh_num::end::{Reason, RunEnd};
 use seh_num::event::{Code, Event};
 use seh_num::extension::sign_extend;
 use seh_num::width::Width;
+use seh_records::dispatch::EXCEPTION_NONCONTINUABLE;
 use seh_walk::stop_cause::StopCause;
 use x64_instr::register::Reg;
 use x64_machine::cpu::Cpu;
@@ -110,7 +111,7 @@ fn raised<S: AddressSpace>(
     Led {
         first: Some(Event::Raise {
             code,
-            flag: flags == 1,
+            flag: flags == EXCEPTION_NONCONTINUABLE,
             access,
         }),
         outcome,

@@ -18,6 +18,7 @@ use pe_image::ImageView;
 use seh_num::extension::wrap;
 use seh_num::width::Width;
 use std::alloc::{AllocError, Global};
+use x64_instr::register::Reg;
 use x64_machine::cpu::{Cpu, Flags};
 use x64_memory::page_map::PageMap;
 
@@ -26,8 +27,8 @@ fn first_cpu(entry: u64, arg: i64) -> Cpu
     ensures { result ≡ first_cpu entry arg }
 {
     let mut registers = [0; 16];
-    registers[1] = wrap(Width::W64, i128::from(arg));
-    registers[4] = FIRST_STACK;
+    registers[Reg::Rcx as usize] = wrap(Width::W64, i128::from(arg));
+    registers[Reg::Rsp as usize] = FIRST_STACK;
     Cpu {
         registers,
         rip: entry,

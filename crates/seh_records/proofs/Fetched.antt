@@ -10,6 +10,7 @@ use Rattle.seh_records.specs.declared.dispatch.DispatchRecord.{DispatchRecord}
 use Rattle.seh_records.specs.Words.{words_at}
 use Rattle.seh_records.specs.Laws.{AreBytes, Fits, RecordIsFetched}
 use Rattle.seh_records.specs.Record.{words, head, front, back, mark, number_of, kind_of, fetched, if_readable, if_marked, of_kind, recorded, word, half, words_from, eflags, flags_of, bit}
+use Rattle.seh_records.specs.declared.layout.TheConstants.{RECORD_SIZE}
 
 -- ---- halves of words
 
@@ -114,7 +115,7 @@ cut_registers a b c d e f g h = simp append_assoc
 cut_back : (a b c d e f g h : List ℕ) → ((((((a ++ b) ++ c) ++ d) ++ e) ++ f) ++ g) ++ h ≡ (((((a ++ b) ++ c) ++ d) ++ e) ++ f) ++ (g ++ h)
 cut_back a b c d e f g h = simp append_assoc
 
-module _ (m : Memory) (at : ℕ) (r : DispatchRecord) (top : at + 1568 ≤ 2 ^ 64) (bytes : AreBytes m.byte) (fit : Fits r) (stand : words_from m at 32 192 ≡ words at r) where
+module _ (m : Memory) (at : ℕ) (r : DispatchRecord) (top : at + RECORD_SIZE ≤ 2 ^ 64) (bytes : AreBytes m.byte) (fit : Fits r) (stand : words_from m at 32 192 ≡ words at r) where
   zeros : List ℕ
   zeros = 0 ∷ []
 
@@ -146,7 +147,7 @@ module _ (m : Memory) (at : ℕ) (r : DispatchRecord) (top : at + 1568 ≤ 2 ^ 6
       ap (number_at m.byte 8) f ∙ word_in m.byte (words at r) 192 ((at + 32) % 2 ^ 64) k stand lt (omega arith) ∙ g
 
   -- a run of the list is read back
-  pieces : (pre ys post : List ℕ) (o n : ℕ) → o < 1568 → words at r ≡ (pre ++ ys) ++ post → o ≡ 32 + 8 * length pre → length ys ≡ n → words_from m at o n ≡ ys
+  pieces : (pre ys post : List ℕ) (o n : ℕ) → o < RECORD_SIZE → words at r ≡ (pre ++ ys) ++ post → o ≡ 32 + 8 * length pre → length ys ≡ n → words_from m at o n ≡ ys
   pieces pre ys post o n below e f len =
       let total : 192 ≡ length pre + length ys + length post = omega (arith, length-words, ap length e, length-append (pre ++ ys) post, length-append pre ys) in
       let g : (at + o) % 2 ^ 64 ≡ at + o = omega arith in
@@ -223,7 +224,7 @@ module _ (m : Memory) (at : ℕ) (r : DispatchRecord) (top : at + 1568 ≤ 2 ^ 6
   unfolding words
   marked = (field 0 32 mark (lit< tt) refl refl, field 1 40 (number_of r.kind) (lit< tt) refl refl)
 
-  pub fetched_back : first_refused (may_read m) 1568 at ≡ None → fetched m at ≡ Some r
+  pub fetched_back : first_refused (may_read m) RECORD_SIZE at ≡ None → fetched m at ≡ Some r
   unfolding fetched
   fetched_back readable =
       ap (if_readable m at) readable

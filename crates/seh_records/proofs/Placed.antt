@@ -15,6 +15,7 @@ use Rattle.seh_records.specs.Laws.{AllSmall, AreBytes, Readable, Fits, PlacedIsR
 use Rattle.seh_records.proofs.Block.{outside, one_block}
 use Rattle.seh_records.proofs.Places.{readable_bytes, below_top}
 use Rattle.seh_records.proofs.Fetched.{run_is, fetched_back, count_words, eflags_small}
+use Rattle.seh_records.specs.declared.layout.TheConstants.{RECORD_SIZE}
 
 -- ---- words that come before others
 
@@ -135,7 +136,7 @@ written : Memory → ℕ → DispatchRecord → Memory
 written m at r = with_bytes m (with_words m.byte ((at + 32) % 2 ^ 64) (words at r))
 
 -- which is how a record is placed
-placed_is_written : (m : Memory) (at : ℕ) (r : DispatchRecord) → Fits r → at + 1568 ≤ 2 ^ 64 → written m at r ≡ placed m at r
+placed_is_written : (m : Memory) (at : ℕ) (r : DispatchRecord) → Fits r → at + RECORD_SIZE ≤ 2 ^ 64 → written m at r ≡ placed m at r
 unfolding written placed
 placed_is_written m at r fit top = ap (with_bytes m) (one_block m.byte (words at r) ((at + 32) % 2 ^ 64) 192 (sym (count_words r at fit)) (omega arith))
 
@@ -144,11 +145,11 @@ placed_readable : (m : Memory) (at : ℕ) (r : DispatchRecord) → Readable m at
 unfolding placed
 placed_readable m at r h = h
 
-placed_bytes : (m : Memory) (at : ℕ) (r : DispatchRecord) → Fits r → at + 1568 ≤ 2 ^ 64 → AreBytes m.byte → AreBytes (placed m at r).byte
+placed_bytes : (m : Memory) (at : ℕ) (r : DispatchRecord) → Fits r → at + RECORD_SIZE ≤ 2 ^ 64 → AreBytes m.byte → AreBytes (placed m at r).byte
 unfolding written
 placed_bytes m at r fit top h = subst (λ (p : Memory). AreBytes p.byte) (placed_is_written m at r fit top) (with_words-small m.byte (words at r) ((at + 32) % 2 ^ 64) h)
 
-written_words : (m : Memory) (at : ℕ) (r : DispatchRecord) → Fits r → at + 1568 ≤ 2 ^ 64 → words_at (written m at r).byte 192 ((at + 32) % 2 ^ 64) ≡ words at r
+written_words : (m : Memory) (at : ℕ) (r : DispatchRecord) → Fits r → at + RECORD_SIZE ≤ 2 ^ 64 → words_at (written m at r).byte 192 ((at + 32) % 2 ^ 64) ≡ words at r
 unfolding written
 written_words m at r fit top =
     let n = count_words r at fit in
@@ -156,7 +157,7 @@ written_words m at r fit top =
     ap (λ k. words_at (with_words m.byte a (words at r)) k a) (sym n)
     ∙ run_is (with_words m.byte a (words at r)) (words at r) a (omega arith) (λ j lt. word_back m.byte (words at r) a j (omega arith) lt ∙ (let s = (words_small at r fit).at j lt in let e : get_or (words at r) j 0 % 2 ^ 64 ≡ get_or (words at r) j 0 = omega arith in e))
 
-placed_words : (m : Memory) (at : ℕ) (r : DispatchRecord) → Fits r → at + 1568 ≤ 2 ^ 64
+placed_words : (m : Memory) (at : ℕ) (r : DispatchRecord) → Fits r → at + RECORD_SIZE ≤ 2 ^ 64
     → words_at (placed m at r).byte 192 ((at + 32) % 2 ^ 64) ≡ words at r
 placed_words m at r fit top =
     ap (λ (p : Memory). words_at p.byte 192 ((at + 32) % 2 ^ 64)) (sym (placed_is_written m at r fit top))
@@ -164,7 +165,7 @@ placed_words m at r fit top =
 
 pub placed_is_record : PlacedIsRecord
 placed_is_record m at r top aligned fit readable =
-    let end : at + 1568 ≤ 2 ^ 64 = omega arith in
+    let end : at + RECORD_SIZE ≤ 2 ^ 64 = omega arith in
     record {
       aligned = aligned;
       readable = placed_readable m at r readable;
@@ -181,13 +182,13 @@ placing_leaves_others m at r x top fit out =
     ∙ ap (λ b. with_words m.byte b (words at r) x) g
     ∙ outside m.byte (words at r) (at + 32) x (omega arith) (so out n)
   where
-    so : (x < at + 32) ⊎ (at + 1568 ≤ x) → length (words at r) ≡ 192
+    so : (x < at + 32) ⊎ (at + RECORD_SIZE ≤ x) → length (words at r) ≡ 192
         → (x < at + 32) ⊎ (at + 32 + 8 * length (words at r) ≤ x)
     so (inl p) n = inl p
     so (inr p) n = inr (omega arith)
 
 -- a record that is placed is fetched, also where it ends at the last address
-placed_back : (m : Memory) (at : ℕ) (r : DispatchRecord) → at + 1568 ≤ 2 ^ 64 → AreBytes m.byte → Fits r
+placed_back : (m : Memory) (at : ℕ) (r : DispatchRecord) → at + RECORD_SIZE ≤ 2 ^ 64 → AreBytes m.byte → Fits r
     → Readable m at → fetched (placed m at r) at ≡ Some r
 placed_back m at r end bytes fit readable =
     fetched_back (placed m at r) at r end (placed_bytes m at r fit end bytes) fit

@@ -12,6 +12,7 @@ use Rattle.seh_records.specs.declared.dispatch.DispatchRecord.{DispatchRecord}
 use Rattle.seh_records.specs.Words.{words_at}
 use Rattle.seh_records.specs.Record.{fetched, if_readable, if_marked, of_kind, kind_of, recorded, mark, word, words_from, flags_of}
 use Rattle.seh_records.specs.Laws.{FetchedByItsBytes, StoresLeaveIt}
+use Rattle.seh_records.specs.declared.layout.TheConstants.{RECORD_SIZE}
 
 number_same : (byte other : ℕ → ℕ) (n x : ℕ) → x + n < 2 ^ 64 → ((i : ℕ) → i < n → other (x + i) ≡ byte (x + i)) → number_at other n x ≡ number_at byte n x
 unfolding number_at
@@ -32,13 +33,13 @@ words_same byte other (suc n) x top h =
     let rest = words_same byte other n (x + 8) (omega arith) (λ i lt. let f : x + 8 + i ≡ x + (8 + i) = omega arith in ap other f ∙ h (8 + i) (omega arith) ∙ ap byte (sym f)) in
     ap (λ v. v ∷ words_at other n ((x + 8) % 2 ^ 64)) first ∙ ap (λ (t : List ℕ). number_at byte 8 x ∷ t) (ap (words_at other n) e ∙ rest ∙ ap (words_at byte n) (sym e))
 
-module _ (m new : Memory) (at : ℕ) (top : at + 1568 < 2 ^ 64) (same : (x : ℕ) → at + 32 ≤ x → x < at + 1568 → new.byte x ≡ m.byte x) where
-  numbers : (n o : ℕ) → 32 ≤ o → o + n ≤ 1568 → number_at new.byte n ((at + o) % 2 ^ 64) ≡ number_at m.byte n ((at + o) % 2 ^ 64)
+module _ (m new : Memory) (at : ℕ) (top : at + RECORD_SIZE < 2 ^ 64) (same : (x : ℕ) → at + 32 ≤ x → x < at + RECORD_SIZE → new.byte x ≡ m.byte x) where
+  numbers : (n o : ℕ) → 32 ≤ o → o + n ≤ RECORD_SIZE → number_at new.byte n ((at + o) % 2 ^ 64) ≡ number_at m.byte n ((at + o) % 2 ^ 64)
   numbers n o ge le =
       let e : (at + o) % 2 ^ 64 ≡ at + o = omega arith in
       ap (number_at new.byte n) e ∙ number_same m.byte new.byte n (at + o) (omega arith) (λ i lt. same (at + o + i) (omega arith) (omega arith)) ∙ ap (number_at m.byte n) (sym e)
 
-  runs : (n o : ℕ) → 32 ≤ o → o + 8 * n ≤ 1568 → words_from new at o n ≡ words_from m at o n
+  runs : (n o : ℕ) → 32 ≤ o → o + 8 * n ≤ RECORD_SIZE → words_from new at o n ≡ words_from m at o n
   runs n o ge le =
       let e : (at + o) % 2 ^ 64 ≡ at + o = omega arith in
       ap (words_at new.byte n) e ∙ words_same m.byte new.byte n (at + o) (omega arith) (λ i lt. same (at + o + i) (omega arith) (omega arith)) ∙ ap (words_at m.byte n) (sym e)
@@ -70,9 +71,9 @@ module _ (m new : Memory) (at : ℕ) (top : at + 1568 < 2 ^ 64) (same : (x : ℕ
   by_reading (Some a) = refl
   by_reading None = ap (λ w. if_marked new at (nat_eq w mark)) (numbers 8 32 (lit≤ tt) (lit≤ tt)) ∙ by_mark (nat_eq (word m at 32) mark)
 
-  all_same : first_refused (may_read new) 1568 at ≡ first_refused (may_read m) 1568 at → fetched new at ≡ fetched m at
+  all_same : first_refused (may_read new) RECORD_SIZE at ≡ first_refused (may_read m) RECORD_SIZE at → fetched new at ≡ fetched m at
   unfolding fetched
-  all_same e = ap (if_readable new at) e ∙ by_reading (first_refused (may_read m) 1568 at)
+  all_same e = ap (if_readable new at) e ∙ by_reading (first_refused (may_read m) RECORD_SIZE at)
 
 pub fetched_by_its_bytes : FetchedByItsBytes
 fetched_by_its_bytes m new at top modes same = all_same m new at top same modes
@@ -80,7 +81,7 @@ fetched_by_its_bytes m new at top modes same = all_same m new at top same modes
 pub stores_leave_it : StoresLeaveIt
 stores_leave_it m at to v w top lt apart =
     fetched_by_its_bytes m (after_store m to w v) at top
-    (ap (λ (f : ℕ → Protection). first_refused (λ a. is_readable (f a).rights) 1568 at) (keeps_modes m to v w))
+    (ap (λ (f : ℕ → Protection). first_refused (λ a. is_readable (f a).rights) RECORD_SIZE at) (keeps_modes m to v w))
     (λ x ge le. kept x (first_refused (may_write m) (bytes_of w) to) (apart x ge le))
   where
     kept : (x : ℕ) (o : Option ℕ) → IsApart x to (bytes_of w) → (unless_refused o (with_bytes m (with_number m.byte (bytes_of w) to v)) m).byte x ≡ m.byte x

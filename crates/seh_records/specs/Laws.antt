@@ -8,7 +8,7 @@ use Rattle.flat_memory.specs.Memory.{Memory, first_refused, may_read, after_stor
 use Rattle.flat_memory.specs.Laws.{IsApart}
 use Rattle.seh_records.specs.declared.dispatch.DispatchRecord.{DispatchRecord}
 use Rattle.seh_records.specs.Record.{mark, misplaced, placed, fetched, IsRecordAt}
-use Rattle.seh_records.specs.declared.layout.TheConstants.{RECORD_SIZE}
+use Rattle.seh_records.specs.declared.layout.TheConstants.{RECORD_SIZE, MARK_AT}
 
 abbrev pub MarkSpells : Type 0
 MarkSpells = little_bytes 8 mark ≡ codes "SEHDSPCH"
@@ -67,19 +67,19 @@ PlacedIsFetchedWhereNotRefused =
 abbrev pub PlacingLeavesOthers : Type 0
 PlacingLeavesOthers =
     (m : Memory) (at : ℕ) (r : DispatchRecord) (x : ℕ) → at + RECORD_SIZE < 2 ^ 64 → Fits r
-    → (x < at + 32) ⊎ (at + RECORD_SIZE ≤ x) → (placed m at r).byte x ≡ m.byte x
+    → (x < at + MARK_AT) ⊎ (at + RECORD_SIZE ≤ x) → (placed m at r).byte x ≡ m.byte x
 
 -- fetching reads no byte but those past the home space
 abbrev pub FetchedByItsBytes : Type 0
 FetchedByItsBytes =
     (m new : Memory) (at : ℕ) → at + RECORD_SIZE < 2 ^ 64
     → first_refused (may_read new) RECORD_SIZE at ≡ first_refused (may_read m) RECORD_SIZE at
-    → ((x : ℕ) → at + 32 ≤ x → x < at + RECORD_SIZE → new.byte x ≡ m.byte x)
+    → ((x : ℕ) → at + MARK_AT ≤ x → x < at + RECORD_SIZE → new.byte x ≡ m.byte x)
     → fetched new at ≡ fetched m at
 
 -- so a store that overlaps none of them leaves what is fetched
 abbrev pub StoresLeaveIt : Type 0
 StoresLeaveIt =
     (m : Memory) (at to v : ℕ) (w : Width) → at + RECORD_SIZE < 2 ^ 64 → to < 2 ^ 64
-    → ((x : ℕ) → at + 32 ≤ x → x < at + RECORD_SIZE → IsApart x to (bytes_of w))
+    → ((x : ℕ) → at + MARK_AT ≤ x → x < at + RECORD_SIZE → IsApart x to (bytes_of w))
     → fetched (after_store m to w v) at ≡ fetched m at

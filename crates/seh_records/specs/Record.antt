@@ -12,7 +12,7 @@ use Rattle.seh_records.specs.declared.dispatch.DispatchRecord.{DispatchRecord}
 use Rattle.seh_records.specs.declared.refusal.Guard.{Guard}
 use Rattle.seh_records.specs.declared.refusal.BadRecord.{BadRecord}
 use Rattle.seh_records.specs.Words.{with_block, words_at}
-use Rattle.seh_records.specs.declared.layout.TheConstants.{RECORD_SIZE, PLACED_SIZE}
+use Rattle.seh_records.specs.declared.layout.TheConstants.{RECORD_SIZE, PLACED_SIZE, MARK_AT, KIND_AT, FRAME_AT, ROW_AT, TARGET_FRAME_AT, TARGET_AT, EXCEPTION_AT, FLAGS_AT, COUNT_AT, PARAMETERS_AT, CONTEXT_AT, EFLAGS_AT, REGISTERS_AT, RIP_AT, WALK_RIP_AT, WALK_KEPT_AT}
 
 -- the bytes SEHDSPCH, the lowest first
 abbrev pub mark : ℕ
@@ -56,8 +56,8 @@ head at r =
     ∷ r.row
     ∷ r.target_frame
     ∷ r.target
-    ∷ ((at + 96) % 2 ^ 64)
-    ∷ ((at + 256) % 2 ^ 64)
+    ∷ ((at + EXCEPTION_AT) % 2 ^ 64)
+    ∷ ((at + CONTEXT_AT) % 2 ^ 64)
     ∷ (r.code.0 + 2 ^ 32 * r.flags)
     ∷ 0
     ∷ r.saved.rip
@@ -94,7 +94,7 @@ misplaced m at =
 
 -- all but the home space
 unfoldable pub placed : Memory → ℕ → DispatchRecord → Memory
-placed m at r = with_bytes m (with_block m.byte ((at + 32) % 2 ^ 64) 192 (words at r))
+placed m at r = with_bytes m (with_block m.byte ((at + MARK_AT) % 2 ^ 64) 192 (words at r))
 
 -- the place of a new record, below a stack pointer
 abbrev pub place_below : ℕ → ℕ
@@ -115,25 +115,25 @@ words_from m at o n = words_at m.byte n ((at + o) % 2 ^ 64)
 abbrev pub saved : Memory → ℕ → Cpu
 saved m at =
     record {
-      registers = words_from m at 0x178 16;
-      rip = word m at 0x1F8;
-      flags = flags_of (half m at 0x144);
+      registers = words_from m at REGISTERS_AT 16;
+      rip = word m at RIP_AT;
+      flags = flags_of (half m at EFLAGS_AT);
     }
 
 abbrev pub walk : Memory → ℕ → Context
-walk m at = record { rip = word m at 1488; kept = words_from m at 1496 9 }
+walk m at = record { rip = word m at WALK_RIP_AT; kept = words_from m at WALK_KEPT_AT 9 }
 
 abbrev pub recorded : Memory → ℕ → Kind → DispatchRecord
 recorded m at kind = record {
   kind = kind;
-  frame = word m at 48;
-  row = word m at 56;
-  target_frame = word m at 64;
-  target = word m at 72;
-  code = record { 0 = half m at 96 };
-  flags = half m at 100;
-  count = half m at 120;
-  parameters = words_from m at 128 EXCEPTION_MAXIMUM_PARAMETERS;
+  frame = word m at FRAME_AT;
+  row = word m at ROW_AT;
+  target_frame = word m at TARGET_FRAME_AT;
+  target = word m at TARGET_AT;
+  code = record { 0 = half m at EXCEPTION_AT };
+  flags = half m at FLAGS_AT;
+  count = half m at COUNT_AT;
+  parameters = words_from m at PARAMETERS_AT EXCEPTION_MAXIMUM_PARAMETERS;
   saved = saved m at;
   walk = walk m at;
 }
@@ -143,12 +143,12 @@ of_kind m at None = None
 of_kind m at (Some kind) = Some (recorded m at kind)
 
 abbrev pub if_marked : Memory → ℕ → Bool → Option DispatchRecord
-if_marked m at true = of_kind m at (kind_of (word m at 40))
+if_marked m at true = of_kind m at (kind_of (word m at KIND_AT))
 if_marked m at false = None
 
 abbrev pub if_readable : Memory → ℕ → Option ℕ → Option DispatchRecord
 if_readable m at (Some a) = None
-if_readable m at None = if_marked m at (word m at 32 == mark)
+if_readable m at None = if_marked m at (word m at MARK_AT == mark)
 
 -- none where the bytes aren't readable, the mark differs or the kind is another
 unfoldable pub fetched : Memory → ℕ → Option DispatchRecord
@@ -158,7 +158,7 @@ fetched m at = if_readable m at (first_refused (may_read m) RECORD_SIZE at)
 pub record IsRecordAt (m : Memory) (at : ℕ) (r : DispatchRecord) : Type 0 where
   pub aligned : at % 16 ≡ 0
   pub readable : first_refused (may_read m) RECORD_SIZE at ≡ None
-  pub words : words_from m at 32 192 ≡ words at r
+  pub words : words_from m at MARK_AT 192 ≡ words at r
 
 -- ---- what the code answers, and the memory after it
 

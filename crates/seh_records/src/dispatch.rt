@@ -3,6 +3,9 @@ use seh_num::size::EXCEPTION_MAXIMUM_PARAMETERS;
 use x64_machine::context::Context;
 use x64_machine::cpu::Cpu;
 
+/// The flag of an exception that can't be continued (Windows headers, `winnt.h`).
+pub const EXCEPTION_NONCONTINUABLE: u32 = 1;
+
 /// What a record is kept for.
 #[derive(Clone, Copy, Debug, PartialEq, Eq)]
 pub enum Kind {
@@ -29,7 +32,7 @@ pub struct DispatchRecord {
     pub target: u64,
     /// ExceptionCode.
     pub code: Code,
-    /// ExceptionFlags: 0, or 1 where the exception can't be continued.
+    /// ExceptionFlags: 0, or `EXCEPTION_NONCONTINUABLE`.
     pub flags: u32,
     /// How many of the parameters say something.
     pub count: u32,

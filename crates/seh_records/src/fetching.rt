@@ -5,7 +5,11 @@ ghost use Rattle.flat_memory.specs.Memory.{first_refused, may_read};
 ghost use Rattle.seh_records.specs.Record as spec;
 
 use crate::dispatch::{DispatchRecord, Kind};
-use crate::layout::RECORD_SIZE;
+use crate::layout::{
+    COUNT_AT, EFLAGS_AT, EXCEPTION_AT, FLAGS_AT, FRAME_AT, KIND_AT, MARK_AT, PARAMETERS_AT,
+    RECORD_SIZE, REGISTERS_AT, RIP_AT, ROW_AT, TARGET_AT, TARGET_FRAME_AT, WALK_KEPT_AT,
+    WALK_RIP_AT,
+};
 use crate::placing::MARK;
 use crate::refusal::BadRecord;
 use crate::words::first_unreadable;
@@ -73,11 +77,11 @@ fn saved<S: AddressSpace>(space: &S, at: u64) -> Cpu
     ensures { result ≡ spec.saved (S.memory space.now) at }
 {
     let mut registers = [0; 16];
-    words(space, at, 0x178, &mut registers);
+    words(space, at, REGISTERS_AT, &mut registers);
     Cpu {
         registers,
-        rip: word(space, at, 0x1F8),
-        flags: flags_of(half(space, at, 0x144)),
+        rip: word(space, at, RIP_AT),
+        flags: flags_of(half(space, at, EFLAGS_AT)),
     }
 }
 
@@ -86,9 +90,9 @@ fn walk<S: AddressSpace>(space: &S, at: u64) -> Context
     ensures { result ≡ spec.walk (S.memory space.now) at }
 {
     let mut kept = [0; 9];
-    words(space, at, 1496, &mut kept);
+    words(space, at, WALK_KEPT_AT, &mut kept);
     Context {
-        rip: word(space, at, 1488),
+        rip: word(space, at, WALK_RIP_AT),
         kept,
     }
 }
@@ -98,16 +102,16 @@ fn recorded<S: AddressSpace>(space: &S, at: u64, kind: Kind) -> DispatchRecord
     ensures { result ≡ spec.recorded (S.memory space.now) at kind }
 {
     let mut parameters = [0; EXCEPTION_MAXIMUM_PARAMETERS];
-    words(space, at, 128, &mut parameters);
+    words(space, at, PARAMETERS_AT, &mut parameters);
     DispatchRecord {
         kind,
-        frame: word(space, at, 48),
-        row: word(space, at, 56),
-        target_frame: word(space, at, 64),
-        target: word(space, at, 72),
-        code: Code(half(space, at, 96)),
-        flags: half(space, at, 100),
-        count: half(space, at, 120),
+        frame: word(space, at, FRAME_AT),
+        row: word(space, at, ROW_AT),
+        target_frame: word(space, at, TARGET_FRAME_AT),
+        target: word(space, at, TARGET_AT),
+        code: Code(half(space, at, EXCEPTION_AT)),
+        flags: half(space, at, FLAGS_AT),
+        count: half(space, at, COUNT_AT),
         parameters,
         saved: saved(space, at),
         walk: walk(space, at),
@@ -132,10 +136,10 @@ fn fetched<S: AddressSpace>(space: &S, at: u64) -> Option<DispatchRecord>
     if first_unreadable(space, at, RECORD_SIZE / 8).is_some() {
         return None;
     }
-    if word(space, at, 32) != MARK {
+    if word(space, at, MARK_AT) != MARK {
         return None;
     }
-    match kind_of(word(space, at, 40)) {
+    match kind_of(word(space, at, KIND_AT)) {
         None => None,
         Some(kind) => Some(recorded(space, at, kind)),
     }

@@ -5,7 +5,7 @@ ghost use Rattle.arrayvec.specs.ArrayVec.{array_vec_len};
 ghost use Rattle.seh_records.specs.Record as spec;
 
 use crate::dispatch::{DispatchRecord, Kind};
-use crate::layout::{PLACED_SIZE, RECORD_SIZE};
+use crate::layout::{CONTEXT_AT, EXCEPTION_AT, MARK_AT, PLACED_SIZE, RECORD_SIZE};
 use crate::refusal::Guard;
 use crate::words::{first_unwritable, put_words};
 use arrayvec::ArrayVec;
@@ -46,8 +46,8 @@ fn head(at: u64, dispatch: &DispatchRecord) -> [u64; 12]
         dispatch.row,
         dispatch.target_frame,
         dispatch.target,
-        at.wrapping_add(96),
-        at.wrapping_add(256),
+        at.wrapping_add(EXCEPTION_AT),
+        at.wrapping_add(CONTEXT_AT),
         dispatch.code.0 as u64 + (1 << 32) * dispatch.flags as u64,
         0,
         dispatch.saved.rip,
@@ -112,7 +112,7 @@ fn put_record<S: AddressSpace>(space: &mut S, at: u64, dispatch: &DispatchRecord
     requires { spec.misplaced (S.memory space.old) at ≡ None }
     ensures { S.memory space.new ≡ spec.placed (S.memory space.old) at dispatch.now }
 {
-    put_words(space, at.wrapping_add(32), &words_of(at, dispatch));
+    put_words(space, at.wrapping_add(MARK_AT), &words_of(at, dispatch));
 }
 
 /// Writes a record at an address: all of it but the home space, which stays as it is, as all other

@@ -14,6 +14,7 @@ use Rattle.seh_records.specs.declared.dispatch.DispatchRecord.{DispatchRecord}
 use Rattle.seh_records.specs.Words.{words_at}
 use Rattle.seh_records.specs.Record.{fetched, if_readable, if_marked, of_kind, kind_of, mark, word}
 use Rattle.seh_records.specs.Laws.{AreBytes}
+use Rattle.seh_records.specs.declared.layout.TheConstants.{RECORD_SIZE}
 use Rattle.seh_walk.specs.declared.walk.WalkState.{WalkState}
 use Rattle.seh_walk.specs.Walk.{Visited, visited, if_over, if_filter, if_finally, if_above, above, if_search, is_search, saved_in, walk_in, past_filter, past_finally, framed, filter_return, finally_return}
 use Rattle.seh_walk.specs.Laws.{LeadsTo, WalksRise, WalksStayBelow}
@@ -99,7 +100,7 @@ IsSmallRecord (Some r) = (rsp (context_of r.saved) < 2 ^ 64) × (rsp r.walk < 2 
 
 fetched_small : (m : Memory) (at : ℕ) → AreBytes m.byte → IsSmallRecord (fetched m at)
 unfolding fetched
-fetched_small m at h = by_reading (first_refused (may_read m) 1568 at)
+fetched_small m at h = by_reading (first_refused (may_read m) RECORD_SIZE at)
   where
     by_kind : (o : Option Kind) → IsSmallRecord (of_kind m at o)
     by_kind None = tt
