@@ -14,7 +14,7 @@ use Rattle.host_model.specs.HostStep.{Host, Live, Ended, host, turn, after}
 use Rattle.host_model.specs.Loading.{start}
 use Rattle.host_model.specs.Funclets.{funclets}
 use Rattle.host_model.specs.Machine.{or_turn, run, functions_in, machine_of, machine}
-use Rattle.host_model.specs.Laws.{Covers, Begins, RunsShowWhatWasShown, MoreTurnsCover, ImagesCover, CoveringIsTransitive}
+use Rattle.host_model.specs.Laws.{Covers, IsShownFirst, RunsShowWhatWasShown, MoreTurnsCover, ImagesCover, CoveringIsTransitive}
 
 pub covers_self : (x : Shown RunEnd) → Covers x.events x.end x
 covers_self x = record {
@@ -23,7 +23,7 @@ covers_self x = record {
 }
 
 -- a run shows what was shown before
-begins_or : (f : Functions) (fs : List Funclet) (k : ℕ) (out : List Event) (h : Host) → ((g : Host) (ev : List Event) → Begins ev (run f fs k g ev)) → Begins out (or_turn f fs (run f fs k) out h)
+begins_or : (f : Functions) (fs : List Funclet) (k : ℕ) (out : List Event) (h : Host) → ((g : Host) (ev : List Event) → IsShownFirst ev (run f fs k g ev)) → IsShownFirst out (or_turn f fs (run f fs k) out h)
 begins_or f fs k out (Ended e) rest = ([], sym (append-nil out))
 begins_or f fs k out (Live s) rest =
     let ev = shown_in (turn f fs s) in
@@ -35,7 +35,7 @@ unfolding run
 begins f fs zero h out = ([], sym (append-nil out))
 begins f fs (suc k) h out = begins_or f fs k out h (λ g ev. begins f fs k g ev)
 
-pub none_yet : (out : List Event) (x : Shown RunEnd) → Begins out x → Covers out None x
+pub none_yet : (out : List Event) (x : Shown RunEnd) → IsShownFirst out x → Covers out None x
 none_yet out x b = record { shows = b; ends = λ e h. absurd cc }
 
 longer_or : (f : Functions) (fs : List Funclet) (k j : ℕ) (out : List Event) (h : Host) → ((g : Host) (ev : List Event) → Covers (run f fs k g ev).events (run f fs k g ev).end (run f fs (k + j) g ev)) → Covers (or_turn f fs (run f fs k) out h).events (or_turn f fs (run f fs k) out h).end (or_turn f fs (run f fs (k + j)) out h)

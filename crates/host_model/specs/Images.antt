@@ -7,26 +7,14 @@ use Rattle.seh_num.specs.declared.event.Event.TheVariants as events
 use Rattle.seh_num.specs.declared.end.RunEnd.{RunEnd}
 use Rattle.seh_num.specs.declared.end.RunEnd.TheVariants as ends
 use Rattle.pe_image.specs.Numbers.{u16, u32, u64, zeros}
-use Rattle.host_model.specs.Worked.{dos_header}
+use Rattle.host_model.specs.Worked.{dos_header, file_header, optional_header, section, code_flags}
 use Rattle.host_model.specs.Machine.{machine}
 
--- ---- headers
+-- ---- parts
 
--- x64, five sections, an optional header of 144 bytes
-abbrev pub file_header : List ℕ
-file_header = u32 0x4550 ++ u16 0x8664 ++ u16 5 ++ zeros 12 ++ u16 144 ++ u16 0x23
-
--- PE32+, entry 0x2000, base 0x140000000, size 0x6000, four directories: imports at 0x3000, and the
--- function table at 0x5000
-abbrev pub optional_header : ℕ → List ℕ
-optional_header size =
-    u16 0x20B ++ zeros 14 ++ u32 0x2000 ++ zeros 4 ++ u64 0x140000000 ++ zeros 24 ++ u32 0x6000
-    ++ zeros 48 ++ u32 4 ++ zeros 8 ++ u32 0x3000 ++ u32 40 ++ zeros 8 ++ u32 0x5000 ++ u32 size
-
--- a section's header: eight bytes of name, which aren't read here
-abbrev pub section : ℕ → ℕ → ℕ → ℕ → List ℕ
-section address size raw flags =
-    zeros 8 ++ u32 size ++ u32 address ++ u32 size ++ u32 raw ++ zeros 12 ++ u32 flags
+-- four directories: imports at 0x3000, and the function table of so many bytes at 0x5000
+abbrev pub directories : ℕ → List ℕ
+directories size = zeros 8 ++ u32 0x3000 ++ u32 40 ++ zeros 8 ++ u32 0x5000 ++ u32 size
 
 -- what is imported: one library, with its lookup table and its slots, from 0x3058 on
 abbrev pub names : List ℕ
@@ -46,10 +34,11 @@ imports =
 abbrev pub of_parts : List ℕ → List ℕ → List ℕ → List ℕ → List ℕ → List ℕ
 of_parts data' text rdata xdata pdata =
     dos_header
-    ++ file_header
-    ++ optional_header (length pdata)
+    ++ file_header 5 144
+    ++ optional_header 0x2000 0x6000 4
+    ++ directories (length pdata)
     ++ section 0x1000 (length data') 432 0xC0000040
-    ++ section 0x2000 (length text) (432 + length data') 0x60000020
+    ++ section 0x2000 (length text) (432 + length data') code_flags
     ++ section 0x3000 (length rdata) (432 + length data' + length text) 0x40000040
     ++ section 0x4000 (length xdata) (432 + length data' + length text + length rdata) 0x40000040
     ++ section 0x5000 (length pdata) (432 + length data' + length text + length rdata

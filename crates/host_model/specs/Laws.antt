@@ -14,14 +14,14 @@ pub record Covers (events : List Event) (end : Option RunEnd) (shown : Shown Run
   pub ends : (e : RunEnd) → end ≡ Some e → shown ≡ record { events = events; end = Some e }
 
 -- a run shows what was shown before it
-abbrev pub Begins : List Event → Shown RunEnd → Type 0
-Begins out shown = (more : List Event) × (shown.events ≡ out ++ more)
+abbrev pub IsShownFirst : List Event → Shown RunEnd → Type 0
+IsShownFirst out shown = (more : List Event) × (shown.events ≡ out ++ more)
 
 -- whatever was shown before is at the front
 abbrev pub RunsShowWhatWasShown : Type 0
 RunsShowWhatWasShown =
     (f : Functions) (fs : List Funclet) (k : ℕ) (h : Host) (out : List Event)
-    → Begins out (run f fs k h out)
+    → IsShownFirst out (run f fs k h out)
 
 -- with more turns a run shows at least as much, and an end stays with its events
 abbrev pub MoreTurnsCover : Type 0

@@ -12,7 +12,7 @@ use Rattle.virtual_unwind.specs.CallerOf.{Functions}
 use Rattle.host_model.specs.declared.funclet.Funclet.{Funclet}
 use Rattle.host_model.specs.HostStep.{host}
 use Rattle.host_model.specs.Machine.{run}
-use Rattle.host_model.specs.Laws.{Begins, Covers}
+use Rattle.host_model.specs.Laws.{IsShownFirst, Covers}
 use Rattle.host_model.proofs.Longer.{begins}
 use Rattle.c_model.specs.declared.ended.Ended.{Ended}
 use Rattle.c_model.specs.declared.ended.Ended.TheVariants as source
@@ -36,7 +36,7 @@ ended_so events e x same = record {
 }
 
 -- an end that is none of the machine's claims no end
-wild_so : (events : List Event) (end : Ended) (wild : is_calm (Some end) ≡ false) (x : Shown RunEnd) → Begins events x → ShowsAll (record { events = events; end = Some end }) x
+wild_so : (events : List Event) (end : Ended) (wild : is_calm (Some end) ≡ false) (x : Shown RunEnd) → IsShownFirst events x → ShowsAll (record { events = events; end = Some end }) x
 wild_so events (source.Exit v) wild x begun = absurd cc
 wild_so events (source.Unhandled code) wild x begun = absurd cc
 wild_so events (source.OutOfSteps n) wild x begun = absurd cc
