@@ -16,6 +16,7 @@ use Rattle.seh_records.specs.declared.dispatch.Kind.TheVariants.{Search, Excepti
 use Rattle.seh_records.specs.declared.dispatch.DispatchRecord.{DispatchRecord}
 use Rattle.seh_records.specs.Record.{placed, misplaced, place_below}
 use Rattle.seh_records.specs.Laws.{Fits, AllSmall}
+use Rattle.seh_records.specs.declared.layout.TheConstants.{RECORD_SIZE}
 use Rattle.seh_walk.specs.Walk.{is_search}
 use Rattle.host_model.specs.declared.funclet.Funclet.{Funclet}
 use Rattle.host_model.specs.Turns.{with_event}
@@ -39,11 +40,11 @@ use Rattle.linked_stack.specs.Steps.{placed_in, AsksHost, IsException, RaiseSear
 -- ---- records
 
 -- a record is placed near the stack pointer
-place_near : (sp : ℕ) → 1583 ≤ sp → sp < 2 ^ 64 → sp ≤ place_below sp + 1600
-place_near sp l h = let e : (sp + (2 ^ 64 - 1568)) % 2 ^ 64 ≡ sp - 1568 = omega arith in omega arith
+place_near : (sp : ℕ) → RECORD_SIZE + 15 ≤ sp → sp < 2 ^ 64 → sp ≤ place_below sp + record_room
+place_near sp l h = let e : (sp + (2 ^ 64 - RECORD_SIZE)) % 2 ^ 64 ≡ sp - RECORD_SIZE = omega arith in omega arith
 
-place_low : (sp : ℕ) → 1583 ≤ sp → sp < 2 ^ 64 → place_below sp + 1568 ≤ sp
-place_low sp l h = let e : (sp + (2 ^ 64 - 1568)) % 2 ^ 64 ≡ sp - 1568 = omega arith in omega arith
+place_low : (sp : ℕ) → RECORD_SIZE + 15 ≤ sp → sp < 2 ^ 64 → place_below sp + RECORD_SIZE ≤ sp
+place_low sp l h = let e : (sp + (2 ^ 64 - RECORD_SIZE)) % 2 ^ 64 ≡ sp - RECORD_SIZE = omega arith in omega arith
 
 misplaced_placed : (m : Memory) (at : ℕ) (r : DispatchRecord) → misplaced (placed m at r) at ≡ misplaced m at
 unfolding placed

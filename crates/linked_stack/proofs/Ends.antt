@@ -1,5 +1,6 @@
 -- The list ends in the stack, and each of its parts below that.
 use Rattle.std.proofs.Common.{ℕ, ◌+◌, ◌*◌, ◌≤◌, List, [], ◌∷◌, length, arith}
+use Rattle.host_layout.specs.declared.range.TheConstants.{STACK_END}
 use Rattle.flat_memory.specs.Memory.{Memory}
 use Rattle.x64_machine.specs.declared.context.Context.{Context}
 use Rattle.x64_machine.specs.Contexts.{context_of}
@@ -29,7 +30,7 @@ end_within m y sp size k acts (FuncletBody j) h = omega arith
 -- ---- the list
 
 module _ (t : Functions) (fs : List Funclet) (program : LinearProgram) (p : Plan) where
-  pub in_stack : (m : Memory) (c : Context) (is : List StackItem) (items : List Item) (acts : List Activation) → IsStack t m c is → Linked t fs program p m c is items acts → rsp c ≤ 0x70800000
+  pub in_stack : (m : Memory) (c : Context) (is : List StackItem) (items : List Item) (acts : List Activation) → IsStack t m c is → Linked t fs program p m c is items acts → rsp c ≤ STACK_END
   in_stack m c [] [] acts s h = h.1
   in_stack m c (Framed f ∷ is) (Waits b ∷ below) acts s h = let e = rises t m c (Framed f) s.0 in let l = in_stack m (after_frame c f) is below (activations_below b.body acts) s.1 h.2 in omega arith
   in_stack m c (Leaf back ∷ is) (Waits b ∷ below) acts s h = let e = rises t m c (Leaf back) s.0 in let l = in_stack m (after_leaf c back) is below (activations_below b.body acts) s.1 h.2 in omega arith

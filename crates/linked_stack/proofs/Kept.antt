@@ -1,6 +1,7 @@
 -- The list is in each memory that reads the same in the stack, from its stack pointer up, and has
 -- the same code.
 use Rattle.std.proofs.Common.{◌≡◌, ℕ, ◌+◌, ◌≤◌, Bool, true, false, Ok, List, [], ◌∷◌, ◌∙◌, arith}
+use Rattle.host_layout.specs.declared.range.TheConstants.{STACK_END}
 use Rattle.flat_memory.specs.Memory.{Memory}
 use Rattle.x64_machine.specs.declared.context.Context.{Context}
 use Rattle.x64_machine.specs.Contexts.{context_of}
@@ -10,6 +11,7 @@ use Rattle.virtual_unwind.specs.Tail.{tail_at}
 use Rattle.virtual_unwind.specs.CallerOf.{Functions}
 use Rattle.seh_records.specs.declared.dispatch.DispatchRecord.{DispatchRecord}
 use Rattle.seh_records.specs.Record.{misplaced, fetched}
+use Rattle.seh_records.specs.declared.layout.TheConstants.{RECORD_SIZE}
 use Rattle.seh_walk.specs.Walk.{filter_return, finally_return}
 use Rattle.host_model.specs.declared.funclet.Funclet.{Funclet}
 use Rattle.template_code.specs.declared.layout.Layout.{Layout}
@@ -25,8 +27,8 @@ use Rattle.linked_stack.proofs.Ends.{words_fit, end_within, in_stack}
 -- what a memory reads as another does, from an address up to another
 pub record ReadsSame (m m' : Memory) (low top : ℕ) : Type 0 where
   pub words : (at v : ℕ) → low ≤ at → at + 8 ≤ top → word m at ≡ Ok v → word m' at ≡ Ok v
-  pub records : (at : ℕ) → low ≤ at → at + 1568 ≤ top → fetched m' at ≡ fetched m at
-  pub places : (at : ℕ) → low ≤ at → at + 1568 ≤ top → misplaced m' at ≡ misplaced m at
+  pub records : (at : ℕ) → low ≤ at → at + RECORD_SIZE ≤ top → fetched m' at ≡ fetched m at
+  pub places : (at : ℕ) → low ≤ at → at + RECORD_SIZE ≤ top → misplaced m' at ≡ misplaced m at
   pub tails : (register at : ℕ) → tail_at register m' at ≡ tail_at register m at
 
 module _ (m m' : Memory) (top : ℕ) where
@@ -94,7 +96,7 @@ module _ (m m' : Memory) (top : ℕ) where
         let w = words_fit m (rsp c + (p.layout b.body).temporaries) (rsp c + home_end) b.temporaries h.waits.temporaries in
         record { leaf = h.leaf; home = h.home; none = h.none; waits = body_kept c (p.layout b.body).temporaries home_end b acts r (omega arith) fits h.waits; returns = h.returns }
 
-    pub own_kept : (at : ℕ) (d : DispatchRecord) → ReadsSame m m' at top → at + 1568 ≤ top → IsOwnRecord t fs program p m at d → IsOwnRecord t fs program p m' at d
+    pub own_kept : (at : ℕ) (d : DispatchRecord) → ReadsSame m m' at top → at + RECORD_SIZE ≤ top → IsOwnRecord t fs program p m at d → IsOwnRecord t fs program p m' at d
     own_kept at d r fits h = record { fits = h.fits; room = r.places at (omega arith) fits ∙ h.room }
 
     -- ---- items of the stack
@@ -130,7 +132,7 @@ module _ (m m' : Memory) (top : ℕ) where
       returns = r.words (rsp c) back (omega arith) fits s.returns;
     }
 
-    pub record_is_at : (c : Context) (d : DispatchRecord) (at : ℕ) (kind : Bool) (next : Context) → ReadsSame m m' (rsp c) top → rsp c + 1568 ≤ top → RecordIsAt m c d at kind next → RecordIsAt m' c d at kind next
+    pub record_is_at : (c : Context) (d : DispatchRecord) (at : ℕ) (kind : Bool) (next : Context) → ReadsSame m m' (rsp c) top → rsp c + RECORD_SIZE ≤ top → RecordIsAt m c d at kind next → RecordIsAt m' c d at kind next
     record_is_at c d at kind next r fits s = record {
       at_host = s.at_host;
       fetches = r.records (rsp c) (omega arith) fits ∙ s.fetches;
@@ -143,29 +145,29 @@ module _ (m m' : Memory) (top : ℕ) where
 -- ---- the whole list
 
 module _ (m m' : Memory) (t : Functions) (fs : List Funclet) (program : LinearProgram) (p : Plan) where
-  pub list_kept : (c : Context) (is : List StackItem) (items : List Item) (acts : List Activation) → ReadsSame m m' (rsp c) 0x70800000 → IsStack t m c is → Linked t fs program p m c is items acts → IsLinkedStack t fs program p m' c is items acts
+  pub list_kept : (c : Context) (is : List StackItem) (items : List Item) (acts : List Activation) → ReadsSame m m' (rsp c) STACK_END → IsStack t m c is → Linked t fs program p m c is items acts → IsLinkedStack t fs program p m' c is items acts
   list_kept c [] [] acts r s h = record { stack = s; linked = h }
   list_kept c (Framed f ∷ is) (Waits b ∷ below) acts r s h =
       let k = s.0.kept in
       let e = set_head c.kept (rsp c + f.size + 8) (omega arith) in
       let l = in_stack t fs program p m (after_frame c f) is below (activations_below b.body acts) s.1 h.2 in
-      let outer = list_kept (after_frame c f) is below (activations_below b.body acts) (higher m m' 0x70800000 (rsp c) (rsp (after_frame c f)) (omega arith) r) s.1 h.2 in
-      record { stack = (frame_is_at m m' 0x70800000 t fs program p c f r (omega arith) s.0, outer.stack); linked = (frame_kept m m' 0x70800000 t fs program p c f b below acts r (omega arith) h.0, h.1, outer.linked) }
+      let outer = list_kept (after_frame c f) is below (activations_below b.body acts) (higher m m' STACK_END (rsp c) (rsp (after_frame c f)) (omega arith) r) s.1 h.2 in
+      record { stack = (frame_is_at m m' STACK_END t fs program p c f r (omega arith) s.0, outer.stack); linked = (frame_kept m m' STACK_END t fs program p c f b below acts r (omega arith) h.0, h.1, outer.linked) }
   list_kept c (Leaf back ∷ is) (Waits b ∷ below) acts r s h =
       let k = s.0.kept in
       let e = set_head c.kept (rsp c + 8) (omega arith) in
       let l = in_stack t fs program p m (after_leaf c back) is below (activations_below b.body acts) s.1 h.2 in
-      let outer = list_kept (after_leaf c back) is below (activations_below b.body acts) (higher m m' 0x70800000 (rsp c) (rsp (after_leaf c back)) (omega arith) r) s.1 h.2 in
-      record { stack = (leaf_is_at m m' 0x70800000 t fs program p c back r (omega arith) s.0, outer.stack); linked = (leaf_kept m m' 0x70800000 t fs program p c back b below acts r h.0.home h.0, h.1, outer.linked) }
+      let outer = list_kept (after_leaf c back) is below (activations_below b.body acts) (higher m m' STACK_END (rsp c) (rsp (after_leaf c back)) (omega arith) r) s.1 h.2 in
+      record { stack = (leaf_is_at m m' STACK_END t fs program p c back r (omega arith) s.0, outer.stack); linked = (leaf_kept m m' STACK_END t fs program p c back b below acts r h.0.home h.0, h.1, outer.linked) }
   list_kept c (Searching d ∷ is) (Searches exception resumption asked rest ∷ below) acts r s h =
       let a = s.0.above in
       let l = in_stack t fs program p m (context_of d.saved) is below acts s.1 h.1 in
-      let outer = list_kept (context_of d.saved) is below acts (higher m m' 0x70800000 (rsp c) (rsp (context_of d.saved)) (omega arith) r) s.1 h.1 in
+      let outer = list_kept (context_of d.saved) is below acts (higher m m' STACK_END (rsp c) (rsp (context_of d.saved)) (omega arith) r) s.1 h.1 in
       record {
-        stack = (record_is_at m m' 0x70800000 t fs program p c d filter_return true (context_of d.saved) r (omega arith) s.0, outer.stack);
+        stack = (record_is_at m m' STACK_END t fs program p c d filter_return true (context_of d.saved) r (omega arith) s.0, outer.stack);
         linked = (
           record {
-            own = own_kept m m' 0x70800000 t fs program p (rsp c) d r (omega arith) h.0.own;
+            own = own_kept m m' STACK_END t fs program p (rsp c) d r (omega arith) h.0.own;
             carries = h.0.carries;
             resumes = h.0.resumes;
             onward = h.0.onward;
@@ -180,10 +182,10 @@ module _ (m m' : Memory) (t : Functions) (fs : List Funclet) (program : LinearPr
   list_kept c (Unwinding d ∷ is) (Unwinds rest target ∷ below) acts r s h =
       let a = s.0.above in
       let l = in_stack t fs program p m d.walk is below acts s.1 h.1 in
-      let outer = list_kept d.walk is below acts (higher m m' 0x70800000 (rsp c) (rsp d.walk) (omega arith) r) s.1 h.1 in
+      let outer = list_kept d.walk is below acts (higher m m' STACK_END (rsp c) (rsp d.walk) (omega arith) r) s.1 h.1 in
       record {
-        stack = (record_is_at m m' 0x70800000 t fs program p c d finally_return false d.walk r (omega arith) s.0, outer.stack);
-        linked = (record { own = own_kept m m' 0x70800000 t fs program p (rsp c) d r (omega arith) h.0.own; purpose = h.0.purpose; row = h.0.row; aimed = h.0.aimed; space = h.0.space }, outer.linked);
+        stack = (record_is_at m m' STACK_END t fs program p c d finally_return false d.walk r (omega arith) s.0, outer.stack);
+        linked = (record { own = own_kept m m' STACK_END t fs program p (rsp c) d r (omega arith) h.0.own; purpose = h.0.purpose; row = h.0.row; aimed = h.0.aimed; space = h.0.space }, outer.linked);
       }
   list_kept c [] (j ∷ items) acts r s h = absurd h
   list_kept c (Framed f ∷ is) [] acts r s h = absurd h

@@ -2,6 +2,7 @@
 use Rattle.std.proofs.Common.{◌≡◌, ◌⊎◌, inl, inr, ℕ, ◌+◌, ◌-◌, ◌*◌, ◌/◌, ◌%◌, ◌^◌, ◌<◌, ◌≤◌, Bool, true, false, cond, Option, Some, None, Ok, refl, sym, ap, subst, ◌∙◌, arith}
 use Rattle.std.specs.Prelude.{nat_lt, nat_le, ◌&&◌}
 use Rattle.std.proofs.lemmas.Bool.{cases_lt, ltb-false}
+use Rattle.host_layout.specs.declared.range.TheConstants.{STACK_START, STACK_END}
 use Rattle.flat_memory.specs.Memory.{Memory, with_bytes, first_refused, may_read, may_write, with_number, is_among, distance, number_at, access, unless_refused}
 use Rattle.flat_memory.specs.Laws.{IsApart}
 use Rattle.flat_memory.proofs.Stores.{untouched, stored_is_loaded, writable_is_readable}
@@ -14,6 +15,7 @@ use Rattle.seh_records.proofs.Runs.{none_front, none_within}
 use Rattle.seh_records.proofs.Places.{writable}
 use Rattle.seh_records.proofs.Placed.{placed_is_fetched, placing_leaves_others}
 use Rattle.seh_records.proofs.Unmoved.{fetched_by_its_bytes}
+use Rattle.seh_records.specs.declared.layout.TheConstants.{RECORD_SIZE, PLACED_SIZE}
 use Rattle.linked_stack.proofs.Unchanged.{word_kept}
 use Rattle.linked_stack.proofs.Pointers.{placed_points}
 use Rattle.linked_stack.specs.ListLaws.{KeepsAbove}
@@ -23,18 +25,18 @@ use Rattle.linked_stack.specs.RecordLaws.{LaidRecordLeavesOthers, ReturnAddressI
 -- where a record may be placed
 pub record IsPlace (at : ℕ) : Type 0 where
   pub low : 0x70000008 ≤ at
-  pub high : at + 1568 ≤ 2 ^ 64
+  pub high : at + RECORD_SIZE ≤ 2 ^ 64
 
 pub place_of : (m : Memory) (at : ℕ) → at < 2 ^ 64 → misplaced m at ≡ None → IsPlace at
 unfolding misplaced
-place_of m at lt e = go (nat_lt (2 ^ 64) (return_address_at at + 1576)) refl (nat_lt (return_address_at at) 0x70000000) refl e
+place_of m at lt e = go (nat_lt (2 ^ 64) (return_address_at at + PLACED_SIZE)) refl (nat_lt (return_address_at at) STACK_START) refl e
   where
-    go : (a : Bool) → nat_lt (2 ^ 64) (return_address_at at + 1576) ≡ a → (b : Bool) → nat_lt (return_address_at at) 0x70000000 ≡ b → cond a (Some 0) (cond b (Some (return_address_at at)) (first_refused (may_write m) 1576 (return_address_at at))) ≡ None → IsPlace at
+    go : (a : Bool) → nat_lt (2 ^ 64) (return_address_at at + PLACED_SIZE) ≡ a → (b : Bool) → nat_lt (return_address_at at) STACK_START ≡ b → cond a (Some 0) (cond b (Some (return_address_at at)) (first_refused (may_write m) PLACED_SIZE (return_address_at at))) ≡ None → IsPlace at
     go true h b i e = absurd cc
     go false h true i e = absurd cc
     go false h false i e =
-        let f : return_address_at at + 1576 ≤ 2 ^ 64 = ltb-false _ _ h in
-        let k : 0x70000000 ≤ return_address_at at = ltb-false _ _ i in
+        let f : return_address_at at + PLACED_SIZE ≤ 2 ^ 64 = ltb-false _ _ h in
+        let k : STACK_START ≤ return_address_at at = ltb-false _ _ i in
         record { low = omega arith; high = omega arith }
 
 may_one : (may : ℕ → Bool) (a : ℕ) → first_refused may 1 a ≡ None → may a ≡ true
@@ -69,7 +71,7 @@ placed_bytes m at r h x = here (nat_le ((at + 32) % 2 ^ 64) x && nat_lt x ((at +
     here false = h x
 
 module _ (m : Memory) (at : ℕ) (r : DispatchRecord) (back above : ℕ) (data_alone : IsData m) (room : HasRoom m at r above) (back_small : back < 2 ^ 64) where
-  top : at + 1568 < 2 ^ 64
+  top : at + RECORD_SIZE < 2 ^ 64
   top = let b = room.below in let s = room.small in omega arith
 
   place : IsPlace at
@@ -81,11 +83,11 @@ module _ (m : Memory) (at : ℕ) (r : DispatchRecord) (back above : ℕ) (data_a
   small : return_address_at at < 2 ^ 64
   small = let b = below in let t = top in omega arith
 
-  may_all : first_refused (may_write m) 1576 (return_address_at at) ≡ None
+  may_all : first_refused (may_write m) PLACED_SIZE (return_address_at at) ≡ None
   may_all = writable m at room.room
 
   may_word : first_refused (may_write m) 8 (return_address_at at) ≡ None
-  may_word = none_front (may_write m) 1576 8 1568 (return_address_at at) small (omega arith) may_all
+  may_word = none_front (may_write m) PLACED_SIZE 8 RECORD_SIZE (return_address_at at) small (omega arith) may_all
 
   abbrev pub bytes : ℕ → ℕ
   bytes = with_number (placed m at r).byte 8 (return_address_at at) back
@@ -94,41 +96,41 @@ module _ (m : Memory) (at : ℕ) (r : DispatchRecord) (back above : ℕ) (data_a
   unfolding placed
   laid_is = ap (λ (o : Option ℕ). unless_refused o (with_bytes m bytes) (placed m at r)) may_word
 
-  elsewhere : (x : ℕ) → (x < return_address_at at) ⊎ (at + 1568 ≤ x) → bytes x ≡ m.byte x
+  elsewhere : (x : ℕ) → (x < return_address_at at) ⊎ (at + RECORD_SIZE ≤ x) → bytes x ≡ m.byte x
   elsewhere x out = untouched (placed m at r).byte 8 (return_address_at at) back x (apart out) small ∙ placing_leaves_others m at r x top room.fits (wider out)
     where
-      apart : (x < return_address_at at) ⊎ (at + 1568 ≤ x) → IsApart x (return_address_at at) 8
+      apart : (x < return_address_at at) ⊎ (at + RECORD_SIZE ≤ x) → IsApart x (return_address_at at) 8
       apart (inl p) i lt e = absurd (let b = below in let t = top in omega arith)
       apart (inr p) i lt e = absurd (let b = below in let t = top in omega arith)
 
-      wider : (x < return_address_at at) ⊎ (at + 1568 ≤ x) → (x < at + 32) ⊎ (at + 1568 ≤ x)
+      wider : (x < return_address_at at) ⊎ (at + RECORD_SIZE ≤ x) → (x < at + 32) ⊎ (at + RECORD_SIZE ≤ x)
       wider (inl p) = let b = below in inl (omega arith)
       wider (inr p) = inr p
 
   -- what is executable isn't writable
   code_same : (x : ℕ) → (m.protection x).execute ≡ true → bytes x ≡ m.byte x
-  code_same x e = by (cases_lt x (return_address_at at)) (cases_lt x (at + 1568))
+  code_same x e = by (cases_lt x (return_address_at at)) (cases_lt x (at + RECORD_SIZE))
     where
-      by : (x < return_address_at at) ⊎ (return_address_at at ≤ x) → (x < at + 1568) ⊎ (at + 1568 ≤ x) → bytes x ≡ m.byte x
+      by : (x < return_address_at at) ⊎ (return_address_at at ≤ x) → (x < at + RECORD_SIZE) ⊎ (at + RECORD_SIZE ≤ x) → bytes x ≡ m.byte x
       by (inl p) q = elsewhere x (inl p)
       by (inr p) (inr q) = elsewhere x (inr q)
       by (inr p) (inl q) =
-          let w : may_write m x ≡ true = may_within (may_write m) 1576 (return_address_at at) x small p (let b = below in omega arith) (let t = top in omega arith) may_all in
+          let w : may_write m x ≡ true = may_within (may_write m) PLACED_SIZE (return_address_at at) x small p (let b = below in omega arith) (let t = top in omega arith) may_all in
           let f : (m.protection x).execute ≡ false = data_alone.no_code x w in
           absurd cc
 
-  pub keeps_above : (low : ℕ) → at + 1568 ≤ low → KeepsAbove m bytes low
+  pub keeps_above : (low : ℕ) → at + RECORD_SIZE ≤ low → KeepsAbove m bytes low
   keeps_above low le = record { above = λ x q. elsewhere x (inr (omega arith)); code = code_same }
 
   -- the record alone
-  pub placed_keeps_above : (low : ℕ) → at + 1568 ≤ low → KeepsAbove m (placed m at r).byte low
-  placed_keeps_above low le = record { above = λ x q. placing_leaves_others m at r x top room.fits (inr (omega arith)); code = λ x e. by x e (cases_lt x (at + 32)) (cases_lt x (at + 1568)) }
+  pub placed_keeps_above : (low : ℕ) → at + RECORD_SIZE ≤ low → KeepsAbove m (placed m at r).byte low
+  placed_keeps_above low le = record { above = λ x q. placing_leaves_others m at r x top room.fits (inr (omega arith)); code = λ x e. by x e (cases_lt x (at + 32)) (cases_lt x (at + RECORD_SIZE)) }
     where
-      by : (x : ℕ) → (m.protection x).execute ≡ true → (x < at + 32) ⊎ (at + 32 ≤ x) → (x < at + 1568) ⊎ (at + 1568 ≤ x) → (placed m at r).byte x ≡ m.byte x
+      by : (x : ℕ) → (m.protection x).execute ≡ true → (x < at + 32) ⊎ (at + 32 ≤ x) → (x < at + RECORD_SIZE) ⊎ (at + RECORD_SIZE ≤ x) → (placed m at r).byte x ≡ m.byte x
       by x e (inl q) o = placing_leaves_others m at r x top room.fits (inl q)
       by x e (inr q) (inr o) = placing_leaves_others m at r x top room.fits (inr o)
       by x e (inr q) (inl o) =
-          let w : may_write m x ≡ true = may_within (may_write m) 1576 (return_address_at at) x small (let b = below in omega arith) (let b = below in omega arith) (let t = top in omega arith) may_all in
+          let w : may_write m x ≡ true = may_within (may_write m) PLACED_SIZE (return_address_at at) x small (let b = below in omega arith) (let b = below in omega arith) (let t = top in omega arith) may_all in
           let f : (m.protection x).execute ≡ false = data_alone.no_code x w in
           absurd cc
 
@@ -139,10 +141,10 @@ module _ (m : Memory) (at : ℕ) (r : DispatchRecord) (back above : ℕ) (data_a
   pub data_laid : IsData (with_bytes m bytes)
   data_laid = record { bytes = number_bytes (placed m at r).byte 8 (return_address_at at) back (placed_bytes m at r data_alone.bytes); no_code = data_alone.no_code }
 
-  readable_record : first_refused (may_read m) 1568 at ≡ None
+  readable_record : first_refused (may_read m) RECORD_SIZE at ≡ None
   readable_record =
       let e : at ≡ (return_address_at at + 8) % 2 ^ 64 = (let b = below in let t = top in omega arith) in
-      ap (first_refused (may_read m) 1568) e ∙ writable_is_readable m 1568 ((return_address_at at + 8) % 2 ^ 64) (none_within (may_write m) 1576 8 1568 (return_address_at at) small (omega arith) may_all)
+      ap (first_refused (may_read m) RECORD_SIZE) e ∙ writable_is_readable m RECORD_SIZE ((return_address_at at + 8) % 2 ^ 64) (none_within (may_write m) PLACED_SIZE 8 RECORD_SIZE (return_address_at at) small (omega arith) may_all)
 
   after_placing : (x : ℕ) → at + 32 ≤ x → bytes x ≡ (placed m at r).byte x
   after_placing x low = untouched (placed m at r).byte 8 (return_address_at at) back x (λ i lt e. absurd (let b = below in let t = top in omega arith)) small
@@ -159,17 +161,17 @@ module _ (m : Memory) (at : ℕ) (r : DispatchRecord) (back above : ℕ) (data_a
       let e : (at + 80) % 2 ^ 64 ≡ at + 80 = (let t = top in omega arith) in
       let l = top in
       word_kept (placed m at r) (with_bytes m bytes) (at + 80) (omega arith) (λ x p q. refl) (λ x p q. after_placing x (omega arith))
-      ∙ placed_points m at r top (ap (first_refused (may_read m) 8) (sym e) ∙ none_within (may_read m) 1568 80 8 at (omega arith) (omega arith) readable_record)
+      ∙ placed_points m at r top (ap (first_refused (may_read m) 8) (sym e) ∙ none_within (may_read m) RECORD_SIZE 80 8 at (omega arith) (omega arith) readable_record)
 
   pub word_laid : word (with_bytes m bytes) (return_address_at at) ≡ Ok back
   word_laid =
       ap (λ (o : Option ℕ). readable (return_address_at at) (access false o (number_at bytes 8 (return_address_at at)))) (writable_is_readable m 8 (return_address_at at) may_word)
       ∙ ap (λ v. Ok v) (stored_is_loaded (placed m at r).byte 8 (return_address_at at) back (omega arith) small ∙ (let e : back % 256 ^ 8 ≡ back = omega arith in e))
 
-  pub untouched_but_the_stack : above ≤ 0x70800000 → IsUntouched m (with_bytes m bytes)
+  pub untouched_but_the_stack : above ≤ STACK_END → IsUntouched m (with_bytes m bytes)
   untouched_but_the_stack le = record { protection = refl; code = code_same; outside = λ x o. by x o }
     where
-      by : (x : ℕ) → (x < 0x70000000) ⊎ (0x70800000 ≤ x) → bytes x ≡ m.byte x
+      by : (x : ℕ) → (x < STACK_START) ⊎ (STACK_END ≤ x) → bytes x ≡ m.byte x
       by x (inl q) = elsewhere x (inl (let b = below in let l : 0x70000008 ≤ at = place.low in omega arith))
       by x (inr q) = elsewhere x (inr (let b = room.below in omega arith))
 

@@ -8,9 +8,10 @@ use Rattle.virtual_unwind.specs.Undone.{word, readable}
 use Rattle.seh_records.specs.declared.dispatch.DispatchRecord.{DispatchRecord}
 use Rattle.seh_records.specs.Words.{with_block, block_byte, byte_of}
 use Rattle.seh_records.specs.Record.{placed, words}
+use Rattle.seh_records.specs.declared.layout.TheConstants.{RECORD_SIZE}
 use Rattle.linked_stack.proofs.Unchanged.{number_same}
 
-module _ (m : Memory) (at : ℕ) (r : DispatchRecord) (top : at + 1568 < 2 ^ 64) where
+module _ (m : Memory) (at : ℕ) (r : DispatchRecord) (top : at + RECORD_SIZE < 2 ^ 64) where
   abbrev pointers_at : ℕ
   pointers_at = at + 80
 

@@ -15,6 +15,7 @@ use Rattle.virtual_unwind.specs.Contexts.{rsp, rsp_raised}
 use Rattle.virtual_unwind.specs.Undone.{Answer, word, popped, operations}
 use Rattle.virtual_unwind.specs.CallerOf.{Functions, CallerFrame, distance, base_if, unwound, found, in_body, by_distance, past_prologue, of_entry, rising, risen, caller_in}
 use Rattle.seh_records.specs.Record.{fetched}
+use Rattle.seh_records.specs.declared.layout.TheConstants.{RECORD_SIZE}
 use Rattle.seh_walk.specs.declared.walk.WalkState.{WalkState}
 use Rattle.seh_walk.specs.Walk.{visited, if_over, if_filter, if_finally, framed, past_filter, past_finally, if_search, above, if_above, walk_in, saved_in, filter_return, finally_return}
 use Rattle.linked_stack.specs.Stack.{StackFrame, FrameIsAt, LeafIsAt, after_frame, after_leaf, caller_frame, caller_of_leaf}
@@ -104,12 +105,12 @@ stack_is_over t m c row e = ap (λ a. if_over t m (state c row) (nat_eq a 0)) e
 
 pub search_is_passed : SearchIsPassed
 search_is_passed t m c row r h =
-    let order : rsp c + 1568 ≤ rsp (context_of r.saved) = h.above in
+    let order : rsp c + RECORD_SIZE ≤ rsp (context_of r.saved) = h.above in
     let rises : nat_lt (rsp c) (rsp (context_of r.saved)) ≡ true = lt-ltb _ _ (omega arith) in
     at_filter t m (state c row) h.at_host ∙ ap (past_filter (rsp c)) h.fetches ∙ ap (if_search (rsp c) (above (rsp c) (saved_in r))) h.kind ∙ ap (if_above (rsp c) (saved_in r)) rises
 
 pub unwinding_is_passed : UnwindingIsPassed
 unwinding_is_passed t m c row r h =
-    let order : rsp c + 1568 ≤ rsp r.walk = h.above in
+    let order : rsp c + RECORD_SIZE ≤ rsp r.walk = h.above in
     let rises : nat_lt (rsp c) (rsp r.walk) ≡ true = lt-ltb _ _ (omega arith) in
     at_finally t m (state c row) h.at_host ∙ ap (past_finally (rsp c)) h.fetches ∙ ap (λ b. if_search (rsp c) (above (rsp c) (walk_in r)) (not b)) h.kind ∙ ap (if_above (rsp c) (walk_in r)) rises

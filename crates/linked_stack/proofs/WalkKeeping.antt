@@ -7,6 +7,7 @@ use Rattle.virtual_unwind.specs.Contexts.{rsp}
 use Rattle.virtual_unwind.specs.CallerOf.{Functions}
 use Rattle.seh_records.specs.declared.dispatch.DispatchRecord.{DispatchRecord}
 use Rattle.seh_records.proofs.Unmoved.{fetched_by_its_bytes}
+use Rattle.seh_records.specs.declared.layout.TheConstants.{RECORD_SIZE}
 use Rattle.seh_walk.specs.Walk.{filter_return, finally_return}
 use Rattle.linked_stack.specs.Stack.{StackItem, Framed, Leaf, Searching, Unwinding, RecordIsAt, ItemIsAt, IsStack, OwnedBy, IsWithin, after_frame, context_after, context_at}
 use Rattle.linked_stack.specs.WalkLaws.{KeptByOtherStores, NothingBelowIsOwned, SlotsAreFree}
@@ -18,14 +19,14 @@ use Rattle.linked_stack.proofs.Unchanged.{tail_at_same, word_same}
 within : (a from to : ℕ) → from ≤ a → a < to → IsWithin a from to
 within a from to low high = record { low = low; high = high }
 
-record_same : (m : Memory) (byte : ℕ → ℕ) (c : Context) (r : DispatchRecord) (at : ℕ) (is : Bool) (next : Context) → ((a : ℕ) → IsWithin a (rsp c + 32) (rsp c + 1568) → byte a ≡ m.byte a) → RecordIsAt m c r at is next → RecordIsAt (with_bytes m byte) c r at is next
+record_same : (m : Memory) (byte : ℕ → ℕ) (c : Context) (r : DispatchRecord) (at : ℕ) (is : Bool) (next : Context) → ((a : ℕ) → IsWithin a (rsp c + 32) (rsp c + RECORD_SIZE) → byte a ≡ m.byte a) → RecordIsAt m c r at is next → RecordIsAt (with_bytes m byte) c r at is next
 record_same m byte c r at is next same s =
     let above = s.above in
     let small = s.small in
     record {
       at_host = s.at_host;
-      fetches = fetched_by_its_bytes m (with_bytes m byte) (rsp c) (omega arith) refl (λ x p q. same x (within x (rsp c + 32) (rsp c + 1568) p q)) ∙ s.fetches;
-      pointers = word_same m byte (rsp c + 80) (omega arith) (λ x p q. same x (within x (rsp c + 32) (rsp c + 1568) (omega arith) (omega arith))) ∙ s.pointers;
+      fetches = fetched_by_its_bytes m (with_bytes m byte) (rsp c) (omega arith) refl (λ x p q. same x (within x (rsp c + 32) (rsp c + RECORD_SIZE) p q)) ∙ s.fetches;
+      pointers = word_same m byte (rsp c + 80) (omega arith) (λ x p q. same x (within x (rsp c + 32) (rsp c + RECORD_SIZE) (omega arith) (omega arith))) ∙ s.pointers;
       kind = s.kind;
       above = s.above;
       small = s.small;

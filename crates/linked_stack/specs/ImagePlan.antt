@@ -21,13 +21,15 @@ use Rattle.linear_machine.specs.Regions.{leads_to}
 
 -- where the parts of an image are
 pub record Plan : Type 0 where
-  pub address : BodyName → ℕ → ℕ  -- where the code of an instruction begins, that of the last one up to the body's end
+  -- where the code of an instruction begins, that of the last one up to the body's end
+  pub address : BodyName → ℕ → ℕ
   pub funclet : ℕ → ℕ  -- the first byte of a funclet, by its number
   pub leaf : BodyName → Bool  -- a leaf function, which has no frame and no entry
   pub entry : BodyName → Entry  -- the entry of the function table for any other body
   pub layout : BodyName → Layout  -- where the slots of a body are
   pub lands : BodyName → ℕ → Bool  -- an unwinding may land at this instruction
-  pub resumes : Resumption → Frame → Cpu → Bool  -- a body that waits continues so from a state that was saved where it raised an exception
+  -- a body that waits continues so from a state that was saved where it raised an exception
+  pub resumes : Resumption → Frame → Cpu → Bool
 
 -- an address within the code of an instruction
 pub record InCode (p : Plan) (name : BodyName) (label rip : ℕ) : Type 0 where

@@ -1,7 +1,7 @@
 -- The plain list of what waits in linear code, as it is in the machine's stack, item by item.
 use Rattle.std.specs.Prelude.{◌≡◌, ◌⊎◌, ℕ, ◌+◌, ◌-◌, ◌*◌, ◌%◌, ◌^◌, ◌<◌, ◌≤◌, true, false, not, ◌==◌, List, [], ◌∷◌, ◌++◌, length, drop, filter, slice_get, Option, Some, None, Ok}
 use Rattle.std.specs.List.{AllByRecursion}
-use Rattle.host_layout.specs.declared.range.TheConstants.{STACK_END}
+use Rattle.host_layout.specs.declared.range.TheConstants.{STACK_END, FIRST_STACK}
 use Rattle.flat_memory.specs.Memory.{Memory}
 use Rattle.x64_machine.specs.declared.cpu.Cpu.{Cpu}
 use Rattle.x64_machine.specs.declared.context.Context.{Context}
@@ -12,6 +12,7 @@ use Rattle.virtual_unwind.specs.Undone.{word}
 use Rattle.virtual_unwind.specs.CallerOf.{Functions, entry_of}
 use Rattle.seh_records.specs.declared.dispatch.Kind.TheVariants.{ExceptionUnwind, LocalUnwind}
 use Rattle.seh_records.specs.declared.dispatch.DispatchRecord.{DispatchRecord}
+use Rattle.seh_records.specs.declared.layout.TheConstants.{PLACED_SIZE}
 use Rattle.seh_records.specs.Record.{misplaced}
 use Rattle.seh_records.specs.Laws.{Fits}
 use Rattle.host_model.specs.declared.funclet.Funclet.{Funclet}
@@ -80,13 +81,18 @@ pub record HasSpace (sp beside depth : ℕ) : Type 0 where
   pub space : STACK_END ≤ sp + beside + largest_frame * depth
   pub shallow : depth ≤ DEEPEST
 
--- the first return address is 40 bytes below the stack's end; a record takes at most 1,600 bytes
-abbrev pub below_end : ℕ
-below_end = 40
+-- a return address and the home space above it, with which a run begins at the stack's end; the
+-- slots of a leaf function end so far above its return address
+abbrev pub home_end : ℕ
+home_end = STACK_END - FIRST_STACK
 
--- bytes that a record and its return address take
+-- the first return address is so far below the stack's end
+abbrev pub below_end : ℕ
+below_end = home_end
+
+-- bytes that a record, its return address and the alignment take at most
 abbrev pub record_room : ℕ
-record_room = 1600
+record_room = PLACED_SIZE + 24
 
 -- ---- a body's frame
 
@@ -100,11 +106,6 @@ HoldsWords m at end (v ∷ vs) = (word m at ≡ Ok v) × HoldsWords m (at + 8) e
 abbrev pub temporaries_end : Layout → BodyName → ℕ → ℕ
 temporaries_end y (FunctionBody f) size = y.locals
 temporaries_end y (FuncletBody k) size = size
-
--- the slots of a leaf function are above its return address, in the home space of its caller, and
--- end there: its locals, and then its temporaries
-abbrev pub home_end : ℕ
-home_end = 40
 
 -- a function's frame holds the locals of its activation, which is the first
 pub record HoldsLocals (m : Memory) (y : Layout) (sp size k : ℕ) (a : Activation)

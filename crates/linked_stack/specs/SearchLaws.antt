@@ -41,6 +41,6 @@ SearchContinues =
     (t : Functions) (fs : List Funclet) (program : LinearProgram) (p : Plan) (m : Memory)
     (c : Context) (is : List StackItem) (items : List Item) (acts : List Activation) (to : Context)
     (row : ℕ) (found : List Handler) (n : ℕ)
-    → IsSearchedStack t fs program p m c is items acts → Onward t fs program p to row found c is items
-    → length is < n
+    → IsSearchedStack t fs program p m c is items acts
+    → Onward t fs program p to row found c is items → length is < n
     → SearchedAs t fs program p m acts c is items (search n t m (state to row)) found

@@ -62,8 +62,8 @@ module _ (t : Functions) (fs : List Funclet) (program : LinearProgram) (p : Plan
     pub frame_small : frame < 2 ^ 64
     pub address_small : address < 2 ^ 64
 
-  abbrev pub FindsHandler : Memory → List Activation → Context → List StackItem → List Item → SearchResult
-      → Option ℕ → Handler → List Handler → Type 0
+  abbrev pub FindsHandler : Memory → List Activation → Context → List StackItem → List Item
+      → SearchResult → Option ℕ → Handler → List Handler → Type 0
   FindsHandler m acts c is items s None h rest = Accepts c is items s h
   FindsHandler m acts c is items s (Some k) h rest = Asks m acts c is items s k h rest
 

@@ -1,5 +1,5 @@
 -- Where a search or an unwinding of the dispatcher begins, or continues, in the list of what waits.
-use Rattle.std.specs.Prelude.{◌≡◌, ℕ, ◌^◌, ◌<◌, ◌≤◌, Bool, ◌==◌, List, ◌∷◌, Option, Some, None}
+use Rattle.std.specs.Prelude.{◌≡◌, ℕ, ◌+◌, ◌^◌, ◌<◌, ◌≤◌, Bool, ◌==◌, List, ◌∷◌, Option, Some, None}
 use Rattle.seh_num.specs.declared.event.Code.{Code}
 use Rattle.seh_num.specs.declared.event.Event.{Event}
 use Rattle.flat_memory.specs.Memory.{Memory}
@@ -11,6 +11,7 @@ use Rattle.virtual_unwind.specs.Contexts.{rsp}
 use Rattle.virtual_unwind.specs.CallerOf.{Functions}
 use Rattle.seh_records.specs.declared.dispatch.Kind.TheVariants.{Search}
 use Rattle.seh_records.specs.declared.dispatch.DispatchRecord.{DispatchRecord}
+use Rattle.seh_records.specs.declared.layout.TheConstants.{RECORD_SIZE}
 use Rattle.seh_records.specs.Record.{placed, misplaced}
 use Rattle.seh_records.specs.Laws.{AllSmall}
 use Rattle.host_model.specs.declared.funclet.Funclet.{Funclet}
@@ -47,7 +48,8 @@ from_body target f below acts source shown =
       shown = shown;
     }
 
--- a body asks the dispatcher, which saves this state of it: there is room below for a record
+-- a body asks the dispatcher, which saves this state of it: there is room below for a record, whose
+-- place is a multiple of 16
 pub record AsksHost (t : Functions) (fs : List Funclet) (program : LinearProgram) (p : Plan)
     (s : State) (saved : Cpu) (is : List StackItem) (items : List Item)
     (acts : List Activation) : Type 0 where
@@ -55,7 +57,7 @@ pub record AsksHost (t : Functions) (fs : List Funclet) (program : LinearProgram
   pub sane : IsSane s
   pub sane_saved : IsSane (record { cpu = saved; memory = s.memory })
   pub on : On t fs program p s.memory (context_of saved) is items acts
-  pub low : 1583 ≤ register saved Rsp
+  pub low : RECORD_SIZE + 15 ≤ register saved Rsp
   pub room : misplaced s.memory (place_of saved) ≡ None
 
 -- ---- raises

@@ -21,7 +21,8 @@ use Rattle.linked_stack.specs.PlainWalks.{state, plain_search, plain_unwind}
 -- a frame is visited, and then its caller
 abbrev pub FrameIsVisited : Type 0
 FrameIsVisited =
-    (t : Functions) (m : Memory) (c : Context) (row : ℕ) (f : StackFrame) → ItemIsAt t m c (Framed f)
+    (t : Functions) (m : Memory) (c : Context) (row : ℕ) (f : StackFrame)
+    → ItemIsAt t m c (Framed f)
     → visited t m (state c row) ≡ walk.Frame (caller_frame c f) (state (after_frame c f) 0)
 
 -- a leaf function is visited, and then its caller
