@@ -30,13 +30,16 @@ pub enum Prologue {
     Framed,
 }
 
-/// A function: its code from `begin` to before `end`, relative to the image base, how it begins,
-/// and its scope records.
+/// A function of an image.
 #[derive(Clone, Copy, Debug)]
 pub struct Function<'a> {
+    /// Its first byte, relative to the image base.
     pub begin: u32,
+    /// The first byte after it, relative to the image base.
     pub end: u32,
+    /// How it begins.
     pub prologue: Prologue,
+    /// Its scope records.
     pub scopes: &'a [ScopeRecord],
 }
 
@@ -60,6 +63,8 @@ pub fn framed<'a>(begin: u32, end: u32, scopes: &'a [ScopeRecord]) -> Function<'
     }
 }
 
+/// A scope record: the body from `begin` to before `end`, its filter or `__finally` block, and where
+/// an `__except` block begins, 0 for a `__finally` block.
 pub fn scope(begin: u32, end: u32, handler_address: u32, jump_target: u32) -> ScopeRecord {
     ScopeRecord {
         begin,
@@ -69,13 +74,16 @@ pub fn scope(begin: u32, end: u32, handler_address: u32, jump_target: u32) -> Sc
     }
 }
 
-/// An image: its data and its code, at 0x1000 and 0x2000; where the thunk of the language handler
-/// is; and its functions.
+/// What an image is built of.
 #[derive(Clone, Copy, Debug)]
 pub struct Parts<'a> {
+    /// Its data, at 0x1000.
     pub data: &'a [u8],
+    /// Its code, at 0x2000.
     pub text: &'a [u8],
+    /// The thunk of the language handler, relative to the image base.
     pub handler: u32,
+    /// Its functions, in the order of their addresses.
     pub functions: &'a [Function<'a>],
 }
 

@@ -2,9 +2,10 @@
 
 use std::alloc::{AllocError, Global};
 
-/// Where the headers of [`image`] are.
+/// Where the signature of [`image`] is.
 pub const SIGNATURE: usize = 64;
 
+/// Where its optional header is.
 pub const OPTIONAL: usize = SIGNATURE + 24;
 
 /// The table of sections, after an optional header without directories.
