@@ -25,7 +25,8 @@ use Rattle.x64_instr.specs.Registers.{number}
 use Rattle.x64_machine.specs.Words.{added, subtracted}
 use Rattle.x64_templates.specs.Keeping.{is_volatile}
 use Rattle.virtual_unwind.specs.Undone.{word, readable}
-use Rattle.x64_machine.specs.Effect.{State, Answer, ◌>>=◌, granted, register, with_register, with_flags, with_rip, load, store, read, operand, write, may_change, computed, change, target_of, effect}
+use Rattle.seh_num.specs.Answers.{◌>>=◌}
+use Rattle.x64_machine.specs.Effect.{State, Answer, granted, register, with_register, with_flags, with_rip, load, store, read, operand, write, may_change, computed, change, target_of, effect}
 use Rattle.whole_runs.specs.Shadow.{calls as is_a_call}
 
 -- ---- registers

@@ -12,7 +12,7 @@ use Rattle.virtual_unwind.specs.declared.tail.Role.{Role}
 use Rattle.virtual_unwind.specs.declared.tail.Role.TheVariants.{Opens, Restores, Ends, Other}
 use Rattle.virtual_unwind.specs.Tail.{FetchedInstr, role_of}
 use Rattle.frame_rules.specs.Codes.{is_saved, is_allowed, are_allowed}
-use Rattle.frame_rules.specs.Frame.{Stack, Framed, Holds}
+use Rattle.frame_rules.specs.Frame.{Stack, Framed, HoldsFrame}
 use Rattle.frame_rules.specs.Epilogue.{is_pop}
 use Rattle.frame_rules.specs.Body.{written, has, may_write, may_write_all, restored_by, with_restored, Mode, Body, Leaving, only_if, is_ends, leaving, from_body, next, and_then, following, is_body}
 use Rattle.frame_rules.specs.States.{registers, is_other, writes, is_written, InBody}
@@ -111,7 +111,7 @@ not_frame f q xs a set nv free e = elim (cases_eq f 0) [
   | inr ne ↦ false≢true (sym free ∙ (ap (λ k. is_saved k xs) e ∙ frame_is_saved f xs a (set ne)))
 ]
 
-pub body_holds : (f offset back : ℕ) (e p s : State) (ops : List UnwindOperation) (rest : List FetchedInstr) → are_allowed f ops ≡ true → (f ≢ 0 → sets_frame ops ≡ true) → is_body (following f offset ops rest (Body [])) ≡ true → Running f offset e back ops p → InBody f ops rest e p s → Holds f offset s.memory (registers e) back (registers s) ops ops
+pub body_holds : (f offset back : ℕ) (e p s : State) (ops : List UnwindOperation) (rest : List FetchedInstr) → are_allowed f ops ≡ true → (f ≢ 0 → sets_frame ops ≡ true) → is_body (following f offset ops rest (Body [])) ≡ true → Running f offset e back ops p → InBody f ops rest e p s → HoldsFrame f offset s.memory (registers e) back (registers s) ops ops
 body_holds f offset back e p s ops rest allowed frame body run b = record {
   stack = subst (λ x. Stack s.memory (registers e) back x x ops) (sym b.stack) (kept_words p.memory s.memory (registers e) back (registers p 4) (registers p 4) ops b.words run.holds.stack);
   framed = subst (λ x. Framed f offset (registers s) x ops) (sym b.stack) (framed_saved f offset (registers p) (registers s) (registers p 4) ops allowed (λ y. sym (b.frame (λ z. false≢true (ap is_nonvolatile (sym z) ∙ (saved_register f f ops allowed y).0)))) run.holds.framed);

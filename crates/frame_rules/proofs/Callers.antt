@@ -13,7 +13,7 @@ use Rattle.virtual_unwind.specs.CallerOf.{CallerFrame, distance, in_entry, of_en
 use Rattle.virtual_unwind.proofs.Registers.{get-context}
 use Rattle.frame_rules.specs.Frame.{IsWord, left_to}
 use Rattle.frame_rules.specs.States.{registers, return_address}
-use Rattle.frame_rules.specs.Rules.{Finds, IsFound}
+use Rattle.frame_rules.specs.Rules.{FindsContext, IsFound}
 use Rattle.frame_rules.specs.Laws.{EntriesAreFound, LeavesAreFound}
 use Rattle.frame_rules.proofs.Undoing.{popped_is}
 use Rattle.frame_rules.proofs.Bodies.{body_holds}
@@ -21,7 +21,7 @@ use Rattle.frame_rules.proofs.Frames.{first_running, finds}
 use Rattle.frame_rules.proofs.EveryFrame.{frames_are_right}
 
 -- RSP rises
-rises : (c : Context) (a : Answer CallerFrame) (to : Context) → Finds a to (rsp c) → IsFound (a >>= rising c) to
+rises : (c : Context) (a : Answer CallerFrame) (to : Context) → FindsContext a to (rsp c) → IsFound (a >>= rising c) to
 rises c a to h =
     let up : ltb (rsp c) (rsp h.found.context) ≡ true = ap (λ (x : Context). ltb (rsp c) (rsp x)) h.context ∙ lt-ltb (rsp c) (rsp to) h.rises in
     record {
@@ -38,9 +38,9 @@ pub entries_are_found : EntriesAreFound
 entries_are_found t entry f e s begin d to held info parents at right first is_there lt rip st =
     let away : distance t.image.base s.cpu.rip - entry.range.begin ≡ d = omega arith in
     let h = frames_are_right f e s begin d to right first is_there lt rip st in
-    let h1 = subst (λ (i : Info). Finds (in_entry s.memory i [] (context_of s.cpu) d) (left_to (registers e) (return_address e)) (registers s 4)) (sym info) h in
-    let h2 = subst (λ (is : List Info). Finds (in_entry s.memory entry.info is (context_of s.cpu) d) (left_to (registers e) (return_address e)) (registers s 4)) (sym parents) h1 in
-    let h3 = subst (λ k. Finds (in_entry s.memory entry.info entry.parents (context_of s.cpu) k) (left_to (registers e) (return_address e)) (registers s 4)) (sym away) h2 in
+    let h1 = subst (λ (i : Info). FindsContext (in_entry s.memory i [] (context_of s.cpu) d) (left_to (registers e) (return_address e)) (registers s 4)) (sym info) h in
+    let h2 = subst (λ (is : List Info). FindsContext (in_entry s.memory entry.info is (context_of s.cpu) d) (left_to (registers e) (return_address e)) (registers s 4)) (sym parents) h1 in
+    let h3 = subst (λ k. FindsContext (in_entry s.memory entry.info entry.parents (context_of s.cpu) k) (left_to (registers e) (return_address e)) (registers s 4)) (sym away) h2 in
     looked_up t s (Some entry) (left_to (registers e) (return_address e)) held (rises (context_of s.cpu) (of_entry s.memory (context_of s.cpu) (distance t.image.base s.cpu.rip) (Some entry)) (left_to (registers e) (return_address e)) h3)
 
 pub leaves_are_found : LeavesAreFound

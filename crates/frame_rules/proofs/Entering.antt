@@ -9,8 +9,8 @@ use Rattle.virtual_unwind.specs.Undone.{operations}
 use Rattle.virtual_unwind.specs.Tail.{FetchedInstr}
 use Rattle.virtual_unwind.specs.CallerOf.{run_by}
 use Rattle.frame_rules.specs.Codes.{is_allowed, are_allowed}
-use Rattle.frame_rules.specs.Prologue.{bytes, does, sets_size, is_call, subtracts, Step, items, codes_onto, are_sized, AreSteps}
-use Rattle.frame_rules.specs.States.{registers, Turn, Runs, IsEntry}
+use Rattle.frame_rules.specs.Prologue.{bytes, does, sets_size, is_call, subtracts, PrologueStep, items, codes_onto, are_sized, AreSteps}
+use Rattle.frame_rules.specs.States.{registers, RunsOne, RunsThrough, IsEntry}
 use Rattle.frame_rules.proofs.Order.{Ordered, allocate}
 use Rattle.frame_rules.proofs.Steps.{Running}
 use Rattle.frame_rules.proofs.Prologues.{Good, good_rest, good_done, AtMost, run_done, skips_first, first_positive, cons_head, cons_tail, same_turn, turn_plain, turn_call, does_plain, does_step, Sized, sized, size_plain, sized_running, called_running, subtracts_plain, subtracted_step, IsLarge, large_of}
@@ -21,14 +21,14 @@ module _ (f offset back n : ℕ) (e : State) (entry : IsEntry n e) (small : offs
   At d codes t = Running f offset e back (operations (run_by d codes)) t
 
   -- a step of one instruction
-  one : (x : FetchedInstr) (op : UnwindOperation) (ops : List UnwindOperation) (s u : State) → does f offset op x.instr ≡ true → Good f n (op ∷ ops) → Running f offset e back ops s → Turn s x u (is_call x.instr) → Running f offset e back (op ∷ ops) u
+  one : (x : FetchedInstr) (op : UnwindOperation) (ops : List UnwindOperation) (s u : State) → does f offset op x.instr ≡ true → Good f n (op ∷ ops) → Running f offset e back ops s → RunsOne s x u (is_call x.instr) → Running f offset e back (op ∷ ops) u
   one x op ops s u d g run turn = does_step f offset back n _ e s u op ops x.instr entry small g.deep (and_parts (is_allowed f ops op) (are_allowed f ops) g.allowed).0 (and_parts (is_allowed f ops op) (are_allowed f ops) g.allowed).1 g.ordered d run (turn_plain s u x (does_plain f offset op x.instr d) turn)
 
   -- a step of three
-  first_of_three : (x : FetchedInstr) (k : ℕ) (ops : List UnwindOperation) (s u : State) → sets_size k x.instr ≡ true → Running f offset e back ops s → Turn s x u (is_call x.instr) → Sized k s u
+  first_of_three : (x : FetchedInstr) (k : ℕ) (ops : List UnwindOperation) (s u : State) → sets_size k x.instr ≡ true → Running f offset e back ops s → RunsOne s x u (is_call x.instr) → Sized k s u
   first_of_three x k ops s u h run turn = sized s u _ k x.instr run.length h (turn_plain s u x (size_plain k x.instr h) turn)
 
-  third_of_three : (z : FetchedInstr) (k : ℕ) (ops : List UnwindOperation) (s u : State) → subtracts z.instr ≡ true → Good f n (Allocate k ∷ ops) → registers s 0 ≡ k → Running f offset e back ops s → Turn s z u (is_call z.instr) → Running f offset e back (Allocate k ∷ ops) u
+  third_of_three : (z : FetchedInstr) (k : ℕ) (ops : List UnwindOperation) (s u : State) → subtracts z.instr ≡ true → Good f n (Allocate k ∷ ops) → registers s 0 ≡ k → Running f offset e back ops s → RunsOne s z u (is_call z.instr) → Running f offset e back (Allocate k ∷ ops) u
   third_of_three z k ops s u h g rax run turn = go g.ordered
     where
       go : Ordered (Allocate k ∷ ops) → Running f offset e back (Allocate k ∷ ops) u
@@ -39,13 +39,13 @@ module _ (f offset back n : ℕ) (e : State) (entry : IsEntry n e) (small : offs
     running : Running f offset e back ops u
     rax : registers u 0 ≡ k
 
-  after_first : (x : FetchedInstr) (k : ℕ) (c : UnwindCode) (done : List UnwindCode) (s u : State) → sets_size k x.instr ≡ true → Good f n (operations (c ∷ done)) → Running f offset e back (operations done) s → Turn s x u (is_call x.instr) → FirstRun k (operations done) u
+  after_first : (x : FetchedInstr) (k : ℕ) (c : UnwindCode) (done : List UnwindCode) (s u : State) → sets_size k x.instr ≡ true → Good f n (operations (c ∷ done)) → Running f offset e back (operations done) s → RunsOne s x u (is_call x.instr) → FirstRun k (operations done) u
   after_first x k c done s u h g run turn =
       let ops = operations done in
       let first = first_of_three x k ops s u h run turn in
       record { running = sized_running f offset back k e s u ops (good_rest f n c.operation ops g).allowed run first; rax = first.rax }
 
-  after_second : (y : FetchedInstr) (k : ℕ) (c : UnwindCode) (done : List UnwindCode) (u v : State) → is_call y.instr ≡ true → Good f n (operations (c ∷ done)) → FirstRun k (operations done) u → Turn u y v (is_call y.instr) → FirstRun k (operations done) v
+  after_second : (y : FetchedInstr) (k : ℕ) (c : UnwindCode) (done : List UnwindCode) (u v : State) → is_call y.instr ≡ true → Good f n (operations (c ∷ done)) → FirstRun k (operations done) u → RunsOne u y v (is_call y.instr) → FirstRun k (operations done) v
   after_second y k c done u v h g first turn =
       let ops = operations done in
       let called = turn_call u v y h turn in
@@ -64,7 +64,7 @@ module _ (f offset back n : ℕ) (e : State) (entry : IsEntry n e) (small : offs
   same_size x y e = ap (λ (w : FetchedInstr). w.size) e
 
   -- before a step's end
-  within : (at d : ℕ) (done : List UnwindCode) (s : Step) (ss : List Step) (t : State) → AreSteps f offset at (s ∷ ss) → AtMost at done → at ≤ d → d < at + bytes s.items → Running f offset e back (operations done) t → At d (codes_onto done (s ∷ ss)) t
+  within : (at d : ℕ) (done : List UnwindCode) (s : PrologueStep) (ss : List PrologueStep) (t : State) → AreSteps f offset at (s ∷ ss) → AtMost at done → at ≤ d → d < at + bytes s.items → Running f offset e back (operations done) t → At d (codes_onto done (s ∷ ss)) t
   within at d done s ss t h m le lt run =
       let e1 = skips_first f offset at d done s ss lt h ∙ run_done d done (later done m) in
       subst (λ (cs : List UnwindCode). Running f offset e back (operations cs) t) (sym e1) run
@@ -73,9 +73,9 @@ module _ (f offset back n : ℕ) (e : State) (entry : IsEntry n e) (small : offs
       later [] m = tt
       later (c ∷ cs) m = omega (arith, m)
 
-  by_items : (at : ℕ) (done : List UnwindCode) (c : UnwindCode) (ss : List Step) (its xs ys : List FetchedInstr) (s t : State)
-      → let st : Step = record { code = c; items = its } in AreSteps f offset at (st ∷ ss) → AtMost at done → Good f n (operations (c ∷ done)) → its ++ items ss ≡ xs ++ ys → Running f offset e back (operations done) s → Runs s xs t
-      → ((xs : List FetchedInstr) (s : State) → items ss ≡ xs ++ ys → Running f offset e back (operations (c ∷ done)) s → Runs s xs t → At (at + bytes its + bytes xs) (codes_onto (c ∷ done) ss) t)
+  by_items : (at : ℕ) (done : List UnwindCode) (c : UnwindCode) (ss : List PrologueStep) (its xs ys : List FetchedInstr) (s t : State)
+      → let st : PrologueStep = record { code = c; items = its } in AreSteps f offset at (st ∷ ss) → AtMost at done → Good f n (operations (c ∷ done)) → its ++ items ss ≡ xs ++ ys → Running f offset e back (operations done) s → RunsThrough s xs t
+      → ((xs : List FetchedInstr) (s : State) → items ss ≡ xs ++ ys → Running f offset e back (operations (c ∷ done)) s → RunsThrough s xs t → At (at + bytes its + bytes xs) (codes_onto (c ∷ done) ss) t)
       → At (at + bytes xs) (codes_onto (c ∷ done) ss) t
   by_items at done c ss [] xs ys s t h m g same run runs rest = absurd (false≢true h.0.does)
   by_items at done c ss (x ∷ []) [] ys s t h m g same run runs rest =
@@ -110,7 +110,7 @@ module _ (f offset back n : ℕ) (e : State) (entry : IsEntry n e) (small : offs
       let called = after_second y large.size c done runs.0 second.0 large.calls g first (same_turn runs.0 second.0 y y' hy second.1) in
       by_third large (same_size x x' hx) (same_size y y' hy) xs second.0 called (cons_tail (cons_tail same)) second.2
     where
-      by_third : (large : IsLarge c.operation x.instr y.instr z.instr) → x.size ≡ x'.size → y.size ≡ y'.size → (xs : List FetchedInstr) (v : State) → FirstRun large.size (operations done) v → z ∷ items ss ≡ xs ++ ys → Runs v xs t
+      by_third : (large : IsLarge c.operation x.instr y.instr z.instr) → x.size ≡ x'.size → y.size ≡ y'.size → (xs : List FetchedInstr) (v : State) → FirstRun large.size (operations done) v → z ∷ items ss ≡ xs ++ ys → RunsThrough v xs t
           → At (at + (x'.size + (y'.size + bytes xs))) (codes_onto (c ∷ done) ss) t
       by_third large ex ey [] v called same runs =
           let later = later_positive x y z h.0.sized in
@@ -126,7 +126,7 @@ module _ (f offset back n : ℕ) (e : State) (entry : IsEntry n e) (small : offs
           let d : at + (x.size + (y.size + (z.size + 0))) + bytes xs ≡ at + (x'.size + (y'.size + (z'.size + bytes xs))) = omega arith in
           subst (λ q. At q (codes_onto (c ∷ done) ss) t) d (rest xs w (cons_tail same) (subst (λ o. Running f offset e back (o ∷ ops) w) (sym large.is) third) runs.2)
 
-  pub entering : (at : ℕ) (done : List UnwindCode) (ss : List Step) (xs ys : List FetchedInstr) (s t : State) → AreSteps f offset at ss → AtMost at done → Good f n (operations (codes_onto done ss)) → items ss ≡ xs ++ ys → Running f offset e back (operations done) s → Runs s xs t → At (at + bytes xs) (codes_onto done ss) t
+  pub entering : (at : ℕ) (done : List UnwindCode) (ss : List PrologueStep) (xs ys : List FetchedInstr) (s t : State) → AreSteps f offset at ss → AtMost at done → Good f n (operations (codes_onto done ss)) → items ss ≡ xs ++ ys → Running f offset e back (operations done) s → RunsThrough s xs t → At (at + bytes xs) (codes_onto done ss) t
   entering at done [] [] ys s t h m g same run runs =
       let d : at ≡ at + 0 = omega arith in
       subst (λ k. At k done t) d (subst (λ (cs : List UnwindCode). Running f offset e back (operations cs) t) (sym (run_done at done m)) (subst (λ w. Running f offset e back (operations done) w) runs run))

@@ -14,7 +14,8 @@ use Rattle.x64_instr.specs.declared.instruction.Instr.TheVariants as instrs
 use Rattle.x64_instr.specs.Registers.{number}
 use Rattle.x64_machine.specs.declared.cpu.Cpu.{Cpu}
 use Rattle.x64_machine.specs.Words.{added}
-use Rattle.x64_machine.specs.Effect.{State, Answer, ◌>>=◌, with_register, with_rip, load, effect, address_of}
+use Rattle.seh_num.specs.Answers.{◌>>=◌}
+use Rattle.x64_machine.specs.Effect.{State, Answer, with_register, with_rip, load, effect, address_of}
 use Rattle.eh_tables.specs.declared.code.UnwindOperation.{UnwindOperation}
 use Rattle.eh_tables.specs.declared.code.UnwindOperation.TheVariants.{Push, Allocate, SetFrame, Save, SaveVector, MachineFrame}
 use Rattle.virtual_unwind.specs.Contexts.{is_nonvolatile}
@@ -26,7 +27,7 @@ use Rattle.frame_rules.specs.Frame.{Stack}
 use Rattle.frame_rules.specs.Epilogue.{is_pop, gives_back}
 use Rattle.frame_rules.specs.Prologue.{is_call}
 use Rattle.frame_rules.specs.Body.{written, has, may_write_all, restored_by, with_restored, are_restored, Mode, Body, Leaving, is_ends, leaving, from_body, next, and_then, following}
-use Rattle.frame_rules.specs.States.{registers, Turn, Runs, is_some, is_leaving, leaves, all_leave}
+use Rattle.frame_rules.specs.States.{registers, RunsOne, RunsThrough, is_some, is_leaving, leaves, all_leave}
 use Rattle.frame_rules.proofs.Undoing.{stack_depth, others_after}
 use Rattle.frame_rules.proofs.Order.{framed_above, stack_opened, pushes_allowed}
 use Rattle.x64_instr.proofs.RegisterNumbers.{number_small}
@@ -176,7 +177,7 @@ not_ends Opens a b = false≢true a
 not_ends Restores a b = false≢true a
 not_ends Other a b = false≢true a
 
-leaving_step : (f back : ℕ) (old : ℕ → ℕ) (rs : List ℕ) (s u : State) (x : FetchedInstr) (to : Mode) (offset : ℕ) (ops : List UnwindOperation) → Known f offset old ops → leaving f rs x ≡ Some to → is_leaving (role_of f x.plain x.instr) ≡ true → InPops f old back rs s → Turn s x u (is_call x.instr) → Has f offset old back ops u to
+leaving_step : (f back : ℕ) (old : ℕ → ℕ) (rs : List ℕ) (s u : State) (x : FetchedInstr) (to : Mode) (offset : ℕ) (ops : List UnwindOperation) → Known f offset old ops → leaving f rs x ≡ Some to → is_leaving (role_of f x.plain x.instr) ≡ true → InPops f old back rs s → RunsOne s x u (is_call x.instr) → Has f offset old back ops u to
 leaving_step f back old [] s u x to offset ops known e l h turn = absurd (not_ends (role_of f x.plain x.instr) (only (Some (Body [])) (is_ends (role_of f x.plain x.instr)) to e).0 l)
 leaving_step f back old (r ∷ rs) s u x to offset ops known e l h turn =
     let o = only (Some (Leaving rs)) (is_pop r x.instr) to e in
@@ -186,7 +187,7 @@ some_of : (o : Option ℕ) → is_some o ≡ true → (r : ℕ) × (o ≡ Some r
 some_of (Some r) e = (r, refl)
 some_of None e = absurd (false≢true e)
 
-body_step : (f offset back : ℕ) (old : ℕ → ℕ) (ops : List UnwindOperation) (rs : List ℕ) (s u : State) (x : FetchedInstr) (to : Mode) → Known f offset old ops → next f offset ops x (Body rs) ≡ Some to → leaves f offset ops x ≡ true → InLoads f offset old back ops rs s → Turn s x u (is_call x.instr) → Has f offset old back ops u to
+body_step : (f offset back : ℕ) (old : ℕ → ℕ) (ops : List UnwindOperation) (rs : List ℕ) (s u : State) (x : FetchedInstr) (to : Mode) → Known f offset old ops → next f offset ops x (Body rs) ≡ Some to → leaves f offset ops x ≡ true → InLoads f offset old back ops rs s → RunsOne s x u (is_call x.instr) → Has f offset old back ops u to
 body_step f offset back old ops rs s u x to known e l h turn = elim (or_cases (is_some (restored_by f offset ops x.instr)) (is_leaving (role_of f x.plain x.instr)) l) [
   | inl loaded ↦
       let r = some_of (restored_by f offset ops x.instr) loaded in
@@ -214,7 +215,7 @@ leaving_not_other : (f : ℕ) (rs : List ℕ) (x : FetchedInstr) (to : Mode) →
 leaving_not_other f [] x to e o = false≢true (sym (ap is_ends o) ∙ (only (Some (Body [])) (is_ends (role_of f x.plain x.instr)) to e).0)
 leaving_not_other f (r ∷ rs) x to e o = false≢true (sym (ap is_leaving o) ∙ ap is_leaving (pop_role f r x.plain x.instr (only (Some (Leaving rs)) (is_pop r x.instr) to e).0))
 
-pub leave_step : (f offset back : ℕ) (old : ℕ → ℕ) (ops : List UnwindOperation) (s u : State) (x : FetchedInstr) (m to : Mode) → Known f offset old ops → next f offset ops x m ≡ Some to → leaves f offset ops x ≡ true → Has f offset old back ops s m → Turn s x u (is_call x.instr) → Has f offset old back ops u to
+pub leave_step : (f offset back : ℕ) (old : ℕ → ℕ) (ops : List UnwindOperation) (s u : State) (x : FetchedInstr) (m to : Mode) → Known f offset old ops → next f offset ops x m ≡ Some to → leaves f offset ops x ≡ true → Has f offset old back ops s m → RunsOne s x u (is_call x.instr) → Has f offset old back ops u to
 leave_step f offset back old ops s u x (Body rs) to known e l h turn = body_step f offset back old ops rs s u x to known e l h turn
 leave_step f offset back old ops s u x (Leaving rs) to known e l h turn = elim (or_cases (is_some (restored_by f offset ops x.instr)) (is_leaving (role_of f x.plain x.instr)) l) [
   | inl loaded ↦ let r = some_of (restored_by f offset ops x.instr) loaded in absurd (leaving_not_other f rs x to e (load_role f offset r.0 ops x.plain x.instr r.1))
@@ -223,13 +224,13 @@ leave_step f offset back old ops s u x (Leaving rs) to known e l h turn = elim (
 
 -- ---- a run
 
-pub leave_run : (f offset back : ℕ) (old : ℕ → ℕ) (ops : List UnwindOperation) (xs : List FetchedInstr) (s t : State) (m to : Mode) → Known f offset old ops → following f offset ops xs m ≡ Some to → all_leave f offset ops xs ≡ true → Has f offset old back ops s m → Runs s xs t → Has f offset old back ops t to
+pub leave_run : (f offset back : ℕ) (old : ℕ → ℕ) (ops : List UnwindOperation) (xs : List FetchedInstr) (s t : State) (m to : Mode) → Known f offset old ops → following f offset ops xs m ≡ Some to → all_leave f offset ops xs ≡ true → Has f offset old back ops s m → RunsThrough s xs t → Has f offset old back ops t to
 leave_run f offset back old ops [] s t m to known e l h runs = subst (λ (x : State). Has f offset old back ops x to) runs (subst (Has f offset old back ops s) (some_same e) h)
 leave_run f offset back old ops (x ∷ xs) s t m to known e l h runs = go (λ k e'. leave_run f offset back old ops xs runs.0 t k to known e' parts.1) (next f offset ops x m) refl e
   where
     parts : (leaves f offset ops x ≡ true) × (all_leave f offset ops xs ≡ true)
     parts = and_parts (leaves f offset ops x) (all_leave f offset ops xs) l
 
-    go : ((k : Mode) → following f offset ops xs k ≡ Some to → Has f offset old back ops runs.0 k → Runs runs.0 xs t → Has f offset old back ops t to) → (o : Option Mode) → next f offset ops x m ≡ o → and_then (following f offset ops xs) o ≡ Some to → Has f offset old back ops t to
+    go : ((k : Mode) → following f offset ops xs k ≡ Some to → Has f offset old back ops runs.0 k → RunsThrough runs.0 xs t → Has f offset old back ops t to) → (o : Option Mode) → next f offset ops x m ≡ o → and_then (following f offset ops xs) o ≡ Some to → Has f offset old back ops t to
     go more (Some k) n e = more k e (leave_step f offset back old ops s runs.0 x m k known n parts.0 h runs.1) runs.2
     go more None n e = absurd cc

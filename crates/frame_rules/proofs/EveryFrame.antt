@@ -11,12 +11,12 @@ use Rattle.virtual_unwind.specs.declared.tail.Role.TheVariants.{Other}
 use Rattle.virtual_unwind.specs.Tail.{FetchedInstr, role_of, tail_at, left}
 use Rattle.virtual_unwind.specs.CallerOf.{has_frame, sets_frame, run_by, past_prologue, by_distance, in_entry}
 use Rattle.frame_rules.specs.Codes.{depth, pushes, pushed}
-use Rattle.frame_rules.specs.Frame.{Others, Holds, left_to}
+use Rattle.frame_rules.specs.Frame.{Others, HoldsFrame, left_to}
 use Rattle.frame_rules.specs.Epilogue.{pops, is_epilogue}
 use Rattle.frame_rules.specs.Prologue.{bytes, items, codes_onto}
 use Rattle.frame_rules.specs.Body.{Mode, Body, Leaving, following, is_body}
-use Rattle.frame_rules.specs.States.{registers, Runs, IsEntry, return_address, HasItems}
-use Rattle.frame_rules.specs.Rules.{Function, ops, IsRight, InPrologue, IsBody, IsLeaving, Finds}
+use Rattle.frame_rules.specs.States.{registers, RunsThrough, IsEntry, return_address, HasItems}
+use Rattle.frame_rules.specs.Rules.{Function, ops, IsRight, InPrologue, IsBody, IsLeaving, FindsContext}
 use Rattle.frame_rules.specs.Laws.{FramesAreRight}
 use Rattle.frame_rules.proofs.Undoing.{stack_depth}
 use Rattle.frame_rules.proofs.Order.{ordered}
@@ -51,14 +51,14 @@ module _ (f : Function) (e : State) (right : IsRight f) (entry : IsEntry (depth 
 
   -- ---- the prologue
 
-  run_to : (done left : List FetchedInstr) (s : State) → items f.steps ≡ done ++ left → Runs e done s → Running fr off e back (operations (run_by (bytes done) f.info.codes)) s
+  run_to : (done left : List FetchedInstr) (s : State) → items f.steps ≡ done ++ left → RunsThrough e done s → Running fr off e back (operations (run_by (bytes done) f.info.codes)) s
   run_to done left s parts runs =
       let z : 0 + bytes done ≡ bytes done = omega arith in
       let good' = subst (λ (cs : List UnwindCode). Good fr (depth (ops f)) (operations cs)) right.codes good in
       let at = entering fr off back (depth (ops f)) e entry right.offset 0 [] f.steps done left e s right.steps tt good' parts (first_running fr off (depth (ops f)) e entry) runs in
       subst (λ d. Running fr off e back (operations (run_by d f.info.codes)) s) z (subst (λ (cs : List UnwindCode). Running fr off e back (operations (run_by (0 + bytes done) cs)) s) (sym right.codes) at)
 
-  in_prologue : (s : State) (d : ℕ) → InPrologue f e s d → Finds (in_entry s.memory f.info [] (context_of s.cpu) d) (left_to old back) (registers s 4)
+  in_prologue : (s : State) (d : ℕ) → InPrologue f e s d → FindsContext (in_entry s.memory f.info [] (context_of s.cpu) d) (left_to old back) (registers s 4)
   in_prologue s d h =
       let run = run_to h.done h.left s h.parts h.runs in
       let codes = run_by (bytes h.done) f.info.codes in
@@ -67,11 +67,11 @@ module _ (f : Function) (e : State) (right : IsRight f) (entry : IsEntry (depth 
       let before = h.before in
       let lt : ltb d f.info.prologue_size ≡ true = lt-ltb d f.info.prologue_size (omega arith) in
       let found = based f.info old back s (operations codes) (has_frame f.info && sets_frame (operations codes)) None right.offset entry.high g.ordered g.allowed (λ b. (and_parts (has_frame f.info) (sets_frame (operations codes)) b).1) run.holds in
-      subst (λ b. Finds (by_distance s.memory f.info [] (context_of s.cpu) d b) (left_to old back) (registers s 4)) (sym lt)
-      (subst (λ k. Finds (by_distance s.memory f.info [] (context_of s.cpu) k true) (left_to old back) (registers s 4)) (sym here) found)
+      subst (λ b. FindsContext (by_distance s.memory f.info [] (context_of s.cpu) d b) (left_to old back) (registers s 4)) (sym lt)
+      (subst (λ k. FindsContext (by_distance s.memory f.info [] (context_of s.cpu) k true) (left_to old back) (registers s 4)) (sym here) found)
 
   -- the state after it
-  pub following_running : (p : State) → Runs e (items f.steps) p → Running fr off e back (ops f) p
+  pub following_running : (p : State) → RunsThrough e (items f.steps) p → Running fr off e back (ops f) p
   following_running p runs =
       let all = run_to (items f.steps) [] p (sym (append-nil (items f.steps))) runs in
       let z : 0 + bytes (items f.steps) ≡ bytes (items f.steps) = omega arith in
@@ -81,13 +81,13 @@ module _ (f : Function) (e : State) (right : IsRight f) (entry : IsEntry (depth 
 
   -- ---- past it
 
-  past : (s : State) (d : ℕ) (o : Option (List Instr)) → f.info.prologue_size ≤ d → tail_at fr s.memory s.cpu.rip ≡ o → Finds (past_prologue s.memory f.info [] (context_of s.cpu) o) (left_to old back) (registers s 4) → Finds (in_entry s.memory f.info [] (context_of s.cpu) d) (left_to old back) (registers s 4)
+  past : (s : State) (d : ℕ) (o : Option (List Instr)) → f.info.prologue_size ≤ d → tail_at fr s.memory s.cpu.rip ≡ o → FindsContext (past_prologue s.memory f.info [] (context_of s.cpu) o) (left_to old back) (registers s 4) → FindsContext (in_entry s.memory f.info [] (context_of s.cpu) d) (left_to old back) (registers s 4)
   past s d o le t h =
-      subst (λ b. Finds (by_distance s.memory f.info [] (context_of s.cpu) d b) (left_to old back) (registers s 4)) (sym (le-ltb d f.info.prologue_size le))
-      (subst (λ (x : Option (List Instr)). Finds (past_prologue s.memory f.info [] (context_of s.cpu) x) (left_to old back) (registers s 4)) (sym t) h)
+      subst (λ b. FindsContext (by_distance s.memory f.info [] (context_of s.cpu) d b) (left_to old back) (registers s 4)) (sym (le-ltb d f.info.prologue_size le))
+      (subst (λ (x : Option (List Instr)). FindsContext (past_prologue s.memory f.info [] (context_of s.cpu) x) (left_to old back) (registers s 4)) (sym t) h)
 
   -- all codes undone
-  whole : (s : State) → Holds fr off s.memory old back (registers s) (ops f) (ops f) → Finds (past_prologue s.memory f.info [] (context_of s.cpu) None) (left_to old back) (registers s 4)
+  whole : (s : State) → HoldsFrame fr off s.memory old back (registers s) (ops f) (ops f) → FindsContext (past_prologue s.memory f.info [] (context_of s.cpu) None) (left_to old back) (registers s 4)
   whole s h = based f.info old back s (ops f) (has_frame f.info) (Some f.info) right.offset entry.high (ordered (ops f) right.ordered) right.allowed (λ b. right.frame (eqb-false fr 0 (not-true (eqb fr 0) b))) h
 
   -- the instructions that are left from a place in the body
@@ -102,7 +102,7 @@ module _ (f : Function) (e : State) (right : IsRight f) (entry : IsEntry (depth 
   unfolding tail_at
   no_tail_at s to x xs h other = no_tail 0xFFFF_FFFF_FFFF_FFFF fr s.memory s.cpu.rip x (omega arith) h.0 other
 
-  in_body : (s : State) (begin d to : ℕ) → HasItems s.memory begin (items f.steps ++ f.rest) to → s.cpu.rip ≡ begin + d → IsBody f e s d → Finds (in_entry s.memory f.info [] (context_of s.cpu) d) (left_to old back) (registers s 4)
+  in_body : (s : State) (begin d to : ℕ) → HasItems s.memory begin (items f.steps ++ f.rest) to → s.cpu.rip ≡ begin + d → IsBody f e s d → FindsContext (in_entry s.memory f.info [] (context_of s.cpu) d) (left_to old back) (registers s 4)
   in_body s begin d to is_there rip h =
       let here = h.here in
       let r = rest_from s begin to h.done (h.item ∷ h.left) is_there h.parts in
@@ -112,19 +112,19 @@ module _ (f : Function) (e : State) (right : IsRight f) (entry : IsEntry (depth 
 
   -- ---- the epilogue
 
-  popping : (s : State) (is : List Instr) (rs : List ℕ) → InPops fr old back rs s → pops rs is ≡ true → Finds (past_prologue s.memory f.info [] (context_of s.cpu) (Some is)) (left_to old back) (registers s 4)
+  popping : (s : State) (is : List Instr) (rs : List ℕ) → InPops fr old back rs s → pops rs is ≡ true → FindsContext (past_prologue s.memory f.info [] (context_of s.cpu) (Some is)) (left_to old back) (registers s 4)
   popping s is rs h p =
       let d = stack_depth s.memory old back h.base (registers s 4) (pushed rs) h.stack in
       let high = entry.high in
       finds _ None (left s.memory is (context_of s.cpu)) old back (registers s 4) (pops_restore fr s.memory (context_of s.cpu) h.base old back rs is refl (omega arith) h.allowed h.stack (others_context old s (pushed rs) h.others) p) (omega arith)
 
-  opening : (s : State) (is : List Instr) (rs : List ℕ) → InLoads fr off old back (ops f) rs s → Others old (registers s) (pushed (pushes (ops f))) → is_epilogue fr off (ops f) is ≡ true → Finds (past_prologue s.memory f.info [] (context_of s.cpu) (Some is)) (left_to old back) (registers s 4)
+  opening : (s : State) (is : List Instr) (rs : List ℕ) → InLoads fr off old back (ops f) rs s → Others old (registers s) (pushed (pushes (ops f))) → is_epilogue fr off (ops f) is ≡ true → FindsContext (past_prologue s.memory f.info [] (context_of s.cpu) (Some is)) (left_to old back) (registers s 4)
   opening s is rs h o p =
       let d = stack_depth s.memory old back (registers s 4) (registers s 4) (ops f) h.holds.stack in
       let high = entry.high in
       finds _ None (left s.memory is (context_of s.cpu)) old back (registers s 4) (epilogue_restores f.info s.memory (context_of s.cpu) (registers s 4) old back (ops f) is refl (omega arith) right.ordered right.allowed right.frame h.holds.stack (framed_context fr off (registers s 4) s (ops f) right.allowed h.holds.framed) (others_context old s (pushed (pushes (ops f))) o) p) (omega arith)
 
-  by_mode : (s : State) (d to : ℕ) (m : Mode) (ys : List FetchedInstr) → ys ≢ [] → f.info.prologue_size ≤ d → to < 2 ^ 63 → HasItems s.memory s.cpu.rip ys to → is_body (following fr off (ops f) ys m) ≡ true → Has fr off old back (ops f) s m → Finds (in_entry s.memory f.info [] (context_of s.cpu) d) (left_to old back) (registers s 4)
+  by_mode : (s : State) (d to : ℕ) (m : Mode) (ys : List FetchedInstr) → ys ≢ [] → f.info.prologue_size ≤ d → to < 2 ^ 63 → HasItems s.memory s.cpu.rip ys to → is_body (following fr off (ops f) ys m) ≡ true → Has fr off old back (ops f) s m → FindsContext (in_entry s.memory f.info [] (context_of s.cpu) d) (left_to old back) (registers s 4)
   unfolding tail_at
   by_mode s d to m [] ne le lt is_there b h = absurd (ne refl)
   by_mode s d to (Leaving rs) (y ∷ ys) ne le lt is_there b h =
@@ -153,7 +153,7 @@ module _ (f : Function) (e : State) (right : IsRight f) (entry : IsEntry (depth 
       let modes = ap (λ (xs : List FetchedInstr). following fr off (ops f) xs (Body [])) h.parts ∙ following-append fr off (ops f) h.done (h.run ++ h.left) (Body []) (Body []) h.mode ∙ following-append fr off (ops f) h.run h.left (Body []) h.to h.mode_here in
       ap is_body (sym modes) ∙ right.body
 
-  is_leaving : (s : State) (begin d to : ℕ) → HasItems s.memory begin (items f.steps ++ f.rest) to → to < 2 ^ 63 → s.cpu.rip ≡ begin + d → IsLeaving f e s d → Finds (in_entry s.memory f.info [] (context_of s.cpu) d) (left_to old back) (registers s 4)
+  is_leaving : (s : State) (begin d to : ℕ) → HasItems s.memory begin (items f.steps ++ f.rest) to → to < 2 ^ 63 → s.cpu.rip ≡ begin + d → IsLeaving f e s d → FindsContext (in_entry s.memory f.info [] (context_of s.cpu) d) (left_to old back) (registers s 4)
   is_leaving s begin d to is_there lt rip h =
       let here = h.here in
       let r = items_split s.memory (begin + (f.info.prologue_size + bytes h.done)) h.run h.left to (rest_from s begin to h.done (h.run ++ h.left) is_there h.parts) in

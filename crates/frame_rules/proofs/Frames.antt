@@ -16,10 +16,10 @@ use Rattle.virtual_unwind.specs.Tail.{FetchedInstr}
 use Rattle.virtual_unwind.specs.CallerOf.{found, base_if, sets_frame, run_or, run_by, unwound}
 use Rattle.virtual_unwind.proofs.Registers.{get-context}
 use Rattle.frame_rules.specs.Codes.{are_allowed}
-use Rattle.frame_rules.specs.Frame.{Framed, Others, Holds, left_to}
-use Rattle.frame_rules.specs.Prologue.{bytes, Step, items, codes_onto, AreSteps}
+use Rattle.frame_rules.specs.Frame.{Framed, Others, HoldsFrame, left_to}
+use Rattle.frame_rules.specs.Prologue.{bytes, PrologueStep, items, codes_onto, AreSteps}
 use Rattle.frame_rules.specs.States.{registers, IsEntry, return_address, HasItems}
-use Rattle.frame_rules.specs.Rules.{Finds}
+use Rattle.frame_rules.specs.Rules.{FindsContext}
 use Rattle.frame_rules.proofs.Undoing.{undoing, framed_saved, saved_register, stack_depth}
 use Rattle.frame_rules.proofs.Order.{Ordered, framed_above}
 use Rattle.frame_rules.proofs.Words.{all_may}
@@ -37,18 +37,18 @@ framed_context f offset at s xs a h = framed_saved f offset (registers s) (get (
 -- ---- codes undone
 
 -- the base is the RSP in hand
-base_is : (i : Info) (old : ℕ → ℕ) (back : ℕ) (s : State) (xs : List UnwindOperation) (b : Bool) → i.frame_offset < 2 ^ 16 → old 4 < 2 ^ 47 → Ordered xs → are_allowed i.frame_register xs ≡ true → (b ≡ true → sets_frame xs ≡ true) → Holds i.frame_register i.frame_offset s.memory old back (registers s) xs xs → base_if i (context_of s.cpu) b ≡ registers s 4
+base_is : (i : Info) (old : ℕ → ℕ) (back : ℕ) (s : State) (xs : List UnwindOperation) (b : Bool) → i.frame_offset < 2 ^ 16 → old 4 < 2 ^ 47 → Ordered xs → are_allowed i.frame_register xs ≡ true → (b ≡ true → sets_frame xs ≡ true) → HoldsFrame i.frame_register i.frame_offset s.memory old back (registers s) xs xs → base_if i (context_of s.cpu) b ≡ registers s 4
 base_is i old back s xs false small high o a set h = refl
 base_is i old back s xs true small high o a set h =
     let framed = framed_above i.frame_register i.frame_offset (get (context_of s.cpu)) (registers s 4) xs o (set refl) (framed_context i.frame_register i.frame_offset (registers s 4) s xs a h.framed) in
     let d = stack_depth s.memory old back (registers s 4) (registers s 4) xs h.stack in
     omega arith
 
-unwound_is : (i : Info) (old : ℕ → ℕ) (back : ℕ) (s : State) (xs : List UnwindOperation) → i.frame_offset < 2 ^ 16 → old 4 < 2 ^ 47 → are_allowed i.frame_register xs ≡ true → Holds i.frame_register i.frame_offset s.memory old back (registers s) xs xs → unwound s.memory (registers s 4) i [] xs (context_of s.cpu) ≡ Ok (left_to old back)
+unwound_is : (i : Info) (old : ℕ → ℕ) (back : ℕ) (s : State) (xs : List UnwindOperation) → i.frame_offset < 2 ^ 16 → old 4 < 2 ^ 47 → are_allowed i.frame_register xs ≡ true → HoldsFrame i.frame_register i.frame_offset s.memory old back (registers s) xs xs → unwound s.memory (registers s 4) i [] xs (context_of s.cpu) ≡ Ok (left_to old back)
 unwound_is i old back s xs small high a h = undoing i s.memory (context_of s.cpu) (registers s 4) old back xs refl (omega arith) (omega arith) a h.stack (framed_context i.frame_register i.frame_offset (registers s 4) s xs a h.framed) (others_context old s xs h.others)
 
 -- an answer found
-pub finds : (frame : ℕ) (asked : Option Info) (a : Answer Context) (old : ℕ → ℕ) (back stack : ℕ) → a ≡ Ok (left_to old back) → stack ≤ old 4 → Finds (found frame asked a) (left_to old back) stack
+pub finds : (frame : ℕ) (asked : Option Info) (a : Answer Context) (old : ℕ → ℕ) (back stack : ℕ) → a ≡ Ok (left_to old back) → stack ≤ old 4 → FindsContext (found frame asked a) (left_to old back) stack
 finds frame asked a old back stack e le = record {
   found = record { frame = frame; context = left_to old back; asked = asked };
   is = ap (found frame asked) e;
@@ -56,11 +56,11 @@ finds frame asked a old back stack e le = record {
   rises = omega arith;
 }
 
-pub based : (i : Info) (old : ℕ → ℕ) (back : ℕ) (s : State) (xs : List UnwindOperation) (b : Bool) (asked : Option Info) → i.frame_offset < 2 ^ 16 → old 4 < 2 ^ 47 → Ordered xs → are_allowed i.frame_register xs ≡ true → (b ≡ true → sets_frame xs ≡ true) → Holds i.frame_register i.frame_offset s.memory old back (registers s) xs xs
-    → Finds (let base = base_if i (context_of s.cpu) b in found base asked (unwound s.memory base i [] xs (context_of s.cpu))) (left_to old back) (registers s 4)
+pub based : (i : Info) (old : ℕ → ℕ) (back : ℕ) (s : State) (xs : List UnwindOperation) (b : Bool) (asked : Option Info) → i.frame_offset < 2 ^ 16 → old 4 < 2 ^ 47 → Ordered xs → are_allowed i.frame_register xs ≡ true → (b ≡ true → sets_frame xs ≡ true) → HoldsFrame i.frame_register i.frame_offset s.memory old back (registers s) xs xs
+    → FindsContext (let base = base_if i (context_of s.cpu) b in found base asked (unwound s.memory base i [] xs (context_of s.cpu))) (left_to old back) (registers s 4)
 based i old back s xs b asked small high o a set h =
     let d = stack_depth s.memory old back (registers s 4) (registers s 4) xs h.stack in
-    subst (λ base. Finds (found base asked (unwound s.memory base i [] xs (context_of s.cpu))) (left_to old back) (registers s 4)) (sym (base_is i old back s xs b small high o a set h))
+    subst (λ base. FindsContext (found base asked (unwound s.memory base i [] xs (context_of s.cpu))) (left_to old back) (registers s 4)) (sym (base_is i old back s xs b small high o a set h))
     (finds (registers s 4) asked (unwound s.memory (registers s 4) i [] xs (context_of s.cpu)) old back (registers s 4) (unwound_is i old back s xs small high a h) (omega arith))
 
 -- ---- the first state
@@ -92,7 +92,7 @@ pub bytes-append : (xs ys : List FetchedInstr) → bytes (xs ++ ys) ≡ bytes xs
 bytes-append [] ys = omega arith
 bytes-append (x ∷ xs) ys = let e = bytes-append xs ys in omega arith
 
-pub at_end : (f offset at : ℕ) (done : List UnwindCode) (ss : List Step) → AreSteps f offset at ss → AtMost at done → AtMost (at + bytes (items ss)) (codes_onto done ss)
+pub at_end : (f offset at : ℕ) (done : List UnwindCode) (ss : List PrologueStep) → AreSteps f offset at ss → AtMost at done → AtMost (at + bytes (items ss)) (codes_onto done ss)
 at_end f offset at done [] h m = subst (λ k. AtMost k done) (let e : at ≡ at + 0 = omega arith in e) m
 at_end f offset at done (s ∷ ss) h m =
     let e = bytes-append s.items (items ss) in

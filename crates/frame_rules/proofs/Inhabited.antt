@@ -18,9 +18,9 @@ use Rattle.virtual_unwind.specs.Contexts.{is_nonvolatile}
 use Rattle.virtual_unwind.specs.Tail.{FetchedInstr}
 use Rattle.frame_rules.specs.Codes.{is_saved}
 use Rattle.frame_rules.specs.Frame.{IsWord, Stack}
-use Rattle.frame_rules.specs.Prologue.{bytes, does, is_stack, sets_size, subtracts, is_step, Step, items, AreSteps}
+use Rattle.frame_rules.specs.Prologue.{bytes, does, is_stack, sets_size, subtracts, is_step, PrologueStep, items, AreSteps}
 use Rattle.frame_rules.specs.Body.{written, is_a_call, has, may_write, may_write_all}
-use Rattle.frame_rules.specs.States.{registers, Runs, KeepsWord, KeepsWords, is_other, writes, is_written}
+use Rattle.frame_rules.specs.States.{registers, RunsThrough, KeepsWord, KeepsWords, is_other, writes, is_written}
 use Rattle.frame_rules.specs.Rules.{ops}
 use Rattle.frame_rules.specs.Laws.{BodyBegins, BodyContinues}
 use Rattle.frame_rules.proofs.Prologues.{turn_plain, turn_call, size_plain, subtracts_plain, does_plain, large_of}
@@ -93,9 +93,9 @@ subtracts_writes i r e four = absurd (false≢true e)
 record StillAfter (f : ℕ) (e t : State) (xs : List FetchedInstr) : Type 0 where
   to : State
   still : Still f e to
-  runs : Runs to xs t
+  runs : RunsThrough to xs t
 
-still_items : (f offset : ℕ) (op : UnwindOperation) (its xs : List FetchedInstr) (e s t : State) → is_step f offset op its ≡ true → Still f e s → Runs s (its ++ xs) t → StillAfter f e t xs
+still_items : (f offset : ℕ) (op : UnwindOperation) (its xs : List FetchedInstr) (e s t : State) → is_step f offset op its ≡ true → Still f e s → RunsThrough s (its ++ xs) t → StillAfter f e t xs
 still_items f offset op [] xs e s t h st runs = absurd (false≢true h)
 still_items f offset op (x ∷ []) xs e s t h st runs = record {
   to = runs.0;
@@ -122,7 +122,7 @@ still_items f offset op (x ∷ y ∷ z ∷ []) xs e s t h st runs =
     }
 still_items f offset op (x ∷ y ∷ z ∷ w ∷ its) xs e s t h st runs = absurd (false≢true h)
 
-still_steps : (f offset at : ℕ) (ss : List Step) (e s t : State) → AreSteps f offset at ss → Still f e s → Runs s (items ss) t → Still f e t
+still_steps : (f offset at : ℕ) (ss : List PrologueStep) (e s t : State) → AreSteps f offset at ss → Still f e s → RunsThrough s (items ss) t → Still f e t
 still_steps f offset at [] e s t h st runs = subst (Still f e) runs st
 still_steps f offset at (k ∷ ss) e s t h st runs =
     let n = still_items f offset k.code.operation k.items (items ss) e s t h.0.does st runs in

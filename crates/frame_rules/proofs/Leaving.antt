@@ -14,14 +14,15 @@ use Rattle.x64_instr.specs.declared.instruction.Instr.{Instr}
 use Rattle.x64_instr.specs.declared.instruction.Instr.TheVariants as instrs
 use Rattle.x64_instr.specs.Registers.{number}
 use Rattle.x64_machine.specs.declared.cpu.Cpu.{Cpu}
-use Rattle.x64_machine.specs.Effect.{State, Answer, ◌>>=◌, granted, with_rip, load, effect, address_of, base_of, index_of}
+use Rattle.seh_num.specs.Answers.{◌>>=◌}
+use Rattle.x64_machine.specs.Effect.{State, Answer, granted, with_rip, load, effect, address_of, base_of, index_of}
 use Rattle.eh_tables.specs.declared.code.UnwindOperation.{UnwindOperation}
 use Rattle.eh_tables.specs.declared.code.UnwindOperation.TheVariants.{Push, Allocate, SetFrame, Save, SaveVector, MachineFrame}
 use Rattle.virtual_unwind.specs.Contexts.{is_nonvolatile}
 use Rattle.virtual_unwind.specs.Tail.{is_of}
 use Rattle.virtual_unwind.specs.CallerOf.{sets_frame}
 use Rattle.frame_rules.specs.Codes.{allocation, pushed, is_saved, may_save, are_allowed, are_apart, are_pushes, is_allocated}
-use Rattle.frame_rules.specs.Frame.{IsWord, Stack, Framed, Others, Holds}
+use Rattle.frame_rules.specs.Frame.{IsWord, Stack, Framed, Others, HoldsFrame}
 use Rattle.frame_rules.specs.Prologue.{is_stack}
 use Rattle.frame_rules.specs.Body.{has, saved_at, is_place, if_place, restored_by}
 use Rattle.frame_rules.specs.States.{registers}
@@ -123,7 +124,7 @@ place_address f offset n c a is framed lt = elim (or_cases (is_stack n a) (is_of
 -- in the body, with these registers loaded again
 pub record InLoads (f offset : ℕ) (old : ℕ → ℕ) (back : ℕ) (ops : List UnwindOperation) (rs : List ℕ) (s : State) : Type 0 where
   pub length : length s.cpu.registers ≡ 16
-  pub holds : Holds f offset s.memory old back (registers s) ops ops
+  pub holds : HoldsFrame f offset s.memory old back (registers s) ops ops
   pub restored : (r : ℕ) → has r rs ≡ true → registers s r ≡ old r
 
 -- in an epilogue, with these registers still to be popped

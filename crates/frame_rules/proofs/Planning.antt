@@ -19,7 +19,7 @@ use Rattle.virtual_unwind.specs.Undone.{operations}
 use Rattle.virtual_unwind.specs.Tail.{FetchedInstr}
 use Rattle.virtual_unwind.specs.CallerOf.{sets_frame}
 use Rattle.frame_rules.specs.Codes.{are_apart, allocation, pushed, is_saved, may_save, is_allowed, are_allowed, are_pushes, is_allocated, is_framed, is_ordered}
-use Rattle.frame_rules.specs.Prologue.{bytes, does, is_step, allocates, codes_onto, are_sized, IsStep, AreSteps}
+use Rattle.frame_rules.specs.Prologue.{bytes, does, is_step, allocates, codes_onto, are_sized, IsPrologueStep, AreSteps}
 use Rattle.frame_rules.specs.Plan.{Saved, Plan, IsPlan, IsSpelling, saves_then, frame_then, allocation_then, operations_of, stack_place, allocating, instructions_of, spelled_by, all_encodable, turned, step_of, steps_of, prologue}
 use Rattle.x64_encode.specs.Chosen.{is_encodable, is_signed}
 use Rattle.x64_instr.proofs.RegisterNumbers.{number_register}
@@ -188,7 +188,7 @@ module _ (spell : Instr → FetchedInstr) (sp : IsSpelling spell) where
   all_steps : (p : Plan) (at : ℕ) (xs : List UnwindOperation) → IsPlan p → AllEmitted p xs → AreSteps p.frame p.distance at (steps_of spell p at xs)
   all_steps p at [] k h = tt
   all_steps p at (x ∷ xs) k h =
-      let first : IsStep p.frame p.distance at (step_of spell p at x) = record { does = one_step p x h.0; sized = all_sized (instructions_of p x) (step_encodable p x k h.0); ends = refl } in
+      let first : IsPrologueStep p.frame p.distance at (step_of spell p at x) = record { does = one_step p x h.0; sized = all_sized (instructions_of p x) (step_encodable p x k h.0); ends = refl } in
       (first, all_steps p (at + bytes (spelled_by spell (instructions_of p x))) xs k h.1)
 
   pub are_steps : (p : Plan) → IsPlan p → AreSteps p.frame p.distance 0 (prologue spell p)

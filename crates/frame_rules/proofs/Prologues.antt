@@ -21,8 +21,8 @@ use Rattle.virtual_unwind.specs.Tail.{FetchedInstr}
 use Rattle.virtual_unwind.specs.CallerOf.{run_or, run_by}
 use Rattle.frame_rules.specs.Codes.{depth, allocation, may_save, is_allowed, are_allowed, is_saved, are_apart, are_pushes}
 use Rattle.frame_rules.specs.Frame.{Stack, Framed}
-use Rattle.frame_rules.specs.Prologue.{bytes, does, is_stack, sets_size, is_call, subtracts, allocates, is_step, Step, codes_onto, are_sized, AreSteps}
-use Rattle.frame_rules.specs.States.{registers, Called, Turn, IsEntry}
+use Rattle.frame_rules.specs.Prologue.{bytes, does, is_stack, sets_size, is_call, subtracts, allocates, is_step, PrologueStep, codes_onto, are_sized, AreSteps}
+use Rattle.frame_rules.specs.States.{registers, Called, RunsOne, IsEntry}
 use Rattle.frame_rules.proofs.Undoing.{stack_depth, saved_register, framed_saved}
 use Rattle.frame_rules.proofs.Order.{Ordered, push, allocate, frame, save, ordered_rest}
 use Rattle.frame_rules.proofs.Words.{moved_words}
@@ -48,11 +48,11 @@ carried f offset back e s u ops allowed run long protection stack same =
 
 -- ---- a large allocation
 
-pub turn_plain : (s u : State) (x : FetchedInstr) → is_call x.instr ≡ false → Turn s x u (is_call x.instr) → effect (with_rip s ((s.cpu.rip + x.size) % 2 ^ 64)) x.instr ≡ Ok u
-turn_plain s u x e t = subst (λ b. Turn s x u b) e t
+pub turn_plain : (s u : State) (x : FetchedInstr) → is_call x.instr ≡ false → RunsOne s x u (is_call x.instr) → effect (with_rip s ((s.cpu.rip + x.size) % 2 ^ 64)) x.instr ≡ Ok u
+turn_plain s u x e t = subst (λ b. RunsOne s x u b) e t
 
-pub turn_call : (s u : State) (x : FetchedInstr) → is_call x.instr ≡ true → Turn s x u (is_call x.instr) → Called s u
-turn_call s u x e t = subst (λ b. Turn s x u b) e t
+pub turn_call : (s u : State) (x : FetchedInstr) → is_call x.instr ≡ true → RunsOne s x u (is_call x.instr) → Called s u
+turn_call s u x e t = subst (λ b. RunsOne s x u b) e t
 
 pub record Sized (k : ℕ) (s u : State) : Type 0 where
   pub length : length u.cpu.registers ≡ 16
@@ -179,7 +179,7 @@ good_rest f n x xs g = record {
   deep = let d = g.deep in omega arith;
 }
 
-pub good_done : (f n : ℕ) (done : List UnwindCode) (ss : List Step) → Good f n (operations (codes_onto done ss)) → Good f n (operations done)
+pub good_done : (f n : ℕ) (done : List UnwindCode) (ss : List PrologueStep) → Good f n (operations (codes_onto done ss)) → Good f n (operations done)
 good_done f n done [] g = g
 good_done f n done (s ∷ ss) g = good_rest f n s.code.operation (operations done) (good_done f n (s.code ∷ done) ss g)
 
@@ -194,14 +194,14 @@ run_done d [] h = refl
 run_done d (c ∷ cs) h = ap (run_or (c ∷ cs) (run_by d cs)) (le-leb c.offset d h)
 
 -- the codes of instructions that end later haven't been
-pub skips : (f offset at d : ℕ) (done : List UnwindCode) (ss : List Step) → d ≤ at → AreSteps f offset at ss → run_by d (codes_onto done ss) ≡ run_by d done
+pub skips : (f offset at d : ℕ) (done : List UnwindCode) (ss : List PrologueStep) → d ≤ at → AreSteps f offset at ss → run_by d (codes_onto done ss) ≡ run_by d done
 skips f offset at d done [] le h = refl
 skips f offset at d done (s ∷ ss) le h =
     let pos = positive f offset s.code.operation s.items h.0.does h.0.sized in
     let end = h.0.ends in
     skips f offset (at + bytes s.items) d (s.code ∷ done) ss (omega arith) h.1 ∙ ap (run_or (s.code ∷ done) (run_by d done)) (lt-leb s.code.offset d (omega arith))
 
-pub skips_first : (f offset at d : ℕ) (done : List UnwindCode) (s : Step) (ss : List Step) → d < at + bytes s.items → AreSteps f offset at (s ∷ ss) → run_by d (codes_onto done (s ∷ ss)) ≡ run_by d done
+pub skips_first : (f offset at d : ℕ) (done : List UnwindCode) (s : PrologueStep) (ss : List PrologueStep) → d < at + bytes s.items → AreSteps f offset at (s ∷ ss) → run_by d (codes_onto done (s ∷ ss)) ≡ run_by d done
 skips_first f offset at d done s ss lt h =
     let end = h.0.ends in
     skips f offset (at + bytes s.items) d (s.code ∷ done) ss (omega arith) h.1 ∙ ap (run_or (s.code ∷ done) (run_by d done)) (lt-leb s.code.offset d (omega arith))
@@ -214,5 +214,5 @@ cons_head e = cc
 pub cons_tail : {A : Type 0} {x y : A} {xs ys : List A} → x ∷ xs ≡ y ∷ ys → xs ≡ ys
 cons_tail e = cc
 
-pub same_turn : (s u : State) (x y : FetchedInstr) → x ≡ y → Turn s y u (is_call y.instr) → Turn s x u (is_call x.instr)
-same_turn s u x y e t = subst (λ (w : FetchedInstr). Turn s w u (is_call w.instr)) (sym e) t
+pub same_turn : (s u : State) (x y : FetchedInstr) → x ≡ y → RunsOne s y u (is_call y.instr) → RunsOne s x u (is_call x.instr)
+same_turn s u x y e t = subst (λ (w : FetchedInstr). RunsOne s w u (is_call w.instr)) (sym e) t

@@ -3,7 +3,8 @@ use Rattle.std.proofs.Common.{◌≡◌, ℕ, ◌+◌, ◌%◌, ◌^◌, ◌<◌
 use Rattle.std.proofs.lemmas.Bool.{and_parts, eqb-true}
 use Rattle.seh_num.specs.declared.width.Width.TheVariants.{W64}
 use Rattle.x64_instr.specs.declared.instruction.Instr.TheVariants as instrs
-use Rattle.x64_machine.specs.Effect.{State, Answer, ◌>>=◌, with_rip, load, effect}
+use Rattle.seh_num.specs.Answers.{◌>>=◌}
+use Rattle.x64_machine.specs.Effect.{State, Answer, with_rip, load, effect}
 use Rattle.eh_tables.specs.declared.code.UnwindOperation.{UnwindOperation}
 use Rattle.virtual_unwind.specs.declared.tail.Role.TheVariants.{Restores, Ends}
 use Rattle.virtual_unwind.specs.Tail.{FetchedInstr, role_of, ending}
@@ -12,7 +13,7 @@ use Rattle.frame_rules.specs.Epilogue.{is_pop}
 use Rattle.frame_rules.specs.Body.{Mode, Body, Leaving, are_restored, leaving, from_body, next, following, is_body}
 use Rattle.frame_rules.specs.States.{registers, return_address}
 use Rattle.frame_rules.specs.Rules.{ops}
-use Rattle.frame_rules.specs.Laws.{Returned, EpiloguesReturn, LeavesReturn}
+use Rattle.frame_rules.specs.Laws.{ReturnedToCaller, EpiloguesReturn, LeavesReturn}
 use Rattle.frame_rules.proofs.Steps.{ok_same, set_same, set_other}
 use Rattle.frame_rules.proofs.Bodies.{only, next_mode, pop_role, body_holds}
 use Rattle.frame_rules.proofs.Frames.{first_running}
@@ -28,7 +29,7 @@ return_effect s a v got =
     ap G got
 
 -- with nothing left to be popped
-returned : (f : ℕ) (e s t : State) (a : ℕ) → registers e 4 < 2 ^ 47 → InPops f (registers e) (return_address e) [] s → effect (with_rip s a) instrs.Return ≡ Ok t → Returned e s t
+returned : (f : ℕ) (e s t : State) (a : ℕ) → registers e 4 < 2 ^ 47 → InPops f (registers e) (return_address e) [] s → effect (with_rip s a) instrs.Return ≡ Ok t → ReturnedToCaller e s t
 returned f e s t a high h ef =
     let back = return_address e in
     let top = h.stack.0 in
@@ -36,7 +37,7 @@ returned f e s t a high h ef =
     let u : State = record { cpu = record { registers = set s.cpu.registers 4 w; rip = back; flags = s.cpu.flags }; memory = s.memory } in
     let same : u ≡ t = ok_same (sym (return_effect s a back (load_at s.memory (registers s 4) back h.stack.1)) ∙ ef) in
     let up : w ≡ registers e 4 + 8 = omega arith in
-    subst (λ (x : State). Returned e s x) same (record {
+    subst (λ (x : State). ReturnedToCaller e s x) same (record {
       rip = refl;
       stack = set_same s.cpu.registers 4 w h.length (omega arith) ∙ up;
       kept = λ r nv ne. set_other s.cpu.registers 4 r w ne ∙ h.others r nv ne refl;

@@ -19,8 +19,8 @@ use Rattle.virtual_unwind.specs.Contexts.{is_nonvolatile}
 use Rattle.virtual_unwind.specs.Undone.{operations}
 use Rattle.virtual_unwind.specs.Tail.{FetchedInstr}
 use Rattle.frame_rules.specs.Codes.{depth, allocation, may_save, is_allowed, are_allowed, is_saved, are_apart}
-use Rattle.frame_rules.specs.Prologue.{bytes, does, is_stack, is_step, Step, items, codes_onto, AreSteps, is_single, are_single}
-use Rattle.frame_rules.specs.States.{registers, Turn, Runs, IsEntry, return_address}
+use Rattle.frame_rules.specs.Prologue.{bytes, does, is_stack, is_step, PrologueStep, items, codes_onto, AreSteps, is_single, are_single}
+use Rattle.frame_rules.specs.States.{registers, RunsOne, RunsThrough, IsEntry, return_address}
 use Rattle.frame_rules.specs.Rules.{ops}
 use Rattle.frame_rules.specs.Laws.{ProloguesRun}
 use Rattle.frame_rules.proofs.Undoing.{stack_depth}
@@ -84,11 +84,11 @@ leads f offset back n a e s op xs i entry deep allowed d run = absurd (false≢t
 
 pub record Ends (s : State) (xs : List FetchedInstr) : Type 0 where
   pub to : State
-  pub runs : Runs s xs to
+  pub runs : RunsThrough s xs to
   pub rip : to.cpu.rip ≡ s.cpu.rip + bytes xs
 
 module _ (f offset back n : ℕ) (e : State) (entry : IsEntry n e) (small : offset < 2 ^ 16) where
-  by_items : (at : ℕ) (done : List UnwindCode) (c : UnwindCode) (ss : List Step) (its : List FetchedInstr) (s : State) → is_single its ≡ true → is_step f offset c.operation its ≡ true → Good f n (operations (c ∷ done)) → Running f offset e back (operations done) s → s.cpu.rip + bytes (its ++ items ss) < 2 ^ 64
+  by_items : (at : ℕ) (done : List UnwindCode) (c : UnwindCode) (ss : List PrologueStep) (its : List FetchedInstr) (s : State) → is_single its ≡ true → is_step f offset c.operation its ≡ true → Good f n (operations (c ∷ done)) → Running f offset e back (operations done) s → s.cpu.rip + bytes (its ++ items ss) < 2 ^ 64
       → ((u : State) → Running f offset e back (operations (c ∷ done)) u → u.cpu.rip + bytes (items ss) < 2 ^ 64 → Ends u (items ss)) → Ends s (its ++ items ss)
   by_items at done c ss [] s one h g run lt rest = absurd (false≢true one)
   by_items at done c ss (x ∷ y ∷ its) s one h g run lt rest = absurd (false≢true one)
@@ -98,13 +98,13 @@ module _ (f offset back n : ℕ) (e : State) (entry : IsEntry n e) (small : offs
       let a = (s.cpu.rip + x.size) % 2 ^ 64 in
       let l = leads f offset back n a e s c.operation xs x.instr entry g.deep p.0 h run in
       let step = does_step f offset back n a e s l.to c.operation xs x.instr entry small g.deep p.0 p.1 g.ordered h run l.is in
-      let turn = subst (λ b. Turn s x l.to b) (sym (does_plain f offset c.operation x.instr h)) l.is in
+      let turn = subst (λ b. RunsOne s x l.to b) (sym (does_plain f offset c.operation x.instr h)) l.is in
       let rip : l.to.cpu.rip ≡ s.cpu.rip + x.size = l.rip ∙ (let z : a ≡ s.cpu.rip + x.size = omega arith in z) in
       let more = rest l.to step (omega arith) in
       let end = more.rip in
       record { to = more.to; runs = (l.to, turn, more.runs); rip = omega arith }
 
-  pub ends : (at : ℕ) (done : List UnwindCode) (ss : List Step) (s : State) → AreSteps f offset at ss → are_single ss ≡ true → Good f n (operations (codes_onto done ss)) → Running f offset e back (operations done) s → s.cpu.rip + bytes (items ss) < 2 ^ 64 → Ends s (items ss)
+  pub ends : (at : ℕ) (done : List UnwindCode) (ss : List PrologueStep) (s : State) → AreSteps f offset at ss → are_single ss ≡ true → Good f n (operations (codes_onto done ss)) → Running f offset e back (operations done) s → s.cpu.rip + bytes (items ss) < 2 ^ 64 → Ends s (items ss)
   ends at done [] s h one g run lt = record { to = s; runs = refl; rip = let z : s.cpu.rip ≡ s.cpu.rip + 0 = omega arith in z }
   ends at done (st ∷ ss) s h one g run lt =
       let o = and_parts (is_single st.items) (are_single ss) one in

@@ -18,13 +18,14 @@ use Rattle.x64_instr.specs.declared.instruction.Instr.TheVariants as instrs
 use Rattle.x64_instr.specs.Registers.{number}
 use Rattle.x64_machine.specs.declared.cpu.Cpu.{Cpu}
 use Rattle.x64_machine.specs.Words.{subtracted}
-use Rattle.x64_machine.specs.Effect.{State, Answer, ◌>>=◌, granted, register, with_rip, store, effect, address_of, base_of, index_of}
+use Rattle.seh_num.specs.Answers.{◌>>=◌}
+use Rattle.x64_machine.specs.Effect.{State, Answer, granted, register, with_rip, store, effect, address_of, base_of, index_of}
 use Rattle.eh_tables.specs.declared.code.UnwindOperation.{UnwindOperation}
 use Rattle.eh_tables.specs.declared.code.UnwindOperation.TheVariants.{Push, Allocate, SetFrame, Save, SaveVector, MachineFrame}
 use Rattle.virtual_unwind.specs.Contexts.{is_nonvolatile}
 use Rattle.virtual_unwind.specs.CallerOf.{sets_frame}
 use Rattle.frame_rules.specs.Codes.{depth, allocation, may_save, are_allowed, is_saved, are_apart, are_pushes}
-use Rattle.frame_rules.specs.Frame.{Stack, Framed, Others, Holds}
+use Rattle.frame_rules.specs.Frame.{Stack, Framed, Others, HoldsFrame}
 use Rattle.x64_instr.proofs.RegisterNumbers.{number_small}
 use Rattle.frame_rules.specs.Prologue.{is_stack, is_stack_base}
 use Rattle.frame_rules.specs.States.{registers, IsEntry}
@@ -65,7 +66,7 @@ store_at s at v h =
 pub record Running (f offset : ℕ) (e : State) (back : ℕ) (ops : List UnwindOperation) (s : State) : Type 0 where
   pub length : length s.cpu.registers ≡ 16
   pub protection : s.memory.protection ≡ e.memory.protection
-  pub holds : Holds f offset s.memory (registers e) back (registers s) ops ops
+  pub holds : HoldsFrame f offset s.memory (registers e) back (registers s) ops ops
 
 -- the room below a running state may be written
 pub room : (f offset back n : ℕ) (e s : State) (ops : List UnwindOperation) → IsEntry n e → Running f offset e back ops s → (a : ℕ) → registers e 4 ≤ a + n → a < registers e 4 → may_write s.memory a ≡ true

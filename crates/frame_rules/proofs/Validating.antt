@@ -6,7 +6,7 @@ use Rattle.virtual_unwind.specs.Undone.{operations}
 use Rattle.virtual_unwind.specs.Tail.{FetchedInstr}
 use Rattle.virtual_unwind.specs.CallerOf.{has_frame, sets_frame}
 use Rattle.frame_rules.specs.Codes.{are_allowed, is_ordered}
-use Rattle.frame_rules.specs.Prologue.{bytes, is_step, are_sized, Step, items, codes_onto, AreSteps}
+use Rattle.frame_rules.specs.Prologue.{bytes, is_step, are_sized, PrologueStep, items, codes_onto, AreSteps}
 use Rattle.frame_rules.specs.Validated.{turned, fits, before, with_step, three, steps, are_steps, has_codes, has_prologue, has_body}
 use Rattle.frame_rules.specs.Laws.{RulesAreRight}
 
@@ -15,24 +15,24 @@ turned_twice done [] = refl
 turned_twice done (c ∷ cs) = turned_twice (c ∷ done) cs
 
 -- the steps of codes and instructions
-pub record Has (f offset at : ℕ) (done cs : List UnwindCode) (xs : List FetchedInstr) (ss : List Step) : Type 0 where
+pub record Has (f offset at : ℕ) (done cs : List UnwindCode) (xs : List FetchedInstr) (ss : List PrologueStep) : Type 0 where
   pub are : AreSteps f offset at ss
   pub spelled : items ss ≡ xs
   pub codes : codes_onto done ss ≡ turned done cs
 
-some_steps : {x y : List Step} → Some x ≡ Some y → x ≡ y
+some_steps : {x y : List PrologueStep} → Some x ≡ Some y → x ≡ y
 some_steps e = cc
 
-pub record Before (s : Step) (o : Option (List Step)) (ss : List Step) : Type 0 where
-  pub rest : List Step
+pub record Before (s : PrologueStep) (o : Option (List PrologueStep)) (ss : List PrologueStep) : Type 0 where
+  pub rest : List PrologueStep
   pub is : o ≡ Some rest
   pub all : s ∷ rest ≡ ss
 
-was_before : (s : Step) (o : Option (List Step)) (ss : List Step) → before s o ≡ Some ss → Before s o ss
+was_before : (s : PrologueStep) (o : Option (List PrologueStep)) (ss : List PrologueStep) → before s o ≡ Some ss → Before s o ss
 was_before s (Some r) ss e = record { rest = r; is = refl; all = some_steps e }
 was_before s None ss e = absurd cc
 
-joined : (f offset at : ℕ) (done cs : List UnwindCode) (c : UnwindCode) (its xs : List FetchedInstr) (rest ss : List Step) → fits f offset at c its ≡ true → Has f offset c.offset (c ∷ done) cs xs rest → (let s : Step = record { code = c; items = its } in s ∷ rest ≡ ss) → Has f offset at done (c ∷ cs) (its ++ xs) ss
+joined : (f offset at : ℕ) (done cs : List UnwindCode) (c : UnwindCode) (its xs : List FetchedInstr) (rest ss : List PrologueStep) → fits f offset at c its ≡ true → Has f offset c.offset (c ∷ done) cs xs rest → (let s : PrologueStep = record { code = c; items = its } in s ∷ rest ≡ ss) → Has f offset at done (c ∷ cs) (its ++ xs) ss
 joined f offset at done cs c its xs rest ss h r e =
     let p = and_parts (is_step f offset c.operation its) (are_sized its && eqb c.offset (at + bytes its)) h in
     let q = and_parts (are_sized its) (eqb c.offset (at + bytes its)) p.1 in
@@ -43,32 +43,32 @@ joined f offset at done cs c its xs rest ss h r e =
       codes = r.codes;
     })
 
-pub has_steps : (f offset at : ℕ) (done cs : List UnwindCode) (xs : List FetchedInstr) (ss : List Step) → steps f offset at cs xs ≡ Some ss → Has f offset at done cs xs ss
+pub has_steps : (f offset at : ℕ) (done cs : List UnwindCode) (xs : List FetchedInstr) (ss : List PrologueStep) → steps f offset at cs xs ≡ Some ss → Has f offset at done cs xs ss
 has_steps f offset at done [] [] ss e = subst (Has f offset at done [] []) (some_steps e) (record { are = tt; spelled = refl; codes = refl })
 has_steps f offset at done [] (x ∷ xs) ss e = absurd cc
 has_steps f offset at done (c ∷ cs) [] ss e = absurd cc
 has_steps f offset at done (c ∷ cs) (x ∷ xs) ss e = first (λ ys rest h. has_steps f offset c.offset (c ∷ done) cs ys rest h) (fits f offset at c (x ∷ [])) refl e
   where
-    second : ((ys : List FetchedInstr) (rest : List Step) → steps f offset c.offset cs ys ≡ Some rest → Has f offset c.offset (c ∷ done) cs ys rest) → (xs : List FetchedInstr) → three f offset at c (steps f offset c.offset cs) (x ∷ xs) ≡ Some ss → Has f offset at done (c ∷ cs) (x ∷ xs) ss
+    second : ((ys : List FetchedInstr) (rest : List PrologueStep) → steps f offset c.offset cs ys ≡ Some rest → Has f offset c.offset (c ∷ done) cs ys rest) → (xs : List FetchedInstr) → three f offset at c (steps f offset c.offset cs) (x ∷ xs) ≡ Some ss → Has f offset at done (c ∷ cs) (x ∷ xs) ss
     second more [] e = absurd cc
     second more (y ∷ []) e = absurd cc
     second more (y ∷ z ∷ xs) e = go (fits f offset at c (x ∷ y ∷ z ∷ [])) refl e
       where
         go : (b : Bool) → fits f offset at c (x ∷ y ∷ z ∷ []) ≡ b → with_step c (x ∷ y ∷ z ∷ []) (steps f offset c.offset cs xs) b None ≡ Some ss → Has f offset at done (c ∷ cs) (x ∷ y ∷ z ∷ xs) ss
         go true is e =
-            let s : Step = record { code = c; items = x ∷ y ∷ z ∷ [] } in
+            let s : PrologueStep = record { code = c; items = x ∷ y ∷ z ∷ [] } in
             let b = was_before s (steps f offset c.offset cs xs) ss e in
             joined f offset at done cs c (x ∷ y ∷ z ∷ []) xs b.rest ss is (more xs b.rest b.is) b.all
         go false is e = absurd cc
 
-    first : ((ys : List FetchedInstr) (rest : List Step) → steps f offset c.offset cs ys ≡ Some rest → Has f offset c.offset (c ∷ done) cs ys rest) → (b : Bool) → fits f offset at c (x ∷ []) ≡ b → with_step c (x ∷ []) (steps f offset c.offset cs xs) b (three f offset at c (steps f offset c.offset cs) (x ∷ xs)) ≡ Some ss → Has f offset at done (c ∷ cs) (x ∷ xs) ss
+    first : ((ys : List FetchedInstr) (rest : List PrologueStep) → steps f offset c.offset cs ys ≡ Some rest → Has f offset c.offset (c ∷ done) cs ys rest) → (b : Bool) → fits f offset at c (x ∷ []) ≡ b → with_step c (x ∷ []) (steps f offset c.offset cs xs) b (three f offset at c (steps f offset c.offset cs) (x ∷ xs)) ≡ Some ss → Has f offset at done (c ∷ cs) (x ∷ xs) ss
     first more true is e =
-        let s : Step = record { code = c; items = x ∷ [] } in
+        let s : PrologueStep = record { code = c; items = x ∷ [] } in
         let b = was_before s (steps f offset c.offset cs xs) ss e in
         joined f offset at done cs c (x ∷ []) xs b.rest ss is (more xs b.rest b.is) b.all
     first more false is e = second more xs e
 
-steps_of : (o : Option (List Step)) → are_steps o ≡ true → (ss : List Step) × (o ≡ Some ss)
+steps_of : (o : Option (List PrologueStep)) → are_steps o ≡ true → (ss : List PrologueStep) × (o ≡ Some ss)
 steps_of (Some ss) e = (ss, refl)
 steps_of None e = absurd (false≢true e)
 

@@ -16,7 +16,8 @@ use Rattle.x64_instr.specs.declared.instruction.Instr.TheVariants as instrs
 use Rattle.x64_instr.specs.Registers.{number}
 use Rattle.x64_machine.specs.declared.cpu.Cpu.{Cpu}
 use Rattle.x64_machine.specs.Conditions.{holds}
-use Rattle.x64_machine.specs.Effect.{State, Answer, ◌>>=◌, granted, register, with_register, with_flags, with_rip, load, store, read, operand, write, may_change, computed, change, compare, with_quotient, push, pop, relative, jumped, target_of}
+use Rattle.seh_num.specs.Answers.{◌>>=◌}
+use Rattle.x64_machine.specs.Effect.{State, Answer, granted, register, with_register, with_flags, with_rip, load, store, read, operand, write, may_change, computed, change, compare, with_quotient, push, pop, relative, jumped, target_of}
 use Rattle.frame_rules.specs.Body.{written_place, has}
 use Rattle.frame_rules.specs.States.{registers}
 use Rattle.frame_rules.specs.Laws.{WritesNoOther}

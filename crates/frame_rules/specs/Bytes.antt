@@ -11,7 +11,7 @@ use Rattle.virtual_unwind.specs.CallerOf.{in_entry}
 use Rattle.frame_rules.specs.Frame.{left_to}
 use Rattle.frame_rules.specs.Plan.{IsSpelling, Plan, IsPlan, spelled_by, all_encodable, operations_of, instructions_of, turned, unwind_of, epilogue, are_inner, all_inner, function_of, frame_size}
 use Rattle.frame_rules.specs.States.{registers, IsEntry, return_address, HasItems}
-use Rattle.frame_rules.specs.Rules.{Function, Finds}
+use Rattle.frame_rules.specs.Rules.{Function, FindsContext}
 use Rattle.frame_rules.specs.Rules as states
 
 abbrev pub spell : Instr → FetchedInstr
@@ -79,5 +79,5 @@ PlannedFramesAreRight =
     → IsEntry (frame_size p) e → IsExecutableAt s.memory begin (code (all_code p parts last))
     → begin + length (code (all_code p parts last)) < 2 ^ 63 → s.cpu.rip ≡ begin + distance
     → states.IsInFunction (planned p parts last) e s distance
-    → Finds (in_entry s.memory (unwind_of spell p) [] (context_of s.cpu) distance)
+    → FindsContext (in_entry s.memory (unwind_of spell p) [] (context_of s.cpu) distance)
     (left_to (registers e) (return_address e)) (registers s 4)

@@ -40,7 +40,7 @@ Others old now xs =
 -- a state between a prologue's begin and an epilogue's end: the codes are those of the instructions
 -- that have been run and not undone; of these codes `left` are those whose registers haven't been
 -- restored
-pub record Holds (f offset : ℕ) (m : Memory) (old : ℕ → ℕ) (back : ℕ) (now : ℕ → ℕ)
+pub record HoldsFrame (f offset : ℕ) (m : Memory) (old : ℕ → ℕ) (back : ℕ) (now : ℕ → ℕ)
     (codes left : List UnwindOperation) : Type 0 where
   pub stack : Stack m old back (now 4) (now 4) codes
   pub framed : Framed f offset now (now 4) codes

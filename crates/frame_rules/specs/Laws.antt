@@ -17,8 +17,8 @@ use Rattle.virtual_unwind.specs.CallerOf.{distance, sets_frame, unwound, in_entr
 use Rattle.frame_rules.specs.Codes.{depth, pushes, pushed, are_allowed, is_ordered}
 use Rattle.frame_rules.specs.Epilogue.{pops, is_epilogue}
 use Rattle.frame_rules.specs.Prologue.{bytes, items, are_single}
-use Rattle.frame_rules.specs.States.{registers, Runs, KeepsWords, InBody, IsEntry, return_address, HasItems}
-use Rattle.frame_rules.specs.Rules.{Function, ops, IsRight, IsLeaving, IsInFunction, Finds, IsFound, HasForm}
+use Rattle.frame_rules.specs.States.{registers, RunsThrough, KeepsWords, InBody, IsEntry, return_address, HasItems}
+use Rattle.frame_rules.specs.Rules.{Function, ops, IsRight, IsLeaving, IsInFunction, FindsContext, IsFound, HasForm}
 use Rattle.frame_rules.specs.Plan.{Plan, IsPlan, IsSpelling, operations_of, frame_size, are_inner, all_inner, function_of}
 use Rattle.frame_rules.specs.Validated.{keeps_rules}
 use Rattle.frame_rules.specs.Body.{written, is_a_call, has, may_write_all, Body, following, is_body}
@@ -66,7 +66,7 @@ FramesAreRight =
     → IsRight f → IsEntry (depth (ops f)) e → HasItems s.memory begin (items f.steps ++ f.rest) to
     → to < 2 ^ 63 → s.cpu.rip ≡ begin + distance
     → IsInFunction f e s distance
-    → Finds (in_entry s.memory f.info [] (context_of s.cpu) distance)
+    → FindsContext (in_entry s.memory f.info [] (context_of s.cpu) distance)
     (left_to (registers e) (return_address e)) (registers s 4)
 
 -- ---- with the function tables
@@ -118,7 +118,7 @@ WritesNoOther =
 
 -- RIP is the return address, RSP is above it, and the other nonvolatile registers and the
 -- memory are as they were
-pub record Returned (e s t : State) : Type 0 where
+pub record ReturnedToCaller (e s t : State) : Type 0 where
   pub rip : t.cpu.rip ≡ return_address e
   pub stack : registers t 4 ≡ registers e 4 + 8
   pub kept : (r : ℕ) → is_nonvolatile r ≡ true → r ≢ 4 → registers t r ≡ registers e r
@@ -132,7 +132,7 @@ EpiloguesReturn =
     → IsRight f → IsEntry (depth (ops f)) e → (h : IsLeaving f e s distance) → h.left ≡ x ∷ xs
     → x.instr ≡ instrs.Return → x.plain ≡ true
     → effect (with_rip s a) instrs.Return ≡ Ok t
-    → Returned e s t
+    → ReturnedToCaller e s t
 
 -- a leaf's return
 abbrev pub LeavesReturn : Type 0
@@ -140,7 +140,7 @@ LeavesReturn =
     (rest : List FetchedInstr) (e s t : State) (a : ℕ)
     → is_body (following 0 0 [] rest (Body [])) ≡ true → IsEntry 0 e → InBody 0 [] rest e e s
     → effect (with_rip s a) instrs.Return ≡ Ok t
-    → Returned e s t
+    → ReturnedToCaller e s t
 
 -- ---- how large a frame is
 
@@ -150,24 +150,24 @@ FrameHasItsSize = (p : Plan) → depth (operations_of p) + 8 ≡ frame_size p
 
 -- ---- a prologue can be run
 
-pub record Enters (f : Function) (e : State) : Type 0 where
+pub record EntersBody (f : Function) (e : State) : Type 0 where
   pub following : State
-  pub runs : Runs e (items f.steps) following
+  pub runs : RunsThrough e (items f.steps) following
   pub rip : following.cpu.rip ≡ e.cpu.rip + bytes (items f.steps)
 
 -- where it has no call: from each state with room for its frame
 abbrev pub ProloguesRun : Type 0
 ProloguesRun =
     (f : Function) (e : State) → IsRight f → IsEntry (depth (ops f)) e → are_single f.steps ≡ true
-    → e.cpu.rip + bytes (items f.steps) < 2 ^ 64 → Enters f e
+    → e.cpu.rip + bytes (items f.steps) < 2 ^ 64 → EntersBody f e
 
 -- ---- the states of the body
 
 -- the state after the prologue is one
 abbrev pub BodyBegins : Type 0
 BodyBegins =
-    (f : Function) (e p : State) → IsRight f → IsEntry (depth (ops f)) e → Runs e (items f.steps) p
-    → InBody f.info.frame_register (ops f) f.rest e p p
+    (f : Function) (e p : State) → IsRight f → IsEntry (depth (ops f)) e
+    → RunsThrough e (items f.steps) p → InBody f.info.frame_register (ops f) f.rest e p p
 
 -- an instruction of the body other than a call, which leaves the frame's words, leads from one to
 -- another

@@ -18,7 +18,7 @@ use Rattle.eh_tables.specs.declared.code.UnwindOperation.TheVariants.{Push, Allo
 use Rattle.eh_tables.specs.Infos.{Info}
 use Rattle.virtual_unwind.specs.Tail.{FetchedInstr, role_of}
 use Rattle.frame_rules.specs.Codes.{pushed, are_allowed}
-use Rattle.frame_rules.specs.Prologue.{bytes, Step, items, codes_onto}
+use Rattle.frame_rules.specs.Prologue.{bytes, PrologueStep, items, codes_onto}
 use Rattle.frame_rules.specs.Body.{written, may_write_all}
 use Rattle.frame_rules.specs.States.{is_other}
 use Rattle.frame_rules.specs.Rules.{Function}
@@ -102,17 +102,17 @@ abbrev pub turned : List UnwindOperation → List UnwindOperation → List Unwin
 turned done [] = done
 turned done (x ∷ xs) = turned (x ∷ done) xs
 
-abbrev pub step_of : (Instr → FetchedInstr) → Plan → ℕ → UnwindOperation → Step
+abbrev pub step_of : (Instr → FetchedInstr) → Plan → ℕ → UnwindOperation → PrologueStep
 step_of spell p at x =
     let is = spelled_by spell (instructions_of p x) in record
     { code = record { offset = at + bytes is; operation = x }; items = is }
 
-abbrev pub steps_of : (Instr → FetchedInstr) → Plan → ℕ → List UnwindOperation → List Step
+abbrev pub steps_of : (Instr → FetchedInstr) → Plan → ℕ → List UnwindOperation → List PrologueStep
 steps_of spell p at [] = []
 steps_of spell p at (x ∷ xs) =
     step_of spell p at x ∷ steps_of spell p (at + bytes (spelled_by spell (instructions_of p x))) xs
 
-abbrev pub prologue : (Instr → FetchedInstr) → Plan → List Step
+abbrev pub prologue : (Instr → FetchedInstr) → Plan → List PrologueStep
 prologue spell p = steps_of spell p 0 (turned [] (operations_of p))
 
 abbrev pub unwind_of : (Instr → FetchedInstr) → Plan → Info

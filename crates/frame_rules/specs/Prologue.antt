@@ -70,16 +70,16 @@ is_step f offset op (x ∷ y ∷ z ∷ w ∷ xs) = false
 
 -- ---- a prologue
 
-pub record Step : Type 0 where
+pub record PrologueStep : Type 0 where
   pub code : UnwindCode
   pub items : List FetchedInstr
 
-abbrev pub items : List Step → List FetchedInstr
+abbrev pub items : List PrologueStep → List FetchedInstr
 items [] = []
 items (s ∷ ss) = s.items ++ items ss
 
 -- the codes are in the order from the last step to the first
-abbrev pub codes_onto : List UnwindCode → List Step → List UnwindCode
+abbrev pub codes_onto : List UnwindCode → List PrologueStep → List UnwindCode
 codes_onto done [] = done
 codes_onto done (s ∷ ss) = codes_onto (s.code ∷ done) ss
 
@@ -90,21 +90,22 @@ are_sized (x ∷ xs) = nat_lt 0 x.size && are_sized xs
 
 -- the instructions do what the code says, none of them is empty, and the code has the offset of
 -- their end
-pub record IsStep (f offset at : ℕ) (s : Step) : Type 0 where
+pub record IsPrologueStep (f offset at : ℕ) (s : PrologueStep) : Type 0 where
   pub does : is_step f offset s.code.operation s.items ≡ true
   pub sized : are_sized s.items ≡ true
   pub ends : s.code.offset ≡ at + bytes s.items
 
 -- steps, each at the end of the one before it
-abbrev pub AreSteps : ℕ → ℕ → ℕ → List Step → Type 0
+abbrev pub AreSteps : ℕ → ℕ → ℕ → List PrologueStep → Type 0
 AreSteps f offset at [] = Unit {0}
-AreSteps f offset at (s ∷ ss) = IsStep f offset at s × AreSteps f offset (at + bytes s.items) ss
+AreSteps f offset at (s ∷ ss) =
+    IsPrologueStep f offset at s × AreSteps f offset (at + bytes s.items) ss
 
 -- a prologue without calls
 abbrev pub is_single : List FetchedInstr → Bool
 is_single (x ∷ []) = true
 is_single xs = false
 
-abbrev pub are_single : List Step → Bool
+abbrev pub are_single : List PrologueStep → Bool
 are_single [] = true
 are_single (s ∷ ss) = is_single s.items && are_single ss

@@ -10,14 +10,14 @@ use Rattle.virtual_unwind.specs.declared.tail.Role.TheVariants.{Other}
 use Rattle.virtual_unwind.specs.Tail.{FetchedInstr, role_of}
 use Rattle.virtual_unwind.specs.CallerOf.{CallerFrame, sets_frame}
 use Rattle.frame_rules.specs.Codes.{are_allowed, is_ordered}
-use Rattle.frame_rules.specs.Prologue.{bytes, Step, items, codes_onto, AreSteps}
+use Rattle.frame_rules.specs.Prologue.{bytes, PrologueStep, items, codes_onto, AreSteps}
 use Rattle.frame_rules.specs.Body.{Mode, Body, following, is_body}
-use Rattle.frame_rules.specs.States.{Runs, InBody, all_leave}
+use Rattle.frame_rules.specs.States.{RunsThrough, InBody, all_leave}
 
 -- a function: its unwind info, the steps of its prologue, and the instructions after it
 pub record Function : Type 0 where
   pub info : Info
-  pub steps : List Step
+  pub steps : List PrologueStep
   pub rest : List FetchedInstr
 
 abbrev pub ops : Function → List UnwindOperation
@@ -51,12 +51,12 @@ pub record InPrologue (f : Function) (e s : State) (distance : ℕ) : Type 0 whe
   pub parts : items f.steps ≡ done ++ left
   pub before : bytes done < f.info.prologue_size
   pub here : distance ≡ bytes done
-  pub runs : Runs e done s
+  pub runs : RunsThrough e done s
 
 -- in the body, at an instruction that belongs to no epilogue
 pub record IsBody (f : Function) (e s : State) (distance : ℕ) : Type 0 where
   pub following : State  -- the prologue
-  pub runs : Runs e (items f.steps) following
+  pub runs : RunsThrough e (items f.steps) following
   pub done : List FetchedInstr
   pub item : FetchedInstr
   pub left : List FetchedInstr
@@ -71,7 +71,7 @@ pub record IsBody (f : Function) (e s : State) (distance : ℕ) : Type 0 where
 -- before it
 pub record IsLeaving (f : Function) (e s : State) (distance : ℕ) : Type 0 where
   pub following : State  -- the prologue
-  pub runs : Runs e (items f.steps) following
+  pub runs : RunsThrough e (items f.steps) following
   pub from : State
   pub done : List FetchedInstr
   pub run : List FetchedInstr
@@ -83,7 +83,7 @@ pub record IsLeaving (f : Function) (e s : State) (distance : ℕ) : Type 0 wher
   pub leave : all_leave f.info.frame_register f.info.frame_offset (ops f) run ≡ true
   pub here : distance ≡ f.info.prologue_size + (bytes done + bytes run)
   pub in_body : InBody f.info.frame_register (ops f) f.rest e following from
-  pub runs_on : Runs from run s
+  pub runs_on : RunsThrough from run s
   pub continues : left ≢ []
 
 abbrev pub IsInFunction : Function → State → State → ℕ → Type 0
@@ -93,7 +93,7 @@ IsInFunction f e s distance =
 -- ---- what is promised
 
 -- a caller is found, with this context, and above this RSP
-pub record Finds (a : Answer CallerFrame) (c : Context) (stack : ℕ) : Type 0 where
+pub record FindsContext (a : Answer CallerFrame) (c : Context) (stack : ℕ) : Type 0 where
   pub found : CallerFrame
   pub is : a ≡ Ok found
   pub context : found.context ≡ c
@@ -106,6 +106,6 @@ pub record IsFound (a : Answer CallerFrame) (c : Context) : Type 0 where
 
 -- a function of these instructions in its prologue and after it
 pub record HasForm (i : Info) (xs ys : List FetchedInstr) : Type 0 where
-  pub steps : List Step
+  pub steps : List PrologueStep
   pub spelled : items steps ≡ xs
   pub right : IsRight (record { info = i; steps = steps; rest = ys })

@@ -23,14 +23,14 @@ pub record Called (s : State) (u : State) : Type 0 where
   pub protection : u.memory.protection ≡ s.memory.protection
   pub byte : (a : ℕ) → registers s 4 ≤ a → u.memory.byte a ≡ s.memory.byte a
 
-abbrev pub Turn : State → FetchedInstr → State → Bool → Type 0
-Turn s x u true = Called s u
-Turn s x u false = effect (with_rip s ((s.cpu.rip + x.size) % 2 ^ 64)) x.instr ≡ Ok u
+abbrev pub RunsOne : State → FetchedInstr → State → Bool → Type 0
+RunsOne s x u true = Called s u
+RunsOne s x u false = effect (with_rip s ((s.cpu.rip + x.size) % 2 ^ 64)) x.instr ≡ Ok u
 
 -- from one state to another, calls taken whole
-abbrev pub Runs : State → List FetchedInstr → State → Type 0
-Runs s [] t = s ≡ t
-Runs s (x ∷ xs) t = (u : State) × Turn s x u (is_call x.instr) × Runs u xs t
+abbrev pub RunsThrough : State → List FetchedInstr → State → Type 0
+RunsThrough s [] t = s ≡ t
+RunsThrough s (x ∷ xs) t = (u : State) × RunsOne s x u (is_call x.instr) × RunsThrough u xs t
 
 -- ---- a function's first byte
 

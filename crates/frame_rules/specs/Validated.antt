@@ -8,7 +8,7 @@ use Rattle.virtual_unwind.specs.Undone.{operations}
 use Rattle.virtual_unwind.specs.Tail.{FetchedInstr}
 use Rattle.virtual_unwind.specs.CallerOf.{has_frame, sets_frame}
 use Rattle.frame_rules.specs.Codes.{are_allowed, is_ordered}
-use Rattle.frame_rules.specs.Prologue.{bytes, is_step, are_sized, Step}
+use Rattle.frame_rules.specs.Prologue.{bytes, is_step, are_sized, PrologueStep}
 use Rattle.frame_rules.specs.Body.{Body, following, is_body}
 
 -- in the order of execution
@@ -22,38 +22,38 @@ abbrev pub fits : ℕ → ℕ → ℕ → UnwindCode → List FetchedInstr → B
 fits f offset at c xs =
     is_step f offset c.operation xs && (are_sized xs && (c.offset == at + bytes xs))
 
-abbrev pub before : Step → Option (List Step) → Option (List Step)
+abbrev pub before : PrologueStep → Option (List PrologueStep) → Option (List PrologueStep)
 before s None = None
 before s (Some ss) = Some (s ∷ ss)
 
-abbrev pub with_step : UnwindCode → List FetchedInstr → Option (List Step) → Bool
-    → Option (List Step) → Option (List Step)
+abbrev pub with_step : UnwindCode → List FetchedInstr → Option (List PrologueStep) → Bool
+    → Option (List PrologueStep) → Option (List PrologueStep)
 with_step c xs others true else' = before (record { code = c; items = xs }) others
 with_step c xs others false else' = else'
 
 -- a step of three instructions, of one
-abbrev pub three : ℕ → ℕ → ℕ → UnwindCode → (List FetchedInstr → Option (List Step))
-    → List FetchedInstr → Option (List Step)
+abbrev pub three : ℕ → ℕ → ℕ → UnwindCode → (List FetchedInstr → Option (List PrologueStep))
+    → List FetchedInstr → Option (List PrologueStep)
 three f offset at c others (x ∷ y ∷ z ∷ xs) =
     with_step c (x ∷ y ∷ z ∷ []) (others xs) (fits f offset at c (x ∷ y ∷ z ∷ [])) None
 three f offset at c others xs = None
 
-abbrev pub one : ℕ → ℕ → ℕ → UnwindCode → (List FetchedInstr → Option (List Step))
-    → List FetchedInstr → Option (List Step)
+abbrev pub one : ℕ → ℕ → ℕ → UnwindCode → (List FetchedInstr → Option (List PrologueStep))
+    → List FetchedInstr → Option (List PrologueStep)
 one f offset at c others (x ∷ xs) =
     with_step c (x ∷ []) (others xs) (fits f offset at c (x ∷ []))
     (three f offset at c others (x ∷ xs))
 one f offset at c others [] = None
 
-abbrev pub none_left : List FetchedInstr → Option (List Step)
+abbrev pub none_left : List FetchedInstr → Option (List PrologueStep)
 none_left [] = Some []
 none_left (x ∷ xs) = None
 
-abbrev pub steps : ℕ → ℕ → ℕ → List UnwindCode → List FetchedInstr → Option (List Step)
+abbrev pub steps : ℕ → ℕ → ℕ → List UnwindCode → List FetchedInstr → Option (List PrologueStep)
 steps f offset at [] xs = none_left xs
 steps f offset at (c ∷ cs) xs = one f offset at c (steps f offset c.offset cs) xs
 
-abbrev pub are_steps : Option (List Step) → Bool
+abbrev pub are_steps : Option (List PrologueStep) → Bool
 are_steps (Some ss) = true
 are_steps None = false
 

@@ -11,7 +11,8 @@ use Rattle.x64_instr.specs.declared.instruction.Operation.{Operation}
 use Rattle.x64_instr.specs.declared.instruction.Operation.TheVariants as operations
 use Rattle.x64_instr.specs.declared.instruction.Instr.{Instr}
 use Rattle.x64_instr.specs.declared.instruction.Instr.TheVariants as instrs
-use Rattle.x64_machine.specs.Effect.{State, Answer, ◌>>=◌, with_register, with_flags, read, operand, write, may_change, computed, change, compare, with_quotient, effect}
+use Rattle.seh_num.specs.Answers.{◌>>=◌}
+use Rattle.x64_machine.specs.Effect.{State, Answer, with_register, with_flags, read, operand, write, may_change, computed, change, compare, with_quotient, effect}
 use Rattle.image_runs.specs.Quiet.{is_free_place, is_quiet}
 
 record Bound {A B : Type 0} (a : Answer A) (f : A → Answer B) (y : B) : Type 0 where

@@ -6,7 +6,8 @@ use Rattle.virtual_unwind.specs.Undone.{word, readable}
 use Rattle.x64_instr.specs.declared.register.Reg.TheVariants.{Rax, Rdx}
 use Rattle.x64_instr.specs.declared.instruction.Instr.{Instr}
 use Rattle.x64_machine.specs.declared.cpu.Flags.{Flags}
-use Rattle.x64_machine.specs.Effect.{Answer, ◌>>=◌, load}
+use Rattle.seh_num.specs.Answers.{◌>>=◌}
+use Rattle.x64_machine.specs.Effect.{Answer, load}
 use Rattle.seh_num.specs.declared.width.Width.TheVariants.{W64}
 use Rattle.seh_num.specs.Widths.{low}
 use Rattle.template_code.specs.Bytes.{sizes}

@@ -4,6 +4,7 @@ use Rattle.seh_num.specs.declared.width.Width.{Width}
 use Rattle.seh_num.specs.declared.width.Width.TheVariants.{W8, W64}
 use Rattle.seh_num.specs.declared.division.DivFault.{DivFault}
 use Rattle.seh_num.specs.declared.division.DivFault.TheVariants as faults
+use Rattle.seh_num.specs.Answers.{◌>>=◌}
 use Rattle.seh_num.specs.Widths.{limit, half, low, signed, wrapped}
 use Rattle.seh_num.specs.declared.code.TheConstants.{ACCESS_VIOLATION, INTEGER_DIVIDE_BY_ZERO, INTEGER_OVERFLOW}
 use Rattle.seh_num.specs.declared.size.TheConstants.{LONGEST_INSTRUCTION}
@@ -61,11 +62,6 @@ pub record State : Type 0 where
 -- what a step gives: the state after it, or why there is none
 abbrev pub Answer : Type 0 → Type 0
 Answer A = Result A Stop
-
-infixl 10 ◌>>=◌
-abbrev pub ◌>>=◌ : {A B : Type 0} → Answer A → (A → Answer B) → Answer B
-(Ok x) >>= f = f x
-(Err e) >>= f = Err e
 
 -- ---- registers
 

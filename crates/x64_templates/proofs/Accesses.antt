@@ -18,7 +18,8 @@ use Rattle.x64_instr.specs.declared.instruction.Instr.{Instr}
 use Rattle.x64_instr.specs.declared.instruction.Instr.TheVariants as instrs
 use Rattle.x64_machine.specs.declared.cpu.Flags.{Flags}
 use Rattle.x64_machine.specs.declared.outcome.Stop.TheVariants as stops
-use Rattle.x64_machine.specs.Effect.{State, Answer, ◌>>=◌, granted, refusal, effect}
+use Rattle.seh_num.specs.Answers.{◌>>=◌}
+use Rattle.x64_machine.specs.Effect.{State, Answer, granted, refusal, effect}
 use Rattle.x64_machine.specs.Effect as machines
 use Rattle.c_operations.specs.Performed.{Outcome, Gives, Raises, Undefined}
 use Rattle.c_operations.specs.Performed as meaning

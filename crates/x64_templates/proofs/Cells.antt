@@ -8,7 +8,8 @@ use Rattle.flat_memory.proofs.Stores.{writable_is_readable}
 use Rattle.x64_instr.specs.declared.register.Reg.{Reg}
 use Rattle.x64_instr.specs.declared.register.Reg.TheVariants.{Rax, Rcx, Rsp}
 use Rattle.x64_machine.specs.declared.cpu.Flags.{Flags}
-use Rattle.x64_machine.specs.Effect.{Answer, ◌>>=◌, load, store}
+use Rattle.seh_num.specs.Answers.{◌>>=◌}
+use Rattle.x64_machine.specs.Effect.{Answer, load, store}
 use Rattle.x64_templates.proofs.PlacedCode.{all_may, store_at, load_at}
 use Rattle.linear_code.specs.declared.slot.Slot.{Slot}
 use Rattle.linear_code.specs.declared.slot.Slot.TheVariants.{Local, Temporary}

@@ -8,7 +8,8 @@ use Rattle.flat_memory.specs.Memory.{Memory, may_write, first_refused, number_at
 use Rattle.flat_memory.proofs.Stores.{stored_is_loaded, writable_is_readable}
 use Rattle.x64_instr.specs.declared.register.Reg.TheVariants.{Rax, Rdx}
 use Rattle.x64_templates.proofs.PlacedCode.{all_may, same_number, load_at}
-use Rattle.x64_machine.specs.Effect.{Answer, ◌>>=◌, load}
+use Rattle.seh_num.specs.Answers.{◌>>=◌}
+use Rattle.x64_machine.specs.Effect.{Answer, load}
 use Rattle.linear_code.specs.declared.slot.Slot.{Slot}
 use Rattle.linear_code.specs.declared.slot.Slot.TheVariants.{Local, Temporary}
 use Rattle.linear_code.specs.BodyState.{BodyState, Counts}

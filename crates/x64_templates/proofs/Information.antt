@@ -7,7 +7,8 @@ use Rattle.flat_memory.specs.Memory.{Memory, may_read, number_at, access, first_
 use Rattle.x64_instr.specs.declared.register.Reg.TheVariants.{Rax, Rsp}
 use Rattle.x64_instr.specs.declared.instruction.Instr.{Instr}
 use Rattle.x64_machine.specs.declared.cpu.Flags.{Flags}
-use Rattle.x64_machine.specs.Effect.{Answer, ◌>>=◌, granted, load, effect}
+use Rattle.seh_num.specs.Answers.{◌>>=◌}
+use Rattle.x64_machine.specs.Effect.{Answer, granted, load, effect}
 use Rattle.x64_templates.proofs.PlacedCode.{all_may}
 use Rattle.linear_code.specs.declared.slot.Slot.{Slot}
 use Rattle.c_operations.specs.declared.field.Field.{Field}

@@ -23,7 +23,8 @@ use Rattle.x64_machine.specs.Contexts.{kept_of}
 use Rattle.x64_machine.specs.Words.{merged, multiplied}
 use Rattle.x64_machine.specs.Shifts.{count_of, shifted, shift_flags}
 use Rattle.x64_machine.specs.Dividing.{divided, joined}
-use Rattle.x64_machine.specs.Effect.{State, Answer, ◌>>=◌, granted, register, with_register, with_flags, address_of, store, read, operand, write, may_change, computed, compare, change, is_compare, unary, unary_of, amount, shift_by, multiply, multiply_by, with_quotient, sign_of_rax, widened, condition_byte, effect}
+use Rattle.seh_num.specs.Answers.{◌>>=◌}
+use Rattle.x64_machine.specs.Effect.{State, Answer, granted, register, with_register, with_flags, address_of, store, read, operand, write, may_change, computed, compare, change, is_compare, unary, unary_of, amount, shift_by, multiply, multiply_by, with_quotient, sign_of_rax, widened, condition_byte, effect}
 use Rattle.x64_templates.specs.Keeping.{is_volatile, is_volatile_or_memory, is_register, keeps_registers, stores_nothing, is_call, KeepsRegisters, StoresNothing, Flows, StoresOnce}
 
 -- ---- registers

@@ -12,7 +12,8 @@ use Rattle.x64_instr.proofs.Table as tables
 use Rattle.x64_encode.specs.Chosen.{chosen, is_encodable}
 use Rattle.x64_encode.proofs.Written as written
 use Rattle.host_layout.specs.Services.{in_host_page}
-use Rattle.x64_machine.specs.Effect.{State, ◌>>=◌, granted, with_rip, load, store, effect, step}
+use Rattle.seh_num.specs.Answers.{◌>>=◌}
+use Rattle.x64_machine.specs.Effect.{State, granted, with_rip, load, store, effect, step}
 use Rattle.x64_templates.specs.Placed.{IsCodeAt, IsPlaced}
 use Rattle.template_code.specs.Bytes.{thunk}
 use Rattle.x64_templates.specs.Runs.{Runs, Reaches, Enters}

@@ -11,7 +11,8 @@ use Rattle.x64_instr.specs.declared.instruction.Instr.{Instr}
 use Rattle.x64_instr.specs.declared.instruction.Instr.TheVariants as instrs
 use Rattle.x64_machine.specs.declared.cpu.Flags.{Flags}
 use Rattle.x64_machine.specs.Words.{subtracted}
-use Rattle.x64_machine.specs.Effect.{Answer, ◌>>=◌, computed, load, with_flags, effect}
+use Rattle.seh_num.specs.Answers.{◌>>=◌}
+use Rattle.x64_machine.specs.Effect.{Answer, computed, load, with_flags, effect}
 use Rattle.x64_templates.proofs.PlacedCode.{all_may, reaches_then}
 use Rattle.x64_templates.specs.Straight.{MachineView, machine, Executes}
 use Rattle.template_code.specs.Bytes.{size, sizes}

@@ -22,7 +22,8 @@ use Rattle.x64_machine.specs.declared.cpu.Cpu.{Cpu}
 use Rattle.x64_machine.specs.Words.{multiplied}
 use Rattle.x64_machine.specs.Shifts.{count_of, shifted, shift_flags}
 use Rattle.x64_machine.specs.Dividing.{divided, joined}
-use Rattle.x64_machine.specs.Effect.{State, Answer, ◌>>=◌, granted, register, with_register, with_flags, with_rip, address_of, load, store, read, operand, write, may_change, computed, compare, change, is_compare, unary, unary_of, amount, shift_by, multiply, multiply_by, with_quotient, sign_of_rax, widened, condition_byte, jumped, push, pop, target_of, effect}
+use Rattle.seh_num.specs.Answers.{◌>>=◌}
+use Rattle.x64_machine.specs.Effect.{State, Answer, granted, register, with_register, with_flags, with_rip, address_of, load, store, read, operand, write, may_change, computed, compare, change, is_compare, unary, unary_of, amount, shift_by, multiply, multiply_by, with_quotient, sign_of_rax, widened, condition_byte, jumped, push, pop, target_of, effect}
 use Rattle.std.specs.Prelude.{List, [], ◌∷◌, length, slice_index, slice_set}
 use Rattle.x64_instr.specs.Registers.{number}
 use Rattle.seh_num.specs.declared.width.Width.TheVariants.{W16, W32}

@@ -13,7 +13,8 @@ use Rattle.x64_instr.specs.declared.instruction.Operation.TheVariants as arithme
 use Rattle.x64_instr.specs.declared.instruction.Instr.TheVariants as instrs
 use Rattle.x64_machine.specs.declared.cpu.Flags.{Flags}
 use Rattle.x64_machine.specs.Words.{added, subtracted}
-use Rattle.x64_machine.specs.Effect.{State, Answer, ◌>>=◌, with_rip, load, effect}
+use Rattle.seh_num.specs.Answers.{◌>>=◌}
+use Rattle.x64_machine.specs.Effect.{State, Answer, with_rip, load, effect}
 use Rattle.x64_templates.proofs.PlacedCode.{all_may, same_number, load_at, reaches_then}
 use Rattle.linear_code.specs.declared.slot.Slot.{Slot}
 use Rattle.linear_code.specs.declared.slot.Slot.TheVariants.{Local, Temporary}

@@ -4,7 +4,8 @@ use Rattle.seh_num.specs.declared.width.Width.TheVariants.{W64}
 use Rattle.flat_memory.specs.Memory.{may_read, number_at}
 use Rattle.x64_encode.specs.Chosen.{modrm}
 use Rattle.x64_machine.specs.declared.cpu.Flags.{Flags}
-use Rattle.x64_machine.specs.Effect.{Answer, ◌>>=◌, load, effect}
+use Rattle.seh_num.specs.Answers.{◌>>=◌}
+use Rattle.x64_machine.specs.Effect.{Answer, load, effect}
 use Rattle.template_code.specs.Bytes.{thunk}
 use Rattle.x64_templates.proofs.PlacedCode.{all_may, same_number, load_at, thunk_encodable}
 use Rattle.x64_templates.specs.Straight.{MachineView, machine}

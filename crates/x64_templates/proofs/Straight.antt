@@ -8,7 +8,8 @@ use Rattle.x64_instr.specs.declared.instruction.Instr.{Instr}
 use Rattle.x64_encode.specs.Chosen.{chosen}
 use Rattle.x64_encode.proofs.Lengths.{longest}
 use Rattle.x64_machine.specs.declared.cpu.Flags.{Flags}
-use Rattle.x64_machine.specs.Effect.{State, Answer, ◌>>=◌, with_rip, effect}
+use Rattle.seh_num.specs.Answers.{◌>>=◌}
+use Rattle.x64_machine.specs.Effect.{State, Answer, with_rip, effect}
 use Rattle.x64_templates.specs.Placed.{IsCodeAt, IsPlaced}
 use Rattle.template_code.specs.Bytes.{spelled}
 use Rattle.x64_templates.specs.Runs.{Steps, Reaches, Enters}

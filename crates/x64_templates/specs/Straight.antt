@@ -15,7 +15,8 @@ use Rattle.x64_instr.specs.declared.instruction.Instr.TheVariants as instrs
 use Rattle.x64_instr.specs.Registers.{number}
 use Rattle.template_code.specs.Bytes.{size, sizes}
 use Rattle.x64_machine.specs.declared.cpu.Flags.{Flags}
-use Rattle.x64_machine.specs.Effect.{State, Answer, ◌>>=◌, with_rip, effect}
+use Rattle.seh_num.specs.Answers.{◌>>=◌}
+use Rattle.x64_machine.specs.Effect.{State, Answer, with_rip, effect}
 
 -- an instruction after which the next one is run
 abbrev pub is_straight : Instr → Bool
