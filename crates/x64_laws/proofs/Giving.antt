@@ -10,7 +10,7 @@ use Rattle.x64_instr.specs.Reading.{Read, ◌>>=◌, byte, number, signed, exten
 use Rattle.x64_instr.specs.Spelling.{given}
 use Rattle.x64_instr.proofs.Readers.{pair, bind_some}
 use Rattle.x64_encode.specs.Chosen.{is_signed}
-use Rattle.x64_laws.specs.Spelled.{AreBytes}
+use Rattle.x64_laws.specs.Spelled.{AreByteValues}
 use Rattle.x64_machine.proofs.Numbers.{limits}
 use Rattle.x64_laws.proofs.Numbers.{half_at_most}
 
@@ -18,10 +18,10 @@ use Rattle.x64_laws.proofs.Numbers.{half_at_most}
 pub record Given {A : Type 0} (P : A → Type 0) (most : ℕ) (bytes : List ℕ) (x : A) (rest : List ℕ) : Type 0 where
   pub value : P x
   pub few : length bytes ≤ most + length rest
-  pub others : AreBytes rest
+  pub others : AreByteValues rest
 
 pub record Gives {A : Type 0} (P : A → Type 0) (most : ℕ) (read : List ℕ → Read A) : Type 0 where
-  pub gives : (bytes : List ℕ) (x : A) (rest : List ℕ) → AreBytes bytes → read bytes ≡ Some (x, rest) → Given P most bytes x rest
+  pub gives : (bytes : List ℕ) (x : A) (rest : List ℕ) → AreByteValues bytes → read bytes ≡ Some (x, rest) → Given P most bytes x rest
 
 pub at_most : {A : Type 0} (P : A → Type 0) (n m : ℕ) (read : List ℕ → Read A) → n ≤ m → Gives P n read → Gives P m read
 at_most P n m read le g = record {
@@ -31,14 +31,14 @@ at_most P n m read le g = record {
 pub byte-Gives : Gives (λ b. b < 256) 1 byte
 byte-Gives = record { gives = go }
   where
-    go : (bytes : List ℕ) (x : ℕ) (rest : List ℕ) → AreBytes bytes → byte bytes ≡ Some (x, rest) → Given (λ b. b < 256) 1 bytes x rest
+    go : (bytes : List ℕ) (x : ℕ) (rest : List ℕ) → AreByteValues bytes → byte bytes ≡ Some (x, rest) → Given (λ b. b < 256) 1 bytes x rest
     go [] x rest h e = absurd cc
     go (b ∷ bytes) x rest h e =
         let p = pair b x bytes rest e in
         record {
           value = subst (λ (n : ℕ). n < 256) p.0 h.0;
           few = (let l = ap (λ (xs : List ℕ). length xs) p.1 in omega arith);
-          others = subst AreBytes p.1 h.1;
+          others = subst AreByteValues p.1 h.1;
         }
 
 pub done-Gives : {A : Type 0} (P : A → Type 0) (x : A) → P x → Gives P 0 (λ bytes. Some (x, bytes))
@@ -48,7 +48,7 @@ done-Gives {A} P x is = record {
       record {
         value = subst P p.0 is;
         few = (let l = ap (λ (xs : List ℕ). length xs) p.1 in omega arith);
-        others = subst AreBytes p.1 h;
+        others = subst AreByteValues p.1 h;
       };
 }
 
@@ -59,7 +59,7 @@ pub bind-Gives : {A B : Type 0} (P : A → Type 0) (Q : B → Type 0) (n m : ℕ
     → Gives P n read → ((x : A) → P x → Gives Q m (next x)) → Gives Q (n + m) (λ bytes. read bytes >>= λ p. next p.0 p.1)
 bind-Gives {A} {B} P Q n m read next r g = record { gives = go }
   where
-    go : (bytes : List ℕ) (y : B) (rest : List ℕ) → AreBytes bytes → (read bytes >>= λ p. next p.0 p.1) ≡ Some (y, rest) → Given Q (n + m) bytes y rest
+    go : (bytes : List ℕ) (y : B) (rest : List ℕ) → AreByteValues bytes → (read bytes >>= λ p. next p.0 p.1) ≡ Some (y, rest) → Given Q (n + m) bytes y rest
     go bytes y rest h e =
         let b = bind_some (read bytes) (λ p. next p.0 p.1) (y, rest) e in
         let first = r.gives bytes b.0.0 b.0.1 h b.1 in
