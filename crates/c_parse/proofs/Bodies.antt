@@ -1,5 +1,6 @@
 -- Functions are read as far as they go after their names.
-use Rattle.std.proofs.Common.{◌≡◌, ◌≤◌, ℕ, List, [], ◌∷◌, ◌++◌, length, refl, sym, ap, ◌∙◌, subst, arith}
+use Rattle.std.proofs.Common.{◌≡◌, ◌≤◌, ℕ, List, [], ◌∷◌, ◌++◌, length, refl, sym, ap, ◌∙◌, subst}
+use Rattle.std.proofs.Common.{arith}
 use Rattle.c_lex.specs.declared.punctuator.Punctuator.TheVariants as punctuators
 use Rattle.c_lex.specs.declared.token.Kind.TheVariants as kinds
 use Rattle.c_lex.specs.declared.token.Token.{Token}
@@ -24,9 +25,15 @@ abbrev braces : List Token
 braces = punctuator punctuators.OpenBrace ∷ punctuator punctuators.CloseBrace ∷ []
 
 pub empty : (n : ℕ) (ps : List Parameter) → (3 ≤ n → length ps ≤ 8) → FunctionWithinFirst n ps Empty
-empty n ps few = record { statements = λ one. omega arith; expressions = λ one. omega arith; locals = λ two. omega arith; parameters = few }
+empty n ps few = record {
+  statements = λ one. omega arith;
+  expressions = λ one. omega arith;
+  locals = λ two. omega arith;
+  parameters = few;
+}
 
-pub in_parameters : (text : List ℕ) (funclets : ℕ) (ts : List Token) → Wraps NoParameters HasParameters (NoTail funclets) (HasTail funclets) text ts ts
+pub in_parameters : (text : List ℕ) (funclets : ℕ) (ts : List Token)
+    → Wraps NoParameters HasParameters (NoTail funclets) (HasTail funclets) text ts ts
 in_parameters text funclets ts = record {
   before = [];
   split = refl;
@@ -51,10 +58,14 @@ in_parameters text funclets ts = record {
   };
 }
 
-pub in_brace : (text : List ℕ) (funclets : ℕ) (ts b : List Token) (found : List Parameter) → AreParameters found ts b → length found ≤ 8 → Wraps (NoPunctuator punctuators.OpenBrace) (APunctuator punctuators.OpenBrace) (NoTail funclets) (HasTail funclets) text b ts
+pub in_brace : (text : List ℕ) (funclets : ℕ) (ts b : List Token) (found : List Parameter)
+    → AreParameters found ts b → length found ≤ 8
+    → Wraps (NoPunctuator punctuators.OpenBrace) (APunctuator punctuators.OpenBrace)
+    (NoTail funclets) (HasTail funclets) text b ts
 in_brace text funclets ts b found is few =
     let m = programs.parameters found text ts b is in
-    let again : (other : List Token) → AreParameters found (m.front ++ other) other = λ other. m.again text other (alike_same text ts) in record {
+    let again : (other : List Token) → AreParameters found (m.front ++ other) other =
+    λ other. m.again text other (alike_same text ts) in record {
       before = m.front;
       split = m.split;
       no = λ n text' other a s x ps body end h w k.
@@ -69,7 +80,8 @@ in_brace text funclets ts b found is few =
           body = Empty;
           is = λ other.
               let rest = punctuator punctuators.CloseBrace ∷ other in
-              following (λ z. IsTail text' found Empty z other) (m.front ++ inner) (punctuator punctuators.CloseBrace ∷ []) other
+              following (λ z. IsTail text' found Empty z other) (m.front ++ inner)
+              (punctuator punctuators.CloseBrace ∷ []) other
               (following (λ z. IsTail text' found Empty z other) m.front inner rest (record {
                 after_parameters = inner ++ rest;
                 parameters = again (inner ++ rest);
@@ -85,19 +97,27 @@ in_brace text funclets ts b found is few =
       };
     }
 
-pub in_body : (text : List ℕ) (left : Left) (ts b c : List Token) (found : List Parameter) → left.locals ≡ 256 → AreParameters found ts b → length found ≤ 8 → HasPunctuator punctuators.OpenBrace b c → Wraps (NoBlockItems 65 left) (HasBlockItems 65 left) (NoTail left.funclets) (HasTail left.funclets) text c ts
+pub in_body : (text : List ℕ) (left : Left) (ts b c : List Token) (found : List Parameter)
+    → left.locals ≡ 256 → AreParameters found ts b → length found ≤ 8
+    → HasPunctuator punctuators.OpenBrace b c
+    → Wraps (NoBlockItems 65 left) (HasBlockItems 65 left) (NoTail left.funclets)
+    (HasTail left.funclets) text c ts
 in_body text left ts b c found l is few o =
+    let (opening_at, (opening_end, opening_split)) = o in
     let m = programs.parameters found text ts b is in
-    let again : (other : List Token) → AreParameters found (m.front ++ other) other = λ other. m.again text other (alike_same text ts) in
-    let t = token (kinds.Punctuator punctuators.OpenBrace) o.0 o.1.0 in record {
+    let again : (other : List Token) → AreParameters found (m.front ++ other) other =
+    λ other. m.again text other (alike_same text ts) in
+    let t = token (kinds.Punctuator punctuators.OpenBrace) opening_at opening_end in record {
       before = m.front ++ t ∷ [];
-      split = m.split ∙ ap (λ (x : List Token). m.front ++ x) o.1.1 ∙ sym (append_append m.front (t ∷ []) c);
-      no = λ n text' other a s x. following (λ z. NoTail left.funclets n text' z) m.front (t ∷ []) other (λ ps body end h w k.
+      split = m.split ∙ ap (λ (x : List Token). m.front ++ x) opening_split
+          ∙ sym (append_append m.front (t ∷ []) c);
+      no = λ n text' other a s x. following (λ z. NoTail left.funclets n text' z) m.front
+          (t ∷ []) other (λ ps body end h w k.
           let q = parameters found ps (m.front ++ t ∷ other) (m.front ++ t ∷ other)
           (t ∷ other) h.after_parameters refl (again (t ∷ other)) h.parameters in
           let r = has_same punctuators.OpenBrace
           (t ∷ other) h.after_parameters other h.body.after_brace q.1
-          (o.0, (o.1.0, refl)) h.body.brace in
+          (opening_at, (opening_end, refl)) h.body.brace in
           x body end (subst (λ (z : List Token). AreBlockItems text' body z end)
           (sym r) h.body.items) (record {
             statements = w.statements;
@@ -112,25 +132,34 @@ in_body text left ts b c found l is few o =
               parameters = found;
               body = h.trees;
               is = λ other.
-                  following (λ z. IsTail text' found h.trees z other) ((m.front ++ t ∷ []) ++ inner) [] other
-                  (following (λ z. IsTail text' found h.trees z other) (m.front ++ t ∷ []) inner other
+                  following (λ z. IsTail text' found h.trees z other) ((m.front ++ t ∷ []) ++ inner)
+                  [] other
+                  (following (λ z. IsTail text' found h.trees z other) (m.front ++ t ∷ []) inner
+                  other
                   (following (λ z. IsTail text' found h.trees z other) m.front (t ∷ [])
                   (inner ++ other) (record {
                     after_parameters = t ∷ (inner ++ other);
                     parameters = again (t ∷ (inner ++ other));
                     body = record {
                       after_brace = inner ++ other;
-                      brace = (o.0, (o.1.0, refl));
+                      brace = (opening_at, (opening_end, refl));
                       items = h.are other;
                     };
                   })));
-              within = record { statements = v.statements; expressions = v.expressions; locals = λ two. let a = v.locals two in omega arith; parameters = λ three. few };
+              within = record {
+                statements = v.statements;
+                expressions = v.expressions;
+                locals = λ two. let a = v.locals two in omega arith;
+                parameters = λ three. few;
+              };
               numbered = v.funclets;
             };
           };
     }
 
-pub whole : (text : List ℕ) (left after : Left) (ps : List Parameter) (body : Statements) → left.locals ≡ 256 → length ps ≤ 8 → AllTaken text 65 left after body → FunctionWithinFirst every_limit ps body
+pub whole : (text : List ℕ) (left after : Left) (ps : List Parameter) (body : Statements)
+    → left.locals ≡ 256 → length ps ≤ 8 → AllTaken text 65 left after body
+    → FunctionWithinFirst every_limit ps body
 whole text left after ps body l few t =
     let a = t.locals in record {
       statements = λ one. t.statements;

@@ -1,5 +1,6 @@
 -- Globals are read as far as they go.
-use Rattle.std.proofs.Common.{◌≡◌, ◌≤◌, ◌<◌, ◌⊎◌, ℕ, suc, false, List, [], ◌∷◌, ◌++◌, length, Option, Some, None, inl, inr, refl, sym, ap, ◌∙◌, subst, arith}
+use Rattle.std.proofs.Common.{◌≡◌, ◌≤◌, ◌<◌, ◌⊎◌, ℕ, suc, false, List, [], ◌∷◌, ◌++◌, length}
+use Rattle.std.proofs.Common.{Option, Some, None, inl, inr, refl, sym, ap, ◌∙◌, subst, arith}
 use Rattle.c_lex.specs.declared.punctuator.Punctuator.TheVariants as punctuators
 use Rattle.c_lex.specs.declared.token.IntegerType.TheVariants as types
 use Rattle.c_lex.specs.declared.token.Kind.TheVariants as kinds
@@ -31,8 +32,11 @@ use Rattle.c_parse_expr.specs.declared.refusal.ParseErr.{ParseErr}
 use Rattle.c_parse_expr.specs.declared.refusal.ParseErr.TheVariants.{Unexpected, TooMany}
 use Rattle.c_parse_expr.specs.Refusals.{Placed}
 use Rattle.c_parse_stmt.specs.Parts.{NoPunctuator, APunctuator}
-use Rattle.c_parse.specs.Parts.{NoInitialiser, HasInitialiser, end_of, IsBracketed, NoneBracketed, HasBracketed, IsAfterName, NoLength, HasLength, EndsScalar, NoGlobal, HasGlobals}
-use Rattle.c_parse.proofs.Refusing.{missing, punctuator, named, name, digit, has_it, following, Lacks, NoInteger, NoIdentifier, continues as refusing_continues}
+use Rattle.c_parse.specs.Parts.{NoInitialiser, HasInitialiser, end_of, IsBracketed, NoneBracketed}
+use Rattle.c_parse.specs.Parts.{HasBracketed, IsAfterName, NoLength, HasLength, EndsScalar}
+use Rattle.c_parse.specs.Parts.{NoGlobal, HasGlobals}
+use Rattle.c_parse.proofs.Refusing.{missing, punctuator, named, name, digit, has_it, following}
+use Rattle.c_parse.proofs.Refusing.{Lacks, NoInteger, NoIdentifier, continues as refusing_continues}
 use Rattle.c_parse.proofs.Placing.{no_elements}
 
 -- ---- lengths in brackets
@@ -40,73 +44,145 @@ use Rattle.c_parse.proofs.Placing.{no_elements}
 abbrev length_of : ℕ → ℕ → Length
 length_of at value = record { at = at; value = value }
 
-pub no_integer : (text : List ℕ) (base : Base) (pointers at : ℕ) (ts : List Token) → at ≤ 1048576 → NoInteger ts → Failed 0 (place text ts) (NoneBracketed base pointers at) (HasBracketed base pointers at) text ts
+pub no_integer : (text : List ℕ) (base : Base) (pointers at : ℕ) (ts : List Token) → at ≤ 1048576
+    → NoInteger ts → Failed 0 (place text ts) (NoneBracketed base pointers at)
+    (HasBracketed base pointers at) text ts
 no_integer text base pointers at ts w none =
     missing (NoneBracketed base pointers at) (HasBracketed base pointers at) text ts [] ts refl
     (λ text' other s l end h st low. firsts.no_integer ts other s none l.value l.at h.0 h.1)
     (λ text'. record {
       more = digit 0 ∷ punctuator punctuators.CloseBracket ∷ [];
-      has = record { tree = length_of 0 0; is = λ other. (punctuator punctuators.CloseBracket ∷ other, (types.Int, (0, refl)), has_it punctuators.CloseBracket other); low = λ k. no_elements base pointers at w };
+      has = record {
+        tree = length_of 0 0;
+        is = λ other. (
+          punctuator punctuators.CloseBracket ∷ other,
+          (types.Int, (0, refl)),
+          has_it
+              punctuators.CloseBracket other,
+        );
+        low = λ k. no_elements base pointers at w;
+      };
     })
 
-integer_first : (value p : ℕ) (ts b other : List Token) → IsInteger value p ts b → SameFirst ts other → (more : List Token) × IsInteger value p other more
-integer_first value p ts b other is s = let q = subst (λ (z : List Token). SameFirst z other) is.1.1 s in (q.0, (is.0, (is.1.0, q.1)))
+integer_first : (value p : ℕ) (ts b other : List Token) → IsInteger value p ts b
+    → SameFirst ts other → (more : List Token) × IsInteger value p other more
+integer_first value p ts b other is s = let (literal_type, (literal_end, literal_split)) = is in
+    let q = subst (λ (z : List Token). SameFirst z other) literal_split s in
+    (q.0, (literal_type, (literal_end, q.1)))
 
-far : (base : Base) (pointers at value p n : ℕ) (text : List ℕ) (ts b : List Token) → 5 ≤ n → IsInteger value p ts b → 1048576 < end_of base pointers (Some (length_of p value)) at → NoneBracketed base pointers at n text ts
+far : (base : Base) (pointers at value p n : ℕ) (text : List ℕ) (ts b : List Token) → 5 ≤ n
+    → IsInteger value p ts b → 1048576 < end_of base pointers (Some (length_of p value)) at
+    → NoneBracketed base pointers at n text ts
 far base pointers at value p n text ts b five is f l end h s low =
     let q = integer_same value l.value p l.at ts ts b h.0 refl is h.1 in
-    let e : end_of base pointers (Some (length_of p value)) at ≡ end_of base pointers (Some l) at = ap (λ (v : ℕ). end_of base pointers (Some (length_of p v)) at) q.0 in
+    let e : end_of base pointers (Some (length_of p value)) at ≡ end_of base pointers (Some l) at =
+    ap (λ (v : ℕ). end_of base pointers (Some (length_of p v)) at) q.0 in
     let a = low five in
     absurd (omega arith)
 
-pub too_long : (text : List ℕ) (base : Base) (pointers at value p : ℕ) (ts b : List Token) → at ≤ 1048576 → IsInteger value p ts b → 1048576 < end_of base pointers (Some (length_of p value)) at → Failed 5 p (NoneBracketed base pointers at) (HasBracketed base pointers at) text ts
+pub too_long : (text : List ℕ) (base : Base) (pointers at value p : ℕ) (ts b : List Token)
+    → at ≤ 1048576 → IsInteger value p ts b
+    → 1048576 < end_of base pointers (Some (length_of p value)) at
+    → Failed 5 p (NoneBracketed base pointers at) (HasBracketed base pointers at) text ts
 too_long text base pointers at value p ts b w is f =
-    let t = token (kinds.Integer value is.0) p is.1.0 in record {
+    let (literal_type, (literal_end, literal_split)) = is in
+    let t = token (kinds.Integer value literal_type) p literal_end in record {
       front = [];
       fault = ts;
       split = refl;
-      located = sym (ap (λ (z : List Token). place text z) is.1.1);
-      against = λ text' other a s. let i = integer_first value p ts b other is s in far base pointers at value p 5 text' other i.0 (omega arith) i.1 f;
+      located = sym (ap (λ (z : List Token). place text z) literal_split);
+      against = λ text' other a s. let i = integer_first value p ts b other is s in
+          far base pointers at value p 5 text' other i.0 (omega arith) i.1 f;
       able = λ text' a k. record {
         more = digit 0 ∷ punctuator punctuators.CloseBracket ∷ [];
-        has = record { tree = length_of 0 0; is = λ other. (punctuator punctuators.CloseBracket ∷ other, (types.Int, (0, refl)), has_it punctuators.CloseBracket other); low = λ k. no_elements base pointers at w };
+        has = record {
+          tree = length_of 0 0;
+          is = λ other. (
+            punctuator punctuators.CloseBracket ∷ other,
+            (types.Int, (0, refl)),
+            has_it punctuators.CloseBracket other,
+          );
+          low = λ k. no_elements base pointers at w;
+        };
       };
       further = λ text' k a s e. record {
         token = t;
         rest = b;
         more = punctuator punctuators.CloseBracket ∷ [];
-        is = is.1.1;
-        has = record { tree = length_of p value; is = λ other. (punctuator punctuators.CloseBracket ∷ other, (is.0, (is.1.0, refl)), has_it punctuators.CloseBracket other); low = λ five. absurd (omega arith) };
+        is = literal_split;
+        has = record {
+          tree = length_of p value;
+          is = λ other. (
+            punctuator punctuators.CloseBracket ∷ other,
+            (literal_type, (literal_end, refl)),
+            has_it punctuators.CloseBracket other,
+          );
+          low = λ five. absurd (omega arith);
+        };
       };
     }
 
-pub in_close : (text : List ℕ) (base : Base) (pointers at value p : ℕ) (ts b : List Token) → IsInteger value p ts b → end_of base pointers (Some (length_of p value)) at ≤ 1048576 → Wraps (NoPunctuator punctuators.CloseBracket) (APunctuator punctuators.CloseBracket) (NoneBracketed base pointers at) (HasBracketed base pointers at) text b ts
+pub in_close : (text : List ℕ) (base : Base) (pointers at value p : ℕ) (ts b : List Token)
+    → IsInteger value p ts b → end_of base pointers (Some (length_of p value)) at ≤ 1048576
+    → Wraps (NoPunctuator punctuators.CloseBracket) (APunctuator punctuators.CloseBracket)
+    (NoneBracketed base pointers at) (HasBracketed base pointers at) text b ts
 in_close text base pointers at value p ts b is w =
-    let t = token (kinds.Integer value is.0) p is.1.0 in record {
+    let (literal_type, (literal_end, literal_split)) = is in
+    let t = token (kinds.Integer value literal_type) p literal_end in record {
       before = t ∷ [];
-      split = is.1.1;
+      split = literal_split;
       no = λ n text' other a s x l end h st low.
-          let q = integer_same value l.value p l.at (t ∷ other) (t ∷ other) other h.0 refl (is.0, (is.1.0, refl)) h.1 in
-          x end (subst (λ (z : List Token). HasPunctuator punctuators.CloseBracket z end) (sym q.2) h.2);
+          let q = integer_same value l.value p l.at (t ∷ other) (t ∷ other) other h.0 refl
+          (literal_type, (literal_end, refl)) h.1 in
+          x end (subst (λ (z : List Token). HasPunctuator punctuators.CloseBracket z end)
+          (sym q.2) h.2);
       has = λ n text' inner a s h. record {
         more = [];
-        has = record { tree = length_of p value; is = λ other. following (λ z. IsBracketed (length_of p value) z other) (t ∷ inner) [] other (inner ++ other, (is.0, (is.1.0, refl)), h other); low = λ five. w };
+        has = record {
+          tree = length_of p value;
+          is = λ other. following (λ z. IsBracketed (length_of p value) z other)
+              (t ∷ inner) [] other (inner ++ other, (literal_type, (literal_end, refl)), h other);
+          low = λ five. w;
+        };
       };
     }
 
-pub goes_further : (text : List ℕ) (base : Base) (pointers at value p : ℕ) (ts b rest : List Token) → IsInteger value p ts b → HasPunctuator punctuators.CloseBracket b rest → end_of base pointers (Some (length_of p value)) at ≤ 1048576 → (Stops postfix rest → ⊥) → Failed 0 (place text rest) (NoneBracketed base pointers at) (HasBracketed base pointers at) text ts
+pub goes_further : (text : List ℕ) (base : Base) (pointers at value p : ℕ) (ts b rest : List Token)
+    → IsInteger value p ts b → HasPunctuator punctuators.CloseBracket b rest
+    → end_of base pointers (Some (length_of p value)) at ≤ 1048576 → (Stops postfix rest → ⊥)
+    → Failed 0 (place text rest) (NoneBracketed base pointers at) (HasBracketed base pointers at)
+    text ts
 goes_further text base pointers at value p ts b rest is c w z =
-    let t = token (kinds.Integer value is.0) p is.1.0 in
-    let u = token (kinds.Punctuator punctuators.CloseBracket) c.0 c.1.0 in
-    missing (NoneBracketed base pointers at) (HasBracketed base pointers at) text ts (t ∷ u ∷ []) rest (is.1.1 ∙ ap (λ (x : List Token). t ∷ x) c.1.1)
+    let (literal_type, (literal_end, literal_split)) = is in
+    let (closing_at, (closing_end, closing_split)) = c in
+    let t = token (kinds.Integer value literal_type) p literal_end in
+    let u = token (kinds.Punctuator punctuators.CloseBracket) closing_at closing_end in
+    missing (NoneBracketed base pointers at) (HasBracketed base pointers at) text ts
+    (t ∷ u ∷ []) rest (literal_split ∙ ap (λ (x : List Token). t ∷ x) closing_split)
     (λ text' other s l end h st low.
-    let q = integer_same value l.value p l.at (t ∷ u ∷ other) (t ∷ u ∷ other) (u ∷ other) h.0 refl (is.0, (is.1.0, refl)) h.1 in
-    refusing_continues postfix rest other s z (subst (λ (x : List Token). Stops postfix x) (sym (has_same punctuators.CloseBracket (u ∷ other) h.0 other end q.2 (c.0, (c.1.0, refl)) h.2)) st))
-    (λ text'. record { more = []; has = record { tree = length_of p value; is = λ other. (u ∷ other, (is.0, (is.1.0, refl)), (c.0, (c.1.0, refl))); low = λ five. w } })
+    let q = integer_same value l.value p l.at (t ∷ u ∷ other) (t ∷ u ∷ other) (u ∷ other) h.0 refl
+    (literal_type, (literal_end, refl)) h.1 in
+    refusing_continues postfix rest other s z
+    (subst (λ (x : List Token). Stops postfix x)
+    (sym (has_same punctuators.CloseBracket (u ∷ other) h.0 other end q.2
+    (closing_at, (closing_end, refl)) h.2)) st))
+    (λ text'. record {
+      more = [];
+      has = record {
+        tree = length_of p value;
+        is = λ other. (
+          u ∷ other,
+          (literal_type, (literal_end, refl)),
+          (closing_at, (closing_end, refl)),
+        );
+        low = λ five. w;
+      };
+    })
 
 -- ---- lengths
 
-pub bracketed : (n : Length) (ts a rest : List Token) → HasPunctuator punctuators.OpenBracket ts a → IsBracketed n a rest → IsLength (Some n) ts rest
+pub bracketed : (n : Length) (ts a rest : List Token) → HasPunctuator punctuators.OpenBracket ts a
+    → IsBracketed n a rest → IsLength (Some n) ts rest
 bracketed n ts a rest o h = record {
   after_opening = a;
   after_inner = h.0;
@@ -115,14 +191,20 @@ bracketed n ts a rest o h = record {
   closing = h.2;
 }
 
-bracket_not : (ts end b : List Token) → ts ≡ end → Stops postfix end → HasPunctuator punctuators.OpenBracket ts b → ⊥
-bracket_not ts end b p s o = let a = follows_punctuator punctuators.OpenBracket o.0 ts b postfix o.1 refl in let c = ap follows p in absurd (omega arith)
+bracket_not : (ts end b : List Token) → ts ≡ end → Stops postfix end
+    → HasPunctuator punctuators.OpenBracket ts b → ⊥
+bracket_not ts end b p s o = let a =
+    follows_punctuator punctuators.OpenBracket o.0 ts b postfix o.1 refl in let c = ap follows p in
+    absurd (omega arith)
 
 -- nothing continues with a length
-stops : (i : Option Initialiser) (gs : List Global) (a b end : List Token) → IsInitialiser i a b → AreMoreGlobals gs b end → Stops postfix a
+stops : (i : Option Initialiser) (gs : List Global) (a b end : List Token) → IsInitialiser i a b
+    → AreMoreGlobals gs b end → Stops postfix a
 stops i gs a b end h m = initialiser_stops i a b (globals_stop gs b end m) h
 
-none_bracketed : (base : Base) (pointers at n : ℕ) (text : List ℕ) (ts a : List Token) → HasPunctuator punctuators.OpenBracket ts a → NoneBracketed base pointers at n text a → NoLength base pointers at n text ts
+none_bracketed : (base : Base) (pointers at n : ℕ) (text : List ℕ) (ts a : List Token)
+    → HasPunctuator punctuators.OpenBracket ts a → NoneBracketed base pointers at n text a
+    → NoLength base pointers at n text ts
 none_bracketed base pointers at n text ts a o none None i gs end h low =
     absurd (bracket_not ts h.after_length a h.length
     (stops i gs h.after_length h.after_initialiser end h.initialiser h.others) o)
@@ -136,12 +218,17 @@ none_bracketed base pointers at n text ts a o none (Some l) i gs end h low =
     )
     (stops i gs h.after_length h.after_initialiser end h.initialiser h.others) low
 
-pub in_bracketed : (text : List ℕ) (base : Base) (pointers at : ℕ) (ts a : List Token) → HasPunctuator punctuators.OpenBracket ts a → Wraps (NoneBracketed base pointers at) (HasBracketed base pointers at) (NoLength base pointers at) (HasLength base pointers at) text a ts
+pub in_bracketed : (text : List ℕ) (base : Base) (pointers at : ℕ) (ts a : List Token)
+    → HasPunctuator punctuators.OpenBracket ts a
+    → Wraps (NoneBracketed base pointers at) (HasBracketed base pointers at)
+    (NoLength base pointers at) (HasLength base pointers at) text a ts
 in_bracketed text base pointers at ts a o =
-    let t = token (kinds.Punctuator punctuators.OpenBracket) o.0 o.1.0 in record {
+    let (opening_at, (opening_end, opening_split)) = o in
+    let t = token (kinds.Punctuator punctuators.OpenBracket) opening_at opening_end in record {
       before = t ∷ [];
-      split = o.1.1;
-      no = λ n text' other b s x. none_bracketed base pointers at n text' (t ∷ other) other (o.0, (o.1.0, refl)) x;
+      split = opening_split;
+      no = λ n text' other b s x. none_bracketed base pointers at n text' (t ∷ other) other
+          (opening_at, (opening_end, refl)) x;
       has = λ n text' inner b s h. record {
         more = punctuator punctuators.Semicolon ∷ [];
         has = record {
@@ -150,12 +237,14 @@ in_bracketed text base pointers at ts a o =
           others = [];
           is = λ other.
               let rest = punctuator punctuators.Semicolon ∷ other in
-              following (λ z. IsAfterName (Some h.tree) None [] z other) (t ∷ inner) (punctuator punctuators.Semicolon ∷ []) other
+              following (λ z. IsAfterName (Some h.tree) None [] z other) (t ∷ inner)
+              (punctuator punctuators.Semicolon ∷ []) other
               (record {
                 after_length = rest;
                 after_initialiser = rest;
                 length =
-                    bracketed h.tree (t ∷ (inner ++ rest)) (inner ++ rest) rest (o.0, (o.1.0, refl))
+                    bracketed h.tree (t ∷ (inner ++ rest)) (inner ++ rest) rest
+                    (opening_at, (opening_end, refl))
                     (h.is rest);
                 initialiser = refl;
                 others = has_it punctuators.Semicolon other;
@@ -167,9 +256,11 @@ in_bracketed text base pointers at ts a o =
 
 -- an array with no elements, in each place
 abbrev pub array : List Token
-array = punctuator punctuators.OpenBracket ∷ digit 0 ∷ punctuator punctuators.CloseBracket ∷ punctuator punctuators.Semicolon ∷ []
+array = punctuator punctuators.OpenBracket ∷ digit 0 ∷ punctuator punctuators.CloseBracket
+    ∷ punctuator punctuators.Semicolon ∷ []
 
-pub is_array : (other : List Token) → IsLength (Some (length_of 0 0)) (array ++ other) (punctuator punctuators.Semicolon ∷ other)
+pub is_array : (other : List Token)
+    → IsLength (Some (length_of 0 0)) (array ++ other) (punctuator punctuators.Semicolon ∷ other)
 is_array other = record {
   after_opening =
       digit 0 ∷ punctuator punctuators.CloseBracket ∷ punctuator punctuators.Semicolon ∷ other;
@@ -179,7 +270,8 @@ is_array other = record {
   closing = has_it punctuators.CloseBracket _;
 }
 
-array_has : (base : Base) (pointers at n : ℕ) (text : List ℕ) → at ≤ 1048576 → HasLength base pointers at n text array
+array_has : (base : Base) (pointers at n : ℕ) (text : List ℕ) → at ≤ 1048576
+    → HasLength base pointers at n text array
 array_has base pointers at n text w = record {
   length = Some (length_of 0 0);
   initialiser = None;
@@ -194,31 +286,42 @@ array_has base pointers at n text w = record {
   low = λ five. no_elements base pointers at w;
 }
 
-no_scalar : (base : Base) (pointers at n : ℕ) (text : List ℕ) (ts : List Token) → Lacks punctuators.OpenBracket ts → (Stops postfix ts → ⊥) → NoLength base pointers at n text ts
+no_scalar : (base : Base) (pointers at n : ℕ) (text : List ℕ) (ts : List Token)
+    → Lacks punctuators.OpenBracket ts → (Stops postfix ts → ⊥)
+    → NoLength base pointers at n text ts
 no_scalar base pointers at n text ts l z None i gs end h low =
     z (subst (λ (x : List Token). Stops postfix x) (sym h.length)
     (stops i gs h.after_length h.after_initialiser end h.initialiser h.others))
 no_scalar base pointers at n text ts l z (Some m) i gs end h low =
     l h.length.after_opening h.length.opening
 
-pub not_scalar : (text : List ℕ) (base : Base) (pointers at : ℕ) (ts : List Token) → at ≤ 1048576 → Lacks punctuators.OpenBracket ts → (Stops postfix ts → ⊥) → Failed 0 (place text ts) (NoLength base pointers at) (HasLength base pointers at) text ts
+pub not_scalar : (text : List ℕ) (base : Base) (pointers at : ℕ) (ts : List Token) → at ≤ 1048576
+    → Lacks punctuators.OpenBracket ts → (Stops postfix ts → ⊥)
+    → Failed 0 (place text ts) (NoLength base pointers at) (HasLength base pointers at) text ts
 not_scalar text base pointers at ts w l z =
     missing (NoLength base pointers at) (HasLength base pointers at) text ts [] ts refl
-    (λ text' other s. no_scalar base pointers at 0 text' other (firsts.no_punctuator punctuators.OpenBracket ts other s l) (refusing_continues postfix ts other s z))
+    (λ text' other s. no_scalar base pointers at 0 text' other
+    (firsts.no_punctuator punctuators.OpenBracket ts other s l)
+    (refusing_continues postfix ts other s z))
     (λ text'. record { more = array; has = array_has base pointers at 6 text' w })
 
-scalar_far : (base : Base) (pointers at n : ℕ) (text : List ℕ) (ts : List Token) → 5 ≤ n → Lacks punctuators.OpenBracket ts → 1048576 < end_of base pointers None at → NoLength base pointers at n text ts
-scalar_far base pointers at n text ts five l f None i gs end h low = let a = low five in absurd (omega arith)
+scalar_far : (base : Base) (pointers at n : ℕ) (text : List ℕ) (ts : List Token) → 5 ≤ n
+    → Lacks punctuators.OpenBracket ts → 1048576 < end_of base pointers None at
+    → NoLength base pointers at n text ts
+scalar_far base pointers at n text ts five l f None i gs end h low = let a = low five in
+    absurd (omega arith)
 scalar_far base pointers at n text ts five l f (Some m) i gs end h low =
     l h.length.after_opening h.length.opening
 
-punctuator_continues : (base : Base) (pointers at k : ℕ) (text : List ℕ) (ts : List Token) → 5 ≡ suc k → EndsScalar ts → Onward (HasLength base pointers at) k text [] ts
+punctuator_continues : (base : Base) (pointers at k : ℕ) (text : List ℕ) (ts : List Token)
+    → 5 ≡ suc k → EndsScalar ts → Onward (HasLength base pointers at) k text [] ts
 punctuator_continues base pointers at k text ts e (rest, inl h) =
-    let t = token (kinds.Punctuator punctuators.Semicolon) h.0 h.1.0 in record {
+    let (sign_at, (sign_end, sign_split)) = h in
+    let t = token (kinds.Punctuator punctuators.Semicolon) sign_at sign_end in record {
       token = t;
       rest = rest;
       more = [];
-      is = h.1.1;
+      is = sign_split;
       has = record {
         length = None;
         initialiser = None;
@@ -228,17 +331,18 @@ punctuator_continues base pointers at k text ts e (rest, inl h) =
           after_initialiser = t ∷ other;
           length = refl;
           initialiser = refl;
-          others = (h.0, (h.1.0, refl));
+          others = (sign_at, (sign_end, refl));
         };
         low = λ five. absurd (omega arith);
       };
     }
 punctuator_continues base pointers at k text ts e (rest, inr (inl h)) =
-    let t = token (kinds.Punctuator punctuators.Comma) h.0 h.1.0 in record {
+    let (sign_at, (sign_end, sign_split)) = h in
+    let t = token (kinds.Punctuator punctuators.Comma) sign_at sign_end in record {
       token = t;
       rest = rest;
       more = name ∷ punctuator punctuators.Semicolon ∷ [];
-      is = h.1.1;
+      is = sign_split;
       has = record {
         length = None;
         initialiser = None;
@@ -254,7 +358,7 @@ punctuator_continues base pointers at k text ts e (rest, inr (inl h)) =
               others = record {
                 after_comma = m;
                 after_element = s;
-                comma = (h.0, (h.1.0, refl));
+                comma = (sign_at, (sign_end, refl));
                 element = record {
                   after_stars = m;
                   after_name = s;
@@ -271,14 +375,16 @@ punctuator_continues base pointers at k text ts e (rest, inr (inl h)) =
       };
     }
 punctuator_continues base pointers at k text ts e (rest, inr (inr h)) =
-    let t = token (kinds.Punctuator punctuators.Assign) h.0 h.1.0 in record {
+    let (sign_at, (sign_end, sign_split)) = h in
+    let t = token (kinds.Punctuator punctuators.Assign) sign_at sign_end in record {
       token = t;
       rest = rest;
       more = digit 1 ∷ punctuator punctuators.Semicolon ∷ [];
-      is = h.1.1;
+      is = sign_split;
       has = record {
         length = None;
-        initialiser = Some (Single (record { at = 0; negative = false; literal = literals.Integer 1 types.Int }));
+        initialiser = Some (Single
+            (record { at = 0; negative = false; literal = literals.Integer 1 types.Int }));
         others = [];
         is = λ other.
             let s = punctuator punctuators.Semicolon ∷ other in
@@ -286,37 +392,45 @@ punctuator_continues base pointers at k text ts e (rest, inr (inr h)) =
               after_length = t ∷ digit 1 ∷ s;
               after_initialiser = s;
               length = refl;
-              initialiser = (digit 1 ∷ s, (h.0, (h.1.0, refl)), (0, refl));
+              initialiser = (digit 1 ∷ s, (sign_at, (sign_end, refl)), (0, refl));
               others = has_it punctuators.Semicolon other;
             };
         low = λ five. absurd (omega arith);
       };
     }
 
-scalar_too_far : (text : List ℕ) (base : Base) (pointers at : ℕ) (ts : List Token) → at ≤ 1048576 → Lacks punctuators.OpenBracket ts → 1048576 < end_of base pointers None at → EndsScalar ts → Failed 5 (place text ts) (NoLength base pointers at) (HasLength base pointers at) text ts
+scalar_too_far : (text : List ℕ) (base : Base) (pointers at : ℕ) (ts : List Token) → at ≤ 1048576
+    → Lacks punctuators.OpenBracket ts → 1048576 < end_of base pointers None at → EndsScalar ts
+    → Failed 5 (place text ts) (NoLength base pointers at) (HasLength base pointers at) text ts
 scalar_too_far text base pointers at ts w l f g = record {
   front = [];
   fault = ts;
   split = refl;
   located = refl;
-  against = λ text' other a s. scalar_far base pointers at 5 text' other (omega arith) (firsts.no_punctuator punctuators.OpenBracket ts other s l) f;
+  against = λ text' other a s. scalar_far base pointers at 5 text' other (omega arith)
+      (firsts.no_punctuator punctuators.OpenBracket ts other s l) f;
   able = λ text' a k. record { more = array; has = array_has base pointers at 6 text' w };
   further = λ text' k a s e. punctuator_continues base pointers at k text' ts e g;
 }
 
-pub no_ends : (ts : List Token) → Lacks punctuators.Semicolon ts → Lacks punctuators.Comma ts → Lacks punctuators.Assign ts → EndsScalar ts → ⊥
+pub no_ends : (ts : List Token) → Lacks punctuators.Semicolon ts → Lacks punctuators.Comma ts
+    → Lacks punctuators.Assign ts → EndsScalar ts → ⊥
 no_ends ts a b c (rest, inl h) = a rest h
 no_ends ts a b c (rest, inr (inl h)) = b rest h
 no_ends ts a b c (rest, inr (inr h)) = c rest h
 
-ends_first : (ts other : List Token) → SameFirst ts other → (EndsScalar ts → ⊥) → EndsScalar other → ⊥
+ends_first : (ts other : List Token) → SameFirst ts other → (EndsScalar ts → ⊥) → EndsScalar other
+    → ⊥
 ends_first ts other s n =
-    no_ends other (firsts.no_punctuator punctuators.Semicolon ts other s (λ end h. n (end, inl h))) (firsts.no_punctuator punctuators.Comma ts other s (λ end h. n (end, inr (inl h)))) (firsts.no_punctuator punctuators.Assign ts other s (λ end h. n (end, inr (inr h))))
+    no_ends other (firsts.no_punctuator punctuators.Semicolon ts other s (λ end h. n (end, inl h)))
+    (firsts.no_punctuator punctuators.Comma ts other s (λ end h. n (end, inr (inl h))))
+    (firsts.no_punctuator punctuators.Assign ts other s (λ end h. n (end, inr (inr h))))
 
 at_end : (ts a : List Token) → ts ≡ a → EndsScalar a → EndsScalar ts
 at_end ts a p h = subst EndsScalar (sym p) h
 
-no_punctuator : (base : Base) (pointers at n : ℕ) (text : List ℕ) (ts : List Token) → Lacks punctuators.OpenBracket ts → (EndsScalar ts → ⊥) → NoLength base pointers at n text ts
+no_punctuator : (base : Base) (pointers at n : ℕ) (text : List ℕ) (ts : List Token)
+    → Lacks punctuators.OpenBracket ts → (EndsScalar ts → ⊥) → NoLength base pointers at n text ts
 no_punctuator base pointers at n text ts l z (Some m) i gs end h low =
     l h.length.after_opening h.length.opening
 no_punctuator base pointers at n text ts l z None None [] end h low =
@@ -330,34 +444,53 @@ no_punctuator base pointers at n text ts l z None (Some (Several to cs)) gs end 
     z (at_end ts h.after_length h.length
     (h.initialiser.after_assign, inr (inr h.initialiser.assign)))
 
-scalar_ends : (text : List ℕ) (base : Base) (pointers at : ℕ) (ts : List Token) → at ≤ 1048576 → Lacks punctuators.OpenBracket ts → (EndsScalar ts → ⊥) → Failed 0 (place text ts) (NoLength base pointers at) (HasLength base pointers at) text ts
+scalar_ends : (text : List ℕ) (base : Base) (pointers at : ℕ) (ts : List Token) → at ≤ 1048576
+    → Lacks punctuators.OpenBracket ts → (EndsScalar ts → ⊥)
+    → Failed 0 (place text ts) (NoLength base pointers at) (HasLength base pointers at) text ts
 scalar_ends text base pointers at ts w l z =
     missing (NoLength base pointers at) (HasLength base pointers at) text ts [] ts refl
-    (λ text' other s. no_punctuator base pointers at 0 text' other (firsts.no_punctuator punctuators.OpenBracket ts other s l) (ends_first ts other s z))
+    (λ text' other s. no_punctuator base pointers at 0 text' other
+    (firsts.no_punctuator punctuators.OpenBracket ts other s l) (ends_first ts other s z))
     (λ text'. record { more = array; has = array_has base pointers at 6 text' w })
 
-pub scalar : (e : ParseErr) (text : List ℕ) (base : Base) (pointers at : ℕ) (ts : List Token) → at ≤ 1048576 → Lacks punctuators.OpenBracket ts → 1048576 < end_of base pointers None at
-    → ((e ≡ TooMany (place text ts) Globals) × EndsScalar ts) ⊎ ((e ≡ Unexpected (place text ts)) × (EndsScalar ts → ⊥))
+pub scalar : (e : ParseErr) (text : List ℕ) (base : Base) (pointers at : ℕ) (ts : List Token)
+    → at ≤ 1048576 → Lacks punctuators.OpenBracket ts → 1048576 < end_of base pointers None at
+    → ((e ≡ TooMany (place text ts) Globals) × EndsScalar ts)
+    ⊎ ((e ≡ Unexpected (place text ts)) × (EndsScalar ts → ⊥))
     → Placed e (NoLength base pointers at) (HasLength base pointers at) text ts
-scalar e text base pointers at ts w l f (inl h) = subst (λ (x : ParseErr). Placed x (NoLength base pointers at) (HasLength base pointers at) text ts) (sym h.0) (scalar_too_far text base pointers at ts w l f h.1)
-scalar e text base pointers at ts w l f (inr h) = subst (λ (x : ParseErr). Placed x (NoLength base pointers at) (HasLength base pointers at) text ts) (sym h.0) (scalar_ends text base pointers at ts w l h.1)
+scalar e text base pointers at ts w l f (inl h) =
+    subst (λ (x : ParseErr). Placed x (NoLength base pointers at) (HasLength base pointers at) text
+    ts) (sym h.0) (scalar_too_far text base pointers at ts w l f h.1)
+scalar e text base pointers at ts w l f (inr h) =
+    subst (λ (x : ParseErr). Placed x (NoLength base pointers at) (HasLength base pointers at) text
+    ts) (sym h.0) (scalar_ends text base pointers at ts w l h.1)
 
 -- ---- one global
 
-not_named : (base : Base) (at k n : ℕ) (text : List ℕ) (ts d : List Token) → AreStars n ts d → NoStar d → NoIdentifier d → NoGlobal base at k text ts
+not_named : (base : Base) (at k n : ℕ) (text : List ℕ) (ts d : List Token) → AreStars n ts d
+    → NoStar d → NoIdentifier d → NoGlobal base at k text ts
 not_named base at k n text ts d s z none g gs end h low =
     let p = stars_once n g.pointers ts ts d h.1.after_stars refl z
     (name_star g.name h.1.after_stars h.1.after_name h.1.name) s h.1.stars in
     none g.name h.1.after_name (subst (λ (x : List Token). IsIdentifier g.name x h.1.after_name)
     (sym p.1) h.1.name)
 
-pub no_name : (text : List ℕ) (base : Base) (at n : ℕ) (ts d : List Token) → at ≤ 1048576 → AreStars n ts d → NoStar d → NoIdentifier d → Failed 0 (place text d) (NoGlobal base at) (HasGlobals base at) text ts
+pub no_name : (text : List ℕ) (base : Base) (at n : ℕ) (ts d : List Token) → at ≤ 1048576
+    → AreStars n ts d → NoStar d → NoIdentifier d
+    → Failed 0 (place text d) (NoGlobal base at) (HasGlobals base at) text ts
 no_name text base at n ts d w s z none =
     let m = moves.stars n text ts d s in
-    let again : (other : List Token) → AreStars n (m.front ++ other) other = λ other. m.again text other (alike_same text ts) in
-    let g : Global = record { pointers = n; name = named; length = Some (length_of 0 0); initialiser = None } in
+    let again : (other : List Token) → AreStars n (m.front ++ other) other =
+    λ other. m.again text other (alike_same text ts) in
+    let g : Global = record {
+      pointers = n;
+      name = named;
+      length = Some (length_of 0 0);
+      initialiser = None;
+    } in
     missing (NoGlobal base at) (HasGlobals base at) text ts m.front d m.split
-    (λ text' other f. not_named base at 0 n text' (m.front ++ other) other (again other) (firsts.no_punctuator punctuators.Star d other f z) (firsts.no_name d other f none))
+    (λ text' other f. not_named base at 0 n text' (m.front ++ other) other (again other)
+    (firsts.no_punctuator punctuators.Star d other f z) (firsts.no_name d other f none))
     (λ text'. record {
       more = name ∷ array;
       has = record {
@@ -381,7 +514,9 @@ no_name text base at n ts d w s z none =
       };
     })
 
-no_length : (base : Base) (at k n : ℕ) (text : List ℕ) (called : Identifier) (ts d b : List Token) → AreStars n ts d → NoStar d → IsIdentifier called d b → NoLength base n at k text b → NoGlobal base at k text ts
+no_length : (base : Base) (at k n : ℕ) (text : List ℕ) (called : Identifier) (ts d b : List Token)
+    → AreStars n ts d → NoStar d → IsIdentifier called d b → NoLength base n at k text b
+    → NoGlobal base at k text ts
 no_length base at k n text called ts d b s z m none g gs end h low =
     let p = stars_once n g.pointers ts ts d h.1.after_stars refl z
     (name_star g.name h.1.after_stars h.1.after_name h.1.name) s h.1.stars in
@@ -396,27 +531,44 @@ no_length base at k n text called ts d b s z m none g gs end h low =
       others = h.2;
     }) (λ five. subst (λ (x : ℕ). end_of base x g.length at ≤ 1048576) (sym p.0) (low five))
 
-no_star : (called : Identifier) (other : List Token) → NoStar (token kinds.Identifier called.start called.end ∷ other)
-no_star called other = name_star called (token kinds.Identifier called.start called.end ∷ other) other refl
+no_star : (called : Identifier) (other : List Token)
+    → NoStar (token kinds.Identifier called.start called.end ∷ other)
+no_star called other = name_star called (token kinds.Identifier called.start called.end ∷ other)
+    other refl
 
-pub in_length : (text : List ℕ) (base : Base) (at n : ℕ) (called : Identifier) (ts d b : List Token) → AreStars n ts d → IsIdentifier called d b → Wraps (NoLength base n at) (HasLength base n at) (NoGlobal base at) (HasGlobals base at) text b ts
+pub in_length : (text : List ℕ) (base : Base) (at n : ℕ) (called : Identifier) (ts d b : List Token)
+    → AreStars n ts d → IsIdentifier called d b
+    → Wraps (NoLength base n at) (HasLength base n at) (NoGlobal base at) (HasGlobals base at) text
+    b ts
 in_length text base at n called ts d b s e =
     let m = moves.stars n text ts d s in
-    let again : (other : List Token) → AreStars n (m.front ++ other) other = λ other. m.again text other (alike_same text ts) in
+    let again : (other : List Token) → AreStars n (m.front ++ other) other =
+    λ other. m.again text other (alike_same text ts) in
     let t = token kinds.Identifier called.start called.end in record {
       before = m.front ++ t ∷ [];
-      split = m.split ∙ ap (λ (x : List Token). m.front ++ x) e ∙ sym (append_append m.front (t ∷ []) b);
-      no = λ k text' other a f x. following (λ z. NoGlobal base at k text' z) m.front (t ∷ []) other (no_length base at k n text' called (m.front ++ t ∷ other) (t ∷ other) other (again (t ∷ other)) (no_star called other) refl x);
+      split = m.split ∙ ap (λ (x : List Token). m.front ++ x) e
+          ∙ sym (append_append m.front (t ∷ []) b);
+      no = λ k text' other a f x. following (λ z. NoGlobal base at k text' z) m.front (t ∷ []) other
+          (no_length base at k n text' called (m.front ++ t ∷ other) (t ∷ other) other
+          (again (t ∷ other)) (no_star called other) refl x);
       has = λ k text' inner a f h.
-          let g : Global = record { pointers = n; name = called; length = h.length; initialiser = h.initialiser } in record {
+          let g : Global = record {
+            pointers = n;
+            name = called;
+            length = h.length;
+            initialiser = h.initialiser;
+          } in record {
             more = [];
             has = record {
               trees = g ∷ h.others;
               are = λ other.
                   let q = h.is other in
-                  following (λ z. AreGlobals (g ∷ h.others) z other) ((m.front ++ t ∷ []) ++ inner) [] other
-                  (following (λ z. AreGlobals (g ∷ h.others) z other) (m.front ++ t ∷ []) inner other
-                  (following (λ z. AreGlobals (g ∷ h.others) z other) m.front (t ∷ []) (inner ++ other) (
+                  following (λ z. AreGlobals (g ∷ h.others) z other) ((m.front ++ t ∷ []) ++ inner)
+                  [] other
+                  (following (λ z. AreGlobals (g ∷ h.others) z other) (m.front ++ t ∷ []) inner
+                  other
+                  (following (λ z. AreGlobals (g ∷ h.others) z other) m.front (t ∷ [])
+                  (inner ++ other) (
                     q.after_initialiser,
                     record {
                       after_stars = t ∷ (inner ++ other);
@@ -434,7 +586,10 @@ in_length text base at n called ts d b s e =
           };
     }
 
-no_initialiser : (base : Base) (at k n : ℕ) (text : List ℕ) (called : Identifier) (l : Option Length) (ts d b c : List Token) → AreStars n ts d → NoStar d → IsIdentifier called d b → IsLength l b c → Stops postfix c → NoInitialiser k text c → NoGlobal base at k text ts
+no_initialiser : (base : Base) (at k n : ℕ) (text : List ℕ) (called : Identifier)
+    (l : Option Length) (ts d b c : List Token) → AreStars n ts d → NoStar d
+    → IsIdentifier called d b → IsLength l b c → Stops postfix c → NoInitialiser k text c
+    → NoGlobal base at k text ts
 no_initialiser base at k n text called l ts d b c s z m e t none g gs end h low =
     let st = globals_stop gs h.0 end h.2 in
     let p = stars_once n g.pointers ts ts d h.1.after_stars refl z
@@ -445,27 +600,45 @@ no_initialiser base at k n text called l ts d b c s z m e t none g gs end h low 
     none g.initialiser h.0 (subst (λ (x : List Token). IsInitialiser g.initialiser x h.0)
     (sym r.1) h.1.initialiser) st
 
-pub in_initialiser : (text : List ℕ) (base : Base) (at n : ℕ) (called : Identifier) (l : Option Length) (ts d b c : List Token) → AreStars n ts d → IsIdentifier called d b → IsLength l b c → Stops postfix c → end_of base n l at ≤ 1048576 → Wraps NoInitialiser HasInitialiser (NoGlobal base at) (HasGlobals base at) text c ts
+pub in_initialiser : (text : List ℕ) (base : Base) (at n : ℕ) (called : Identifier)
+    (l : Option Length) (ts d b c : List Token) → AreStars n ts d → IsIdentifier called d b
+    → IsLength l b c → Stops postfix c → end_of base n l at ≤ 1048576
+    → Wraps NoInitialiser HasInitialiser (NoGlobal base at) (HasGlobals base at) text c ts
 in_initialiser text base at n called l ts d b c s e i stop w =
     let m = moves.stars n text ts d s in
-    let again : (other : List Token) → AreStars n (m.front ++ other) other = λ other. m.again text other (alike_same text ts) in
+    let again : (other : List Token) → AreStars n (m.front ++ other) other =
+    λ other. m.again text other (alike_same text ts) in
     let o = programs.length l text b c i in
-    let length_again : (other : List Token) → IsLength l (o.front ++ other) other = λ other. o.again text other (alike_same text b) in
+    let length_again : (other : List Token) → IsLength l (o.front ++ other) other =
+    λ other. o.again text other (alike_same text b) in
     let t = token kinds.Identifier called.start called.end in record {
       before = m.front ++ t ∷ o.front;
-      split = m.split ∙ ap (λ (x : List Token). m.front ++ x) (e ∙ ap (λ (x : List Token). t ∷ x) o.split) ∙ sym (append_append m.front (t ∷ o.front) c);
-      no = λ k text' other a f x. following (λ z. NoGlobal base at k text' z) m.front (t ∷ o.front) other
-          (no_initialiser base at k n text' called l (m.front ++ t ∷ (o.front ++ other)) (t ∷ (o.front ++ other)) (o.front ++ other) other (again (t ∷ (o.front ++ other))) (no_star called (o.front ++ other)) refl (length_again other) (firsts.stops 1 c other f stop) x);
+      split = m.split ∙ ap (λ (x : List Token). m.front ++ x)
+          (e ∙ ap (λ (x : List Token). t ∷ x) o.split)
+          ∙ sym (append_append m.front (t ∷ o.front) c);
+      no = λ k text' other a f x. following (λ z. NoGlobal base at k text' z) m.front
+          (t ∷ o.front) other
+          (no_initialiser base at k n text' called l (m.front ++ t ∷ (o.front ++ other))
+          (t ∷ (o.front ++ other)) (o.front ++ other) other (again (t ∷ (o.front ++ other)))
+          (no_star called (o.front ++ other)) refl (length_again other)
+          (firsts.stops 1 c other f stop) x);
       has = λ k text' inner a f h.
-          let g : Global = record { pointers = n; name = called; length = l; initialiser = h.tree } in record {
+          let g : Global = record {
+            pointers = n;
+            name = called;
+            length = l;
+            initialiser = h.tree;
+          } in record {
             more = punctuator punctuators.Semicolon ∷ [];
             has = record {
               trees = g ∷ [];
               are = λ other.
                   let rest = punctuator punctuators.Semicolon ∷ other in
-                  following (λ z. AreGlobals (g ∷ []) z other) ((m.front ++ t ∷ o.front) ++ inner) (punctuator punctuators.Semicolon ∷ []) other
+                  following (λ z. AreGlobals (g ∷ []) z other) ((m.front ++ t ∷ o.front) ++ inner)
+                  (punctuator punctuators.Semicolon ∷ []) other
                   (following (λ z. AreGlobals (g ∷ []) z other) (m.front ++ t ∷ o.front) inner rest
-                  (following (λ z. AreGlobals (g ∷ []) z other) m.front (t ∷ o.front) (inner ++ rest) (
+                  (following (λ z. AreGlobals (g ∷ []) z other) m.front (t ∷ o.front)
+                  (inner ++ rest) (
                     rest,
                     record {
                       after_stars = t ∷ (o.front ++ (inner ++ rest));

@@ -15,26 +15,36 @@ use Rattle.c_syntax.proofs.Failing.{append_append, wrapped}
 use Rattle.c_syntax.proofs.Firsts.{first_back, stops}
 use Rattle.c_syntax.specs.Limits.{Number, order}
 use Rattle.c_parse_expr.specs.declared.refusal.ParseErr.{ParseErr}
-use Rattle.c_parse_expr.specs.declared.refusal.ParseErr.TheVariants.{Unexpected, TooDeep, TooMany, Memory}
+use Rattle.c_parse_expr.specs.declared.refusal.ParseErr.TheVariants.{Unexpected, TooDeep, TooMany}
+use Rattle.c_parse_expr.specs.declared.refusal.ParseErr.TheVariants.{Memory}
 use Rattle.c_parse_expr.specs.Refusals.{Placed}
 
 -- ---- refusals
 
 -- in a greater phrase
-pub placed_in : (e : ParseErr) (No Has No' Has' : Family) (text : List ℕ) (ts ts' : List Token) → Wraps No Has No' Has' text ts ts' → Placed e No Has text ts → Placed e No' Has' text ts'
-placed_in (Unexpected at) No Has No' Has' text ts ts' w p = wrapped No Has No' Has' 0 at text ts ts' w p
-placed_in (TooDeep at) No Has No' Has' text ts ts' w p = wrapped No Has No' Has' 1 at text ts ts' w p
-placed_in (TooMany at what) No Has No' Has' text ts ts' w p = wrapped No Has No' Has' (order (Number what)) at text ts ts' w p
+pub placed_in : (e : ParseErr) (No Has No' Has' : Family) (text : List ℕ) (ts ts' : List Token)
+    → Wraps No Has No' Has' text ts ts' → Placed e No Has text ts → Placed e No' Has' text ts'
+placed_in (Unexpected at) No Has No' Has' text ts ts' w p =
+    wrapped No Has No' Has' 0 at text ts ts' w p
+placed_in (TooDeep at) No Has No' Has' text ts ts' w p =
+    wrapped No Has No' Has' 1 at text ts ts' w p
+placed_in (TooMany at what) No Has No' Has' text ts ts' w p =
+    wrapped No Has No' Has' (order (Number what)) at text ts ts' w p
 placed_in Memory No Has No' Has' text ts ts' w p = tt
 
 -- by what each failure is
-pub placed_so : (e : ParseErr) (No Has No' Has' : Family) (text : List ℕ) (ts ts' : List Token) → ((kind at : ℕ) → Failed kind at No Has text ts → Failed kind at No' Has' text ts') → Placed e No Has text ts → Placed e No' Has' text ts'
+pub placed_so : (e : ParseErr) (No Has No' Has' : Family) (text : List ℕ) (ts ts' : List Token)
+    → ((kind at : ℕ) → Failed kind at No Has text ts → Failed kind at No' Has' text ts')
+    → Placed e No Has text ts → Placed e No' Has' text ts'
 placed_so (Unexpected at) No Has No' Has' text ts ts' w p = w 0 at p
 placed_so (TooDeep at) No Has No' Has' text ts ts' w p = w 1 at p
 placed_so (TooMany at what) No Has No' Has' text ts ts' w p = w (order (Number what)) at p
 placed_so Memory No Has No' Has' text ts ts' w p = tt
 
-pub refused_so : {A : Type 0} (r : Result A ParseErr) (No Has No' Has' : Family) (text : List ℕ) (ts ts' : List Token) → ((kind at : ℕ) → Failed kind at No Has text ts → Failed kind at No' Has' text ts') → IfErr r (λ e. Placed e No Has text ts) → IfErr r (λ e. Placed e No' Has' text ts')
+pub refused_so : {A : Type 0} (r : Result A ParseErr) (No Has No' Has' : Family) (text : List ℕ)
+    (ts ts' : List Token)
+    → ((kind at : ℕ) → Failed kind at No Has text ts → Failed kind at No' Has' text ts')
+    → IfErr r (λ e. Placed e No Has text ts) → IfErr r (λ e. Placed e No' Has' text ts')
 refused_so (Ok x) No Has No' Has' text ts ts' w p = tt
 refused_so (Err e) No Has No' Has' text ts ts' w p = placed_so e No Has No' Has' text ts ts' w p
 
@@ -71,7 +81,8 @@ pub has_it : (s : Punctuator) (other : List Token) → HasPunctuator s (punctuat
 has_it s other = (0, (0, refl))
 
 -- two tokens, or some and others, before the rest
-pub following : (P : List Token → Type 0) (xs ys zs : List Token) → P (xs ++ (ys ++ zs)) → P (xs ++ ys ++ zs)
+pub following : (P : List Token → Type 0) (xs ys zs : List Token) → P (xs ++ (ys ++ zs))
+    → P (xs ++ ys ++ zs)
 following P xs ys zs h = subst P (sym (append_append xs ys zs)) h
 
 -- ---- what isn't at the front
@@ -83,7 +94,8 @@ abbrev pub LacksAt : Punctuator → List Token → Type 0
 LacksAt s ts = (at : ℕ) (rest : List Token) → IsPunctuator s at ts rest → ⊥
 
 abbrev pub NoLiteral : List Token → Type 0
-NoLiteral ts = (literal : Literal) (at : ℕ) (rest : List Token) → IsKind (literal_kind literal) at ts rest → ⊥
+NoLiteral ts = (literal : Literal) (at : ℕ) (rest : List Token)
+    → IsKind (literal_kind literal) at ts rest → ⊥
 
 abbrev pub NoInteger : List Token → Type 0
 NoInteger ts = (value at : ℕ) (rest : List Token) → IsInteger value at ts rest → ⊥
@@ -91,5 +103,6 @@ NoInteger ts = (value at : ℕ) (rest : List Token) → IsInteger value at ts re
 abbrev pub NoIdentifier : List Token → Type 0
 NoIdentifier ts = (n : Identifier) (rest : List Token) → IsIdentifier n ts rest → ⊥
 
-pub continues : (l : ℕ) (ts other : List Token) → SameFirst ts other → (Stops l ts → ⊥) → Stops l other → ⊥
+pub continues : (l : ℕ) (ts other : List Token) → SameFirst ts other → (Stops l ts → ⊥)
+    → Stops l other → ⊥
 continues l ts other h n s = n (stops l other ts (first_back ts other h) s)

@@ -5,7 +5,8 @@ use Rattle.c_lex.specs.declared.token.Token.{Token}
 use Rattle.c_syntax.specs.declared.limit.Count.TheVariants.{Functions, Globals, Funclets}
 use Rattle.c_syntax.specs.declared.limit.TheConstants.{MOST_GLOBALS}
 use Rattle.c_syntax.specs.Limits as limits
-use Rattle.c_syntax.specs.Limits.{Number, IsInForce, every_limit, EachWithinFirst, bytes_from, funclets_in}
+use Rattle.c_syntax.specs.Limits.{Number, IsInForce, every_limit, EachWithinFirst, bytes_from}
+use Rattle.c_syntax.specs.Limits.{funclets_in}
 use Rattle.c_syntax.specs.Program.{ExternalDeclaration}
 use Rattle.c_syntax.specs.Programs.{IsExternalDeclaration}
 use Rattle.c_parse.specs.declared.counts.Counts.{Counts}

@@ -13,11 +13,13 @@ use Rattle.c_syntax.specs.declared.limit.Count.TheVariants.{Parameters, Globals,
 use Rattle.c_syntax.specs.declared.limit.TheConstants.{MOST_GLOBALS, MOST_PARAMETERS}
 use Rattle.c_syntax.specs.Expressions.{IsInteger}
 use Rattle.c_syntax.specs.Follow.{Stops}
-use Rattle.c_syntax.specs.Limits.{Number, IsInForce, FunctionWithinFirst, size, elements, aligned, end_of_globals, funclets_of_all}
+use Rattle.c_syntax.specs.Limits.{Number, IsInForce, FunctionWithinFirst, size, elements, aligned}
+use Rattle.c_syntax.specs.Limits.{end_of_globals, funclets_of_all}
 use Rattle.c_syntax.specs.Operators.{postfix, assignment}
 use Rattle.c_syntax.specs.Phrases.{InTurn}
 use Rattle.c_syntax.specs.Program.{Initialiser, Single, Several, Global}
-use Rattle.c_syntax.specs.Programs.{IsConstant, AreConstants, IsInitialiser, IsLength, AreMoreGlobals, AreGlobals, IsParameter, AreParameters}
+use Rattle.c_syntax.specs.Programs.{IsConstant, AreConstants, IsInitialiser, IsLength}
+use Rattle.c_syntax.specs.Programs.{AreMoreGlobals, AreGlobals, IsParameter, AreParameters}
 use Rattle.c_syntax.specs.Statement.{Statements}
 use Rattle.c_syntax.specs.Statements.{IsBlock, AreBlockItems}
 use Rattle.c_syntax.specs.Tokens.{Phrase, IsPunctuator, IsIdentifier, HasPunctuator, HasKeyword}

@@ -9,7 +9,8 @@ use Rattle.c_parse_expr.specs.declared.refusal.ParseErr.TheVariants.{Unexpected,
 use Rattle.c_parse_expr.specs.Refusals.{Placed}
 use Rattle.c_parse.specs.declared.counts.Counts.{Counts}
 use Rattle.c_parse.specs.Counts.{NoExternalDeclaration, HasExternalDeclaration}
-use Rattle.c_parse.specs.Parts.{EndsScalar, NoneBracketed, HasBracketed, NoLength, HasLength, NoGlobal, NoGlobals, HasGlobals, NoTail, HasTail}
+use Rattle.c_parse.specs.Parts.{EndsScalar, NoneBracketed, HasBracketed, NoLength, HasLength}
+use Rattle.c_parse.specs.Parts.{NoGlobal, NoGlobals, HasGlobals, NoTail, HasTail}
 
 abbrev pub RefusesBracketed : ParseErr → Base → ℕ → ℕ → List ℕ → List Token → Type 0
 RefusesBracketed e base pointers bytes text ts =

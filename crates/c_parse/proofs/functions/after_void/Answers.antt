@@ -5,4 +5,7 @@ pub returns-in-None-clause-none : goal.returns-in-None-clause-none
 returns-in-None-clause-none c = no_word c.args.tokens.now c.in-None.ensures.none
 
 pub returns-in-Some-clause-none : goal.returns-in-Some-clause-none
-returns-in-Some-clause-none c = none_of c.after.result _ _ (not_closed c.args.tokens.now c.in-Some.following.now (_, c.in-Some.ensures.found)) c.after.ensures.none
+returns-in-Some-clause-none c =
+    none_of c.after.result _ _
+    (not_closed c.args.tokens.now c.in-Some.following.now (_, c.in-Some.ensures.found))
+    c.after.ensures.none

@@ -11,25 +11,33 @@ use Rattle.c_parse.proofs.initialisers.constants.Goals as goal
 pub returns-in_err-first-clause-refused : goal.returns-in_err-first-clause-refused
 returns-in_err-first-clause-refused c =
     let p = err_from_is_err_and c.from_residual.result c.from_residual.ensures.1 in
-    rw (p.1, p.2) (placed_in c.in_err-first.field-0.0 NoConstant HasConstant NoConstants HasConstants c.args.text.now c.args.tokens.now c.args.tokens.now (in_first c.args.text.now c.args.tokens.now) c.in_err-first.ensures.refused)
+    rw (p.1, p.2) (placed_in c.in_err-first.field-0.0 NoConstant HasConstant NoConstants
+    HasConstants c.args.text.now c.args.tokens.now c.args.tokens.now
+    (in_first c.args.text.now c.args.tokens.now) c.in_err-first.ensures.refused)
 
 pub loop-following-init : goal.loop-following-init
 loop-following-init c =
     let k = c.in_ok-first in
-    rw (c.in_ok-push.ensures.items, c.new-found.ensures.items) (begins c.args.text.now c.args.tokens.now k.rest.now k.first k.ensures.found)
+    rw (c.in_ok-push.ensures.items, c.new-found.ensures.items)
+    (begins c.args.text.now c.args.tokens.now k.rest.now k.first k.ensures.found)
 
 pub returns-in_err-next-clause-refused : goal.returns-in_err-next-clause-refused
 returns-in_err-next-clause-refused c =
     let r = c.from_residual-in_err-next in
     let p = err_from_is_err_and r.result r.ensures.1 in
     let s = c.loop-following in
-    rw (p.1, p.2) (placed_in c.in_err-next.field-0.0 NoConstant HasConstant NoConstants HasConstants c.args.text.now c.in-Some.following.now c.args.tokens.now (in_next c.args.text.now c.args.tokens.now s.rest.now c.in-Some.following.now s.found.items s.invariant c.in-Some.ensures.found) c.in_err-next.ensures.refused)
+    rw (p.1, p.2) (placed_in c.in_err-next.field-0.0 NoConstant HasConstant NoConstants HasConstants
+    c.args.text.now c.in-Some.following.now c.args.tokens.now
+    (in_next c.args.text.now c.args.tokens.now s.rest.now c.in-Some.following.now s.found.items
+    s.invariant c.in-Some.ensures.found) c.in_err-next.ensures.refused)
 
 pub loop-following-preserved : goal.loop-following-preserved
 loop-following-preserved c =
     let s = c.loop-following in
     let k = c.in_ok-next in
-    rw c.in_ok-push-2.ensures.items (next c.args.text.now c.args.tokens.now s.rest.now c.in-Some.following.now k.after.now s.found.items k.next c.in-Some.ensures.found k.ensures.found s.invariant)
+    rw c.in_ok-push-2.ensures.items
+    (next c.args.text.now c.args.tokens.now s.rest.now c.in-Some.following.now k.after.now
+    s.found.items k.next c.in-Some.ensures.found k.ensures.found s.invariant)
 
 pub loop-following-smaller : goal.loop-following-smaller
 loop-following-smaller c =
@@ -43,9 +51,13 @@ returns-in_err-end-clause-refused c =
     let r = c.from_residual-in_err-end in
     let p = err_from_is_err_and r.result r.ensures.1 in
     let s = c.loop-following in
-    rw (p.1, p.2) (placed_in c.in_err-end.field-0.0 (NoPunctuator punctuators.CloseBrace) (APunctuator punctuators.CloseBrace) NoConstants HasConstants c.args.text.now s.rest.now c.args.tokens.now (in_end c.args.text.now c.args.tokens.now s.rest.now s.found.items s.invariant c.in_default.ensures.none) c.in_err-end.ensures.refused)
+    rw (p.1, p.2) (placed_in c.in_err-end.field-0.0 (NoPunctuator punctuators.CloseBrace)
+    (APunctuator punctuators.CloseBrace) NoConstants HasConstants c.args.text.now s.rest.now
+    c.args.tokens.now (in_end c.args.text.now c.args.tokens.now s.rest.now s.found.items
+    s.invariant c.in_default.ensures.none) c.in_err-end.ensures.refused)
 
 pub returns-clause-found : goal.returns-clause-found
 returns-clause-found c =
     let s = c.loop-following in
-    ends c.args.tokens.now s.rest.now c.in_ok-end.end.now s.found.items s.invariant c.in_ok-end.ensures.found
+    ends c.args.tokens.now s.rest.now c.in_ok-end.end.now s.found.items s.invariant
+    c.in_ok-end.ensures.found
