@@ -13,12 +13,18 @@ use crate::row::{
     chain_line, entry_line, frame_line, handler_line, kind_line, prolog_text, scope_begin,
 };
 use arrayvec::ArrayVec;
-use eh_tables::{Entry, Info, TableErr, Tables};
+use eh_tables::{Entry, Info, MOST_INFO_BYTES, TableErr, Tables};
 use pe_image::ImageView;
 use seh_io::line::Line;
 use seh_io::receiver::Lines;
 use seh_io::sink::Sink;
 use seh_io::writing::WriteFault;
+
+/// Where the digits begin in a line of bytes, after its word.
+const FIRST_DIGIT: usize = 7;
+
+/// The most bytes of such a line: the word, two digits for each byte, and the line feed.
+const LONGEST_BYTES_LINE: usize = FIRST_DIGIT + 2 * MOST_INFO_BYTES + 1;
 
 /// The two digits of each byte.
 fn encode(bytes: &[u8], column: &mut [u8])
@@ -43,14 +49,14 @@ fn put_joined<O: Sink>(out: &mut Lines<'_, O>, front: &Line, back: &Line)
 
 /// The bytes of an info, header and slots.
 fn put_bytes<O: Sink>(out: &mut Lines<'_, O>, bytes: &[u8])
-    requires { length bytes.now ≤ 516 }
+    requires { length bytes.now ≤ MOST_INFO_BYTES }
     ensures same_reference { out.new.sink.ghost_name ≡ out.old.sink.ghost_name }
     ensures wrote { PutText O.taken O.faults out.old (spec.bytes_line bytes.now) out.new }
 {
-    let mut line = [0; 1040];
-    let end = 7 + 2 * bytes.len();
-    line[..7].copy_from_slice(b" bytes ");
-    encode(bytes, &mut line[7..end]);
+    let mut line = [0; LONGEST_BYTES_LINE];
+    let end = FIRST_DIGIT + 2 * bytes.len();
+    line[..FIRST_DIGIT].copy_from_slice(b" bytes ");
+    encode(bytes, &mut line[FIRST_DIGIT..end]);
     line[end] = b'\n';
     out.put(&line[..=end]);
 }
