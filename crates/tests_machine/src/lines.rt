@@ -1,44 +1,34 @@
-use command_line::command::{Command, RunOptions};
-use command_line::reading::{WordsErr, command_of};
+use command_line::reading::command_of;
 use std::test::Fail;
 
-const NOTHING: RunOptions = RunOptions {
-    turns: 10_000_000,
-    argument: 0,
-    trace: false,
-};
+/// Lines of words, each with what it means.
+const LINES: &str = r"
+compile | Ok(Compile)
+show | Ok(Show)
+exec | Ok(Exec(RunOptions { turns: 10000000, argument: 0, trace: false }))
+exec --turns 7 | Ok(Exec(RunOptions { turns: 7, argument: 0, trace: false }))
+exec --arg 9223372036854775807 | Ok(Exec(RunOptions { turns: 10000000, argument: 9223372036854775807, trace: false }))
+run --turns 7 | Ok(Run(RunOptions { turns: 7, argument: 0, trace: false }))
+run --turns=7 7 | Err(Usage)
+exec --arg 9223372036854775808 | Err(Usage)
+exec --turns 07 | Err(Usage)
+exec --turns | Err(Usage)
+exec --help | Err(Usage)
+help | Err(Usage)
+";
 
 #[test]
 fn lines(rt: HostRuntime) -> Result<(), Fail> {
-    let few = RunOptions {
-        turns: 7,
-        ..NOTHING
-    };
-    let most = RunOptions {
-        argument: i64::MAX,
-        ..NOTHING
-    };
-    let cases: [(&str, Result<Command, WordsErr>); 12] = [
-        ("compile", Ok(Command::Compile)),
-        ("show", Ok(Command::Show)),
-        ("exec", Ok(Command::Exec(NOTHING))),
-        ("exec --turns 7", Ok(Command::Exec(few))),
-        ("exec --arg 9223372036854775807", Ok(Command::Exec(most))),
-        ("run --turns 7", Ok(Command::Run(few))),
-        ("run --turns=7 7", Err(WordsErr::Usage)),
-        ("exec --arg 9223372036854775808", Err(WordsErr::Usage)),
-        ("exec --turns 07", Err(WordsErr::Usage)),
-        ("exec --turns", Err(WordsErr::Usage)),
-        ("exec --help", Err(WordsErr::Usage)),
-        ("help", Err(WordsErr::Usage)),
-    ];
     let alloc = rt.alloc();
-    for (line, answer) in cases {
+    for row in LINES.lines().skip(1) {
+        let (line, want) = row.split_once(" | ").unwrap_or((row, "no row"));
         let mut words = Vec::new(alloc);
         for word in line.split(' ') {
             words.push(String::from_str(alloc, word)?)?;
         }
-        assert_eq!(rt; command_of(alloc, &words), answer, "{line}");
+        let command = command_of(alloc, &words);
+        let found = format!(in alloc; "{command:?}")?;
+        assert_eq!(rt; found.as_str(), want, "{line}");
     }
     Ok(())
 }

@@ -1,79 +1,104 @@
 ghost use Rattle.std.specs.Prelude.{◌≡◌, ◌<◌};
 
-use seh_num::division::{DivFault, div_signed, div_unsigned, is_signed};
-use seh_num::extension::{sign_extend, wrap, zero_extend};
+use crate::rows::width_of;
+use seh_num::division::{div_signed, div_unsigned};
 use seh_num::steps::Steps;
 use seh_num::width::Width;
 use std::marker::Brand;
 use std::sync::ledger::{Blank, Ledger};
+use std::test::Fail;
 
-// Signs as C has them (C reference, "Multiplicative operators": towards zero, and the remainder
-// makes up the dividend); limits as IDIV has them.
-#[test]
-fn signed_quotients(rt: HostRuntime) {
-    let zero = Err(DivFault::Zero);
-    let overflow = Err(DivFault::Overflow);
-    for (width, a, b, want) in [
-        (Width::W32, 7, 2, Ok((3, 1))),
-        (Width::W32, -7, 2, Ok((-3, -1))),
-        (Width::W32, 7, -2, Ok((-3, 1))),
-        (Width::W32, -7, -2, Ok((3, -1))),
-        (Width::W64, 0, -5, Ok((0, 0))),
-        (Width::W64, -5, i64::MIN, Ok((0, -5))),
-        (Width::W8, -128, -1, overflow),
-        (Width::W8, -127, -1, Ok((127, 0))),
-        (Width::W8, -128, 1, Ok((-128, 0))),
-        (Width::W16, -128, -1, Ok((128, 0))),
-        (Width::W16, -32_768, -1, overflow),
-        (Width::W32, -2_147_483_648, -1, overflow),
-        (Width::W64, -2_147_483_648, -1, Ok((2_147_483_648, 0))),
-        (Width::W64, -9_223_372_036_854_775_808, -1, overflow),
-        (Width::W8, 0, 0, zero),
-        (Width::W64, -1, 0, zero),
-        (Width::W64, i128::MIN, 0, zero),
-        (Width::W64, i128::MIN, -1, overflow),
-        // 2^63 times 3, less 1, and as it is; below zero one multiple of 3 later.
-        (Width::W64, 27_670_116_110_564_327_423, 3, Ok((i64::MAX, 2))),
-        (Width::W64, 27_670_116_110_564_327_424, 3, overflow),
-        (
-            Width::W64,
-            -27_670_116_110_564_327_426,
-            3,
-            Ok((i64::MIN, -2)),
-        ),
-        (Width::W64, -27_670_116_110_564_327_427, 3, overflow),
-    ] {
-        assert_eq!(rt; div_signed(width, a, b), want, "{a} by {b} at {width:?}");
-    }
+/// Quotients, each `WIDTH DIVIDEND DIVISOR | ANSWER`. Signs as C has them (C reference,
+/// "Multiplicative operators": towards zero, and the remainder makes up the dividend); limits as
+/// IDIV has them. The last four are of 2^63 times 3, less 1, and as it is; below zero one multiple
+/// of 3 later.
+const SIGNED: &str = r"
+32 7 2 | Ok((3, 1))
+32 -7 2 | Ok((-3, -1))
+32 7 -2 | Ok((-3, 1))
+32 -7 -2 | Ok((3, -1))
+64 0 -5 | Ok((0, 0))
+64 -5 -9223372036854775808 | Ok((0, -5))
+8 -128 -1 | Err(Overflow)
+8 -127 -1 | Ok((127, 0))
+8 -128 1 | Ok((-128, 0))
+16 -128 -1 | Ok((128, 0))
+16 -32768 -1 | Err(Overflow)
+32 -2147483648 -1 | Err(Overflow)
+64 -2147483648 -1 | Ok((2147483648, 0))
+64 -9223372036854775808 -1 | Err(Overflow)
+8 0 0 | Err(Zero)
+64 -1 0 | Err(Zero)
+64 -170141183460469231731687303715884105728 0 | Err(Zero)
+64 -170141183460469231731687303715884105728 -1 | Err(Overflow)
+64 27670116110564327423 3 | Ok((9223372036854775807, 2))
+64 27670116110564327424 3 | Err(Overflow)
+64 -27670116110564327426 3 | Ok((-9223372036854775808, -2))
+64 -27670116110564327427 3 | Err(Overflow)
+";
+
+/// The same with limits as DIV has them. The last two are of 2^64 times 10, less 1, and as it is.
+const UNSIGNED: &str = r"
+32 7 2 | Ok((3, 1))
+8 255 1 | Ok((255, 0))
+8 256 1 | Err(Overflow)
+8 511 2 | Ok((255, 1))
+16 65536 1 | Err(Overflow)
+32 4294967296 1 | Err(Overflow)
+32 4294967296 2 | Ok((2147483648, 0))
+8 0 0 | Err(Zero)
+64 340282366920938463463374607431768211455 0 | Err(Zero)
+64 340282366920938463463374607431768211455 18446744073709551615 | Err(Overflow)
+64 184467440737095516159 10 | Ok((18446744073709551615, 9))
+64 184467440737095516160 10 | Err(Overflow)
+";
+
+/// What a row of signed numbers has.
+fn signed_of(row: &str) -> Option<(Width, i128, i64, &str)> {
+    let (numbers, want) = row.split_once(" | ")?;
+    let mut words = numbers.split(' ');
+    let width = width_of(words.next()?)?;
+    let dividend = words.next()?.parse().ok()?;
+    Some((width, dividend, words.next()?.parse().ok()?, want))
 }
 
-// Limits as DIV has them.
 #[test]
-fn unsigned_quotients(rt: HostRuntime) {
-    let zero = Err(DivFault::Zero);
-    let overflow = Err(DivFault::Overflow);
-    for (width, a, b, want) in [
-        (Width::W32, 7, 2, Ok((3, 1))),
-        (Width::W8, 255, 1, Ok((255, 0))),
-        (Width::W8, 256, 1, overflow),
-        (Width::W8, 511, 2, Ok((255, 1))),
-        (Width::W16, 65_536, 1, overflow),
-        (Width::W32, 4_294_967_296, 1, overflow),
-        (Width::W32, 4_294_967_296, 2, Ok((2_147_483_648, 0))),
-        (Width::W8, 0, 0, zero),
-        (Width::W64, u128::MAX, 0, zero),
-        (Width::W64, u128::MAX, u64::MAX, overflow),
-        // 2^64 times 10, less 1, and as it is.
-        (
-            Width::W64,
-            184_467_440_737_095_516_159,
-            10,
-            Ok((u64::MAX, 9)),
-        ),
-        (Width::W64, 184_467_440_737_095_516_160, 10, overflow),
-    ] {
-        assert_eq!(rt; div_unsigned(width, a, b), want, "{a} by {b} at {width:?}");
+fn signed_quotients(rt: HostRuntime) -> Result<(), Fail> {
+    for row in SIGNED.lines().skip(1) {
+        match signed_of(row) {
+            None => panic!(rt; "no row: {row}"),
+            Some((width, dividend, divisor, want)) => {
+                let answer = div_signed(width, dividend, divisor);
+                let found = format!(in rt.alloc(); "{answer:?}")?;
+                assert_eq!(rt; found.as_str(), want, "{row}");
+            }
+        }
     }
+    Ok(())
+}
+
+/// What a row of unsigned numbers has.
+fn unsigned_of(row: &str) -> Option<(Width, u128, u64, &str)> {
+    let (numbers, want) = row.split_once(" | ")?;
+    let mut words = numbers.split(' ');
+    let width = width_of(words.next()?)?;
+    let dividend = words.next()?.parse().ok()?;
+    Some((width, dividend, words.next()?.parse().ok()?, want))
+}
+
+#[test]
+fn unsigned_quotients(rt: HostRuntime) -> Result<(), Fail> {
+    for row in UNSIGNED.lines().skip(1) {
+        match unsigned_of(row) {
+            None => panic!(rt; "no row: {row}"),
+            Some((width, dividend, divisor, want)) => {
+                let answer = div_unsigned(width, dividend, divisor);
+                let found = format!(in rt.alloc(); "{answer:?}")?;
+                assert_eq!(rt; found.as_str(), want, "{row}");
+            }
+        }
+    }
+    Ok(())
 }
 
 // The number of steps takes no bytes, so the contract alone says it.

@@ -1,6 +1,7 @@
 //! Readers of tables. A table of rows is one text, and each line after the first is a row, of
 //! columns between bars.
 
+use seh_num::width::Width;
 use std::alloc::{AllocError, Global};
 use std::process::Abort;
 
@@ -25,4 +26,15 @@ pub fn bytes_of(rt: &impl Abort, alloc: Global, words: &str) -> Result<Vec<u8>, 
         bytes.push((number(rt, word) % 256) as u8)?;
     }
     Ok(bytes)
+}
+
+/// The width of so many bits.
+pub fn width_of(word: &str) -> Option<Width> {
+    match word {
+        "8" => Some(Width::W8),
+        "16" => Some(Width::W16),
+        "32" => Some(Width::W32),
+        "64" => Some(Width::W64),
+        _ => None,
+    }
 }

@@ -1,32 +1,49 @@
 use super::*;
 
-// From 40000000h, which is the next instruction's address.
+/// Jumps from 40000000h, which is the next instruction's address, with ZF set or not: `CODE | ZF |
+/// RIP`. RCX is 1234h; the last one reads its target at 40001000h, which is 0 there.
+const JUMPS: &str = r"
+E9 10 0 0 0      | - | 40000010
+E9 F0 FF FF FF   | - | 3FFFFFF0
+EB FE            | - | 3FFFFFFE
+74 10            | Z | 40000010
+74 10            | - | 40000000
+0F 85 80 0 0 0   | - | 40000080
+0F 85 80 0 0 0   | Z | 40000000
+FF E1            | - | 1234
+FF 22            | - | 0
+";
+
+/// The code of a row of jumps, and the states before and after it.
+fn jump_of<'a>(rt: &impl Abort, row: &'a str) -> Option<(&'a str, Cpu, Cpu)> {
+    let mut columns = row.split('|');
+    let code = columns.next()?;
+    let mut before = cpu();
+    before.flags.zero = columns.next()? == " Z ";
+    before.registers[1] = 0x1234;
+    before.registers[2] = 0x4000_1000;
+    let mut after = before;
+    after.rip = number(rt, columns.next()?.trim());
+    Some((code, before, after))
+}
+
+/// Compares the effect of a row's jump.
+fn jumps_to(rt: &impl Abort, alloc: Global, space: &mut PageMap, row: &str) -> Result<(), Fail> {
+    match jump_of(rt, row) {
+        None => panic!(rt; "no row: {row}"),
+        Some((code, before, after)) => {
+            let code = bytes_of(rt, alloc, code)?;
+            assert_eq!(rt; effect_of(before, space, &code), Some(Ok(after)), "{row}");
+        }
+    }
+    Ok(())
+}
+
 #[test]
 fn jumps(rt: HostRuntime) -> Result<(), Fail> {
     let mut space = space(rt.alloc())?;
-    for (code, zero, rip) in [
-        ([0xE9, 0x10, 0, 0, 0, 0], false, 0x4000_0010),
-        ([0xE9, 0xF0, 0xFF, 0xFF, 0xFF, 0], false, 0x3FFF_FFF0),
-        ([0xEB, 0xFE, 0, 0, 0, 0], false, 0x3FFF_FFFE),
-        ([0x74, 0x10, 0, 0, 0, 0], true, 0x4000_0010),
-        ([0x74, 0x10, 0, 0, 0, 0], false, 0x4000_0000),
-        ([0x0F, 0x85, 0x80, 0, 0, 0], false, 0x4000_0080),
-        ([0x0F, 0x85, 0x80, 0, 0, 0], true, 0x4000_0000),
-        ([0xFF, 0xE1, 0, 0, 0, 0], false, 0x1234),
-        // The address at 40001000h, which is 0 there.
-        ([0xFF, 0x22, 0, 0, 0, 0], false, 0),
-    ] {
-        let mut before = cpu();
-        before.flags.zero = zero;
-        before.registers[1] = 0x1234;
-        before.registers[2] = 0x4000_1000;
-        let mut after = before;
-        after.rip = rip;
-        assert_eq!(rt;
-            effect_of(before, &mut space, &code),
-            Some(Ok(after)),
-            "{code:?}"
-        );
+    for row in JUMPS.lines().skip(1) {
+        jumps_to(&rt, rt.alloc(), &mut space, row)?;
     }
     let mut called = cpu();
     called.rip = 0x4000_0100;
@@ -100,31 +117,56 @@ fn with_routine(alloc: Global) -> Result<PageMap, AllocError> {
     Ok(space)
 }
 
+/// RIP after each step, and a register with its value there.
+const STEPS: &str = r"
+4000000A rax 1122334455667788
+4000000F rcx 80000003
+40000013 rdx FFFFFFFFFFFF1234
+40000016 rbx 40001000
+40000019 rsi FFFFFFFF80000003
+4000001C rax 11223344D566778B
+4000001E rax 55667788
+40000021 rbx 40001000
+40000025 rax 2AB33BC400000000
+40000026 rsp 70000FF8
+40000028 r15 2AB33BC400000000
+4000002F rcx 0102030405060708
+40000032 rsp 70000FF8
+40000031 rsp 70001000
+";
+
+/// What a row of steps has.
+fn step_of(rt: &impl Abort, row: &str) -> Option<(u64, Reg, u64)> {
+    let mut words = row.split(' ');
+    let rip = number(rt, words.next()?);
+    let register = match words.next()? {
+        "rax" => Reg::Rax,
+        "rcx" => Reg::Rcx,
+        "rdx" => Reg::Rdx,
+        "rbx" => Reg::Rbx,
+        "rsp" => Reg::Rsp,
+        "rsi" => Reg::Rsi,
+        "r15" => Reg::R15,
+        _ => return None,
+    };
+    Some((rip, register, number(rt, words.next()?)))
+}
+
 #[test]
 fn steps_through_a_routine(rt: HostRuntime) -> Result<(), Fail> {
     let mut space = with_routine(rt.alloc())?;
     let mut cpu = cpu();
     cpu.set_register(Width::W64, Reg::Rbx, 0x4000_1000);
     cpu.set_register(Width::W64, Reg::Rdi, 0x4000_0032);
-    for (rip, register, want) in [
-        (0x4000_000A, Reg::Rax, 0x1122_3344_5566_7788),
-        (0x4000_000F, Reg::Rcx, 0x8000_0003),
-        (0x4000_0013, Reg::Rdx, 0xFFFF_FFFF_FFFF_1234),
-        (0x4000_0016, Reg::Rbx, 0x4000_1000),
-        (0x4000_0019, Reg::Rsi, 0xFFFF_FFFF_8000_0003),
-        (0x4000_001C, Reg::Rax, 0x1122_3344_D566_778B),
-        (0x4000_001E, Reg::Rax, 0x5566_7788),
-        (0x4000_0021, Reg::Rbx, 0x4000_1000),
-        (0x4000_0025, Reg::Rax, 0x2AB3_3BC4_0000_0000),
-        (0x4000_0026, Reg::Rsp, 0x7000_0FF8),
-        (0x4000_0028, Reg::R15, 0x2AB3_3BC4_0000_0000),
-        (0x4000_002F, Reg::Rcx, 0x0102_0304_0506_0708),
-        (0x4000_0032, Reg::Rsp, 0x7000_0FF8),
-        (0x4000_0031, Reg::Rsp, 0x7000_1000),
-    ] {
-        assert_eq!(rt; step(&mut cpu, &mut space), StepOutcome::Next, "to {rip}");
-        assert_eq!(rt; cpu.rip, rip);
-        assert_eq!(rt; cpu.register(register), want, "before {rip}");
+    for row in STEPS.lines().skip(1) {
+        match step_of(&rt, row) {
+            None => panic!(rt; "no row: {row}"),
+            Some((rip, register, want)) => {
+                assert_eq!(rt; step(&mut cpu, &mut space), StepOutcome::Next, "{row}");
+                assert_eq!(rt; cpu.rip, rip, "{row}");
+                assert_eq!(rt; cpu.register(register), want, "{row}");
+            }
+        }
     }
     assert_eq!(rt; space.load(0x4000_1000, Width::W64), Ok(0x8000_0000));
     assert_eq!(rt; space.load(0x7000_0FF8, Width::W64), Ok(0x4000_0031));
