@@ -40,7 +40,7 @@ pub const ARENA_END: u64 = 0x2010_0000;
 /// The page of the host, in which no instruction is fetched.
 pub const HOST_PAGE_START: u64 = 0x7FF0_0000;
 
-pub const HOST_PAGE_END: u64 = 0x7FF0_1000;
+pub const HOST_PAGE_END: u64 = HOST_PAGE_START + PAGE;
 
 /// A size in bytes, rounded up to whole pages.
 pub fn pages(size: u64) -> u64
