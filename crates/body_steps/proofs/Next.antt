@@ -15,7 +15,7 @@ use Rattle.linear_code.specs.Program.{LinearProgram, LinearBody, LinearFunclet}
 use Rattle.linear_machine.specs.Frames.{BodyName, FunctionBody, FuncletBody, body_of, Frame, Item, Waits, Searches, Unwinds, Configuration}
 use Rattle.x64_machine.specs.declared.context.Context.{Context}
 use Rattle.template_code.specs.declared.layout.Layout.{Layout}
-use Rattle.x64_templates.specs.Runs.{Holds}
+use Rattle.x64_templates.specs.Runs.{FrameHolds}
 use Rattle.std.specs.List.{AllByRecursion}
 use Rattle.x64_machine.specs.Contexts.{context_of}
 use Rattle.linear_code.specs.declared.program.Region.{Region}
@@ -108,7 +108,7 @@ module _ (t : Functions) (fs : List Funclet) (program : LinearProgram) (p : Plan
     -- a run of a template of this body
     pub record Ran (u : State) (d : BodyState) (values ts : List ℕ) : Type 0 where
       pub changed : Changed program.globals s u y (counts_of code) sp here.base
-      pub holds : Holds (frame_at program p c.frame.body code sp here.base) u.memory d
+      pub holds : FrameHolds (frame_at program p c.frame.body code sp here.base) u.memory d
       pub stack : register u.cpu Rsp ≡ sp
       pub leaves : Leaves code d values ts
 

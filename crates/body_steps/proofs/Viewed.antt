@@ -19,7 +19,7 @@ use Rattle.linked_stack.specs.ListLaws.{IsLinkedStack}
 use Rattle.body_states.specs.Layouts.{IsFunctionLayout, IsLeafLayout, IsFuncletLayout, IsLayoutIf, IsLaidOut, IsFuncletPlan}
 use Rattle.body_states.specs.Programs.{IsProgramImage}
 use Rattle.body_states.specs.Bodies.{slots_end, last_temporary, Begins}
-use Rattle.x64_templates.specs.Runs.{Roomy, Holds}
+use Rattle.x64_templates.specs.Runs.{Roomy, FrameHolds}
 use Rattle.body_steps.specs.Views.{seen_by_templates, counts_of, frame_at, state_of, HasSlotsOf, HasView}
 use Rattle.body_steps.proofs.Views.{SlotsPlaced, function_placed, leaf_placed, funclet_placed, room_of, holds_of, local_is, temporary_is}
 
@@ -105,7 +105,7 @@ module _ (t : Functions) (fs : List Funclet) (program : LinearProgram) (p : Plan
     pub room_here : Roomy (frame_at program p c.frame.body code sp placed.base)
     room_here = room_of s.memory (p.layout c.frame.body) (counts_of code) sp c.frame.activation b.body.acts placed count
 
-    pub holds_here : Holds (frame_at program p c.frame.body code sp placed.base) s.memory (state_of program p s c placed.base)
+    pub holds_here : FrameHolds (frame_at program p c.frame.body code sp placed.base) s.memory (state_of program p s c placed.base)
     holds_here = holds_of program.globals s.memory c.store.memory (p.layout c.frame.body) (counts_of code) sp c.frame.activation b.body.acts placed count b.memory.data_alone.bytes b.memory.stack b.memory.agrees
 
     pub slots_here : HasSlotsOf program p c code (state_of program p s c placed.base)

@@ -28,7 +28,7 @@ use Rattle.template_code.proofs.Sizes.{sizes_append, template_sizes, jump_if_zer
 use Rattle.x64_templates.specs.Straight.{MachineView, machine}
 use Rattle.x64_templates.specs.Exceptions.{IsField}
 use Rattle.x64_templates.specs.Implements.{HasOperands}
-use Rattle.x64_templates.specs.Runs.{Reaches, Holds, HasCode}
+use Rattle.x64_templates.specs.Runs.{Reaches, FrameHolds, HasCode}
 use Rattle.x64_templates.proofs.Chains.{rest_of}
 use Rattle.x64_templates.proofs.Computes.{code_split, Begun, operands_run, Worked, work_run}
 use Rattle.x64_templates.proofs.Flows.{work_flow, separator_flow, jump_flow, keep_flow, operands_flow, information_flow, jump_if_zero_flow}
@@ -136,7 +136,7 @@ module _ (t : Functions) (fs : List Funclet) (program : LinearProgram) (p : Plan
 
       worked : Worked (frame t fs program p q image roomy s c b counted) o view x.cpu.rip x.cpu.flags value source
       worked = work_run (frame t fs program p q image roomy s c b counted) o view x.cpu.rip x.cpu.flags (slots t fs program p q image roomy s c b counted) m n value source m_small n_small waits
-          (subst (λ (k : Memory). Holds (frame t fs program p q image roomy s c b counted) k (slots t fs program p q image roomy s c b counted)) (sym same) (holds_here t fs program p q image s c b counted)) code_there gives
+          (subst (λ (k : Memory). FrameHolds (frame t fs program p q image roomy s c b counted) k (slots t fs program p q image roomy s c b counted)) (sym same) (holds_here t fs program p q image s c b counted)) code_there gives
 
       abbrev mid : State
       mid = machine (record { rax = value; rcx = worked.result.yields.rcx; rdx = worked.result.yields.rdx; rest = view.rest; memory = worked.result.after }) (x.cpu.rip + sizes (work o)) worked.left

@@ -9,7 +9,7 @@ use Rattle.linear_code.specs.Program.{LinearProgram, LinearBody}
 use Rattle.linear_machine.specs.Frames.{BodyName, body_of, Configuration, local_of}
 use Rattle.x64_templates.specs.Straight.{MachineView, machine}
 use Rattle.x64_templates.specs.EntryStates.{body_in_memory}
-use Rattle.x64_templates.specs.Runs.{Frame, Roomy, Holds}
+use Rattle.x64_templates.specs.Runs.{Frame, Roomy, FrameHolds}
 use Rattle.linked_stack.specs.ImagePlan.{Plan}
 
 -- a state by its registers as templates name them
@@ -59,6 +59,6 @@ module _ (program : LinearProgram) (p : Plan) where
     pub there : body_of program c.frame.body ≡ Some body
     pub base : ℕ
     pub room : Roomy (frame_at c.frame.body body (register s.cpu Rsp) base)
-    pub holds : Holds (frame_at c.frame.body body (register s.cpu Rsp) base) s.memory
+    pub holds : FrameHolds (frame_at c.frame.body body (register s.cpu Rsp) base) s.memory
         (state_of s c base)
     pub slots : HasSlotsOf c body (state_of s c base)

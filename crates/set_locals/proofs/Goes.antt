@@ -31,7 +31,7 @@ use Rattle.unset_locals.specs.Marks.{Marks, flag_set, begins_block}
 use Rattle.unset_locals.proofs.Events.{Adds, adds_one, block_events}
 use Rattle.scoped_programs.specs.Scoped.{Seen as SeenLocals, IsPart}
 use Rattle.scoped_programs.proofs.Split.{seen_cases}
-use Rattle.set_locals.specs.Sets.{with_flag, locals_at, Begins, Leads, Guards, IsSetMap}
+use Rattle.set_locals.specs.Sets.{with_flag, locals_at, FinallyBegins, Leads, Guards, IsSetMap}
 use Rattle.set_locals.specs.Lives.{Marked, here, IsHandler, IsTarget, AreRegions, AreHandlers, AreKept, IsCovered, AreCovered, IsGiven, Before, Flag, IsStep}
 use Rattle.set_locals.proofs.Kept.{Left, left_are, handlers_are, filter_marked, aimed, reached, further, past_target}
 
@@ -78,7 +78,7 @@ module _ (program : LinearProgram) (sets : BodyName → ℕ → SeenLocals) (rec
       let lt = recorded.flags k flag e in
       Flag (ap (λ t. flag_set program t d.frame.body) s ∙ ap (flag_set program true) b ∙ e ∙ ap Some (sym g)) (subst (λ name. x < locals_at program name) (sym b) (subst (λ y. y < locals_at program (FuncletBody k)) (sym g) lt))
 
-  pub block_turn : (k held : ℕ) (abnormal : Bool) (items : List Item) (c : Configuration) → Begins program sets k (here program sets c.frame) → IsCovered program sets marks c.frame → Kept items → Covered items → Since c.events
+  pub block_turn : (k held : ℕ) (abnormal : Bool) (items : List Item) (c : Configuration) → FinallyBegins program sets k (here program sets c.frame) → IsCovered program sets marks c.frame → Kept items → Covered items → Since c.events
       → Turn Ok (λ next. run_finally program k abnormal held items next c)
   block_turn k held abnormal items c g w kept' v s =
       some_turn Ok c.events (flag_of (slice_get program.funclets k)) _ (λ flag e.

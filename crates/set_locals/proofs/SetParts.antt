@@ -38,7 +38,7 @@ use Rattle.ir_typed.specs.Bodies.{function_of, owner_of}
 use Rattle.ir_typed.proofs.Stacked.{same_it, all_map}
 use Rattle.scoped_programs.specs.Scoped.{Seen, with_local, IsPart, after_all_declared, after_statement, expression_within, filter_within, statement_within, statements_within}
 use Rattle.scoped_programs.proofs.Split.{both_left, both_right, sees_own, sees_before, itself, within, part_with}
-use Rattle.set_locals.specs.Sets.{with_flag, function_locals, owner_locals, locals_at, Begins, Leads, Guards, IsSetBody}
+use Rattle.set_locals.specs.Sets.{with_flag, function_locals, owner_locals, locals_at, FinallyBegins, Leads, Guards, IsSetBody}
 use Rattle.set_locals.specs.Places.{statement_sets, statements_sets, filter_sets, finally_sets, statement_funclet_sets, statements_funclet_sets, set_in}
 use Rattle.set_locals.proofs.Straight.{is_same, head_recorded, past_end, even_list, Fine, AllLead, both_lead, lead_at, straight}
 use Rattle.set_locals.proofs.Fine.{IsAround, expression_fine}
@@ -231,7 +231,7 @@ module _ (linear : LinearProgram) (lists : BodyName → List Seen) (funclet_list
     pub place : IsPlace (FuncletBody k) (in_funclet k owner) (finally_scope names) before (with_local names.free seen)
     pub is_there : IsSegmentAt (lists (FuncletBody k)) 0 (statements_sets (names.free + 1) (with_local names.free seen) last)
     pub end : IsRecordedAt (FuncletBody k) (0 + statements_size last) (with_local names.free seen)
-    pub begun : (s : Seen) → IsPart seen s → Begins linear sets k s
+    pub begun : (s : Seen) → IsPart seen s → FinallyBegins linear sets k s
     pub fine : Lead (FuncletBody k) 0 (statements_code (finally_scope names) last 0) → AllByRecursion (IsGuarded (FuncletBody k)) (statements_regions last 0) → IsFine k
 
   finally_alone : (owner : Owner) (names : Names) (last : Statements) (before seen : Seen) (k : ℕ) → function_locals (slice_get linear.functions owner.function) ≡ owner.locals → IsAround owner.locals names before seen → names.free < owner.locals

@@ -14,7 +14,7 @@ use Rattle.seh_ir.proofs.StatementCodes.{statements_length}
 use Rattle.ir_linked.proofs.Segments.{IsSegmentAt, front, back}
 use Rattle.scoped_programs.specs.Scoped.{Seen, with_local, IsPart}
 use Rattle.scoped_programs.proofs.Split.{sees_before, itself, within}
-use Rattle.set_locals.specs.Sets.{locals_at, Begins}
+use Rattle.set_locals.specs.Sets.{locals_at, FinallyBegins}
 use Rattle.set_locals.specs.Places.{statement_sets, statements_sets, set_in}
 use Rattle.set_locals.proofs.Straight.{is_same, is_same_back, head_recorded, even_part, even_list, AllLead, both_lead}
 use Rattle.set_locals.proofs.Fine.{IsAround}
@@ -78,7 +78,7 @@ module _ (linear : LinearProgram) (lists : BodyName → List Seen) (name : BodyN
   pub record FinallyParts (body : Statements) (k : ℕ) (last : Statements) (at : ℕ) : Type 0 where
     pub is_there : At at (statements_sets free seen body)
     pub end : sets name (at + statements_size body) ≡ seen
-    pub leads : ((s : Seen) → IsPart seen s → Begins linear sets (k - 1) s) → Lead at (statements_code (in_guarded (at + statements_size body) scope) body at) → Lead at (statement_code scope (TryFinally body k last) at)
+    pub leads : ((s : Seen) → IsPart seen s → FinallyBegins linear sets (k - 1) s) → Lead at (statements_code (in_guarded (at + statements_size body) scope) body at) → Lead at (statement_code scope (TryFinally body k last) at)
 
   pub finally_parts : (body : Statements) (k : ℕ) (last : Statements) (at : ℕ) → At at (statement_sets free seen (TryFinally body k last)) → IsRecordedAt (at + statement_size (TryFinally body k last)) seen → FinallyParts body k last at
   finally_parts body k last at h end =

@@ -55,8 +55,8 @@ locals_at program name = owner_locals program (owner_of program name)
 
 module _ (program : LinearProgram) (sets : BodyName → ℕ → Seen) where
   -- where a funclet begins, what has been set where it is run from, and its flag
-  abbrev pub Begins : ℕ → Seen → Type 0
-  Begins k seen =
+  abbrev pub FinallyBegins : ℕ → Seen → Type 0
+  FinallyBegins k seen =
       IsPart (sets (FuncletBody k) 0) (with_flag (flag_of (slice_get program.funclets k)) seen)
 
   -- what an instruction of a body reads has been set, and where it leads to, nothing more than here
@@ -78,7 +78,7 @@ module _ (program : LinearProgram) (sets : BodyName → ℕ → Seen) where
   Leads name label (instructions.CallBuiltIn f first) =
       IsPart (sets name (label + 1)) (sets name label)
   Leads name label (instructions.CallFinally k) =
-      Begins k (sets name label) × IsPart (sets name (label + 1)) (sets name label)
+      FinallyBegins k (sets name label) × IsPart (sets name (label + 1)) (sets name label)
   Leads name label (instructions.LocalUnwind to) = IsPart (sets name to) (sets name label)
   Leads name label (instructions.Landing to) =
       IsLocalOf (locals_at program name) to
@@ -88,7 +88,7 @@ module _ (program : LinearProgram) (sets : BodyName → ℕ → Seen) where
 
   -- so do the funclet and the block of a region that holds a place
   abbrev pub Guards : BodyName → ℕ → RegionKind → Type 0
-  Guards name label (kinds.Finally k) = Begins k (sets name label)
+  Guards name label (kinds.Finally k) = FinallyBegins k (sets name label)
   Guards name label (kinds.Filter k target) =
       IsPart (sets (FuncletBody k) 0) (sets name label)
       × IsPart (sets name target) (sets name label)

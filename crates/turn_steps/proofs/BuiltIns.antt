@@ -12,7 +12,7 @@ use Rattle.template_code.specs.Jumps.{IsNear}
 use Rattle.template_code.specs.Calls.{return_at, begin_call, call_code, clear_result, call_built_in_code}
 use Rattle.x64_templates.specs.Straight.{MachineView, machine}
 use Rattle.x64_templates.specs.CallStates.{sp_of, with_four, pushed, HasBelow}
-use Rattle.x64_templates.specs.Runs.{Reaches, HasCode, Frame, Roomy, Holds}
+use Rattle.x64_templates.specs.Runs.{Reaches, HasCode, Frame, Roomy, FrameHolds}
 use Rattle.x64_templates.specs.Thunks.{HasThunk}
 use Rattle.x64_templates.proofs.PlacedCode.{reaches_then}
 use Rattle.x64_templates.proofs.Computes.{code_split}
@@ -35,7 +35,7 @@ pub record ServiceReached (p : Frame) (first : ℕ) (v : MachineView) (rip servi
   pub flags : Flags
   pub comes : Reaches 7 (machine v rip f) (machine (pushed (with_arguments_of v b first) p.sp (return_at p.layout first (rip + 5))) service flags)
 
-pub service_reached : (p : Frame) (first : ℕ) (v : MachineView) (rip to service : ℕ) (f : Flags) (b : BodyState) → Roomy p → first + 4 ≤ p.counts.temporaries → sp_of v ≡ p.sp → Holds p v.memory b → HasBelow v.memory p.sp 8
+pub service_reached : (p : Frame) (first : ℕ) (v : MachineView) (rip to service : ℕ) (f : Flags) (b : BodyState) → Roomy p → first + 4 ≤ p.counts.temporaries → sp_of v ≡ p.sp → FrameHolds p v.memory b → HasBelow v.memory p.sp 8
     → IsNear (return_at p.layout first (rip + 5)) to → HasCode v.memory rip (call_built_in_code p.layout first rip to) → HasThunk v.memory to service
     → ServiceReached p first v rip service f b
 service_reached p first v rip to service f b room le at h below near code thunk =

@@ -17,7 +17,7 @@ use Rattle.template_code.specs.Calls.{keep_register, passing_code}
 use Rattle.x64_templates.specs.Straight.{MachineView, Executes}
 use Rattle.x64_templates.specs.CallStates.{sp_of}
 use Rattle.x64_templates.specs.Frames.{slot_at, IsBytes, KeepsBase}
-use Rattle.x64_templates.specs.Runs.{Frame, Roomy, Holds, IsThere}
+use Rattle.x64_templates.specs.Runs.{Frame, Roomy, FrameHolds, IsThere}
 use Rattle.x64_templates.proofs.PlacedCode.{all_may, same_number}
 use Rattle.x64_templates.proofs.Straight.{executes_then, executes_nothing}
 use Rattle.x64_templates.proofs.Cells.{put, slot_high, fetch_does}
@@ -57,7 +57,7 @@ module _ (p : Frame) (roomy : Roomy p) (room : ℕ) where
       let l = u.0 in
       (same_number (stored m at x).byte m.byte 8 (p.sp + k) u.1 (λ a g l. beside_at m at x a high (inr (omega arith))) ∙ h.0, h.1)
 
-  pub holds_beside : (m : Memory) (at x : ℕ) (b : BodyState) → HasOutgoing p m room → p.sp ≤ at → at + 8 ≤ p.sp + room → ((k : ℕ) → p.layout.base ≡ Some k → p.sp + k + 8 < 2 ^ 64) → Holds p m b → Holds p (stored m at x) b
+  pub holds_beside : (m : Memory) (at x : ℕ) (b : BodyState) → HasOutgoing p m room → p.sp ≤ at → at + 8 ≤ p.sp + room → ((k : ℕ) → p.layout.base ≡ Some k → p.sp + k + 8 < 2 ^ 64) → FrameHolds p m b → FrameHolds p (stored m at x) b
   holds_beside m at x b out low le base_high h =
       let hi = roomy.high in
       let n = out.near in
@@ -87,13 +87,13 @@ module _ (p : Frame) (roomy : Roomy p) (room : ℕ) where
     pub rax : ℕ
     pub memory : Memory
     pub does : Executes (passing_code p.layout first i n) v (record { rax = rax; rcx = v.rcx; rdx = v.rdx; rest = v.rest; memory = memory })
-    pub holds : Holds p memory b
+    pub holds : FrameHolds p memory b
     pub number : (j : ℕ) → i ≤ j → j < i + n → number_at memory.byte 8 (p.sp + 8 * j) ≡ b.slots (Temporary (first + j))
     pub same : (a : ℕ) → (a < p.sp + 8 * i) ⊎ (p.sp + 8 * (i + n) ≤ a) → memory.byte a ≡ v.memory.byte a
     pub protection : memory.protection ≡ v.memory.protection
     pub bytes : IsBytes v.memory → IsBytes memory
 
-  pub passes : (first i n : ℕ) (v : MachineView) (b : BodyState) → ((k : ℕ) → p.layout.base ≡ Some k → p.sp + k + 8 < 2 ^ 64) → first + i + n ≤ p.counts.temporaries → 8 * (i + n) ≤ room → HasOutgoing p v.memory room → sp_of v ≡ p.sp → Holds p v.memory b → AllPassed first i n v b
+  pub passes : (first i n : ℕ) (v : MachineView) (b : BodyState) → ((k : ℕ) → p.layout.base ≡ Some k → p.sp + k + 8 < 2 ^ 64) → first + i + n ≤ p.counts.temporaries → 8 * (i + n) ≤ room → HasOutgoing p v.memory room → sp_of v ≡ p.sp → FrameHolds p v.memory b → AllPassed first i n v b
   passes first i zero v b base_high le fits out at h = record {
     rax = v.rax;
     memory = v.memory;

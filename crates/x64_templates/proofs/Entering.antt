@@ -13,7 +13,7 @@ use Rattle.template_code.specs.Calls.{parameter_register, keep_register, stack_p
 use Rattle.x64_templates.specs.CallStates.{sp_of, with_sp, moved}
 use Rattle.x64_templates.specs.EntryStates.{with_arguments, InRegisters, OnStack, IsFunction, body_in_memory, FreshFrame}
 use Rattle.x64_templates.proofs.PlacedCode.{enters_then}
-use Rattle.x64_templates.specs.Runs.{ChangesOwn, HasCode, Frame, Roomy, Holds, ReachesBody, Enters, EntersBody}
+use Rattle.x64_templates.specs.Runs.{ChangesOwn, HasCode, Frame, Roomy, FrameHolds, ReachesBody, Enters, EntersBody}
 use Rattle.template_code.proofs.Sizes.{sizes_append}
 use Rattle.x64_templates.proofs.Encoded.{Fine, fine_both, near}
 use Rattle.x64_templates.proofs.Computes.{code_split, runs_view}
@@ -37,7 +37,7 @@ pub parameters_fine : (p : Frame) (i n count : ℕ) (arguments : ℕ → ℕ) (m
 parameters_fine p i zero count arguments m room lc ll stack = tt
 parameters_fine p i (suc n) count arguments m room lc ll stack = fine_both (parameter_code p.layout i) (parameters_code p.layout (i + 1) n) (parameter_fine p i count arguments m room (omega arith) (omega arith) stack) (parameters_fine p (i + 1) n count arguments m room (omega arith) (omega arith) stack)
 
-pub fresh_holds : (p : Frame) (m source : Memory) → FreshFrame p m source → Holds p m (body_in_memory p.layout p.sp p.base m source)
+pub fresh_holds : (p : Frame) (m source : Memory) → FreshFrame p m source → FrameHolds p m (body_in_memory p.layout p.sp p.base m source)
 fresh_holds p m source b = holds_body_in_memory p.layout p.counts p.reserved p.sp p.base m source b.bytes b.base b.writable b.own b.own_base b.agrees
 
 not_sp : (i : ℕ) → i ≢ 1 → (rest : List ℕ) (x : ℕ) → get_or (set rest 1 x) i 0 ≡ get_or rest i 0
@@ -45,7 +45,7 @@ not_sp i ne rest x = get_or-set_other rest 1 i x 0 ne
 
 -- ---- parameters, once RSP is the frame's
 
-pub parameters_run : (p : Frame) (count : ℕ) (arguments : ℕ → ℕ) (v : MachineView) (rip : ℕ) (f : Flags) (b : BodyState) → Roomy p → IsFunction p → count ≤ p.counts.locals → sp_of v ≡ p.sp → Holds p v.memory b → InRegisters v arguments → OnStack p v.memory count arguments → HasCode v.memory rip (parameters_code p.layout 0 count) → ReachesBody p (length (parameters_code p.layout 0 count)) (machine v rip f) (rip + sizes (parameters_code p.layout 0 count)) v.rest (record { slots = with_arguments b.slots arguments 0 count; memory = b.memory })
+pub parameters_run : (p : Frame) (count : ℕ) (arguments : ℕ → ℕ) (v : MachineView) (rip : ℕ) (f : Flags) (b : BodyState) → Roomy p → IsFunction p → count ≤ p.counts.locals → sp_of v ≡ p.sp → FrameHolds p v.memory b → InRegisters v arguments → OnStack p v.memory count arguments → HasCode v.memory rip (parameters_code p.layout 0 count) → ReachesBody p (length (parameters_code p.layout 0 count)) (machine v rip f) (rip + sizes (parameters_code p.layout 0 count)) v.rest (record { slots = with_arguments b.slots arguments 0 count; memory = b.memory })
 parameters_run p count arguments v rip f b room fn le at h regs stack code =
     let params = parameters_code p.layout 0 count in
     let k = parameters_do p 0 count count v b arguments room fn (omega arith) (omega arith) at h regs stack in

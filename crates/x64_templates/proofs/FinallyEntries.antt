@@ -17,7 +17,7 @@ use Rattle.x64_templates.specs.Frames.{HasRoom, KeepsBase, KeepsReserved, HoldsB
 use Rattle.template_code.specs.Calls.{finally_entry}
 use Rattle.x64_templates.specs.CallStates.{sp_of, with_sp, moved}
 use Rattle.x64_templates.specs.EntryStates.{joined, body_in_memory}
-use Rattle.x64_templates.specs.Runs.{HasCode, Frame, Roomy, Holds, IsThere, Enters}
+use Rattle.x64_templates.specs.Runs.{HasCode, Frame, Roomy, FrameHolds, IsThere, Enters}
 use Rattle.template_code.proofs.Sizes.{sizes_append}
 use Rattle.x64_templates.proofs.Computes.{code_split}
 use Rattle.x64_templates.proofs.Returns.{sp_moved}
@@ -49,7 +49,7 @@ pub record FinallyEntered (p : Frame) (flag : Slot) (c : BodyState) (v : Machine
   pub temporaries : Slot → ℕ
   pub comes : Enters turns (machine v rip f) (machine after to flags)
   pub rest : after.rest ≡ with_sp v.rest p.sp
-  pub holds : Holds p after.memory (record { slots = with_slot (joined c.slots temporaries) flag (low W32 v.rcx); memory = c.memory })
+  pub holds : FrameHolds p after.memory (record { slots = with_slot (joined c.slots temporaries) flag (low W32 v.rcx); memory = c.memory })
 
 pub finally_enters : (p : Frame) (yf : Layout) (nf : Counts) (spf b : ℕ) (flag : Slot) (c : BodyState) (v : MachineView) (rip : ℕ) (f : Flags) → FuncletFrames p yf nf spf b v.memory c → IsThere p flag → length v.rest ≡ 13 → sp_of v ≡ p.sp + p.layout.frame → v.rdx ≡ p.base → HasCode v.memory rip (finally_entry p.layout b flag) → FinallyEntered p flag c v rip (rip + sizes (finally_entry p.layout b flag)) f
 finally_enters p yf nf spf b flag c v rip f k there n at is code =

@@ -16,7 +16,7 @@ use Rattle.template_code.specs.Slots.{keep}
 use Rattle.x64_templates.specs.Frames.{KeepsBase}
 use Rattle.template_code.specs.Calls.{enter_code, keep_register, keep_base, keep_parents_base}
 use Rattle.x64_templates.specs.CallStates.{sp_of, moved}
-use Rattle.x64_templates.specs.Runs.{HasCode, Frame, Roomy, Holds, IsThere, ReachesBody, Enters}
+use Rattle.x64_templates.specs.Runs.{HasCode, Frame, Roomy, FrameHolds, IsThere, ReachesBody, Enters}
 use Rattle.x64_templates.proofs.Straight.{executes_one}
 use Rattle.template_code.proofs.Sizes.{sizes_append}
 use Rattle.x64_templates.proofs.Cells.{put}
@@ -76,7 +76,7 @@ pointers_kept v sp d x rip f at is small near_d cell code =
     r
 
 -- a `__finally` block keeps ECX, its flag, in a local of the activation
-pub flag_run : (p : Frame) (flag : Slot) (v : MachineView) (rip : ℕ) (f : Flags) (b : BodyState) → Roomy p → IsThere p flag → sp_of v ≡ p.sp → Holds p v.memory b → HasCode v.memory rip ((move W32 Rax Rcx ∷ []) ++ keep p.layout flag) → ReachesBody p (length ((move W32 Rax Rcx ∷ []) ++ keep p.layout flag)) (machine v rip f) (rip + sizes ((move W32 Rax Rcx ∷ []) ++ keep p.layout flag)) v.rest (record { slots = with_slot b.slots flag (low W32 v.rcx); memory = b.memory })
+pub flag_run : (p : Frame) (flag : Slot) (v : MachineView) (rip : ℕ) (f : Flags) (b : BodyState) → Roomy p → IsThere p flag → sp_of v ≡ p.sp → FrameHolds p v.memory b → HasCode v.memory rip ((move W32 Rax Rcx ∷ []) ++ keep p.layout flag) → ReachesBody p (length ((move W32 Rax Rcx ∷ []) ++ keep p.layout flag)) (machine v rip f) (rip + sizes ((move W32 Rax Rcx ∷ []) ++ keep p.layout flag)) v.rest (record { slots = with_slot b.slots flag (low W32 v.rcx); memory = b.memory })
 flag_run p flag v rip f b room is at h code =
     let i = move W32 Rax Rcx in
     let q : low W32 (low W32 v.rcx) ≡ low W32 v.rcx = omega arith in

@@ -20,7 +20,7 @@ use Rattle.template_code.specs.Slots.{fetched}
 use Rattle.template_code.specs.Calls.{field_at, field_load, information_code}
 use Rattle.x64_templates.specs.CallStates.{sp_of}
 use Rattle.x64_templates.specs.Exceptions.{field_width, IsField, Reads, HasException}
-use Rattle.x64_templates.specs.Runs.{HasCode, Frame, Roomy, Holds, IsThere, ReachesBody}
+use Rattle.x64_templates.specs.Runs.{HasCode, Frame, Roomy, FrameHolds, IsThere, ReachesBody}
 use Rattle.x64_templates.proofs.Straight.{executes_one, executes_then}
 use Rattle.x64_templates.proofs.Cells.{put}
 use Rattle.x64_templates.proofs.Encoded.{Fine, near}
@@ -80,7 +80,7 @@ small_field ExceptionFlags x = omega arith
 small_field NumberParameters x = omega arith
 small_field (ExceptionInformation k) x = omega arith
 
-pub information_run : (p : Frame) (to : Slot) (field : Field) (v : MachineView) (at : ℕ) (f : Flags) (b : BodyState) (x : ℕ) → Roomy p → IsThere p to → IsField field → p.layout.pointers < 2 ^ 31 → sp_of v ≡ p.sp → Holds p v.memory b → x < 2 ^ 64 → HasException v.memory (p.sp + p.layout.pointers) field x → HasCode v.memory at (information_code p.layout to field) → ReachesBody p (length (information_code p.layout to field)) (machine v at f) (at + sizes (information_code p.layout to field)) v.rest (record { slots = with_slot b.slots to (field_number field x); memory = b.memory })
+pub information_run : (p : Frame) (to : Slot) (field : Field) (v : MachineView) (at : ℕ) (f : Flags) (b : BodyState) (x : ℕ) → Roomy p → IsThere p to → IsField field → p.layout.pointers < 2 ^ 31 → sp_of v ≡ p.sp → FrameHolds p v.memory b → x < 2 ^ 64 → HasException v.memory (p.sp + p.layout.pointers) field x → HasCode v.memory at (information_code p.layout to field) → ReachesBody p (length (information_code p.layout to field)) (machine v at f) (at + sizes (information_code p.layout to field)) v.rest (record { slots = with_slot b.slots to (field_number field x); memory = b.memory })
 information_run p to field v at f b x room is isf near_p sp h lt e code =
     let y = p.layout in
     let i0 = fetched Rax Rsp y.pointers in

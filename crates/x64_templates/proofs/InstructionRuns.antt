@@ -17,7 +17,7 @@ use Rattle.template_code.specs.Operations.{work}
 use Rattle.template_code.specs.Slots.{fetch, keep, keep_local, local_at, operands_code, finish_code, compute_code}
 use Rattle.template_code.specs.Jumps.{compare_zero, jump_equal, jump_if_zero_code, test_code, IsNear}
 use Rattle.template_code.specs.Template.{Links, nowhere, template, template_size, body_size, offset_of, code_from, IsBody}
-use Rattle.x64_templates.specs.Runs.{HasCode, Frame, Roomy, Holds, ReachesBody, Computed}
+use Rattle.x64_templates.specs.Runs.{HasCode, Frame, Roomy, FrameHolds, ReachesBody, Computed}
 use Rattle.x64_templates.specs.InstructionRuns.{InstructionDone}
 use Rattle.x64_templates.proofs.Cells.{sp_of}
 use Rattle.template_code.proofs.Lengths.{fetch_length, compute_length}
@@ -80,7 +80,7 @@ jump_template : (y : Layout) (here label : ℕ) → here + 5 ≡ here + template
 unfolding template_size size
 jump_template y here label = refl
 
-pub instruction_run : (p : Frame) (k : Links) (instruction : Instruction) (v : MachineView) (here : ℕ) (f : Flags) (b : BodyState) → Roomy p → HasSlots p.counts instruction → LabelsNear k p.layout here instruction → sp_of v ≡ p.sp → Holds p v.memory b → HasCode v.memory here (template k p.layout here instruction) → InstructionDone p k v here f b instruction (step p.reserved instruction b)
+pub instruction_run : (p : Frame) (k : Links) (instruction : Instruction) (v : MachineView) (here : ℕ) (f : Flags) (b : BodyState) → Roomy p → HasSlots p.counts instruction → LabelsNear k p.layout here instruction → sp_of v ≡ p.sp → FrameHolds p v.memory b → HasCode v.memory here (template k p.layout here instruction) → InstructionDone p k v here f b instruction (step p.reserved instruction b)
 instruction_run p k (instructions.Compute to o first second) v here f b room has near at h code = compute_done p k to o first second v here f b (performed p.reserved o (b.slots first) (b.slots second) b.memory) (compute_run p to o first second v here f b room has.0 has.1 has.2 at h code)
 instruction_run p k (instructions.Jump label) v here f b room has near at h code =
     record { least = omega arith; most = omega arith; follows = jump_run p v here (k.label label) f b (subst (λ a. IsNear a (k.label label)) (sym (jump_template p.layout here label)) near) h code }
@@ -123,7 +123,7 @@ labels_near k y start body number (instructions.JumpIfZero slot label) is high s
 labels_near k y start body number instruction is high small le = tt
 
 -- the instruction of a number in a body
-pub body_instruction_run : (p : Frame) (k : Links) (start : ℕ) (body : List Instruction) (number : ℕ) (v : MachineView) (f : Flags) (b : BodyState) → Roomy p → IsBody k p.layout start body → body_size p.layout body < 2 ^ 31 → start + body_size p.layout body < 2 ^ 48 → number < length body → HasSlots p.counts (get_or body number instructions.Separator) → sp_of v ≡ p.sp → Holds p v.memory b → HasCode v.memory start (code_from k p.layout start body) → InstructionDone p k v (start + offset_of p.layout body number) f b (get_or body number instructions.Separator) (step p.reserved (get_or body number instructions.Separator) b)
+pub body_instruction_run : (p : Frame) (k : Links) (start : ℕ) (body : List Instruction) (number : ℕ) (v : MachineView) (f : Flags) (b : BodyState) → Roomy p → IsBody k p.layout start body → body_size p.layout body < 2 ^ 31 → start + body_size p.layout body < 2 ^ 48 → number < length body → HasSlots p.counts (get_or body number instructions.Separator) → sp_of v ≡ p.sp → FrameHolds p v.memory b → HasCode v.memory start (code_from k p.layout start body) → InstructionDone p k v (start + offset_of p.layout body number) f b (get_or body number instructions.Separator) (step p.reserved (get_or body number instructions.Separator) b)
 body_instruction_run p k start body number v f b room is small high lt has at h code =
     let y = p.layout in
     let instruction = get_or body number instructions.Separator in

@@ -11,7 +11,7 @@ use Rattle.template_code.specs.Calls.{stack_parameter, parameters_code}
 use Rattle.x64_templates.specs.CallStates.{sp_of, with_sp, pushed, HasBelow}
 use Rattle.x64_templates.specs.EntryStates.{with_arguments, InRegisters, OnStack, IsFunction, body_in_memory, FreshFrame}
 use Rattle.template_code.specs.Probing.{check_stack, enter_large}
-use Rattle.x64_templates.specs.Runs.{Reaches, HasCode, Frame, Roomy, Holds}
+use Rattle.x64_templates.specs.Runs.{Reaches, HasCode, Frame, Roomy, FrameHolds}
 use Rattle.template_code.proofs.Sizes.{sizes_append}
 use Rattle.x64_templates.proofs.Computes.{code_split}
 use Rattle.template_code.proofs.Sizes.{call_size}
@@ -51,7 +51,7 @@ pub record LargeEntered (p : Frame) (v : MachineView) (rip to : ℕ) (f : Flags)
   pub eleventh : ℕ
   pub comes : Reaches turns (machine v rip f) (machine after to flags)
   pub rest : after.rest ≡ with_sp (set v.rest 8 eleventh) p.sp
-  pub holds : Holds p after.memory b
+  pub holds : FrameHolds p after.memory b
 
 pub large_function_enters : (p : Frame) (count : ℕ) (arguments : ℕ → ℕ) (v : MachineView) (source : Memory) (rip check : ℕ) (f : Flags) → Roomy p → IsFunction p → p.layout.base ≡ None → count ≤ p.counts.locals → length v.rest ≡ 13 → sp_of v ≡ p.sp + p.layout.frame → p.layout.frame < 2 ^ 31 → HasBelow v.memory (p.sp + p.layout.frame) 8 → ((a : ℕ) → p.sp + p.layout.frame ≤ a + 8 → a < p.sp + p.layout.frame → p.reserved a ≡ true) → Touchable v.memory (p.sp + p.layout.frame) p.layout.frame → FreshFrame p v.memory source → InRegisters v arguments → OnStack p v.memory count arguments → IsNear (rip + 10) check → rip + 10 < 2 ^ 48 → HasCode v.memory check check_stack → HasCode v.memory rip (enter_large p.layout.frame rip check ++ parameters_code p.layout 0 count) → LargeEntered p v rip (rip + sizes (enter_large p.layout.frame rip check ++ parameters_code p.layout 0 count)) f (record { slots = with_arguments (body_in_memory p.layout p.sp p.base (pushed v (p.sp + p.layout.frame) (rip + 10)).memory source).slots arguments 0 count; memory = source })
 large_function_enters p count arguments v source rip check f room fn none le n at small below own touch bare regs stack near high leaf code =

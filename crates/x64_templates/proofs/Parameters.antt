@@ -20,7 +20,7 @@ use Rattle.template_code.specs.Calls.{parameter_register, keep_register, stack_p
 use Rattle.x64_templates.specs.CallStates.{sp_of}
 use Rattle.x64_templates.specs.Frames.{slot_at, InTemporaries, InLocals}
 use Rattle.x64_templates.specs.EntryStates.{with_arguments, InRegisters, OnStack, IsFunction}
-use Rattle.x64_templates.specs.Runs.{Frame, Roomy, Holds, ChangesOwn}
+use Rattle.x64_templates.specs.Runs.{Frame, Roomy, FrameHolds, ChangesOwn}
 use Rattle.x64_templates.proofs.Straight.{executes_one, executes_then, executes_nothing}
 use Rattle.x64_templates.proofs.Cells.{put, from_sp, may_write_slot}
 use Rattle.x64_templates.proofs.Bodies.{holds_after, changes_slot, changes_then}
@@ -58,7 +58,7 @@ pub record Kept (p : Frame) (i : ℕ) (v : MachineView) (x : ℕ) : Type 0 where
 local_address : (p : Frame) (i sp : ℕ) → Roomy p → IsFunction p → i < p.counts.locals → sp ≡ p.sp → (sp + 0 + local_at p.layout i) % 2 ^ 64 ≡ slot_at p.layout p.sp p.base (Local i)
 local_address p i sp room fn lt e = let a = room.locals in let h = room.high in let b = fn.base in omega arith
 
-parameter_does : (p : Frame) (i count : ℕ) (v : MachineView) (b : BodyState) (arguments : ℕ → ℕ) → Roomy p → IsFunction p → i < count → i < p.counts.locals → sp_of v ≡ p.sp → Holds p v.memory b → InRegisters v arguments → OnStack p v.memory count arguments → Kept p i v (arguments i)
+parameter_does : (p : Frame) (i count : ℕ) (v : MachineView) (b : BodyState) (arguments : ℕ → ℕ) → Roomy p → IsFunction p → i < count → i < p.counts.locals → sp_of v ≡ p.sp → FrameHolds p v.memory b → InRegisters v arguments → OnStack p v.memory count arguments → Kept p i v (arguments i)
 parameter_does p i count v b arguments room fn lc ll at h regs stack =
     let y = p.layout in
     let to = slot_at y p.sp p.base (Local i) in
@@ -92,7 +92,7 @@ pub record AllKept (p : Frame) (i n : ℕ) (v : MachineView) (b : BodyState) (ar
   pub rax : ℕ
   pub memory : Memory
   pub does : Executes (parameters_code p.layout i n) v (record { rax = rax; rcx = v.rcx; rdx = v.rdx; rest = v.rest; memory = memory })
-  pub holds : Holds p memory (record { slots = with_arguments b.slots arguments i n; memory = b.memory })
+  pub holds : FrameHolds p memory (record { slots = with_arguments b.slots arguments i n; memory = b.memory })
   pub changes : ChangesOwn p v.memory memory
 
 above_slots : (p : Frame) (i a : ℕ) → IsFunction p → p.sp + stack_parameter p.layout i ≤ a → InTemporaries p.layout p.counts p.sp a ⊎ InLocals p.layout p.counts p.base a → ⊥
@@ -107,7 +107,7 @@ still_on_stack p m m' count arguments room fn c s = record {
   small = s.small;
 }
 
-pub parameters_do : (p : Frame) (i n count : ℕ) (v : MachineView) (b : BodyState) (arguments : ℕ → ℕ) → Roomy p → IsFunction p → i + n ≤ count → i + n ≤ p.counts.locals → sp_of v ≡ p.sp → Holds p v.memory b → InRegisters v arguments → OnStack p v.memory count arguments → AllKept p i n v b arguments
+pub parameters_do : (p : Frame) (i n count : ℕ) (v : MachineView) (b : BodyState) (arguments : ℕ → ℕ) → Roomy p → IsFunction p → i + n ≤ count → i + n ≤ p.counts.locals → sp_of v ≡ p.sp → FrameHolds p v.memory b → InRegisters v arguments → OnStack p v.memory count arguments → AllKept p i n v b arguments
 parameters_do p i zero count v b arguments room fn lc ll at h regs stack = record { rax = v.rax; memory = v.memory; does = executes_nothing v; holds = h; changes = record { protection = refl; byte = λ a own out. refl; bytes = λ x. x } }
 parameters_do p i (suc n) count v b arguments room fn lc ll at h regs stack =
     let y = p.layout in

@@ -16,7 +16,7 @@ use Rattle.template_code.specs.Bytes.{sizes}
 use Rattle.template_code.specs.Slots.{operands_code, finish_code}
 use Rattle.template_code.specs.Template.{Links, template, template_size, offset_of}
 use Rattle.x64_templates.specs.Implements.{HasOperands}
-use Rattle.x64_templates.specs.Runs.{HasCode, Frame, Roomy, Holds, ChangesOwn, ReachesBody, ReachesFault, Finished}
+use Rattle.x64_templates.specs.Runs.{HasCode, Frame, Roomy, FrameHolds, ChangesOwn, ReachesBody, ReachesFault, Finished}
 use Rattle.x64_templates.specs.InstructionRuns.{InstructionDone, IsLinked}
 use Rattle.template_code.proofs.Sizes.{sizes_append}
 use Rattle.x64_templates.proofs.Cells.{sp_of}
@@ -34,7 +34,7 @@ refused p k instruction to first second o v here f b s code access is e done = s
 few_operands : (y : Layout) (to : Slot) (o : Operation) (first second : Slot) → length (operands_code y o first second) ≤ 16
 few_operands y to o first second = let l = compute_length y to o first second in omega (arith, length-append (operands_code y o first second) (finish_code y o to))
 
-pub body_faults : (p : Frame) (k : Links) (start : ℕ) (body : List Instruction) (n number : ℕ) (v : MachineView) (f : Flags) (b : BodyState) (last : ℕ) (c : BodyState) (to first second : Slot) (o : Operation) (code : Code) (access : Option (Bool × ℕ)) → Roomy p → IsLinked p k v.memory start body → sp_of v ≡ p.sp → Holds p v.memory b → run p.reserved body n number b ≡ Some (last, c) → last < length body → get_or body last instructions.Separator ≡ instructions.Compute to o first second → step p.reserved (instructions.Compute to o first second) c ≡ Faults code access → FaultsAfter p n v (start + offset_of p.layout body number) f (start + offset_of p.layout body last + sizes (operands_code p.layout o first second)) o (c.slots first) (c.slots second) code access c
+pub body_faults : (p : Frame) (k : Links) (start : ℕ) (body : List Instruction) (n number : ℕ) (v : MachineView) (f : Flags) (b : BodyState) (last : ℕ) (c : BodyState) (to first second : Slot) (o : Operation) (code : Code) (access : Option (Bool × ℕ)) → Roomy p → IsLinked p k v.memory start body → sp_of v ≡ p.sp → FrameHolds p v.memory b → run p.reserved body n number b ≡ Some (last, c) → last < length body → get_or body last instructions.Separator ≡ instructions.Compute to o first second → step p.reserved (instructions.Compute to o first second) c ≡ Faults code access → FaultsAfter p n v (start + offset_of p.layout body number) f (start + offset_of p.layout body last + sizes (operands_code p.layout o first second)) o (c.slots first) (c.slots second) code access c
 body_faults p k start body n number v f b last c to first second o code access room l at h runs lt is e =
     let g = body_runs p k start body n room number v f b last c l at h runs in
     let w = g.follows.after in
@@ -56,7 +56,7 @@ body_faults p k start body n number v f b last c to first second o code access r
       comes = reaches_then g.turns (length (operands_code p.layout o first second)) (machine v (start + offset_of p.layout body number) f) (machine w here g.follows.flags) (machine r.stopped (here + sizes (operands_code p.layout o first second)) r.left) g.follows.comes r.comes;
       waits = r.waits;
       rest = r.rest ∙ g.follows.rest;
-      holds = subst (λ m. Holds p m c) (sym r.memory) g.follows.holds;
+      holds = subst (λ m. FrameHolds p m c) (sym r.memory) g.follows.holds;
       changes = subst (λ m. ChangesOwn p v.memory m) (sym r.memory) g.follows.changes;
       fault = r.fault;
     }
@@ -66,7 +66,7 @@ retried_by p next to o v at f b (Gives x m) e g = subst (λ a. ReachesBody p (le
 retried_by p next to o v at f b (Raises code access) e g = g
 retried_by p next to o v at f b (Undefined a) e g = tt
 
-pub body_retries : (p : Frame) (k : Links) (start : ℕ) (body : List Instruction) (number : ℕ) (v : MachineView) (f : Flags) (b : BodyState) (to first second : Slot) (o : Operation) (x y : ℕ) → Roomy p → IsLinked p k v.memory start body → number < length body → get_or body number instructions.Separator ≡ instructions.Compute to o first second → x < 2 ^ 64 → y < 2 ^ 64 → HasOperands o x y v → sp_of v ≡ p.sp → Holds p v.memory b → Retried p (start + offset_of p.layout body (suc number)) to o v (start + offset_of p.layout body number + sizes (operands_code p.layout o first second)) f b (performed p.reserved o x y b.memory)
+pub body_retries : (p : Frame) (k : Links) (start : ℕ) (body : List Instruction) (number : ℕ) (v : MachineView) (f : Flags) (b : BodyState) (to first second : Slot) (o : Operation) (x y : ℕ) → Roomy p → IsLinked p k v.memory start body → number < length body → get_or body number instructions.Separator ≡ instructions.Compute to o first second → x < 2 ^ 64 → y < 2 ^ 64 → HasOperands o x y v → sp_of v ≡ p.sp → FrameHolds p v.memory b → Retried p (start + offset_of p.layout body (suc number)) to o v (start + offset_of p.layout body number + sizes (operands_code p.layout o first second)) f b (performed p.reserved o x y b.memory)
 body_retries p k start body number v f b to first second o x y room l lt is lx ly waits at h =
     let here = start + offset_of p.layout body number in
     let ops = operands_code p.layout o first second in

@@ -6,7 +6,7 @@ use Rattle.flat_memory.specs.Memory.{Memory}
 use Rattle.linear_code.specs.BodyState.{Counts}
 use Rattle.x64_templates.specs.Frames.{Agrees}
 use Rattle.x64_templates.specs.EntryStates.{IsFunction, body_in_memory, FreshFrame}
-use Rattle.x64_templates.specs.Runs.{Frame, Roomy, Holds}
+use Rattle.x64_templates.specs.Runs.{Frame, Roomy, FrameHolds}
 use Rattle.x64_templates.proofs.Entering.{fresh_holds}
 
 -- 16 temporaries and 4 locals
@@ -38,5 +38,5 @@ plain_agrees = record { byte = λ a r. refl; protection = λ a r. refl; guard = 
 function_bare : FreshFrame function_place plain_memory plain_memory
 function_bare = record { bytes = λ a. (let z : 0 < 256 = omega arith in z); writable = λ a is. refl; own = λ a is. refl; base = tt; own_base = tt; agrees = plain_agrees }
 
-function_holds : Holds function_place plain_memory (body_in_memory function_place.layout function_place.sp function_place.base plain_memory plain_memory)
+function_holds : FrameHolds function_place plain_memory (body_in_memory function_place.layout function_place.sp function_place.base plain_memory plain_memory)
 function_holds = fresh_holds function_place plain_memory plain_memory function_bare

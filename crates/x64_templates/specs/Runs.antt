@@ -68,8 +68,8 @@ pub record Frame : Type 0 where
 abbrev pub Roomy : Frame → Type 0
 Roomy p = HasRoom p.layout p.counts p.sp p.base
 
-abbrev pub Holds : Frame → Memory → BodyState → Type 0
-Holds p m b = HoldsBody p.layout p.counts p.reserved p.sp p.base m b
+abbrev pub FrameHolds : Frame → Memory → BodyState → Type 0
+FrameHolds p m b = HoldsBody p.layout p.counts p.reserved p.sp p.base m b
 
 abbrev pub ChangesOwn : Frame → Memory → Memory → Type 0
 ChangesOwn p old new = Changes p.layout p.counts p.reserved p.sp p.base old new
@@ -85,7 +85,7 @@ pub record ReachesBody (p : Frame) (turns : ℕ) (s : State) (to : ℕ) (others 
   pub flags : Flags
   pub comes : Reaches turns s (machine after to flags)
   pub rest : after.rest ≡ others
-  pub holds : Holds p after.memory b
+  pub holds : FrameHolds p after.memory b
   pub changes : ChangesOwn p s.memory after.memory
 
 -- the same from a function's first byte
@@ -95,7 +95,7 @@ pub record EntersBody (p : Frame) (turns : ℕ) (s : State) (to : ℕ) (others :
   pub flags : Flags
   pub comes : Enters turns s (machine after to flags)
   pub rest : after.rest ≡ others
-  pub holds : Holds p after.memory b
+  pub holds : FrameHolds p after.memory b
   pub changes : ChangesOwn p s.memory after.memory
 
 -- the run comes to an instruction that faults, with both operands in their registers and nothing in
