@@ -27,6 +27,7 @@ use Rattle.body_states.specs.Callers.{FindsReturn}
 use Rattle.body_states.proofs.Beneath.{StepsTo, steps_split, keeps_split, Beneath, IsPlain, AllPlain, Finds, ran}
 use Rattle.body_states.proofs.Finding.{argument_found}
 use Rattle.body_states.proofs.FrameMaking.{making_steps, frame_there, made_by}
+use Rattle.template_code.specs.declared.layout.TheConstants.{LARGEST_FRAME}
 
 -- ---- what entries and calls are made of
 
@@ -87,7 +88,7 @@ module _ (t : Functions) (fs : List Funclet) (program : LinearProgram) (p : Plan
       pub stack : register w.cpu Rsp + frame ≡ top
 
     pub entry_ran : (n : ℕ) (e w : State) (a c : List Instr) (extra : ℕ) → sites.arguments_code program p name ≡ a ++ c → n ≡ making_steps (p.leaf name) frame + length a → StepsTo n e w → e.cpu.rip ≡ begin_of p q name → register e.cpu Rsp ≡ top
-        → Beneath t e top from back others list → HasProgram t fs program p q e.memory → frame ≤ 8184 → 8192 ≤ top → from ≡ top + extra → AllPlain frame extra a → EntryRan n e w a
+        → Beneath t e top from back others list → HasProgram t fs program p q e.memory → frame + 8 ≤ LARGEST_FRAME → LARGEST_FRAME ≤ top → from ≡ top + extra → AllPlain frame extra a → EntryRan n e w a
     entry_ran n e w a c extra parts count run here at_top beneath has most low up plain =
         let making = making_steps (p.leaf name) frame in
         let h = steps_split making (length a) e w (subst (λ k. StepsTo k e w) count run) in

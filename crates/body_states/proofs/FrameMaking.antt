@@ -40,6 +40,7 @@ use Rattle.body_states.proofs.QuietTurns.{program_kept}
 use Rattle.body_states.proofs.Beneath.{read_here, effect_here, code_next, StepsTo, Beneath, Finds, ran}
 use Rattle.body_states.proofs.Crossing.{shifts, called, beneath_called, call_keeps_shadow, Probing, probes, probe_returns}
 use Rattle.body_states.proofs.Finding.{argument_found}
+use Rattle.template_code.specs.declared.layout.TheConstants.{LARGEST_FRAME}
 
 -- so many instructions make a frame, those of `__chkstk` among them
 abbrev pub making_steps : Bool → ℕ → ℕ
@@ -117,7 +118,7 @@ module _ (t : Functions) (fs : List Funclet) (program : LinearProgram) (p : Plan
 
         -- ---- a large one
 
-        module _ (framed : p.leaf name ≡ false) (large : 4096 < frame) (most : frame ≤ 8184) (low : 4096 ≤ top) where
+        module _ (framed : p.leaf name ≡ false) (large : 4096 < frame) (most : frame + 8 ≤ LARGEST_FRAME) (low : 4096 ≤ top) where
           abbrev next : ℕ
           next = begin + 10
 
@@ -298,7 +299,7 @@ module _ (t : Functions) (fs : List Funclet) (program : LinearProgram) (p : Plan
 
         -- ---- whatever its size
 
-        pub made_by : (leaf : Bool) → p.leaf name ≡ leaf → frame ≤ 8184 → 4096 ≤ top → StepsTo (making_steps leaf frame) e u → FrameMade (making_steps leaf frame) e u
+        pub made_by : (leaf : Bool) → p.leaf name ≡ leaf → frame + 8 ≤ LARGEST_FRAME → 4096 ≤ top → StepsTo (making_steps leaf frame) e u → FrameMade (making_steps leaf frame) e u
         made_by true leaf most low r = leaf_made leaf r
         made_by false framed most low r = by (nat_le frame 4096) refl r
           where

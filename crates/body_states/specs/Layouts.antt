@@ -5,6 +5,7 @@ use Rattle.linear_code.specs.Program.{LinearProgram, LinearBody, LinearFunclet}
 use Rattle.linear_machine.specs.Frames.{BodyName, FunctionBody, FuncletBody, body_of}
 use Rattle.template_code.specs.declared.layout.Layout.{Layout}
 use Rattle.linked_stack.specs.ImagePlan.{Plan}
+use Rattle.template_code.specs.declared.layout.TheConstants.{LARGEST_FRAME}
 
 -- a function's frame, from RSP up: home space and further arguments of its calls, temporaries,
 -- locals
@@ -13,7 +14,7 @@ pub record IsFunctionLayout (y : Layout) (b : LinearBody) : Type 0 where
   pub passed : 32 + 8 * b.passed ≤ y.temporaries
   pub temporaries : y.temporaries + 8 * b.temporaries ≤ y.locals
   pub locals : y.locals + 8 * b.locals ≤ y.frame
-  pub small : y.frame ≤ 8184
+  pub small : y.frame + 8 ≤ LARGEST_FRAME
 
 -- a leaf function has no frame: its slots are in the home space above its return address
 pub record IsLeafLayout (y : Layout) (b : LinearBody) : Type 0 where

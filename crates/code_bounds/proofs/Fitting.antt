@@ -1,5 +1,5 @@
 -- The linear code of an accepted text within the limits can be linked.
-use Rattle.std.proofs.Common.{◌≡◌, ℕ, ◌+◌, ◌-◌, ◌^◌, ◌≤◌, List, [], ◌∷◌, length, map, Option, Some, None, refl, arith}
+use Rattle.std.proofs.Common.{◌*◌, ◌≡◌, ℕ, ◌+◌, ◌-◌, ◌^◌, ◌≤◌, List, [], ◌∷◌, length, map, Option, Some, None, refl, arith}
 use Rattle.std.specs.List.{AllByRecursion}
 use Rattle.std.proofs.lemmas.Bool.{leb-true}
 use Rattle.c_operations.specs.declared.field.Field.{Field}
@@ -32,10 +32,11 @@ use Rattle.ir_bounds.proofs.PlainExpressions.{all_append}
 use Rattle.frame_bounds.proofs.Frames.{accepted_is_small}
 use Rattle.x64_code.specs.Near.{IsFieldNear}
 use Rattle.program_link.specs.Routines as links
-use Rattle.program_link.specs.Fits.{FitsSlot, FitsInstruction, FitsBody, FitsFunction, FitsKind, FitsFunclet, tables_room, function_bodies, funclet_bodies, text_room, program_tables_room}
+use Rattle.program_link.specs.Fits.{FitsSlot, FitsInstruction, FitsBody, FitsFunction, FitsKind, FitsFunclet, tables_room, function_bodies, funclet_bodies, text_room, program_tables_room, other_room}
 use Rattle.code_bounds.proofs.Programs.{lowered_is_bounded}
 use Rattle.code_bounds.specs.BoundLaws.{AcceptedFits, TextsFit}
 use Rattle.code_bounds.proofs.CodeIsBounded.{code_is_bounded}
+use Rattle.host_layout.specs.declared.limit.TheConstants.{MOST_IMAGE}
 
 -- ---- bodies have the temporaries that their code uses
 
@@ -116,14 +117,14 @@ code_fits b (i ∷ is) h le = (instruction_fits b i h.0 (omega arith), code_fits
 
 -- ---- bodies
 
-body_fits : (b : LinearBody) → IsSmallBody b → IsCounted b → length b.regions ≤ 2 ^ 24 → FitsBody b
+body_fits : (b : LinearBody) → IsSmallBody b → IsCounted b → 16 * length b.regions ≤ MOST_IMAGE → FitsBody b
 body_fits b s c few =
     let p = s.passed in
     let t = s.temporaries in
     let l = s.locals in
     record { words = omega arith; code = code_fits b b.code s.code (omega arith); regions = few }
 
-functions_fit : (fs : List LinearFunction) → AllByRecursion IsSmallFunction fs → AllByRecursion FunctionIsCounted fs → tables_room (function_bodies fs) ≤ 2 ^ 28 → AllByRecursion FitsFunction fs
+functions_fit : (fs : List LinearFunction) → AllByRecursion IsSmallFunction fs → AllByRecursion FunctionIsCounted fs → tables_room (function_bodies fs) ≤ MOST_IMAGE → AllByRecursion FitsFunction fs
 functions_fit [] s c few = tt
 functions_fit (f ∷ fs) s c few = (record { parameters = s.0.parameters; body = body_fits f.body s.0.body c.0 (omega arith) }, functions_fit fs s.1 c.1 (omega arith))
 
@@ -135,7 +136,7 @@ parent_fits : (p : LinearProgram) (o : Option ℕ) → small.HasParent p o → l
 parent_fits p None h = tt
 parent_fits p (Some index) h = h
 
-funclets_fit : (p : LinearProgram) (fs : List LinearFunclet) → AllByRecursion (IsSmallFunclet p) fs → AllByRecursion FuncletIsCounted fs → tables_room (funclet_bodies fs) ≤ 2 ^ 28 → AllByRecursion (FitsFunclet p) fs
+funclets_fit : (p : LinearProgram) (fs : List LinearFunclet) → AllByRecursion (IsSmallFunclet p) fs → AllByRecursion FuncletIsCounted fs → tables_room (funclet_bodies fs) ≤ MOST_IMAGE → AllByRecursion (FitsFunclet p) fs
 funclets_fit p [] s c few = tt
 funclets_fit p (f ∷ fs) s c few =
     (record { kind = kind_fits f.body f.kind s.0.kind; function = s.0.function; parent = parent_fits p f.parent s.0.parent; body = body_fits f.body s.0.body c.0 (omega arith) }, funclets_fit p fs s.1 c.1 (omega arith))
@@ -165,7 +166,7 @@ accepted_fits text xs within accepted few =
     let g = n.funclets in
     let b = lowered_is_bounded program in
     let c = code_is_bounded text xs in
-    let all : text_room p + program_tables_room p ≤ 2 ^ 28 - 2 ^ 21 = omega arith in
+    let all : text_room p + program_tables_room p + other_room ≤ MOST_IMAGE = omega arith in
     let globals = s.globals in
     record {
       globals = omega arith;

@@ -1,5 +1,5 @@
 -- What is claimed of every accepted text within the limits and the linear code of its program.
-use Rattle.std.specs.Prelude.{◌≤◌, ℕ, ◌*◌, ◌^◌, List, length}
+use Rattle.std.specs.Prelude.{◌≤◌, ℕ, ◌*◌, List, length}
 use Rattle.host_layout.specs.declared.limit.TheConstants.{MOST_TEXT}
 use Rattle.c_lex.specs.declared.token.Token.{Token}
 use Rattle.c_lex.specs.Text.{IsTokens}
@@ -19,11 +19,12 @@ CodeIsBounded =
     (text : List ℕ) (xs : List ExternalDeclaration)
     → functions_room (resolve text xs).program.functions ≤ 220 * nodes_of xs
 
--- each accepted text within the limits of at most 2 to the 20 nodes can be linked
+-- each accepted text within the limits can be linked, where its nodes are no more than the bytes of
+-- the longest text
 abbrev pub AcceptedFits : Type 0
 AcceptedFits =
     (text : List ℕ) (xs : List ExternalDeclaration) → Within text xs → Accepted text xs
-    → nodes_of xs ≤ 2 ^ 20 → FitsProgram (lowered (resolve text xs).program)
+    → nodes_of xs ≤ MOST_TEXT → FitsProgram (lowered (resolve text xs).program)
 
 -- the program of tokens of a text
 abbrev pub TextsFit : Type 0

@@ -11,13 +11,14 @@ use Rattle.frame_rules.specs.Plan as rules
 use Rattle.frame_rules.specs.Bytes.{spell, prologue_code}
 use Rattle.frame_layout.specs.declared.frame.Facts.{Facts}
 use Rattle.frame_layout.specs.declared.frame.Frame.{Frame}
+use Rattle.template_code.specs.declared.layout.TheConstants.{LARGEST_FRAME}
 
 abbrev pub words : Facts → ℕ
 words f = f.passed + f.kept + f.temporaries + f.locals
 
--- with home space, a word of padding and the return address they take at most 8,192 bytes
-abbrev pub Fits : Facts → Type 0
-Fits f = words f ≤ 1018
+-- home space, these words, a word of padding and the return address are in the largest frame
+abbrev pub FitsFrame : Facts → Type 0
+FitsFrame f = 8 * (4 + words f + 2) ≤ LARGEST_FRAME
 
 -- n words, or one more, so that with the return address they are a multiple of 16 bytes
 abbrev pub allocation : ℕ → ℕ

@@ -2,7 +2,9 @@
 
 ghost use Rattle.std.specs.Prelude.{◌≡◌, ◌≤◌};
 ghost use Rattle.frame_rules.specs.Plan.{IsPlan, frame_size};
-ghost use Rattle.frame_layout.specs.Layout.{Fits, frame_of, plan_of, IsLaidOut};
+ghost use Rattle.frame_layout.specs.Layout.{FitsFrame, frame_of, plan_of, IsLaidOut};
+
+use template_code::layout::LARGEST_FRAME;
 
 /// The bytes of a word of the stack.
 const WORD: u64 = 8;
@@ -38,12 +40,12 @@ pub struct Frame {
     pub size: u64,
 }
 
-/// The frame of a function. It takes no more than 8,192 bytes, its return address counted (own).
+/// The frame of a function.
 pub fn plan(facts: &Facts) -> Frame
-    requires { Fits facts.now }
+    requires { FitsFrame facts.now }
     ensures frame { result ≡ frame_of facts.now }
     ensures laid_out { IsLaidOut facts.now result }
-    ensures size { frame_size (plan_of result 0) ≤ 8192 }
+    ensures size { frame_size (plan_of result 0) ≤ LARGEST_FRAME }
     ensures plan { IsPlan (plan_of result 0) }
 {
     let kept = HOME_WORDS + facts.passed;

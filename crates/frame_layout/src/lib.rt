@@ -5,7 +5,7 @@
 //! the instructions that take it and give it back, and [`unwind_of`] what unwinding needs to know
 //! of them. No call takes memory.
 //!
-//! Proved: they keep the rules of `frame_rules`, and no frame has more than 8,192 bytes. Begin
+//! Proved: they keep the rules of `frame_rules`, and no frame is larger than `LARGEST_FRAME`. Begin
 //! with `specs/Layout.antt`.
 #![tactic(auto)]
 

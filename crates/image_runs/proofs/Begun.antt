@@ -47,6 +47,7 @@ use Rattle.turn_steps.proofs.Entered.{words_at, words_count, words_small, argume
 use Rattle.image_runs.proofs.Entering.{IsCalled}
 use Rattle.image_runs.proofs.Entering as entering
 use Rattle.image_runs.proofs.Entries as entries
+use Rattle.template_code.specs.declared.layout.TheConstants.{LARGEST_FRAME}
 
 module _ (t : Functions) (fs : List Funclet) (program : LinearProgram) (p : Plan) (q : Sites) (image : IsProgramImage t fs program p q) (s : State) (source : Memory) (f : ℕ) (fn : LinearFunction) (top : ℕ) (given : ℕ → ℕ) (h : IsCalled t fs program p q s source f fn top given)
     (some : 0 < length fn.body.code) (sane : IsSane s) (last : top + 40 ≡ STACK_END) (returns_to : word s.memory top ≡ Ok 0) (arguments : List ℕ) (counted : length arguments ≡ fn.parameters) (same : (i v : ℕ) → slice_get arguments i ≡ Some v → given i ≡ v) where
@@ -100,7 +101,7 @@ module _ (t : Functions) (fs : List Funclet) (program : LinearProgram) (p : Plan
   arguments_are : arguments_code program p (FunctionBody f) ≡ parameters_code layout 0 fn.parameters
   arguments_are = ap (λ x. function_arguments layout x) h.function
 
-  arguments_stored : (leaf : Bool) → IsLayoutIf program p layout o leaf → AllPlain layout.frame 40 (parameters_code layout 0 fn.parameters) × (layout.frame ≤ 8184)
+  arguments_stored : (leaf : Bool) → IsLayoutIf program p layout o leaf → AllPlain layout.frame 40 (parameters_code layout 0 fn.parameters) × (layout.frame + 8 ≤ LARGEST_FRAME)
   arguments_stored true l =
       let e = l.frame in
       let a = l.locals in
@@ -159,7 +160,7 @@ module _ (t : Functions) (fs : List Funclet) (program : LinearProgram) (p : Plan
   laid : Laid (p.leaf (FunctionBody f))
   laid = image.laid_out (FunctionBody f) o there
 
-  frame_small : (leaf : Bool) → Laid leaf → layout.frame ≤ 8184
+  frame_small : (leaf : Bool) → Laid leaf → layout.frame + 8 ≤ LARGEST_FRAME
   frame_small true l = let e = l.frame in omega arith
   frame_small false l = l.small
 

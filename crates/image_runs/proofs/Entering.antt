@@ -36,6 +36,7 @@ use Rattle.body_steps.proofs.Reaching.{Keeps, enters_keeps}
 use Rattle.turn_steps.proofs.Callee.{own_frame, IsOwn, roomy_own, fresh_own, parameters_soon}
 use Rattle.turn_steps.proofs.Entered.{argument_is}
 use Rattle.turn_steps.proofs.Prologues.{Made}
+use Rattle.template_code.specs.declared.layout.TheConstants.{LARGEST_FRAME}
 
 -- a state at a function's first byte: its arguments are in registers, the return address is at RSP,
 -- and above that is room for a home space
@@ -101,7 +102,7 @@ module _ (t : Functions) (fs : List Funclet) (program : LinearProgram) (p : Plan
 
   -- ---- once the frame is made, the parameters
 
-  module _ (sp to n : ℕ) (made : Made view target to s.cpu.flags top sp arguments n) (y : Layout) (own : IsOwn program.globals y o sp) (whole : IsFunction (own_frame program.globals y o sp)) (same_locals : y.locals ≡ layout.locals) (short : y.frame ≤ 8184)
+  module _ (sp to n : ℕ) (made : Made view target to s.cpu.flags top sp arguments n) (y : Layout) (own : IsOwn program.globals y o sp) (whole : IsFunction (own_frame program.globals y o sp)) (same_locals : y.locals ≡ layout.locals) (short : y.frame + 8 ≤ LARGEST_FRAME)
       (place : sp + layout.frame ≡ top) (code : HasCode s.memory to (parameters_code y 0 count)) (ends : to + sizes (parameters_code y 0 count) ≡ p.address (FunctionBody f) 0)
       (outside : (a : ℕ) → Outside a → InTemporaries y (counts_of o) sp a ⊎ InLocals y (counts_of o) sp a → ⊥)
       (counted_turns : n + length (parameters_code y 0 count) ≡ making_steps (p.leaf (FunctionBody f)) layout.frame + length (arguments_code program p (FunctionBody f))) where

@@ -16,9 +16,10 @@ use Rattle.image_runs.specs.Sound.{IsLinkable}
 use Rattle.image_runs.proofs.Compiled.{lowered_is_compiled}
 use Rattle.image_runs.specs.Realises.{IsWritten, CompiledRealise, CompiledShowNothingMore}
 use Rattle.image_runs.proofs.RunImages.{linked_images_show_all, linked_images_show_no_more}
+use Rattle.host_layout.specs.declared.limit.TheConstants.{MOST_IMAGE}
 
 -- the file is no longer than the image
-short : (program : Program) → IsLinkable program → (bytes : List ℕ) → IsWritten bytes program → length bytes ≤ 268435456
+short : (program : Program) → IsLinkable program → (bytes : List ℕ) → IsWritten bytes program → length bytes ≤ MOST_IMAGE
 short program l bytes w =
     let p = linked (lowered program) in
     let q : IsProgram p = is (lowered program) l.fits in

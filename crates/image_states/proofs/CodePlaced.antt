@@ -50,6 +50,7 @@ use Rattle.image_states.specs.Compiled.{IsCompiled}
 use Rattle.image_states.proofs.Addresses.{InImage, in_image, reserved, place, here}
 use Rattle.image_states.proofs.Entering.{code_same}
 use Rattle.image_states.proofs.Data.{tables_there}
+use Rattle.host_layout.specs.declared.limit.TheConstants.{MOST_IMAGE}
 
 -- ---- code that may not be written
 
@@ -88,7 +89,7 @@ module _ (program : LinearProgram) (c : IsCompiled program) where
   abbrev r : ℕ
   r = rdata_at (sizes_of p)
 
-  low : end_at (sizes_of p) ≤ 2 ^ 28
+  low : end_at (sizes_of p) ≤ MOST_IMAGE
   low = c.small
 
   text_code : IsCodeAt m T p.text

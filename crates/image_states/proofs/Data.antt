@@ -31,6 +31,7 @@ use Rattle.program_frames.specs.InMemory.{image_base}
 use Rattle.image_states.specs.Compiled.{IsCompiled}
 use Rattle.image_states.specs.StartLaws.{HasBytes}
 use Rattle.image_states.proofs.Sections.{covered, below, above, here, past, of_section, AllBytes, bytes_front, bytes_back, stored_small, slots_small, slots_past, get_zeros, IsApart}
+use Rattle.host_layout.specs.declared.limit.TheConstants.{MOST_IMAGE}
 
 -- ---- the bytes of sections
 
@@ -96,7 +97,7 @@ module _ (program : LinearProgram) (c : IsCompiled program) where
   abbrev pub functions : Section
   functions = record { address = pdata_at (sizes_of p); size = length p.pdata; raw = p.pdata; flags = 0x40000040 }
 
-  low : end_at (sizes_of p) ≤ 2 ^ 28
+  low : end_at (sizes_of p) ≤ MOST_IMAGE
   low = c.small
 
   -- ---- which section

@@ -45,6 +45,7 @@ use Rattle.image_states.proofs.Entering.{arguments_same}
 use Rattle.image_states.proofs.Framed.{framed_of}
 use Rattle.image_states.proofs.Popping.{by_popping}
 use Rattle.image_states.proofs.Callers.{leaf_at, making_at, near, argument_at, argument_found, making_is, return_found, end_found}
+use Rattle.x64_code.specs.Near.{IsNear}
 
 -- ---- where no entry is
 
@@ -74,7 +75,7 @@ module _ (program : LinearProgram) (c : IsCompiled program) (m : Memory) where
   outside_at a rva live not_filter not_finally at none =
       by_popping table m a live not_filter not_finally (λ k here. ap (of_entry m k (distance image_base k.rip)) (ap (entry_of table) here ∙ unheld a rva at none))
 
-  first_small : first program.globals + total (routines program) < 2 ^ 30
+  first_small : IsNear (first program.globals + total (routines program))
   first_small = let end = end_inside program c.fits in let few = c.small in omega arith
 
   -- before the first routine

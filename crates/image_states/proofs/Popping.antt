@@ -26,6 +26,7 @@ use Rattle.program_link.specs.Linked.{first}
 use Rattle.program_frames.proofs.Inner.{signed}
 use Rattle.body_states.specs.Sites.{give_back}
 use Rattle.body_states.specs.Callers.{caller_above, HasCaller, FindsReturn}
+use Rattle.x64_code.specs.Near.{IsNear}
 
 -- ---- a return address is popped
 
@@ -103,7 +104,7 @@ pub at_return : (m : Memory) (at : ℕ) → IsExecutableAt m at (chosen instrs.R
 unfolding tail_at
 at_return m at is_there lt = return_tail m at 0xFFFF_FFFF_FFFF_FFFE true is_there lt
 
-pub at_epilogue : (m : Memory) (at n : ℕ) → n < 2 ^ 30 → IsExecutableAt m at (chosen (give_back n)) → IsExecutableAt m (at + length (chosen (give_back n))) (chosen instrs.Return) → at + 30 < 2 ^ 63 → tail_at 0 m at ≡ Some (give_back n ∷ instrs.Return ∷ [])
+pub at_epilogue : (m : Memory) (at n : ℕ) → IsNear n → IsExecutableAt m at (chosen (give_back n)) → IsExecutableAt m (at + length (chosen (give_back n))) (chosen instrs.Return) → at + 30 < 2 ^ 63 → tail_at 0 m at ≡ Some (give_back n ∷ instrs.Return ∷ [])
 unfolding tail_at
 at_epilogue m at n small is_there more lt =
     let i = give_back n in

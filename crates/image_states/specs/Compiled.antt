@@ -1,5 +1,5 @@
 -- Linear programs whose image is what they mean.
-use Rattle.std.specs.Prelude.{◌≡◌, ℕ, ◌+◌, ◌^◌, ◌<◌, ◌≤◌, ◌⊎◌, false, List, [], ◌∷◌, length, slice_get, Some}
+use Rattle.std.specs.Prelude.{◌≡◌, ℕ, ◌+◌, ◌<◌, ◌≤◌, ◌⊎◌, false, List, [], ◌∷◌, length, slice_get, Some}
 use Rattle.pe_write.specs.Program.{sizes_of, end_at}
 use Rattle.linear_code.specs.Program.{LinearBody, LinearFunclet, LinearProgram}
 use Rattle.linear_machine.specs.Frames.{FunctionBody, body_of}
@@ -9,6 +9,7 @@ use Rattle.program_link.specs.Routines.{is_leaf}
 use Rattle.program_link.specs.Linked.{linked}
 use Rattle.program_tables.specs.Ranges.{HasRegions}
 use Rattle.program_shape.specs.Rows.{named, regions, NamesFunclets}
+use Rattle.host_layout.specs.declared.limit.TheConstants.{MOST_IMAGE}
 
 abbrev pub IsIn : ℕ → List ℕ → Type 0
 IsIn k [] = ⊥
@@ -23,11 +24,11 @@ pub record IsFuncletSized (program : LinearProgram) (f : LinearFunclet) : Type 0
   pub locals : f.body.locals ≡ function.locals
   pub words : f.body.passed + f.body.temporaries ≤ 500
 
--- it can be linked, into an image of at most 256 MiB; its regions are ranges, which name each
+-- it can be linked, into an image within its limit; its regions are ranges, which name each
 -- funclet once
 pub record IsCompiled (program : LinearProgram) : Type 0 where
   pub fits : FitsProgram program
-  pub small : end_at (sizes_of (linked program)) ≤ 2 ^ 28
+  pub small : end_at (sizes_of (linked program)) ≤ MOST_IMAGE
   pub ranges : HasRegions program
   pub names : NamesFunclets program
   pub all_named : (k : ℕ) → k < length program.funclets → IsIn k (named (regions program))

@@ -23,6 +23,7 @@ use Rattle.ir_bounds.specs.Slots.{IsSmallFunction, IsSmallFunclet}
 use Rattle.ir_bounds.specs.Laws.{LoweredIsSmall}
 use Rattle.ir_bounds.proofs.PlainExpressions.{NamesAmong, append, constant_good, all_append}
 use Rattle.ir_bounds.proofs.PlainStatements.{small_body, statements_good, all_funclets_small}
+use Rattle.seh_num.specs.declared.limit.TheConstants.{MOST_GLOBALS}
 
 the_same : {X : Type 0} (x y : X) → Some x ≡ Some y → x ≡ y
 the_same x y e = ap (λ o. elim o [ None ↦ x | Some z ↦ z ]) e
@@ -105,7 +106,7 @@ lowered_is_small program h shallow =
     let l = length-map program.functions lowered_function in
     let main = main_there program.functions program.main (slice_get program.functions program.main) refl (both_right _ _ starts) in
     record {
-      globals = leb-true (length program.globals) 1048576 (both_right _ _ h);
+      globals = leb-true (length program.globals) MOST_GLOBALS (both_right _ _ h);
       main = omega arith;
       functions = functions_small program fine program.functions fine shallow;
       funclets = funclets_small program fine program.functions 0 0 (omega arith) fine shallow (whole_is_at (lowered program).funclets) (both_right _ _ counts);

@@ -32,6 +32,7 @@ use Rattle.linear_machine.specs.Run.{instruction_in}
 use Rattle.linear_machine.specs.Regions.{holds, regions_of, regions_at, regions_left, handlers_in, handlers}
 use Rattle.linked_stack.specs.Stack.{StackFrame, StackItem, Framed, Leaf, Searching, Unwinding, after_frame, after_leaf}
 use Rattle.linked_stack.specs.ImagePlan.{Plan, InCode}
+use Rattle.template_code.specs.declared.layout.TheConstants.{LARGEST_FRAME}
 
 -- ---- the source's activations
 
@@ -70,15 +71,11 @@ activations_below (FuncletBody k) acts = acts
 
 -- ---- room on the stack
 
--- the bytes that a function takes at most, with its return address; a filter or a `__finally` block
--- takes no more than two of these, with its record
-abbrev pub largest_frame : ℕ
-largest_frame = 8192
-
 -- a stack pointer, but for some bytes, is no further from the stack's end than frames of this depth
--- take, and the depth is within its limit
+-- take, and the depth is within its limit; a filter or a `__finally` block takes no more than two
+-- of the largest frames, with its record
 pub record HasSpace (sp beside depth : ℕ) : Type 0 where
-  pub space : STACK_END ≤ sp + beside + largest_frame * depth
+  pub space : STACK_END ≤ sp + beside + LARGEST_FRAME * depth
   pub shallow : depth ≤ DEEPEST
 
 -- a return address and the home space above it, with which a run begins at the stack's end; the

@@ -27,6 +27,7 @@ use Rattle.program_link.proofs.Nearness.{routines_near}
 use Rattle.program_tables.specs.Placed.{Placed, placed_from, site_of, infos_begin, placed}
 use Rattle.program_tables.proofs.Lookups.{some_same, none_some}
 use Rattle.program_frames.specs.InMemory.{image_base, HasText}
+use Rattle.x64_code.specs.Near.{IsNear}
 
 -- ---- bytes
 
@@ -60,7 +61,7 @@ routine_length s at r near = code_length s at r near
 -- a routine in a text that begins at an address: it is near, has room, and its bytes are there
 pub record IsThere (s : SiteView) (text : List ℕ) (begin : ℕ) (x : Placed) : Type 0 where
   pub near : IsRoutineNear x.routine
-  pub room : x.begin + routine_room x.routine < 2 ^ 30
+  pub room : IsNear (x.begin + routine_room x.routine)
   pub before : List ℕ
   pub after : List ℕ
   pub bytes : text ≡ before ++ (routine_bytes s x.begin x.routine ++ after)
@@ -68,7 +69,7 @@ pub record IsThere (s : SiteView) (text : List ℕ) (begin : ℕ) (x : Placed) :
 
 module _ (s : SiteView) (text : List ℕ) (begin : ℕ) where
   there_from : (info at : ℕ) (rs : List RoutineView) (before : List ℕ) (index : ℕ) (x : Placed) → slice_get (placed_from s info at rs) index ≡ Some x
-      → AllByRecursion IsRoutineNear rs → at + room rs < 2 ^ 30 → text ≡ before ++ routines_bytes s at rs → begin + length before ≡ at → IsThere s text begin x
+      → AllByRecursion IsRoutineNear rs → IsNear (at + room rs) → text ≡ before ++ routines_bytes s at rs → begin + length before ≡ at → IsThere s text begin x
   there_from info at [] before index x e near lt is here = absurd (none_some e)
   there_from info at (r ∷ rs) before zero x e near lt is here =
       let y : Placed = record { routine = r; begin = at; info = info } in

@@ -29,7 +29,7 @@ use Rattle.c_operations.specs.Numbers.{width}
 use Rattle.template_code.specs.declared.layout.Layout.{Layout}
 use Rattle.template_code.specs.Operations.{compare, extended, pure_code, high_half, before, work}
 use Rattle.template_code.specs.Slots.{temporary_at, local_at, fetch_local, keep_local, fetch, keep}
-use Rattle.x64_code.specs.Near.{IsBaseNear, IsSlotNear}
+use Rattle.x64_code.specs.Near.{IsBaseNear, IsSlotNear, IsNear}
 
 abbrev pub Inner : Instr → Type 0
 Inner i = (is_encodable i ≡ true) × ((plain : Bool) → role_of 0 plain i ≡ Other) × ((ops : List UnwindOperation) → may_write_all 0 ops (written i) ≡ true)
@@ -50,14 +50,14 @@ inner_at (j ∷ a) b i all = inner_at a b i all.1
 -- ---- slots
 
 -- by their displacements
-pub signed : (d : ℕ) → d < 2 ^ 30 → is_signed W32 W64 d ≡ true
+pub signed : (d : ℕ) → IsNear d → is_signed W32 W64 d ≡ true
 signed d lt = small_signed d (omega arith)
 
-fetch_local_inner : (o : Option ℕ) (d : ℕ) → IsBaseNear o → d < 2 ^ 30 → AllInner (fetch_local o Rax d) × AllInner (fetch_local o Rcx d)
+fetch_local_inner : (o : Option ℕ) (d : ℕ) → IsBaseNear o → IsNear d → AllInner (fetch_local o Rax d) × AllInner (fetch_local o Rcx d)
 fetch_local_inner None d near lt = (((signed d lt, (λ b. refl), (λ o. refl)), tt), ((signed d lt, (λ b. refl), (λ o. refl)), tt))
 fetch_local_inner (Some b) d near lt = (((signed b near, (λ b. refl), (λ o. refl)), ((signed d lt, (λ b. refl), (λ o. refl)), tt)), ((signed b near, (λ b. refl), (λ o. refl)), ((signed d lt, (λ b. refl), (λ o. refl)), tt)))
 
-keep_local_inner : (o : Option ℕ) (d : ℕ) → IsBaseNear o → d < 2 ^ 30 → AllInner (keep_local o d)
+keep_local_inner : (o : Option ℕ) (d : ℕ) → IsBaseNear o → IsNear d → AllInner (keep_local o d)
 keep_local_inner None d near lt = ((signed d lt, (λ b. refl), (λ o. refl)), tt)
 keep_local_inner (Some b) d near lt = ((signed b near, (λ b. refl), (λ o. refl)), ((signed d lt, (λ b. refl), (λ o. refl)), tt))
 

@@ -16,8 +16,10 @@ use Rattle.program_tables.proofs.Rows.{below_at}
 use Rattle.program_frames.specs.InMemory.{links}
 use Rattle.program_frames.proofs.CodeInMemory.{IsThere}
 use Rattle.program_frames.proofs.Templates.{AreLinksNear}
+use Rattle.x64_code.specs.Near.{IsNear, near_end}
+use Rattle.host_layout.specs.declared.limit.TheConstants.{MOST_IMAGE}
 
-thunk_near : (text : ℕ) (f : BuiltIn) → text < 2 ^ 29 → thunk_of (thunks_at text) f < 2 ^ 30
+thunk_near : (text : ℕ) (f : BuiltIn) → text ≤ MOST_IMAGE → IsNear (thunk_of (thunks_at text) f)
 thunk_near text Put lt = omega arith
 thunk_near text Protect lt = omega arith
 thunk_near text RaiseException lt = omega arith
@@ -34,9 +36,9 @@ links_near p x fits h =
     let own = own_addresses x.begin r in
     let labels = labels_near r.layout (x.begin + entry_size r) r.body.code h.near.code (omega arith) in
     record {
-      label = λ l. below_at (2 ^ 30) own.labels l own.end labels (omega arith);
-      function = λ f. below_at (2 ^ 30) s.functions f 0 n.functions (omega arith);
+      label = λ l. below_at near_end own.labels l own.end labels (omega arith);
+      function = λ f. below_at near_end s.functions f 0 n.functions (omega arith);
       known = λ f. thunk_near s.text f text;
-      funclet = λ f. below_at (2 ^ 30) s.funclets f 0 n.funclets (omega arith);
+      funclet = λ f. below_at near_end s.funclets f 0 n.funclets (omega arith);
       local_unwind = omega arith;
     }

@@ -46,6 +46,7 @@ use Rattle.program_frames.proofs.Arguments.{arguments_inner}
 use Rattle.program_frames.proofs.Layouts.{size_of, sized}
 use Rattle.program_frames.proofs.Links.{links_near}
 use Rattle.program_frames.proofs.Rest.{with_size, IsFine, fine_inner, fine_both, body_fine, encodable_both, spelled_both}
+use Rattle.x64_code.specs.Near.{IsNear}
 
 -- ---- plans
 
@@ -54,7 +55,7 @@ allowed_by n true = refl
 allowed_by n false = refl
 
 -- with an allocation, or without
-pub plan_near : (f : Frame) (next to : ℕ) → f.size < 2 ^ 31 → next < 2 ^ 31 → to < 2 ^ 30 → IsPlan (plan_of f (distance next to))
+pub plan_near : (f : Frame) (next to : ℕ) → f.size < 2 ^ 31 → next < 2 ^ 31 → IsNear to → IsPlan (plan_of f (distance next to))
 plan_near f next to size a b = record { size = size; distance = omega arith; probe = near_signed next to a b; allowed = allowed_by f.size (not (eqb f.size 0)) }
 
 pub one_code : (f : Frame) (probe : ℕ) → 0 < f.size → operations_of (plan_of f probe) ≡ Allocate f.size ∷ []

@@ -19,29 +19,29 @@ use Rattle.template_code.specs.Slots.{temporary_at, fetch, keep, operands_code, 
 use Rattle.template_code.specs.Jumps.{call, compare_zero, jump_equal, test_code}
 use Rattle.template_code.specs.Calls.{arguments_code, begin_call, call_code, passing_code, finally_arguments, field_load}
 use Rattle.template_code.specs.Template.{Links, template}
-use Rattle.x64_code.specs.Near.{IsSlotNear, AreArgumentsNear, IsFieldNear, IsInstructionNear}
+use Rattle.x64_code.specs.Near.{IsSlotNear, AreArgumentsNear, IsFieldNear, IsInstructionNear, IsNear}
 use Rattle.x64_code.proofs.Nearby.{near_signed, test_small, arguments_small, passing_small}
 use Rattle.program_frames.specs.InMemory.{IsReturn}
 use Rattle.program_frames.proofs.Inner.{AllInner, inner_both, signed, fetch_inner, fetch_second, keep_inner, before_inner, work_inner}
 
 -- what code refers to is in the image
 pub record AreLinksNear (k : Links) : Type 0 where
-  pub label : (l : ℕ) → k.label l < 2 ^ 30
-  pub function : (f : ℕ) → k.function f < 2 ^ 30
-  pub known : (f : BuiltIn) → k.known f < 2 ^ 30
-  pub funclet : (f : ℕ) → k.funclet f < 2 ^ 30
-  pub local_unwind : k.local_unwind < 2 ^ 30
+  pub label : (l : ℕ) → IsNear (k.label l)
+  pub function : (f : ℕ) → IsNear (k.function f)
+  pub known : (f : BuiltIn) → IsNear (k.known f)
+  pub funclet : (f : ℕ) → IsNear (k.funclet f)
+  pub local_unwind : IsNear k.local_unwind
 
 -- ---- calls
 
-passing_inner : (y : Layout) (first i n : ℕ) → temporary_at y (first + i + n) < 2 ^ 30 → 8 * (i + n) < 2 ^ 30 → AllInner (passing_code y first i n)
+passing_inner : (y : Layout) (first i n : ℕ) → IsNear (temporary_at y (first + i + n)) → IsNear (8 * (i + n)) → AllInner (passing_code y first i n)
 passing_inner y first i zero lt lt' = tt
 passing_inner y first i (suc n) lt lt' = (
   (signed (temporary_at y (first + i)) (omega arith), (λ b. refl), (λ o. refl)),
   ((signed (8 * i) (omega arith), (λ b. refl), (λ o. refl)), passing_inner y first (i + 1) n (omega arith) (omega arith)),
 )
 
-arguments_inner : (y : Layout) (first : ℕ) → temporary_at y (first + 8) < 2 ^ 30 → AllInner (arguments_code y first)
+arguments_inner : (y : Layout) (first : ℕ) → IsNear (temporary_at y (first + 8)) → AllInner (arguments_code y first)
 arguments_inner y first lt = (
   (signed (temporary_at y first) (omega arith), (λ b. refl), (λ o. refl)),
   (
@@ -53,7 +53,7 @@ arguments_inner y first lt = (
   ),
 )
 
-call_inner : (y : Layout) (first at to : ℕ) → temporary_at y (first + 8) < 2 ^ 30 → at + 65 < 2 ^ 31 → to < 2 ^ 30 → AllInner (call_code y (Temporary first) first at to)
+call_inner : (y : Layout) (first at to : ℕ) → IsNear (temporary_at y (first + 8)) → at + 65 < 2 ^ 31 → IsNear to → AllInner (call_code y (Temporary first) first at to)
 call_inner y first at to lt here near =
     let few = arguments_small y first in
     inner_both (begin_call y first at to) (keep y (Temporary first))

@@ -9,7 +9,7 @@ use Rattle.template_code.specs.Bytes.{spelled, size, sizes, thunk}
 use Rattle.template_code.specs.Template.{code_from}
 use Rattle.template_code.proofs.Sizes.{sizes_append, sizes_spelled, body_sizes}
 use Rattle.x64_encode.specs.Chosen.{modrm}
-use Rattle.x64_code.specs.Near.{AreNear}
+use Rattle.x64_code.specs.Near.{AreNear, IsNear}
 use Rattle.x64_code.specs.Linking.{links_of}
 use Rattle.program_link.specs.Routines.{RoutineView}
 use Rattle.program_link.specs.Near.{IsRoutineNear}
@@ -44,7 +44,7 @@ pub total_small : (rs : List RoutineView) → AllByRecursion IsRoutineNear rs �
 total_small [] near = omega arith
 total_small (r ∷ rs) near = let s = routine_small r near.0 in let t = total_small rs near.1 in omega arith
 
-pub bounds_near : (at : ℕ) (rs : List RoutineView) → AllByRecursion IsRoutineNear rs → at + room rs < 2 ^ 30 → AreNear (bounds at rs)
+pub bounds_near : (at : ℕ) (rs : List RoutineView) → AllByRecursion IsRoutineNear rs → IsNear (at + room rs) → AreNear (bounds at rs)
 bounds_near at [] near lt = (omega arith, tt)
 bounds_near at (r ∷ rs) near lt = let s = routine_small r near.0 in (omega arith, bounds_near (at + routine_size r) rs near.1 (omega arith))
 

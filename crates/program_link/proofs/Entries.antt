@@ -19,7 +19,7 @@ use Rattle.template_code.specs.Calls.{keep_register, parameter_register, stack_p
 use Rattle.template_code.specs.Template.{template_size}
 use Rattle.template_code.proofs.Sizes.{sizes_append, sizes_spelled}
 use Rattle.template_code.proofs.Lengths.{sizes_small, keep_length}
-use Rattle.x64_code.specs.Near.{AreNear, IsInstructionNear}
+use Rattle.x64_code.specs.Near.{AreNear, IsInstructionNear, IsNear}
 use Rattle.x64_code.specs.Bodies.{label_list}
 use Rattle.x64_code.specs.Entries.{keep_base}
 use Rattle.x64_code.specs.Rooms.{code_room}
@@ -105,7 +105,7 @@ entry_small r near =
 
 -- ---- bodies
 
-pub labels_near : (y : Layout) (at : ℕ) (body : List Instruction) → AllByRecursion (IsInstructionNear y) body → at + code_room body < 2 ^ 30 → AreNear (label_list y at body)
+pub labels_near : (y : Layout) (at : ℕ) (body : List Instruction) → AllByRecursion (IsInstructionNear y) body → IsNear (at + code_room body) → AreNear (label_list y at body)
 labels_near y at [] near lt = tt
 labels_near y at (i ∷ is) near lt = let s = instruction_in_room y i near.0 in (omega arith, labels_near y (at + template_size y i) is near.1 (omega arith))
 

@@ -10,14 +10,16 @@ use Rattle.pe_write.specs.declared.sizes.Sizes.{Sizes}
 use Rattle.program_link.specs.declared.routine.Entry.TheVariants as entries
 use Rattle.program_link.specs.Routines.{RoutineView, is_leaf, framed, leaf_if, functions_from, funclet, routines}
 use Rattle.program_link.specs.Near.{IsRoutineNear, IsSiteNear, HasPlaces}
-use Rattle.program_link.specs.Text.{room, routine_size, bounds}
-use Rattle.program_link.specs.Tables.{infos_room}
+use Rattle.eh_tables.specs.Written.{table_bytes}
+use Rattle.program_link.specs.Text.{SiteView, room, routine_size, bounds, text_bytes}
+use Rattle.program_link.specs.Tables.{infos_room, infos, ranges}
 use Rattle.program_link.specs.Linked.{data_size, first, total, front_sizes, site, image_of}
 use Rattle.program_link.specs.Fits.{FitsProgram, tables_room, function_bodies, funclet_bodies, program_tables_room}
 use Rattle.program_link.specs.Laws.{ImagesAreSmall}
 use Rattle.program_link.proofs.Entries.{entry_small, framed_some}
 use Rattle.program_link.proofs.Nearness.{routines_near, routines_room}
 use Rattle.program_link.proofs.Bounds.{bounds_length, bounds_end, bounds_least, bounds_below, total_small, bounds_near, take_near, drop_near, text_length, infos_length, tables_small, count_small}
+use Rattle.seh_num.specs.declared.limit.TheConstants.{MOST_GLOBALS}
 
 pub if_ok : {A E : Type 0} (P Q : A → Type 0) (r : Result A E) → ((x : A) → P x → Q x) → IfOk r P → IfOk r Q
 if_ok P Q (Ok x) f p = f x p
@@ -34,25 +36,24 @@ past b at rs i text e le lt = let l = bounds_least at rs i 0 le in let s = ap (�
 pub text_size : (b : List ℕ) (at text : ℕ) (rs : List RoutineView) → b ≡ bounds at rs → at ≡ text + 51 → get_or b (length rs) 0 - text ≡ 51 + total rs
 text_size b at text rs e is = let l = bounds_end at rs 0 in let s = ap (λ (xs : List ℕ). get_or xs (length rs) 0) e in omega arith
 
-pub site_near : (g : List ℕ) (rs : List RoutineView) (functions main : ℕ) → length g ≤ 2 ^ 20 → AllByRecursion IsRoutineNear rs → HasPlaces rs functions main → IsSiteNear (site g rs functions)
+pub site_near : (g : List ℕ) (rs : List RoutineView) (functions main : ℕ) → length g ≤ MOST_GLOBALS → AllByRecursion IsRoutineNear rs → HasPlaces rs functions main → IsSiteNear (site g rs functions)
 site_near g rs functions main few near places =
     let t = total_small rs near in
     let r = places.room in
     let b = bounds_near (first g) rs near (omega arith) in
     record { text = omega arith; rdata = omega arith; functions = take_near functions (bounds (first g) rs) b; funclets = drop_near functions (bounds (first g) rs) b }
 
-pub tables_fit : (g : List ℕ) (rs : List RoutineView) (functions main : ℕ) → length g ≤ 2 ^ 20 → AllByRecursion IsRoutineNear rs → HasPlaces rs functions main → xdata_at (front_sizes g rs) + infos_room rs < 2 ^ 31
-tables_fit g rs functions main few near places = let t = total_small rs near in let r = places.room in let s = places.tables in omega arith
+pub tables_fit : (g : List ℕ) (rs : List RoutineView) (functions main : ℕ) → length g ≤ MOST_GLOBALS → AllByRecursion IsRoutineNear rs → HasPlaces rs functions main → xdata_at (front_sizes g rs) + infos_room rs < 2 ^ 31
+tables_fit g rs functions main few near places = let t = total_small rs near in let r = places.room in omega arith
 
-pub rdata_fits : (g : List ℕ) (rs : List RoutineView) (functions main : ℕ) → length g ≤ 2 ^ 20 → AllByRecursion IsRoutineNear rs → HasPlaces rs functions main → xdata_at (front_sizes g rs) < 2 ^ 31
+pub rdata_fits : (g : List ℕ) (rs : List RoutineView) (functions main : ℕ) → length g ≤ MOST_GLOBALS → AllByRecursion IsRoutineNear rs → HasPlaces rs functions main → xdata_at (front_sizes g rs) < 2 ^ 31
 rdata_fits g rs functions main few near places = let t = total_small rs near in let r = places.room in omega arith
 
-pub is_program : (g : List ℕ) (rs : List RoutineView) (functions main : ℕ) → length g ≤ 2 ^ 20 → AllByRecursion IsRoutineNear rs → HasPlaces rs functions main → (d : RoutineView) → IsProgram (image_of g rs functions main)
+pub is_program : (g : List ℕ) (rs : List RoutineView) (functions main : ℕ) → length g ≤ MOST_GLOBALS → AllByRecursion IsRoutineNear rs → HasPlaces rs functions main → (d : RoutineView) → IsProgram (image_of g rs functions main)
 is_program g rs functions main few near places d =
     let s = site g rs functions in
     let t = total_small rs near in
     let r = places.room in
-    let u = places.tables in
     let n = count_small rs in
     let text = text_length s rs near in
     let xdata = infos_length s (first g) rs in
@@ -66,22 +67,55 @@ is_program g rs functions main few near places d =
 abbrev pub got_sizes : ℕ → ℕ → Sizes
 got_sizes size_of_data t = record { data_size = size_of_data; text_size = t; xdata_size = 0; pdata_size = 0 }
 
-pub sizes_is : (g b : List ℕ) (rs : List RoutineView) (size_of_data t : ℕ) → size_of_data ≡ data_size g → b ≡ bounds (first g) rs → t ≡ get_or b (length rs) 0 - (4096 + size_of_data) → got_sizes size_of_data t ≡ front_sizes g rs
-sizes_is g b rs size_of_data t d e is =
-    let begin : first g ≡ (4096 + size_of_data) + 51 = omega arith in
-    let same : t ≡ 51 + total rs = is ∙ text_size b (first g) (4096 + size_of_data) rs e begin in
-    λ i. record { data_size = d i; text_size = same i; xdata_size = 0; pdata_size = 0 }
+-- what is known where routines between bounds are linked: the bytes of `.data`, and those of the text
+pub record IsMeasured (g b : List ℕ) (rs : List RoutineView) (functions main size_of_data t : ℕ) : Type 0 where
+  pub few : length g ≤ MOST_GLOBALS
+  pub near : AllByRecursion IsRoutineNear rs
+  pub places : HasPlaces rs functions main
+  pub sized : size_of_data ≡ data_size g
+  pub between : b ≡ bounds (first g) rs
+  pub text : t ≡ get_or b (length rs) 0 - (4096 + size_of_data)
 
-pub site_is : (g b : List ℕ) (rs : List RoutineView) (functions size_of_data t rdata : ℕ) → size_of_data ≡ data_size g → b ≡ bounds (first g) rs → t ≡ get_or b (length rs) 0 - (4096 + size_of_data) → rdata ≡ rdata_at (got_sizes size_of_data t)
-    → record { text = 4096 + size_of_data; rdata = rdata; functions = take functions b; funclets = drop functions b } ≡ site g rs functions
-site_is g b rs functions size_of_data t rdata d e is r =
-    let same : rdata ≡ rdata_at (front_sizes g rs) = r ∙ ap rdata_at (sizes_is g b rs size_of_data t d e is) in
-    λ i. record { text = 4096 + d i; rdata = same i; functions = take functions (e i); funclets = drop functions (e i) }
+module _ (g b : List ℕ) (rs : List RoutineView) (functions main size_of_data t : ℕ) (h : IsMeasured g b rs functions main size_of_data t) where
+  sizes_are : got_sizes size_of_data t ≡ front_sizes g rs
+  sizes_are =
+      let d = h.sized in
+      let begin : first g ≡ (4096 + size_of_data) + 51 = omega arith in
+      let same : t ≡ 51 + total rs = h.text ∙ text_size b (first g) (4096 + size_of_data) rs h.between begin in
+      λ i. record { data_size = d i; text_size = same i; xdata_size = 0; pdata_size = 0 }
 
-pub same_image : (g : List ℕ) (rs : List RoutineView) (functions main size_of_data entry : ℕ) (text xdata pdata : List ℕ)
-    → size_of_data ≡ (image_of g rs functions main).data_size → text ≡ (image_of g rs functions main).text → entry ≡ (image_of g rs functions main).entry → xdata ≡ (image_of g rs functions main).xdata → pdata ≡ (image_of g rs functions main).pdata
-    → record { data_size = size_of_data; data_bytes = g; text = text; entry = entry; xdata = xdata; pdata = pdata } ≡ image_of g rs functions main
-same_image g rs functions main size_of_data entry text xdata pdata e1 e2 e3 e4 e5 = λ i. record { data_size = e1 i; data_bytes = g; text = e2 i; entry = e3 i; xdata = e4 i; pdata = e5 i }
+  pub rdata_small : (rdata : ℕ) → rdata ≡ rdata_at (got_sizes size_of_data t) → rdata < 2 ^ 31
+  rdata_small rdata r = let s = ap rdata_at sizes_are in let f = rdata_fits g rs functions main h.few h.near h.places in omega arith
+
+  pub xdata_small : (xdata : ℕ) → xdata ≡ xdata_at (got_sizes size_of_data t) → xdata + infos_room rs < 2 ^ 31
+  xdata_small xdata r = let s = ap xdata_at sizes_are in let f = tables_fit g rs functions main h.few h.near h.places in omega arith
+
+  module _ (s : SiteView) (rdata : ℕ) (is : s ≡ record { text = 4096 + size_of_data; rdata = rdata; functions = take functions b; funclets = drop functions b })
+      (r : rdata ≡ rdata_at (got_sizes size_of_data t)) where
+    site_is : s ≡ site g rs functions
+    site_is =
+        let d = h.sized in
+        let e = h.between in
+        let same : rdata ≡ rdata_at (front_sizes g rs) = r ∙ ap rdata_at sizes_are in
+        is ∙ λ i. record { text = 4096 + d i; rdata = same i; functions = take functions (e i); funclets = drop functions (e i) }
+
+    pub is_site_near : IsSiteNear s
+    is_site_near = subst IsSiteNear (sym site_is) (site_near g rs functions main h.few h.near h.places)
+
+    pub image_is : (at entry : ℕ) (text xdata pdata : List ℕ) → at ≡ xdata_at (got_sizes size_of_data t) → entry ≡ get_or b main 0 - (4096 + size_of_data)
+        → text ≡ text_bytes s rs → xdata ≡ infos s (4096 + size_of_data + 51) rs → pdata ≡ table_bytes (ranges s at (4096 + size_of_data + 51) rs)
+        → record { data_size = size_of_data; data_bytes = g; text = text; entry = entry; xdata = xdata; pdata = pdata } ≡ image_of g rs functions main
+    image_is at entry text xdata pdata x n k i p =
+        let d = h.sized in
+        let of = site g rs functions in
+        let begin : 4096 + size_of_data + 51 ≡ first g = omega arith in
+        let table = x ∙ ap xdata_at sizes_are in
+        let text' = k ∙ ap (λ (s : SiteView). text_bytes s rs) site_is in
+        let entry' = n ∙ ap (λ (xs : List ℕ). get_or xs main 0 - (4096 + size_of_data)) h.between ∙ ap (λ (n : ℕ). get_or (bounds (first g) rs) main 0 - (4096 + n)) d in
+        let xdata' = i ∙ ap (λ (s : SiteView). infos s (4096 + size_of_data + 51) rs) site_is ∙ ap (λ (n : ℕ). infos of n rs) begin in
+        let pdata' = p ∙ ap (λ (s : SiteView). table_bytes (ranges s at (4096 + size_of_data + 51) rs)) site_is
+        ∙ ap (λ (n : ℕ). table_bytes (ranges of n (4096 + size_of_data + 51) rs)) table ∙ ap (λ (n : ℕ). table_bytes (ranges of (xdata_at (front_sizes g rs)) n rs)) begin in
+        λ i. record { data_size = d i; data_bytes = g; text = text' i; entry = entry' i; xdata = xdata' i; pdata = pdata' i }
 
 abbrev pub no_routine : RoutineView
 no_routine = record { entry = entries.Function 0; frame = None; layout = record { base = None; pointers = 0; locals = 0; temporaries = 0; frame = 0 }; body = record { locals = 0; temporaries = 0; passed = 0; code = []; regions = [] } }
@@ -147,7 +181,6 @@ has_places p fits =
     let v = routines_room p in
     record {
       room = omega arith;
-      tables = omega arith;
       fewer = omega (arith, length-append a b);
       there = omega (arith, length-append a b);
       some = λ d. subst (λ (r : RoutineView). 0 < routine_size r) (sym (main_is p fits d)) (framed_some (get_or p.functions p.main no_function));

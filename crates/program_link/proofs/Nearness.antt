@@ -14,7 +14,7 @@ use Rattle.x64_code.specs.Near.{IsBaseNear, IsSlotNear, IsInstructionNear}
 use Rattle.x64_code.specs.Entries.{IsParentNear}
 use Rattle.x64_code.specs.Rooms.{code_room}
 use Rattle.x64_code.proofs.Nearby.{all_at}
-use Rattle.program_link.specs.Routines.{RoutineView, is_leaf, function_frame, leaf_layout, function_layout, leaf, framed, leaf_if, functions_from, funclet_frame, nothing, function_body, funclet_body, kept_by, HasParent, entry_of, funclet_layout, funclet, routines}
+use Rattle.program_link.specs.Routines.{RoutineView, is_leaf, function_frame, leaf_layout, function_layout, leaf, framed, leaf_if, functions_from, funclet_frame, nothing, body_of_function, body_of_funclet, kept_by, HasParent, entry_of, funclet_layout, funclet, routines}
 use Rattle.program_link.specs.Near.{IsEntryNear, IsRoutineNear}
 use Rattle.program_link.specs.Text as texts
 use Rattle.program_link.specs.Fits.{FitsSlot, FitsInstruction, FitsBody, FitsFunction, FitsKind, FitsFunclet, room, function_bodies, funclet_bodies, text_room, FitsProgram}
@@ -77,36 +77,36 @@ functions_near main index (f ∷ fs) all = (function_near (not (index == main) &
 
 -- ---- funclets
 
-funclet_at : (p : LinearProgram) (index : ℕ) → FitsProgram p → index < length p.funclets → FitsBody (funclet_body p index)
+funclet_at : (p : LinearProgram) (index : ℕ) → FitsProgram p → index < length p.funclets → FitsBody (body_of_funclet p index)
 funclet_at p index fits lt = (all_at (FitsFunclet p) p.funclets index (record { kind = Filter; function = 0; parent = None; body = nothing }) fits.funclets lt).body
 
-function_at : (p : LinearProgram) (index : ℕ) → FitsProgram p → index < length p.functions → FitsBody (function_body p index)
+function_at : (p : LinearProgram) (index : ℕ) → FitsProgram p → index < length p.functions → FitsBody (body_of_function p index)
 function_at p index fits lt = (all_at FitsFunction p.functions index (record { parameters = 0; body = nothing }) fits.functions lt).body
 
 parent_near : (p : LinearProgram) (o : Option ℕ) → FitsProgram p → HasParent p o → IsParentNear (kept_by p o)
 parent_near p None fits h = tt
 parent_near p (Some index) fits h = let b = funclet_at p index fits h in let w = b.words in omega arith
 
-funclet_low : (p : LinearProgram) (f : LinearFunclet) → FitsProgram p → FitsFunclet p f → IsLow (funclet_layout (function_frame (function_body p f.function)) (funclet_frame f.body))
+funclet_low : (p : LinearProgram) (f : LinearFunclet) → FitsProgram p → FitsFunclet p f → IsLow (funclet_layout (function_frame (body_of_function p f.function)) (funclet_frame f.body))
 funclet_low p f fits h =
     let b = function_at p f.function fits h.function in
     let v = b.words in
     let w = h.body.words in
     record { base = omega arith; pointers = omega arith; locals = omega arith; temporaries = omega arith; frame = omega arith }
 
-entry_near : (p : LinearProgram) (f : LinearFunclet) (k : FuncletKind) → FitsProgram p → FitsFunclet p f → FitsKind f.body k → IsEntryNear (funclet_layout (function_frame (function_body p f.function)) (funclet_frame f.body)) (entry_of k (kept_by p f.parent))
+entry_near : (p : LinearProgram) (f : LinearFunclet) (k : FuncletKind) → FitsProgram p → FitsFunclet p f → FitsKind f.body k → IsEntryNear (funclet_layout (function_frame (body_of_function p f.function)) (funclet_frame f.body)) (entry_of k (kept_by p f.parent))
 entry_near p f Filter fits h kind =
     let w = h.body.words in
     (record { parent_near = parent_near p f.parent fits h.parent; base_near = omega arith }, omega arith)
 entry_near p f (Finally flag) fits h kind =
     let w = h.body.words in
-    let y = funclet_layout (function_frame (function_body p f.function)) (funclet_frame f.body) in
+    let y = funclet_layout (function_frame (body_of_function p f.function)) (funclet_frame f.body) in
     (record { parent_near = parent_near p f.parent fits h.parent; base_near = omega arith }, slot_near y f.body (Local flag) (funclet_low p f fits h) h.body kind)
 
 funclet_near : (p : LinearProgram) (f : LinearFunclet) → FitsProgram p → FitsFunclet p f → IsRoutineNear (funclet p f)
 funclet_near p f fits h =
     let w = h.body.words in
-    let y = funclet_layout (function_frame (function_body p f.function)) (funclet_frame f.body) in
+    let y = funclet_layout (function_frame (body_of_function p f.function)) (funclet_frame f.body) in
     record { frame = (omega arith, omega arith); entry = entry_near p f f.kind fits h h.kind; code = code_near y f.body f.body.code (funclet_low p f fits h) h.body h.body.code; regions = h.body.regions }
 
 funclets_near : (p : LinearProgram) (fs : List LinearFunclet) → FitsProgram p → AllByRecursion (FitsFunclet p) fs → AllByRecursion IsRoutineNear (map (funclet p) fs)

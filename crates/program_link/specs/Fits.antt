@@ -1,8 +1,8 @@
--- Programs that can be linked: the limits that keep every frame within 8,192 bytes and the image
--- within 256 MiB (own).
+-- Programs that can be linked: the limits that keep every frame and the image within the largest
+-- ones (own).
 use Rattle.std.specs.Prelude.{ℕ, ◌+◌, ◌-◌, ◌*◌, ◌^◌, ◌<◌, ◌≤◌, List, [], ◌∷◌, length}
 use Rattle.std.specs.List.{AllByRecursion}
-use Rattle.seh_num.specs.declared.limit.TheConstants.{MOST_PARAMETERS}
+use Rattle.seh_num.specs.declared.limit.TheConstants.{MOST_PARAMETERS, MOST_GLOBALS}
 use Rattle.linear_code.specs.declared.slot.Slot.{Slot}
 use Rattle.linear_code.specs.declared.slot.Slot.TheVariants.{Local, Temporary}
 use Rattle.linear_code.specs.declared.instruction.Instruction.{Instruction}
@@ -13,6 +13,7 @@ use Rattle.linear_code.specs.Program.{LinearBody, LinearFunction, LinearFunclet,
 use Rattle.x64_code.specs.Near.{IsFieldNear}
 use Rattle.x64_code.specs.Rooms.{code_room}
 use Rattle.program_link.specs.Routines.{HasParent}
+use Rattle.host_layout.specs.declared.limit.TheConstants.{MOST_IMAGE}
 
 -- ---- instructions
 
@@ -34,10 +35,15 @@ FitsInstruction b other = Unit {0}
 
 -- ---- bodies
 
+-- the arguments that a body passes, its temporaries and its locals are at most so many words
+abbrev pub most_words : ℕ
+most_words = 1000
+
 pub record FitsBody (b : LinearBody) : Type 0 where
-  pub words : b.passed + b.temporaries + b.locals ≤ 1000
+  pub words : b.passed + b.temporaries + b.locals ≤ most_words
   pub code : AllByRecursion (FitsInstruction b) b.code
-  pub regions : length b.regions ≤ 2 ^ 24
+  -- the bytes of their scope records
+  pub regions : 16 * length b.regions ≤ MOST_IMAGE
 
 pub record FitsFunction (f : LinearFunction) : Type 0 where
   pub parameters : f.parameters ≤ MOST_PARAMETERS
@@ -80,11 +86,14 @@ abbrev pub program_tables_room : LinearProgram → ℕ
 program_tables_room p =
     tables_room (function_bodies p.functions) + tables_room (funclet_bodies p.funclets)
 
+-- what an image keeps for its globals, its headers, its thunks and the rest of each section's last
+-- page: 2 MiB
+abbrev pub other_room : ℕ
+other_room = 2 ^ 21
+
 pub record FitsProgram (p : LinearProgram) : Type 0 where
-  pub globals : length p.globals ≤ 2 ^ 20
+  pub globals : length p.globals ≤ MOST_GLOBALS
   pub main : p.main < length p.functions
   pub functions : AllByRecursion FitsFunction p.functions
   pub funclets : AllByRecursion (FitsFunclet p) p.funclets
-  -- what is left of the 256 MiB is for the globals, the headers and the rest of each section's last
-  -- page
-  pub small : text_room p + program_tables_room p ≤ 2 ^ 28 - 2 ^ 21
+  pub small : text_room p + program_tables_room p + other_room ≤ MOST_IMAGE

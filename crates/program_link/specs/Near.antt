@@ -1,5 +1,5 @@
 -- Routines whose slots and frames 32-bit displacements reach.
-use Rattle.std.specs.Prelude.{ℕ, ◌+◌, ◌^◌, ◌<◌, ◌≤◌, List, length, get_or, Option, Some, None}
+use Rattle.std.specs.Prelude.{ℕ, ◌+◌, ◌*◌, ◌<◌, ◌≤◌, List, length, get_or, Option, Some, None}
 use Rattle.std.specs.List.{AllByRecursion}
 use Rattle.seh_num.specs.declared.limit.TheConstants.{MOST_PARAMETERS}
 use Rattle.linear_code.specs.declared.slot.Slot.TheVariants.{Local}
@@ -12,10 +12,13 @@ use Rattle.program_link.specs.declared.routine.Entry.TheVariants as entries
 use Rattle.program_link.specs.Routines.{RoutineView}
 use Rattle.program_link.specs.Text.{SiteView, base_of, room, routine_size}
 use Rattle.program_link.specs.Tables.{infos_room}
+use Rattle.template_code.specs.declared.layout.TheConstants.{LARGEST_FRAME}
+use Rattle.host_layout.specs.declared.limit.TheConstants.{MOST_IMAGE}
+use Rattle.program_link.specs.Fits.{other_room}
 
 abbrev pub IsFrameNear : Option Frame → Type 0
 IsFrameNear None = Unit {0}
-IsFrameNear (Some f) = (0 < f.size) × (f.size ≤ 8184)
+IsFrameNear (Some f) = (0 < f.size) × (f.size + 8 ≤ LARGEST_FRAME)
 
 abbrev pub IsEntryNear : Layout → Entry → Type 0
 IsEntryNear y (entries.Function count) = (count ≤ MOST_PARAMETERS) × AreParametersNear y count
@@ -27,20 +30,19 @@ pub record IsRoutineNear (r : RoutineView) : Type 0 where
   pub frame : IsFrameNear r.frame
   pub entry : IsEntryNear r.layout r.entry
   pub code : AllByRecursion (IsInstructionNear r.layout) r.body.code
-  pub regions : length r.body.regions ≤ 2 ^ 24
+  pub regions : 16 * length r.body.regions ≤ MOST_IMAGE
 
 -- the addresses that routines refer to
 pub record IsSiteNear (s : SiteView) : Type 0 where
-  pub text : s.text < 2 ^ 29
-  pub rdata : s.rdata < 2 ^ 29 + 2 ^ 28 + 2 ^ 27
+  pub text : s.text ≤ MOST_IMAGE
+  pub rdata : s.rdata ≤ MOST_IMAGE
   pub functions : AreNear s.functions
   pub funclets : AreNear s.funclets
 
--- all routines have room in an image, whose first routine is a function and which begins at one
--- that isn't empty
+-- all routines and their tables have room in an image, whose first routine is a function and which
+-- begins at one that isn't empty
 pub record HasPlaces (rs : List RoutineView) (functions main : ℕ) : Type 0 where
-  pub room : room rs < 2 ^ 29 + 2 ^ 28
-  pub tables : infos_room rs < 2 ^ 29
+  pub room : room rs + infos_room rs + other_room ≤ MOST_IMAGE
   pub fewer : functions ≤ length rs
   pub there : main < length rs
   pub some : (d : RoutineView) → 0 < routine_size (get_or rs main d)

@@ -19,7 +19,7 @@ pub record RoutineView : Type 0 where
   pub layout : Layout
   pub body : LinearBody
 
--- ---- leaf functions: they call nothing, handle nothing, and their slots find place in the home space
+-- ---- leaf functions: they call nothing, handle nothing, and their slots are in the home space
 
 abbrev pub is_call : Instruction → Bool
 is_call (instructions.Call f first count) = true
@@ -90,7 +90,7 @@ functions_from main index [] = []
 functions_from main index (f ∷ fs) =
     leaf_if (not (index == main) && is_leaf f.body) f ∷ functions_from main (suc index) fs
 
--- ---- funclets: they keep the base of their function's frame, and the address of EXCEPTION_POINTERS
+-- ---- funclets: they keep the base of their function's frame and the address of EXCEPTION_POINTERS
 
 abbrev pub funclet_frame : LinearBody → Frame
 funclet_frame b =
@@ -100,11 +100,11 @@ funclet_frame b =
 abbrev pub nothing : LinearBody
 nothing = record { locals = 0; temporaries = 0; passed = 0; code = []; regions = [] }
 
-abbrev pub function_body : LinearProgram → ℕ → LinearBody
-function_body p index = (get_or p.functions index (record { parameters = 0; body = nothing })).body
+abbrev pub body_of_function : LinearProgram → ℕ → LinearBody
+body_of_function p index = (get_or p.functions index (record { parameters = 0; body = nothing })).body
 
-abbrev pub funclet_body : LinearProgram → ℕ → LinearBody
-funclet_body p index =
+abbrev pub body_of_funclet : LinearProgram → ℕ → LinearBody
+body_of_funclet p index =
     (get_or p.funclets index (record {
       kind = Filter;
       function = 0;
@@ -115,7 +115,7 @@ funclet_body p index =
 -- where the funclet's parent keeps the base, if that is a funclet too
 abbrev pub kept_by : LinearProgram → Option ℕ → Option ℕ
 kept_by p None = None
-kept_by p (Some index) = Some (funclet_frame (funclet_body p index)).kept
+kept_by p (Some index) = Some (funclet_frame (body_of_funclet p index)).kept
 
 abbrev pub HasParent : LinearProgram → Option ℕ → Type 0
 HasParent p None = Unit {0}
@@ -142,7 +142,7 @@ funclet p f =
     record {
       entry = entry_of f.kind (kept_by p f.parent);
       frame = Some own;
-      layout = funclet_layout (function_frame (function_body p f.function)) own;
+      layout = funclet_layout (function_frame (body_of_function p f.function)) own;
       body = f.body;
     }
 

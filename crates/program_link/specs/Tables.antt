@@ -16,7 +16,8 @@ use Rattle.x64_code.specs.Linking.{address_or}
 use Rattle.program_link.specs.Routines.{RoutineView}
 use Rattle.program_link.specs.Text.{SiteView, own_addresses, routine_size, thunk_at}
 
--- ---- scope records (Microsoft x64 ABI, "Language-specific handler data"; winnt.h, SCOPE_TABLE_AMD64): one for each region
+-- ---- scope records, one for each region (Microsoft x64 ABI, "Language-specific handler data";
+-- winnt.h, SCOPE_TABLE_AMD64)
 
 -- of the funclets' addresses, and of where the instructions of the body begin and the body ends
 abbrev pub handler_address : List ℕ → RegionKind → ℕ

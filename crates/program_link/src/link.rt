@@ -18,6 +18,7 @@ use crate::text::{Site, text_of};
 use host_layout::range::{self, PAGE};
 use linear_code::program::IrProgram;
 use pe_write::{Image, Sizes, write};
+use seh_num::limit::MOST_GLOBALS;
 use std::alloc::{AllocError, Global};
 
 /// Where `.data` begins.
@@ -25,9 +26,9 @@ const DATA_AT: u32 = range::DATA_AT as u32;
 
 /// The whole pages of `.data`, at least one.
 fn data_pages(size: u64) -> u32
-    requires { size ≤ 2 ^ 20 }
+    requires { size ≤ MOST_GLOBALS }
     ensures value { result ≡ spec.pages_of size }
-    ensures small { result ≤ 2 ^ 20 + PAGE }
+    ensures small { result ≤ MOST_GLOBALS + PAGE }
 {
     (size.max(1).div_ceil(PAGE) * PAGE) as u32
 }
@@ -102,7 +103,7 @@ fn linked(
     functions: usize,
     main: usize,
 ) -> Result<Image, AllocError>
-    requires globals { length globals.now ≤ 2 ^ 20 }
+    requires globals { length globals.now ≤ MOST_GLOBALS }
     requires near { AllByRecursion IsRoutineNear routines.now }
     requires places { HasPlaces routines.now functions main }
     requires bounds { bounds.now ≡ texts.bounds (spec.first globals.now) routines.now }
@@ -140,7 +141,7 @@ fn image_of(
     functions: usize,
     main: usize,
 ) -> Result<Image, AllocError>
-    requires globals { length globals.now ≤ 2 ^ 20 }
+    requires globals { length globals.now ≤ MOST_GLOBALS }
     requires near { AllByRecursion IsRoutineNear routines.now }
     requires places { HasPlaces routines.now functions main }
     ensures { IfOk result (λ image. image ≡ spec.image_of globals.now routines.now functions main) }

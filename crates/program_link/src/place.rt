@@ -1,8 +1,9 @@
 //! Where the routines of a program are placed in its text.
 
-ghost use Rattle.std.specs.Prelude.{◌≡◌, ◌+◌, ◌<◌, ◌≤◌, ◌^◌, IfOk};
+ghost use Rattle.std.specs.Prelude.{◌≡◌, ◌+◌, ◌≤◌, IfOk};
 ghost use Rattle.std.specs.List.{AllByRecursion};
 ghost use Rattle.x64_code.specs.Bodies.{label_list};
+ghost use Rattle.x64_code.specs.Near.{IsNear};
 ghost use Rattle.program_link.specs.Near.{IsRoutineNear};
 ghost use Rattle.program_link.specs.Text as spec;
 
@@ -32,7 +33,7 @@ fn entry_size(alloc: Global, routine: &Routine<'_>) -> Result<u32, AllocError>
 /// Where the body of a routine begins that begins at an address.
 pub fn body_at(alloc: Global, routine: &Routine<'_>, begin: u32) -> Result<u32, AllocError>
     requires near { IsRoutineNear routine.now }
-    requires room { begin < 2 ^ 30 }
+    requires room { IsNear begin }
     ensures value { IfOk result (λ start. start ≡ begin + spec.entry_size routine.now) }
     ensures small { IfOk result (λ start. start ≤ begin + 285) }
 {
@@ -43,7 +44,7 @@ pub fn body_at(alloc: Global, routine: &Routine<'_>, begin: u32) -> Result<u32, 
 /// Where the instructions of a routine begin that begins at an address.
 pub fn labels_at(alloc: Global, routine: &Routine<'_>, begin: u32) -> Result<Labels, AllocError>
     requires near { IsRoutineNear routine.now }
-    requires room { begin + spec.routine_room routine.now < 2 ^ 30 }
+    requires room { IsNear (begin + spec.routine_room routine.now) }
     ensures labels { IfOk result
         (λ l. l.starts.items ≡ (spec.own_addresses begin routine.now).labels) }
     ensures end { IfOk result (λ l. l.end ≡ begin + spec.routine_size routine.now) }
@@ -59,7 +60,7 @@ pub fn bounds_of(
     start: u32,
 ) -> Result<Vec<u32>, AllocError>
     requires near { AllByRecursion IsRoutineNear routines.now }
-    requires room { start + spec.room routines.now < 2 ^ 30 }
+    requires room { IsNear (start + spec.room routines.now) }
     ensures { IfOk result (λ v. v.items ≡ spec.bounds start routines.now) }
 {
     let mut bounds = Vec::new(alloc);

@@ -5,6 +5,7 @@ ghost use Rattle.std.specs.List.{AllByRecursion};
 ghost use Rattle.eh_tables.specs.Written.{CanBeWritten, IsTrailer, table_bytes};
 ghost use Rattle.frame_layout.specs.Layout.{info_of};
 ghost use Rattle.x64_code.specs.Linking.{address_or};
+ghost use Rattle.x64_code.specs.Near.{IsNear};
 ghost use Rattle.program_link.specs.Near.{IsFrameNear, IsRoutineNear, IsSiteNear};
 ghost use Rattle.program_link.specs.Tables as spec;
 ghost use Rattle.program_link.specs.Text as texts;
@@ -216,7 +217,7 @@ fn put_routine(
 ) -> Result<u32, AllocError>
     requires site { IsSiteNear site.now }
     requires near { IsRoutineNear routine.now }
-    requires room { begin + texts.routine_room routine.now < 2 ^ 30 }
+    requires room { IsNear (begin + texts.routine_room routine.now) }
     requires xdata { xdata_at + length xdata.old.items < 2 ^ 31 }
     ensures infos { OnOk result
         (xdata.new.items ≡ xdata.old.items ++ spec.info_bytes site.now begin routine.now) }
@@ -263,7 +264,7 @@ pub fn tables_of(
 ) -> Result<Tables, AllocError>
     requires site { IsSiteNear site.now }
     requires near { AllByRecursion IsRoutineNear routines.now }
-    requires room { first + texts.room routines.now < 2 ^ 30 }
+    requires room { IsNear (first + texts.room routines.now) }
     requires tables { xdata_at + spec.infos_room routines.now < 2 ^ 31 }
     ensures xdata { IfOk result (λ t. t.xdata.items ≡ spec.infos site.now first routines.now) }
     ensures pdata { IfOk result

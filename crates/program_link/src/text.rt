@@ -1,9 +1,9 @@
 //! The text of a program.
 
-ghost use Rattle.std.specs.Prelude.{◌≡◌, ◌+◌, ◌<◌, ◌^◌, [], ◌∷◌, ◌++◌, OnOk, IfOk};
+ghost use Rattle.std.specs.Prelude.{◌≡◌, ◌+◌, ◌≤◌, [], ◌∷◌, ◌++◌, OnOk, IfOk};
 ghost use Rattle.std.specs.List.{AllByRecursion};
 ghost use Rattle.x64_code.specs.Appending.{Appended};
-ghost use Rattle.x64_code.specs.Bodies.{HasRoom};
+ghost use Rattle.x64_code.specs.Bodies.{EndsNear};
 ghost use Rattle.x64_code.specs.Linking as linking;
 ghost use Rattle.x64_code.specs.Near.{IsNear, AreNear};
 ghost use Rattle.program_link.specs.Near.{IsRoutineNear, IsSiteNear};
@@ -13,6 +13,7 @@ use crate::entry::put_entry;
 use crate::place::{FRONT_SIZE, body_at, labels_at};
 use crate::routine::Routine;
 use host_layout::imported::{IMPORTED_COUNT, ImportedService};
+use host_layout::limit::MOST_IMAGE;
 use pe_write::slot_of;
 use std::alloc::{AllocError, Global};
 use std::marker::Model;
@@ -51,15 +52,15 @@ impl<'a> Model for Site<'a> {
 
 /// The thunk of a service in a text that begins at `text`.
 pub fn thunk_at(text: u32, service: ImportedService) -> u32
-    requires { text < 2 ^ 29 }
+    requires { text ≤ MOST_IMAGE }
     ensures value { result ≡ spec.thunk_at text service }
-    ensures near { result < 2 ^ 30 }
+    ensures near { IsNear result }
 {
     text + THUNK_SIZE * service.number()
 }
 
 fn thunks_at(text: u32) -> Thunks
-    requires { text < 2 ^ 29 }
+    requires { text ≤ MOST_IMAGE }
     ensures { result ≡ spec.thunks_at text }
 {
     Thunks {
@@ -77,8 +78,8 @@ fn put_service(
     rdata: u32,
     service: ImportedService,
 ) -> Result<(), AllocError>
-    requires text { text < 2 ^ 29 }
-    requires rdata { rdata < 2 ^ 29 + 2 ^ 28 + 2 ^ 27 }
+    requires text { text ≤ MOST_IMAGE }
+    requires rdata { rdata ≤ MOST_IMAGE }
     ensures { OnOk result
         (Appended code.old (spec.service_thunk text rdata service ∷ []) code.new) }
 {
@@ -88,8 +89,8 @@ fn put_service(
 
 /// Adds what comes before the routines: the thunks and `__chkstk`.
 fn put_front(code: &mut Vec<u8>, text: u32, rdata: u32) -> Result<(), AllocError>
-    requires text { text < 2 ^ 29 }
-    requires rdata { rdata < 2 ^ 29 + 2 ^ 28 + 2 ^ 27 }
+    requires text { text ≤ MOST_IMAGE }
+    requires rdata { rdata ≤ MOST_IMAGE }
     ensures { OnOk result (Appended code.old (spec.front_code text rdata) code.new) }
 {
     put_service(code, text, rdata, ImportedService::RaiseException)?;
@@ -108,7 +109,7 @@ fn links_of<'a>(
     labels: &'a [u32],
     end: u32,
 ) -> Links<'a>
-    requires text { text < 2 ^ 29 }
+    requires text { text ≤ MOST_IMAGE }
     requires functions { AreNear functions.now }
     requires funclets { AreNear funclets.now }
     requires labels { AreNear labels.now }
@@ -136,7 +137,7 @@ fn put_code(
     requires near { IsRoutineNear routine.now }
     requires begin { IsNear begin }
     requires start { start ≡ begin + spec.entry_size routine.now }
-    requires room { HasRoom start routine.now.body.code }
+    requires room { EndsNear start routine.now.body.code }
     requires check_stack { IsNear check_stack }
     ensures { OnOk result
         (Appended code.old
@@ -156,7 +157,7 @@ fn put_routine(
 ) -> Result<u32, AllocError>
     requires site { IsSiteNear site.now }
     requires near { IsRoutineNear routine.now }
-    requires room { begin + spec.routine_room routine.now < 2 ^ 30 }
+    requires room { IsNear (begin + spec.routine_room routine.now) }
     ensures code { OnOk result
         (code.new.items ≡ code.old.items ++ spec.routine_bytes site.now begin routine.now) }
     ensures end { IfOk result (λ end. end ≡ begin + spec.routine_size routine.now) }
@@ -183,7 +184,7 @@ pub fn text_of(
 ) -> Result<Vec<u8>, AllocError>
     requires site { IsSiteNear site.now }
     requires near { AllByRecursion IsRoutineNear routines.now }
-    requires room { spec.first_routine_at site.now.text + spec.room routines.now < 2 ^ 30 }
+    requires room { IsNear (spec.first_routine_at site.now.text + spec.room routines.now) }
     ensures { IfOk result (λ v. v.items ≡ spec.text_bytes site.now routines.now) }
 {
     let mut code = Vec::new(alloc);

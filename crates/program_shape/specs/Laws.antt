@@ -11,6 +11,7 @@ use Rattle.program_link.specs.Text.{SiteView}
 use Rattle.program_tables.specs.Placed.{Placed, placed}
 use Rattle.program_tables.specs.Entries.{entry_of, entries}
 use Rattle.program_shape.specs.Rows.{AreDifferent, rows_of, is_finally_row, is_always_row, handlers, AreInOrder, regions, is_always, named, NamesFunclets, funclet_begin, AreRows}
+use Rattle.template_code.specs.declared.layout.TheConstants.{LARGEST_FRAME}
 
 -- ---- its shape
 
@@ -54,8 +55,8 @@ EntriesAreFlagged = (s : SiteView) (x : Placed) (f : Frame) → IsFlagged s x f
 
 -- ---- frames
 
--- none takes more than 8,192 bytes, its return address counted
+-- none takes more than the largest frame, its return address counted
 abbrev pub FramesAreSmall : Type 0
 FramesAreSmall =
     (p : LinearProgram) (index : ℕ) (x : Placed) (f : Frame) → FitsProgram p
-    → slice_get (placed p) index ≡ Some x → x.routine.frame ≡ Some f → f.size + 8 ≤ 8192
+    → slice_get (placed p) index ≡ Some x → x.routine.frame ≡ Some f → f.size + 8 ≤ LARGEST_FRAME

@@ -15,7 +15,7 @@ pub fn flags()
     ensures { EntriesAreFlagged }
 {}
 
-/// No frame takes more than 8,192 bytes.
+/// No frame takes more than `LARGEST_FRAME`.
 pub fn sizes()
     ensures { FramesAreSmall }
 {}

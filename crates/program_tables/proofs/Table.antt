@@ -1,5 +1,5 @@
 -- The function table of a program's image, read whole.
-use Rattle.std.proofs.Common.{◌≡◌, ℕ, zero, suc, ◌+◌, ◌-◌, ◌%◌, ◌^◌, ◌<◌, ◌≤◌, ◌==◌, Bool, true, false, not, List, [], ◌∷◌, ◌++◌, length, drop, map, Option, Some, None, Ok, refl, sym, ap, subst, ◌∙◌, arith, append_assoc, length-append}
+use Rattle.std.proofs.Common.{◌*◌, ◌≡◌, ℕ, zero, suc, ◌+◌, ◌-◌, ◌%◌, ◌^◌, ◌<◌, ◌≤◌, ◌==◌, Bool, true, false, not, List, [], ◌∷◌, ◌++◌, length, drop, map, Option, Some, None, Ok, refl, sym, ap, subst, ◌∙◌, arith, append_assoc, length-append}
 use Rattle.std.specs.Prelude.{◌&&◌}
 use Rattle.std.specs.List.{AllByRecursion}
 use Rattle.std.proofs.lemmas.List.{map-append, length-map}
@@ -47,6 +47,7 @@ use Rattle.program_tables.proofs.Handlers.{handler_is_c, thunk_bytes}
 use Rattle.program_tables.proofs.Rows.{AreBelow, checked_is, rows_within, rows_small}
 use Rattle.program_tables.proofs.Infos.{is_trailer, has_trailer, no_parent, handled, taking_few, can_be, is_info, unwind_some, info_aligned}
 use Rattle.program_tables.proofs.Prologues.{entry_least}
+use Rattle.host_layout.specs.declared.limit.TheConstants.{MOST_IMAGE}
 
 -- ---- the entries as they are written
 
@@ -223,7 +224,7 @@ module _ (p : LinearProgram) (fits : FitsProgram p) where
 
   -- one of some regions, with its scope table
   scopes_by : (info at : ℕ) (r : RoutineView) (f : Frame) (regions : List Region) (front more : List ℕ)
-      → AllByRecursion (IsRegionRange (length r.body.code)) regions → length regions ≤ 2 ^ 24 → at + routine_size r ≤ first p.globals + total rs
+      → AllByRecursion (IsRegionRange (length r.body.code)) regions → 16 * length regions ≤ MOST_IMAGE → at + routine_size r ≤ first p.globals + total rs
       → program.xdata ≡ front ++ ((unwind_bytes (info_of f (trailer (thunk_at s.text CSpecificHandler) regions)) ++ scope_table s.funclets (own_addresses at r).labels (own_addresses at r).end regions) ++ more)
       → info ≡ xdata_at (sizes_of program) + length front
       → HasScopes image info (record { info = info_of f (trailer (thunk_at s.text CSpecificHandler) regions); scopes = scope_records s.funclets (own_addresses at r).labels (own_addresses at r).end regions }) (has_rows regions)

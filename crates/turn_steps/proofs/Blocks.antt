@@ -40,7 +40,7 @@ use Rattle.x64_templates.proofs.FilterEntries.{Within}
 use Rattle.ir_typed.specs.Bodies.{IsFinally, parent_of, function_of, owner_of, IsFuncletOf}
 use Rattle.ir_typed.specs.Activations.{owners_of}
 use Rattle.linked_stack.specs.ImagePlan.{Plan, by_parent}
-use Rattle.linked_stack.specs.Linked.{Activation, locals_of, IsActivation, largest_frame, HasSpace, below_end, record_room, HasPointers, FuncletIsAbove}
+use Rattle.linked_stack.specs.Linked.{Activation, locals_of, IsActivation, HasSpace, below_end, record_room, HasPointers, FuncletIsAbove}
 use Rattle.linked_stack.specs.States.{IsSane}
 use Rattle.whole_runs.specs.Shadow.{is_call, KeepsShadow, AllKeep}
 use Rattle.whole_runs.proofs.Shadows.{straight, keep_first}
@@ -74,6 +74,7 @@ use Rattle.turn_steps.proofs.Entering.{HasEntered, entered, first_small, quiet_t
 use Rattle.turn_steps.proofs.Grounds.{top_of, begins_beneath}
 use Rattle.turn_steps.proofs.FuncletKeeping.{base_code, arguments_are, base_is_plain, funclet_ran}
 use Rattle.turn_steps.proofs.FuncletFilters.{has_first, parent_is}
+use Rattle.template_code.specs.declared.layout.TheConstants.{LARGEST_FRAME}
 
 same_number : (a b : ℕ) → Some a ≡ Some b → a ≡ b
 same_number a b e = cc
@@ -123,7 +124,7 @@ module _ (t : Functions) (fs : List Funclet) (program : LinearProgram) (p : Plan
       (a : ArrivesBelow t fs program p s k activation (of_test abnormal) items acts) (name : BodyName) (known : IsFuncletOf program name IsFinally k)
       (flagged : flag_of (slice_get program.funclets k) ≡ Some flag) (fits : FlagsFit program)
       (memory : IsMachineMemory t fs program p q s.memory store.memory) (stored : store.activations ≡ locals_of acts)
-      (space : STACK_END ≤ a.at + (below_end + record_room) + largest_frame * (length acts + held)) (few : length acts + held + 2 ≤ 1000)
+      (space : STACK_END ≤ a.at + (below_end + record_room) + LARGEST_FRAME * (length acts + held)) (few : length acts + held + 2 ≤ 1000)
       (pointers : (m : Memory) (sp size : ℕ) → HasPointers t fs program p m (p.layout (FuncletBody k)) sp size items)
       (above : (g : LinearFunclet) → g.kind ≡ funclets.Finally flag → FuncletIsAbove t fs program p k (first_frame t fs program p q image k activation no_exception (held + 2)) (Some g) items)
       (typed : IsKnown program (block_begins k flag activation held abnormal items store events)) where

@@ -47,6 +47,7 @@ use Rattle.body_steps.proofs.Views.{KeepsSlot, stack_is_reserved}
 use Rattle.body_steps.proofs.Viewed.{IsCounted, AsFunction, AsFunclet, kind, placed, sp_low, frame_top, room_here, holds_here}
 use Rattle.body_steps.proofs.Running.{v, base, frame, slots, same_state, template_here, has_slots, sp_is}
 use Rattle.turn_steps.proofs.Outward.{HasOutgoing, AllPassed, passes, passing_fine}
+use Rattle.template_code.specs.declared.layout.TheConstants.{LARGEST_FRAME}
 
 same_slot : (x z : ℕ) → Some x ≡ Some z → x ≡ z
 same_slot x z e = cc
@@ -80,9 +81,9 @@ module _ (t : Functions) (fs : List Funclet) (program : LinearProgram) (p : Plan
     pub record Bottom : Type 0 where
       pub temporaries : room ≤ layout.temporaries
       pub locals : sp + room ≤ at_base + layout.locals
-      pub base : (k : ℕ) → layout.base ≡ Some k → (room ≤ k) × (k + 8 ≤ 8184)
+      pub base : (k : ℕ) → layout.base ≡ Some k → (room ≤ k) × (k + 16 ≤ LARGEST_FRAME)
       pub size : layout.temporaries ≤ layout.frame
-      pub small : layout.frame ≤ 8184
+      pub small : layout.frame + 8 ≤ LARGEST_FRAME
 
     is_base : (o : Option ℕ) → layout.base ≡ o → o ≡ None → at_base ≡ sp
     is_base None e n = subst (λ o. KeepsSlot s.memory layout o sp at_base) e (placed t fs program p q image s c b counted).kept
@@ -133,7 +134,7 @@ module _ (t : Functions) (fs : List Funclet) (program : LinearProgram) (p : Plan
     pub top : sp + layout.frame + 8 ≤ STACK_END
     top = frame_top t fs program p q image s c b counted
 
-    pub room_small : room ≤ 8184
+    pub room_small : room + 8 ≤ LARGEST_FRAME
     room_small = let g = bottom.temporaries in let h = bottom.size in let z = bottom.small in omega arith
 
     pub room_top : sp + room + 8 ≤ STACK_END

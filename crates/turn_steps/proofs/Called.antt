@@ -65,6 +65,7 @@ use Rattle.turn_steps.proofs.CallCalling as calling
 use Rattle.turn_steps.proofs.Callee as entering
 use Rattle.turn_steps.proofs.Entered.{words_at, words_count, words_small, arguments_then_words}
 use Rattle.turn_steps.proofs.Entries as entries
+use Rattle.template_code.specs.declared.layout.TheConstants.{LARGEST_FRAME}
 
 -- two turns for each argument that is passed on the stack
 passed_in : (y : Layout) (first i n : ℕ) → length (passing_code y first i n) ≡ 2 * n
@@ -232,7 +233,7 @@ module _ (t : Functions) (fs : List Funclet) (program : LinearProgram) (p : Plan
     arguments_are : sites.arguments_code program p (FunctionBody f) ≡ parameters_code layout 0 count
     arguments_are = ap (λ x. function_arguments layout x) callee ∙ ap (λ n. parameters_code layout 0 n) parameters
 
-    arguments_stored : (leaf : Bool) → IsLayoutIf program p layout o leaf → AllPlain layout.frame 40 (parameters_code layout 0 count) × (layout.frame ≤ 8184)
+    arguments_stored : (leaf : Bool) → IsLayoutIf program p layout o leaf → AllPlain layout.frame 40 (parameters_code layout 0 count) × (layout.frame + 8 ≤ LARGEST_FRAME)
     arguments_stored true l =
         let e = l.frame in
         let a = l.locals in
@@ -334,7 +335,7 @@ module _ (t : Functions) (fs : List Funclet) (program : LinearProgram) (p : Plan
     laid : Laid (p.leaf (FunctionBody f))
     laid = image.laid_out (FunctionBody f) o there
 
-    frame_small : (leaf : Bool) → Laid leaf → layout.frame ≤ 8184
+    frame_small : (leaf : Bool) → Laid leaf → layout.frame + 8 ≤ LARGEST_FRAME
     frame_small true l = let e = l.frame in omega arith
     frame_small false l = l.small
 

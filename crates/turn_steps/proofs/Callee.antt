@@ -44,6 +44,7 @@ use Rattle.turn_steps.proofs.CallCalling as calling
 use Rattle.turn_steps.proofs.Awaiting.{back_near}
 use Rattle.turn_steps.proofs.Entered.{argument_is}
 use Rattle.turn_steps.proofs.Prologues.{Made}
+use Rattle.template_code.specs.declared.layout.TheConstants.{LARGEST_FRAME}
 
 -- ---- what a frame needs
 
@@ -211,7 +212,7 @@ module _ (t : Functions) (fs : List Funclet) (program : LinearProgram) (p : Plan
 
     -- ---- once the frame is made, the parameters
 
-    module _ (sp to n : ℕ) (made : Made called target to flags (caller - 8) sp arguments n) (y : Layout) (own : IsOwn program.globals y o sp) (whole : IsFunction (own_frame program.globals y o sp)) (same_locals : y.locals ≡ layout.locals) (short : y.frame ≤ 8184)
+    module _ (sp to n : ℕ) (made : Made called target to flags (caller - 8) sp arguments n) (y : Layout) (own : IsOwn program.globals y o sp) (whole : IsFunction (own_frame program.globals y o sp)) (same_locals : y.locals ≡ layout.locals) (short : y.frame + 8 ≤ LARGEST_FRAME)
         (up : (i : ℕ) → 4 ≤ i → i < count → sp + y.frame + 8 ≡ caller) (place : sp + layout.frame + 8 ≡ caller) (code : HasCode s.memory to (parameters_code y 0 count)) (ends : to + sizes (parameters_code y 0 count) ≡ p.address (FunctionBody f) 0)
         (outside : (a : ℕ) → Outside a → InTemporaries y (counts_of o) sp a ⊎ InLocals y (counts_of o) sp a → ⊥)
         (counted_turns : n + length (parameters_code y 0 count) ≡ making_steps (p.leaf (FunctionBody f)) layout.frame + length (arguments_code program p (FunctionBody f))) where

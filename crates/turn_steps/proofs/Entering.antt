@@ -24,7 +24,7 @@ use Rattle.x64_templates.specs.Runs.{HasCode, Enters}
 use Rattle.x64_templates.proofs.Computes.{code_split}
 use Rattle.x64_templates.proofs.FilterEntries.{Within, within_keeps_code}
 use Rattle.linked_stack.specs.ImagePlan.{Plan}
-use Rattle.linked_stack.specs.Linked.{Activation, largest_frame, below_end, record_room}
+use Rattle.linked_stack.specs.Linked.{Activation, below_end, record_room}
 use Rattle.linked_stack.proofs.Ends.{in_stack}
 use Rattle.body_states.specs.Sites as sites
 use Rattle.body_states.specs.Sites.{Sites, begin_of, links_of, making, frame_code, parent_base, keep_argument, base_in, funclet_arguments, arguments_code, entry_code, code_of}
@@ -35,6 +35,7 @@ use Rattle.body_steps.proofs.Viewed.{is_machine}
 use Rattle.body_steps.proofs.Running.{index_of, sp_seen}
 use Rattle.turn_steps.proofs.Making.{LeadsBy, first_code, Made, HasRoom, made}
 use Rattle.turn_steps.proofs.FuncletFrames.{ArrivesBelow, IsLaid}
+use Rattle.template_code.specs.declared.layout.TheConstants.{LARGEST_FRAME}
 
 dropped_count : (rs : List ℕ) → length rs ≡ 16 → length (drop 3 rs) ≡ 13
 dropped_count [] e = absurd (omega arith)
@@ -112,7 +113,7 @@ module _ (t : Functions) (fs : List Funclet) (program : LinearProgram) (p : Plan
 
   -- the frame, and the base in it
   module _ (s : State) (k first activation : ℕ) (items : List Item) (acts : List Activation) (l : IsLaid t fs program p q image k) (a : ArrivesBelow t fs program p s k activation first items acts) (source : Memory) (memory : IsMachineMemory t fs program p q s.memory source)
-      (depth : ℕ) (space : STACK_END ≤ a.at + (below_end + record_room) + largest_frame * depth) (shallow : depth + 2 ≤ 1000) (leads : LeadsBy s.memory (parent_base p l.funclet.parent) (register s.cpu Rdx) a.reaches.base) where
+      (depth : ℕ) (space : STACK_END ≤ a.at + (below_end + record_room) + LARGEST_FRAME * depth) (shallow : depth + 2 ≤ 1000) (leads : LeadsBy s.memory (parent_base p l.funclet.parent) (register s.cpu Rdx) a.reaches.base) where
     abbrev frame : ℕ
     frame = (p.layout (FuncletBody k)).frame
 
@@ -125,7 +126,7 @@ module _ (t : Functions) (fs : List Funclet) (program : LinearProgram) (p : Plan
     pub top : a.at ≤ STACK_END
     top = in_stack t fs program p s.memory _ a.is items acts (a.on (replicate 8 0) refl).is_there.stack (a.on (replicate 8 0) refl).is_there.linked
 
-    pub low : STACK_START + 8192 ≤ register s.cpu Rsp
+    pub low : STACK_START + LARGEST_FRAME ≤ register s.cpu Rsp
     low = let e = a.stack in omega (arith, space, shallow)
 
     pub sp_is : register s.cpu Rsp ≡ sp + frame

@@ -57,16 +57,17 @@ use Rattle.turn_steps.specs.FuncletEntries.{entry_turns}
 use Rattle.turn_steps.specs.RaiseLaws.{ContinuationsAfterCalls}
 use Rattle.turn_steps.proofs.Asking.{clear_size}
 use Rattle.turn_steps.proofs.RaiseQuiet.{quiet_code}
+use Rattle.template_code.specs.declared.layout.TheConstants.{LARGEST_FRAME}
 
 -- the locals of an activation
 abbrev locals_in : List (List ℕ) → ℕ → List ℕ
 locals_in xs k = elim (slice_get xs k) [ Some locals ↦ locals | None ↦ [] ]
 
 -- temporaries are near RSP
-temporaries_near : (program : LinearProgram) (p : Plan) (name : BodyName) (b : LinearBody) → IsLaidOut program p name b → (p.layout name).temporaries + 8 * b.temporaries ≤ 8184
+temporaries_near : (program : LinearProgram) (p : Plan) (name : BodyName) (b : LinearBody) → IsLaidOut program p name b → (p.layout name).temporaries + 8 * b.temporaries + 8 ≤ LARGEST_FRAME
 temporaries_near program p (FunctionBody f) b h = by (p.leaf (FunctionBody f)) h
   where
-    by : (leaf : Bool) → IsLayoutIf program p (p.layout (FunctionBody f)) b leaf → (p.layout (FunctionBody f)).temporaries + 8 * b.temporaries ≤ 8184
+    by : (leaf : Bool) → IsLayoutIf program p (p.layout (FunctionBody f)) b leaf → (p.layout (FunctionBody f)).temporaries + 8 * b.temporaries + 8 ≤ LARGEST_FRAME
     by true l = let a = l.temporaries in let e = l.few in omega arith
     by false l = let a = l.temporaries in let e = l.locals in let z = l.small in omega arith
 temporaries_near program p (FuncletBody k) b h = let a = h.layout.temporaries in let z = h.layout.small in omega arith

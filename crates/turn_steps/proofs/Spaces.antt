@@ -14,7 +14,8 @@ use Rattle.linear_code.specs.Program.{LinearProgram}
 use Rattle.linear_machine.specs.Frames.{Frame, Handler, Target, Resumption, Item, Waits, Searches, Unwinds}
 use Rattle.linked_stack.specs.Stack.{StackItem, Framed, Leaf, Searching, Unwinding}
 use Rattle.linked_stack.specs.ImagePlan.{Plan}
-use Rattle.linked_stack.specs.Linked.{Activation, largest_frame, HasSpace, below_end, record_room, Linked}
+use Rattle.linked_stack.specs.Linked.{Activation, HasSpace, below_end, record_room, Linked}
+use Rattle.template_code.specs.declared.layout.TheConstants.{LARGEST_FRAME}
 
 pub shallow_is : (n : ℕ) → nat_lt 1000 n ≡ false → n ≤ 1000
 shallow_is n e = elim (cases_lt 1000 n) [
@@ -25,7 +26,7 @@ shallow_is n e = elim (cases_lt 1000 n) [
 module _ (t : Functions) (fs : List Funclet) (program : LinearProgram) (p : Plan) where
   -- below a record, by what waits where it was laid
   pub record HasRecordSpace (at depth : ℕ) : Type 0 where
-    pub space : STACK_END ≤ at + (below_end + record_room) + largest_frame * depth
+    pub space : STACK_END ≤ at + (below_end + record_room) + LARGEST_FRAME * depth
 
   body_space : (m : Memory) (c : Context) (is : List StackItem) (f : Frame) (below : List Item) (acts : List Activation) → Linked t fs program p m c is (Waits f ∷ below) acts → HasSpace (rsp c) below_end (length acts + f.held)
   body_space m c [] f below acts h = absurd h

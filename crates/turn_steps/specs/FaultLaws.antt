@@ -81,7 +81,8 @@ ContinuationsAtOperations =
     → IsMachineMemory t fs program p q s.memory c.store.memory
     → c.store.activations ≡ locals_of acts
     → (arrivals saved (distance t.base saved.rip) 1 fs ≡ [])
-    × LeadsTo t fs entry_turns (Represents t fs program p q) (record { cpu = saved; memory = s.memory })
+    × LeadsTo t fs entry_turns (Represents t fs program p q)
+    (record { cpu = saved; memory = s.memory })
     (resumed SameOperation c)
 
 -- each operation is matched, where its instruction begins and in its midst

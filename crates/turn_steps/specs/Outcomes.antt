@@ -66,7 +66,8 @@ module _ (t : Functions) (fs : List Funclet) (program : LinearProgram) (p : Plan
     pub shown : configuration.events ≡ es ++ events
     pub quiet : arrivals state.cpu (distance t.base state.cpu.rip) 1 fs ≡ []
     pub walk : WalkContinues shadow state []
-    pub leads : IsKnown program configuration → LeadsTo t fs entry_turns Represents state configuration
+    pub leads : IsKnown program configuration
+        → LeadsTo t fs entry_turns Represents state configuration
 
   -- or to a funclet, which begins unless the depth would be too great
   pub record EntersFunclet (turn : Turn) (seen : Next → Seen) (es : List Event) (left : ℕ)

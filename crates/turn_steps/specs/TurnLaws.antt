@@ -60,7 +60,8 @@ FilterAnswersAreMatched =
     → c.store.activations ≡ locals_of acts
     → ((next : Next) → act program i next c ≡ linear_answer program u exception resumption asked
     rest (waiting_below c w below) next) → HasRule (act program i (exec program zero) c)
-    → KnownNext program c i → IsMatched t fs program 16 turns_left (Represents t fs program p q) s c i
+    → KnownNext program c i
+    → IsMatched t fs program 16 turns_left (Represents t fs program p q) s c i
 
 -- and where they lead to that of `__finally` blocks, the step that ends the block
 abbrev pub FinallyReturnsAreMatched : Type 0
@@ -78,7 +79,8 @@ FinallyReturnsAreMatched =
     → c.store.activations ≡ locals_of acts
     → ((next : Next) → act program i next c ≡ end_finally program next c.below c.events c.store)
     → HasRule (act program i (exec program zero) c)
-    → KnownNext program c i → IsMatched t fs program 16 turns_left (Represents t fs program p q) s c i
+    → KnownNext program c i
+    → IsMatched t fs program 16 turns_left (Represents t fs program p q) s c i
 
 -- where a body asks the host, a raise shows its event, and then does what linear code does
 abbrev pub RaisesAreShown : Type 0

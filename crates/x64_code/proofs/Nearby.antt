@@ -11,7 +11,7 @@ use Rattle.template_code.specs.Slots.{temporary_at, fetched, fetch}
 use Rattle.template_code.specs.Jumps.{distance, compare_zero, test_code}
 use Rattle.template_code.specs.Calls.{keep_register, arguments_code, passing_code, parameter_code, parameters_code}
 use Rattle.template_code.specs.Template.{Links, template, template_size, body_size, code_from}
-use Rattle.x64_code.specs.Near.{IsInstructionNear}
+use Rattle.x64_code.specs.Near.{IsInstructionNear, IsNear}
 use Rattle.x64_code.specs.Rooms.{instruction_room, code_room}
 use Rattle.x64_code.specs.Bodies.{label_list}
 use Rattle.x64_code.proofs.Rooms.{template_in_room}
@@ -39,7 +39,7 @@ spelled_both old a b is js e f =
 pub grown : (old new : List ℕ) (is : List Instr) → new ≡ old ++ spelled is → length new - length old ≡ sizes is
 grown old new is e = let l = ap length e in omega (arith, length-append old (spelled is), sizes_spelled is)
 
-pub near_signed : (next to : ℕ) → next < 2 ^ 31 → to < 2 ^ 30 → is_signed W32 W64 (distance next to) ≡ true
+pub near_signed : (next to : ℕ) → next < 2 ^ 31 → IsNear to → is_signed W32 W64 (distance next to) ≡ true
 near_signed next to a b = short next to (omega arith, omega arith, omega arith, omega arith)
 
 -- code that has grown by instructions, and then by one more

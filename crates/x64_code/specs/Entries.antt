@@ -1,7 +1,8 @@
 -- What a funclet does with what it is called with.
-use Rattle.std.specs.Prelude.{ℕ, ◌^◌, ◌<◌, List, Option, Some, None}
+use Rattle.std.specs.Prelude.{ℕ, List, Option, Some, None}
 use Rattle.x64_instr.specs.declared.instruction.Instr.{Instr}
 use Rattle.template_code.specs.Calls as calls
+use Rattle.x64_code.specs.Near.{IsNear}
 
 -- the base in RDX, or where the frame in RDX is a funclet's, the base that is kept there
 abbrev pub keep_base : Option ℕ → ℕ → List Instr
@@ -10,8 +11,8 @@ keep_base (Some parent) b = calls.keep_parents_base parent b
 
 abbrev pub IsParentNear : Option ℕ → Type 0
 IsParentNear None = Unit {0}
-IsParentNear (Some parent) = parent < 2 ^ 30
+IsParentNear (Some parent) = IsNear parent
 
 pub record IsKeptNear (parent : Option ℕ) (b : ℕ) : Type 0 where
   pub parent_near : IsParentNear parent
-  pub base_near : b < 2 ^ 30
+  pub base_near : IsNear b

@@ -12,9 +12,13 @@ use Rattle.linear_code.specs.declared.instruction.Instruction.TheVariants as ins
 use Rattle.template_code.specs.declared.layout.Layout.{Layout}
 use Rattle.template_code.specs.Slots.{temporary_at, local_at}
 
--- an address in the image, relative to its base: the image is smaller than 1 GiB
+-- addresses in an image, relative to its base, and places in a frame are below 1 GiB (own), so that
+-- a displacement of 32 bits leads from each to each
+abbrev pub near_end : ℕ
+near_end = 2 ^ 30
+
 abbrev pub IsNear : ℕ → Type 0
-IsNear a = a < 2 ^ 30
+IsNear a = a < near_end
 
 abbrev pub AreNear : List ℕ → Type 0
 AreNear addresses = AllByRecursion IsNear addresses
@@ -23,27 +27,27 @@ AreNear addresses = AllByRecursion IsNear addresses
 
 abbrev pub IsBaseNear : Option ℕ → Type 0
 IsBaseNear None = Unit {0}
-IsBaseNear (Some b) = b < 2 ^ 30
+IsBaseNear (Some b) = IsNear b
 
 abbrev pub IsSlotNear : Layout → Slot → Type 0
-IsSlotNear y (Temporary i) = temporary_at y i < 2 ^ 30
-IsSlotNear y (Local i) = (local_at y i < 2 ^ 30) × IsBaseNear y.base
+IsSlotNear y (Temporary i) = IsNear (temporary_at y i)
+IsSlotNear y (Local i) = IsNear (local_at y i) × IsBaseNear y.base
 
 -- at most eight arguments, and at least the four temporaries from the first on
 pub record AreArgumentsNear (y : Layout) (first count : ℕ) : Type 0 where
   pub few : count ≤ MOST_PARAMETERS
-  pub temporaries : temporary_at y (first + 8) < 2 ^ 30
+  pub temporaries : IsNear (temporary_at y (first + MOST_PARAMETERS))
 
 abbrev pub IsFrameNear : Layout → Type 0
-IsFrameNear y = y.frame < 2 ^ 30
+IsFrameNear y = IsNear y.frame
 
 -- so many parameters, in their locals and above the frame
 pub record AreParametersNear (y : Layout) (count : ℕ) : Type 0 where
-  pub locals : local_at y count < 2 ^ 30
-  pub stack : y.frame + (8 + 8 * count) < 2 ^ 30
+  pub locals : IsNear (local_at y count)
+  pub stack : IsNear (y.frame + (8 + 8 * count))
 
 abbrev pub ArePointersNear : Layout → Type 0
-ArePointersNear y = y.pointers < 2 ^ 30
+ArePointersNear y = IsNear y.pointers
 
 -- ---- instructions
 

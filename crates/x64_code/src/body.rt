@@ -23,7 +23,7 @@ pub fn labels_of(
     body: &[Instruction],
 ) -> Result<Labels, AllocError>
     requires near { AllByRecursion (IsInstructionNear layout.now) body.now }
-    requires room { spec.HasRoom start body.now }
+    requires room { spec.EndsNear start body.now }
     ensures labels { IfOk result (λ l. l.starts.items ≡ spec.label_list layout.now start body.now) }
     ensures end { IfOk result (λ l. l.end ≡ start + body_size layout.now body.now) }
 {
@@ -58,7 +58,7 @@ pub fn put_body(
     body: &[Instruction],
 ) -> Result<(), AllocError>
     requires near { AllByRecursion (IsInstructionNear layout.now) body.now }
-    requires room { spec.HasRoom start body.now }
+    requires room { spec.EndsNear start body.now }
     ensures { OnOk result
         (Appended code.old (code_from (links_of links.now) layout.now start body.now) code.new) }
 {

@@ -1,7 +1,7 @@
 //! Jumps, calls and returns.
 
-ghost use Rattle.std.specs.Prelude.{◌≡◌, ◌+◌, ◌-◌, ◌<◌, ◌^◌, ◌++◌, [], ◌∷◌, OnOk};
-ghost use Rattle.x64_code.specs.Near.{IsNear, IsSlotNear, AreArgumentsNear, IsFrameNear, IsFieldNear, ArePointersNear};
+ghost use Rattle.std.specs.Prelude.{◌≡◌, ◌+◌, ◌-◌, ◌<◌, ◌++◌, [], ◌∷◌, OnOk};
+ghost use Rattle.x64_code.specs.Near.{near_end, IsNear, IsSlotNear, AreArgumentsNear, IsFrameNear, IsFieldNear, ArePointersNear};
 ghost use Rattle.x64_encode.specs.Chosen.{IsEncodable};
 ghost use Rattle.linear_code.specs.declared.slot.Slot.TheVariants as slots;
 ghost use Rattle.template_code.specs.Calls as spec;
@@ -140,7 +140,7 @@ fn put_begin_call(
     to: u64,
 ) -> Result<(), AllocError>
     requires arguments { AreArgumentsNear layout.now first 4 }
-    requires at { at < 2 ^ 30 + 256 }
+    requires at { at < near_end + 256 }
     requires to { IsNear to }
     ensures { OnOk result (Appended code.old (spec.begin_call layout.now first at to) code.new) }
 {
@@ -159,7 +159,7 @@ fn put_call(
     to: u64,
 ) -> Result<(), AllocError>
     requires arguments { AreArgumentsNear layout.now first 4 }
-    requires at { at < 2 ^ 30 + 256 }
+    requires at { at < near_end + 256 }
     requires to { IsNear to }
     ensures { OnOk result
         (Appended code.old
@@ -257,7 +257,7 @@ pub fn put_local_unwind(
 
 /// Adds what gives back a frame, if there is one, and returns.
 fn put_epilogue(code: &mut Vec<u8>, frame: u64) -> Result<(), AllocError>
-    requires { frame < 2 ^ 30 }
+    requires { IsNear frame }
     ensures { OnOk result (Appended code.old (spec.epilogue frame) code.new) }
 {
     if frame == 0 {
@@ -285,7 +285,7 @@ pub fn put_return(code: &mut Vec<u8>, layout: &Layout, from: Slot) -> Result<(),
 
 /// The load of a number so far above the address in RAX.
 fn field_at(width: Width, displacement: u64) -> Instr
-    requires { displacement < 2 ^ 30 }
+    requires { IsNear displacement }
     ensures value { result ≡ Instr.Move width (RegisterOrMemory.Register Reg.Rax)
         (Operand.Memory (operations.above Reg.Rax displacement)) }
     ensures encodable { IsEncodable result }

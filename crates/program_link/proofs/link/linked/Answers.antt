@@ -1,11 +1,7 @@
 use Rattle.std.proofs.Common.{◌≡◌, ℕ, ◌+◌, ◌-◌, List, length, get_or, sym, subst, ap, ◌∙◌, arith}
-use Rattle.pe_write.specs.Program.{Program, IsProgram, rdata_at, xdata_at}
-use Rattle.eh_tables.specs.Written.{table_bytes}
-use Rattle.program_link.specs.Near.{IsSiteNear}
-use Rattle.program_link.specs.Text.{SiteView, bounds, text_bytes}
-use Rattle.program_link.specs.Tables.{infos, ranges}
-use Rattle.program_link.specs.Linked.{first, front_sizes, site, image_of}
-use Rattle.program_link.proofs.Images.{if_ok, there, past, site_near, tables_fit, rdata_fits, is_program, sizes_is, site_is, same_image, no_routine}
+use Rattle.pe_write.specs.Program.{Program, IsProgram}
+use Rattle.program_link.specs.Linked.{first, image_of}
+use Rattle.program_link.proofs.Images.{if_ok, there, past, IsMeasured, rdata_small, xdata_small, is_site_near, image_is, is_program, no_routine}
 use Rattle.program_link.proofs.link.linked.Goals as goal
 
 pub offset_of-requires-clause-there : goal.offset_of-requires-clause-there
@@ -29,11 +25,9 @@ overflow_cast-rdata c =
     let b = c.args.bounds.now in
     let rs = c.args.routines.now in
     let size_of_data = c.data_pages-data_size.result in
-    let d = c.data_pages-data_size.ensures.value in
-    let e = c.requires.bounds in
-    let s = ap rdata_at (sizes_is g b rs size_of_data c.offset_of.result d e c.offset_of.ensures) in
-    let f = rdata_fits g rs c.args.functions c.args.main c.requires.globals c.requires.near c.requires.places in
-    let r = c.rdata_at-rdata.ensures in
+    let h : IsMeasured g b rs c.args.functions c.args.main size_of_data c.offset_of.result =
+    record { few = c.requires.globals; near = c.requires.near; places = c.requires.places; sized = c.data_pages-data_size.ensures.value; between = c.requires.bounds; text = c.offset_of.ensures } in
+    let f = rdata_small g b rs c.args.functions c.args.main size_of_data c.offset_of.result h c.rdata_at-rdata.result c.rdata_at-rdata.ensures in
     omega arith
 
 pub overflow_cast-xdata : goal.overflow_cast-xdata
@@ -42,11 +36,9 @@ overflow_cast-xdata c =
     let b = c.args.bounds.now in
     let rs = c.args.routines.now in
     let size_of_data = c.data_pages-data_size.result in
-    let d = c.data_pages-data_size.ensures.value in
-    let e = c.requires.bounds in
-    let s = ap xdata_at (sizes_is g b rs size_of_data c.offset_of.result d e c.offset_of.ensures) in
-    let f = rdata_fits g rs c.args.functions c.args.main c.requires.globals c.requires.near c.requires.places in
-    let r = c.xdata_at-xdata.ensures in
+    let h : IsMeasured g b rs c.args.functions c.args.main size_of_data c.offset_of.result =
+    record { few = c.requires.globals; near = c.requires.near; places = c.requires.places; sized = c.data_pages-data_size.ensures.value; between = c.requires.bounds; text = c.offset_of.ensures } in
+    let f = xdata_small g b rs c.args.functions c.args.main size_of_data c.offset_of.result h c.xdata_at-xdata.result c.xdata_at-xdata.ensures in
     omega arith
 
 pub text_of-requires-clause-site : goal.text_of-requires-clause-site
@@ -55,10 +47,9 @@ text_of-requires-clause-site c =
     let b = c.args.bounds.now in
     let rs = c.args.routines.now in
     let size_of_data = c.data_pages-data_size.result in
-    let d = c.data_pages-data_size.ensures.value in
-    let e = c.requires.bounds in
-    let is = c.site_of-site.ensures ∙ site_is g b rs c.args.functions size_of_data c.offset_of.result c.rdata_at-rdata.result d e c.offset_of.ensures c.rdata_at-rdata.ensures in
-    subst IsSiteNear (sym is) (site_near g rs c.args.functions c.args.main c.requires.globals c.requires.near c.requires.places)
+    let h : IsMeasured g b rs c.args.functions c.args.main size_of_data c.offset_of.result =
+    record { few = c.requires.globals; near = c.requires.near; places = c.requires.places; sized = c.data_pages-data_size.ensures.value; between = c.requires.bounds; text = c.offset_of.ensures } in
+    is_site_near g b rs c.args.functions c.args.main size_of_data c.offset_of.result h _ c.rdata_at-rdata.result c.site_of-site.ensures c.rdata_at-rdata.ensures
 
 pub tables_of-requires-clause-site : goal.tables_of-requires-clause-site
 tables_of-requires-clause-site c =
@@ -66,10 +57,9 @@ tables_of-requires-clause-site c =
     let b = c.args.bounds.now in
     let rs = c.args.routines.now in
     let size_of_data = c.data_pages-data_size.result in
-    let d = c.data_pages-data_size.ensures.value in
-    let e = c.requires.bounds in
-    let is = c.site_of-site.ensures ∙ site_is g b rs c.args.functions size_of_data c.offset_of.result c.rdata_at-rdata.result d e c.offset_of.ensures c.rdata_at-rdata.ensures in
-    subst IsSiteNear (sym is) (site_near g rs c.args.functions c.args.main c.requires.globals c.requires.near c.requires.places)
+    let h : IsMeasured g b rs c.args.functions c.args.main size_of_data c.offset_of.result =
+    record { few = c.requires.globals; near = c.requires.near; places = c.requires.places; sized = c.data_pages-data_size.ensures.value; between = c.requires.bounds; text = c.offset_of.ensures } in
+    is_site_near g b rs c.args.functions c.args.main size_of_data c.offset_of.result h _ c.rdata_at-rdata.result c.site_of-site.ensures c.rdata_at-rdata.ensures
 
 pub tables_of-requires-clause-tables : goal.tables_of-requires-clause-tables
 tables_of-requires-clause-tables c =
@@ -77,12 +67,9 @@ tables_of-requires-clause-tables c =
     let b = c.args.bounds.now in
     let rs = c.args.routines.now in
     let size_of_data = c.data_pages-data_size.result in
-    let d = c.data_pages-data_size.ensures.value in
-    let e = c.requires.bounds in
-    let s = ap xdata_at (sizes_is g b rs size_of_data c.offset_of.result d e c.offset_of.ensures) in
-    let f = tables_fit g rs c.args.functions c.args.main c.requires.globals c.requires.near c.requires.places in
-    let r = c.xdata_at-xdata.ensures in
-    omega arith
+    let h : IsMeasured g b rs c.args.functions c.args.main size_of_data c.offset_of.result =
+    record { few = c.requires.globals; near = c.requires.near; places = c.requires.places; sized = c.data_pages-data_size.ensures.value; between = c.requires.bounds; text = c.offset_of.ensures } in
+    xdata_small g b rs c.args.functions c.args.main size_of_data c.offset_of.result h c.xdata_at-xdata.result c.xdata_at-xdata.ensures
 
 pub image_with-requires : goal.image_with-requires
 image_with-requires c =
@@ -90,20 +77,11 @@ image_with-requires c =
     let b = c.args.bounds.now in
     let rs = c.args.routines.now in
     let size_of_data = c.data_pages-data_size.result in
-    let d = c.data_pages-data_size.ensures.value in
-    let e = c.requires.bounds in
-    let functions = c.args.functions in
-    let main = c.args.main in
-    let of = site g rs functions in
-    let is = c.site_of-site.ensures ∙ site_is g b rs functions size_of_data c.offset_of.result c.rdata_at-rdata.result d e c.offset_of.ensures c.rdata_at-rdata.ensures in
-    let at : 4096 + size_of_data + 51 ≡ first g = omega arith in
-    let table = c.xdata_at-xdata.ensures ∙ ap xdata_at (sizes_is g b rs size_of_data c.offset_of.result d e c.offset_of.ensures) in
-    let text = c.in_ok-code.ensures ∙ ap (λ (s : SiteView). text_bytes s rs) is in
-    let entry = c.offset_of-2.ensures ∙ ap (λ (xs : List ℕ). get_or xs main 0 - (4096 + size_of_data)) e ∙ ap (λ (n : ℕ). get_or (bounds (first g) rs) main 0 - (4096 + n)) d in
-    let xdata = c.in_ok-tables.ensures.xdata ∙ ap (λ (s : SiteView). infos s (4096 + size_of_data + 51) rs) is ∙ ap (λ (n : ℕ). infos of n rs) at in
-    let pdata = c.in_ok-tables.ensures.pdata ∙ ap (λ (s : SiteView). table_bytes (ranges s c.xdata_at-xdata.result (4096 + size_of_data + 51) rs)) is ∙ ap (λ (n : ℕ). table_bytes (ranges of n (4096 + size_of_data + 51) rs)) table ∙ ap (λ (n : ℕ). table_bytes (ranges of (xdata_at (front_sizes g rs)) n rs)) at in
-    let same = same_image g rs functions main size_of_data c.offset_of-2.result c.in_ok-code.code.items c.in_ok-tables.tables.xdata.items c.in_ok-tables.tables.pdata.items d text entry xdata pdata in
-    subst IsProgram (sym same) (is_program g rs functions main c.requires.globals c.requires.near c.requires.places no_routine)
+    let h : IsMeasured g b rs c.args.functions c.args.main size_of_data c.offset_of.result =
+    record { few = c.requires.globals; near = c.requires.near; places = c.requires.places; sized = c.data_pages-data_size.ensures.value; between = c.requires.bounds; text = c.offset_of.ensures } in
+    let same = image_is g b rs c.args.functions c.args.main size_of_data c.offset_of.result h _ c.rdata_at-rdata.result c.site_of-site.ensures c.rdata_at-rdata.ensures c.xdata_at-xdata.result c.offset_of-2.result c.in_ok-code.code.items c.in_ok-tables.tables.xdata.items c.in_ok-tables.tables.pdata.items
+    c.xdata_at-xdata.ensures c.offset_of-2.ensures c.in_ok-code.ensures c.in_ok-tables.ensures.xdata c.in_ok-tables.ensures.pdata in
+    subst IsProgram (sym same) (is_program g rs c.args.functions c.args.main c.requires.globals c.requires.near c.requires.places no_routine)
 
 pub returns : goal.returns
 returns c =
@@ -111,17 +89,9 @@ returns c =
     let b = c.args.bounds.now in
     let rs = c.args.routines.now in
     let size_of_data = c.data_pages-data_size.result in
-    let d = c.data_pages-data_size.ensures.value in
-    let e = c.requires.bounds in
-    let functions = c.args.functions in
-    let main = c.args.main in
-    let of = site g rs functions in
-    let is = c.site_of-site.ensures ∙ site_is g b rs functions size_of_data c.offset_of.result c.rdata_at-rdata.result d e c.offset_of.ensures c.rdata_at-rdata.ensures in
-    let at : 4096 + size_of_data + 51 ≡ first g = omega arith in
-    let table = c.xdata_at-xdata.ensures ∙ ap xdata_at (sizes_is g b rs size_of_data c.offset_of.result d e c.offset_of.ensures) in
-    let text = c.in_ok-code.ensures ∙ ap (λ (s : SiteView). text_bytes s rs) is in
-    let entry = c.offset_of-2.ensures ∙ ap (λ (xs : List ℕ). get_or xs main 0 - (4096 + size_of_data)) e ∙ ap (λ (n : ℕ). get_or (bounds (first g) rs) main 0 - (4096 + n)) d in
-    let xdata = c.in_ok-tables.ensures.xdata ∙ ap (λ (s : SiteView). infos s (4096 + size_of_data + 51) rs) is ∙ ap (λ (n : ℕ). infos of n rs) at in
-    let pdata = c.in_ok-tables.ensures.pdata ∙ ap (λ (s : SiteView). table_bytes (ranges s c.xdata_at-xdata.result (4096 + size_of_data + 51) rs)) is ∙ ap (λ (n : ℕ). table_bytes (ranges of n (4096 + size_of_data + 51) rs)) table ∙ ap (λ (n : ℕ). table_bytes (ranges of (xdata_at (front_sizes g rs)) n rs)) at in
-    let same = same_image g rs functions main size_of_data c.offset_of-2.result c.in_ok-code.code.items c.in_ok-tables.tables.xdata.items c.in_ok-tables.tables.pdata.items d text entry xdata pdata in
-    if_ok (λ (x : Program). x ≡ record { data_size = size_of_data; data_bytes = g; text = c.in_ok-code.code.items; entry = c.offset_of-2.result; xdata = c.in_ok-tables.tables.xdata.items; pdata = c.in_ok-tables.tables.pdata.items }) (λ (x : Program). x ≡ image_of g rs functions main) c.image_with.result (λ x h. h ∙ same) c.image_with.ensures
+    let h : IsMeasured g b rs c.args.functions c.args.main size_of_data c.offset_of.result =
+    record { few = c.requires.globals; near = c.requires.near; places = c.requires.places; sized = c.data_pages-data_size.ensures.value; between = c.requires.bounds; text = c.offset_of.ensures } in
+    let same = image_is g b rs c.args.functions c.args.main size_of_data c.offset_of.result h _ c.rdata_at-rdata.result c.site_of-site.ensures c.rdata_at-rdata.ensures c.xdata_at-xdata.result c.offset_of-2.result c.in_ok-code.code.items c.in_ok-tables.tables.xdata.items c.in_ok-tables.tables.pdata.items
+    c.xdata_at-xdata.ensures c.offset_of-2.ensures c.in_ok-code.ensures c.in_ok-tables.ensures.xdata c.in_ok-tables.ensures.pdata in
+    if_ok (λ (x : Program). x ≡ record { data_size = size_of_data; data_bytes = g; text = c.in_ok-code.code.items; entry = c.offset_of-2.result; xdata = c.in_ok-tables.tables.xdata.items; pdata = c.in_ok-tables.tables.pdata.items })
+    (λ (x : Program). x ≡ image_of g rs c.args.functions c.args.main) c.image_with.result (λ x e. e ∙ same) c.image_with.ensures

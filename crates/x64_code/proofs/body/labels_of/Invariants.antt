@@ -1,12 +1,13 @@
-use Rattle.std.proofs.Common.{◌≡◌, ◌++◌, ◌+◌, ◌<◌, ◌^◌, length, drop}
+use Rattle.std.proofs.Common.{◌≡◌, ◌++◌, ◌+◌, length, drop}
 use Rattle.template_code.specs.Template.{body_size}
 use Rattle.x64_code.specs.Rooms.{code_room}
 use Rattle.x64_code.specs.Bodies.{label_list}
 use Rattle.x64_code.proofs.body.labels_of.Given as goal
+use Rattle.x64_code.specs.Near.{IsNear}
 
 abbrev pub invariant-loop-instruction : goal.invariant-loop-instruction
 invariant-loop-instruction l = record {
   starts : l.starts.items ++ label_list l.layout (l.start + length l.scratch.items) (drop l.instruction-index l.body) ≡ label_list l.layout l.start l.body;
   end : length l.scratch.items + body_size l.layout (drop l.instruction-index l.body) ≡ body_size l.layout l.body;
-  room : l.start + length l.scratch.items + code_room (drop l.instruction-index l.body) < 2 ^ 30;
+  room : IsNear (l.start + length l.scratch.items + code_room (drop l.instruction-index l.body));
 }
