@@ -15,9 +15,13 @@ use Rattle.source_machine.specs.Runs.{beginning}
 use Rattle.c_interpret.specs.Runs.{Ran, ShownPart, Means, MeansPart, end_of}
 
 -- the machine with which a program begins comes to what its run comes to
-pub begins : (p : Program) (arg : ℤ) (n : ℕ) (vs : List ℕ) → vs ≡ main_arguments (slice_get p.functions p.main) arg
-    → comes_to p (does p) (beginning p n (frames.Call (frames.Defined p.main) vs (record { activation = 0; exception = no_exception; abnormal = false }))) ≡ ran p arg n
-begins p arg n vs e = ap (λ vs. enter (does p) (slice_get p.functions p.main) vs outside (start p n)) e
+pub begins : (p : Program) (arg : ℤ) (n : ℕ) (vs : List ℕ)
+    → vs ≡ main_arguments (slice_get p.functions p.main) arg
+    → comes_to p (does p)
+    (beginning p n (frames.Call (frames.Defined p.main) vs
+    (record { activation = 0; exception = no_exception; abnormal = false }))) ≡ ran p arg n
+begins p arg n vs e =
+    ap (λ vs. enter (does p) (slice_get p.functions p.main) vs outside (start p n)) e
 
 shows_events : (o : Outcome) → (shows o).events ≡ (state_of o).events
 shows_events (Gives (Value v) st) = refl
@@ -29,11 +33,13 @@ shows_end (Gives (Value v) st) = refl
 shows_end (Gives (End e) st) = refl
 shows_end (Gives how st) = refl
 
-module _ {X : Type 0} (took : X → List Event → X → Type 0) (p : Program) (arg : ℤ) (n : ℕ) (m : Machine) (is : comes_to p (does p) m ≡ ran p arg n) (x y : X) where
+module _ {X : Type 0} (took : X → List Event → X → Type 0) (p : Program) (arg : ℤ) (n : ℕ)
+    (m : Machine) (is : comes_to p (does p) m ≡ ran p arg n) (x y : X) where
   all_events : (meaning p arg n).events ≡ (state_of (comes_to p (does p) m)).events
   all_events = shows_events (ran p arg n) ∙ ap (λ o. (state_of o).events) (sym is)
 
-  pub means_of : (how : Result) (end : Option Ended) → end ≡ end_of how → Ran took p m how x y → Means took (meaning p arg n) end x y
+  pub means_of : (how : Result) (end : Option Ended) → end ≡ end_of how → Ran took p m how x y
+      → Means took (meaning p arg n) end x y
   means_of how end e r = record {
     took_events = subst (λ es. took x es y) (sym (all_events ∙ r.all)) r.took_shown;
     ended = shows_end (ran p arg n) ∙ ap end_of (ap how_of (sym is) ∙ r.how_is) ∙ sym e;

@@ -1,5 +1,6 @@
 -- Parts of the text of a meaning.
-use Rattle.std.proofs.Common.{◌≡◌, ℕ, List, ◌++◌, refl, sym, ap, ◌∙◌, append_assoc, Option, Some, None}
+use Rattle.std.proofs.Common.{◌≡◌, ℕ, List, ◌++◌, refl, sym, ap, ◌∙◌, append_assoc, Option, Some}
+use Rattle.std.proofs.Common.{None}
 use Rattle.std.specs.Prelude.{Bool, unwrap_or}
 use Rattle.seh_num.specs.declared.event.Event.{Event}
 use Rattle.seh_io.specs.Text.{lines}
@@ -13,7 +14,8 @@ within n None = refl
 within n (Some e) = refl
 
 -- what was written of the front of the events is the front of the text
-pub front_of_text : (trace : Bool) (shown rest events : List Event) (end part others : List ℕ) → lines trace shown ≡ part ++ others → shown ++ rest ≡ events
+pub front_of_text : (trace : Bool) (shown rest events : List Event) (end part others : List ℕ)
+    → lines trace shown ≡ part ++ others → shown ++ rest ≡ events
     → lines trace events ++ end ≡ part ++ (others ++ (lines trace rest ++ end))
 front_of_text trace shown rest events end part others b f =
     ap (λ es. lines trace es ++ end) (sym f)

@@ -6,7 +6,8 @@ use Rattle.seh_io.specs.Streams.{Rose, Grew}
 use Rattle.seh_io.specs.Text.{code_text, address_text, ended, lines}
 use Rattle.seh_io.specs.Writer.{TookPart}
 use Rattle.c_model.specs.declared.ended.Ended.{Ended}
-use Rattle.c_model.specs.declared.ended.Ended.TheVariants.{Exit, Unhandled, Undefined, Deep, OutOfSteps}
+use Rattle.c_model.specs.declared.ended.Ended.TheVariants.{Exit, Unhandled, Undefined, Deep}
+use Rattle.c_model.specs.declared.ended.Ended.TheVariants.{OutOfSteps}
 use Rattle.c_interpret.specs.declared.interpret.MeanErr.{MeanErr}
 use Rattle.c_interpret.specs.declared.interpret.MeanErr.TheVariants.{Write, Memory}
 

@@ -15,7 +15,7 @@ use seh_io::sink::Sink;
 use std::alloc::Global;
 
 /// Why the text of a program's meaning wasn't written whole.
-#[derive(Clone, Copy, Debug, PartialEq, Eq)]
+#[derive(Clone, Copy)]
 pub enum MeanErr {
     /// A write failed when so many bytes of the text had been taken.
     Write { taken: u64 },

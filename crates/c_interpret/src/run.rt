@@ -19,7 +19,7 @@ use seh_io::receiver::Events;
 use seh_num::extension::wrap;
 use seh_num::width::Width;
 use source_operations::memory::{data_end, first_memory};
-use source_plans::frame::{Callee, Finish, Next, Outcome};
+use source_plans::frame::{Action, Callee, Finish, Next, Outcome};
 use source_plans::place::{NO_EXCEPTION, Place};
 use source_steps::activations::Activations;
 use source_steps::calls::low_signed;
@@ -32,7 +32,7 @@ fn finish_of(next: &Next<'_>) -> Option<Finish>
         (λ how. views.next_of next.now ≡ frames.Over (views.finish_of how)) }
 {
     match next {
-        Next::Over(how) => Some(*how),
+        Next::Does(Action::Over(how)) => Some(*how),
         _ => None,
     }
 }

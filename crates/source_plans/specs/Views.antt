@@ -7,7 +7,8 @@ use Rattle.c_checked.specs.declared.statement.Stmt.{Stmt}
 use Rattle.c_checked.specs.Expression.{Arguments, node, expression, lvalue, arguments}
 use Rattle.c_checked.specs.Statement as statements
 use Rattle.c_checked.specs.Statement.{statement, filter}
-use Rattle.c_model.specs.State.{Exception, Result, Value, Normal, Returned, Broke, Continued, LeftTry, Target, End}
+use Rattle.c_model.specs.State.{Exception, Result, Value, Normal, Returned, Broke, Continued}
+use Rattle.c_model.specs.State.{LeftTry, Target, End}
 use Rattle.c_model.specs.Tasks as tasks
 use Rattle.source_machine.specs.Frames as frames
 use Rattle.source_plans.specs.declared.place.Exception.{Exception as Exception'}
@@ -36,10 +37,14 @@ use Rattle.source_plans.specs.declared.frame.SequelFrame.{SequelFrame}
 use Rattle.source_plans.specs.declared.frame.SequelFrame.TheVariants as sequels
 use Rattle.source_plans.specs.declared.frame.BodyFrame.{BodyFrame}
 use Rattle.source_plans.specs.declared.frame.BodyFrame.TheVariants as bodies
+use Rattle.source_plans.specs.declared.frame.Waiting.{Waiting}
+use Rattle.source_plans.specs.declared.frame.Waiting.TheVariants as waiting
 use Rattle.source_plans.specs.declared.frame.Frame.{Frame}
 use Rattle.source_plans.specs.declared.frame.Frame.TheVariants as frame_kinds
 use Rattle.source_plans.specs.declared.frame.Finish.{Finish}
 use Rattle.source_plans.specs.declared.frame.Finish.TheVariants as finishes
+use Rattle.source_plans.specs.declared.frame.Action.{Action}
+use Rattle.source_plans.specs.declared.frame.Action.TheVariants as actions
 use Rattle.source_plans.specs.declared.frame.Next.{Next}
 use Rattle.source_plans.specs.declared.frame.Next.TheVariants as nexts
 use Rattle.source_plans.specs.declared.frame.Plan.{Plan}
@@ -161,11 +166,9 @@ operand_frame_of operands.Tests = frames.Tests
 operand_frame_of (operands.Chooses e f p) =
     frames.Chooses (expression e.now.value) (expression f.now.value) (place_of p)
 operand_frame_of (operands.Discards f p) = frames.Discards (expression f.now.value) (place_of p)
-operand_frame_of (operands.PassesArgument callee vs es i p) =
-    frames.PassesArgument (callee_of callee) vs.items (arguments_from es.now.items i) (place_of p)
 
 abbrev pub assignment_frame_of : AssignmentFrame → frames.AssignmentFrame
-assignment_frame_of (assignments.Reads l p) = frames.ReadsPlace (lvalue l.now) (place_of p)
+assignment_frame_of (assignments.ReadsPlace l p) = frames.ReadsPlace (lvalue l.now) (place_of p)
 assignment_frame_of (assignments.Extends access) = frames.Extends access
 assignment_frame_of (assignments.EvaluatesAssigned l e p) =
     frames.EvaluatesAssigned (lvalue l.now) (expression e.now.value) (place_of p)
@@ -219,17 +222,23 @@ body_frame_of (bodies.EndsForBody k p) = frames.EndsForBody (for_loop_of k) (pla
 body_frame_of (bodies.EndsDoBody s c p) =
     frames.EndsDoBody (statement s.now.value) (expression c.now) (place_of p)
 
-abbrev pub frame_of : Frame → frames.Frame
-frame_of (frame_kinds.Operand f) = frames.Operand (operand_frame_of f)
-frame_of (frame_kinds.Assignment f) = frames.Assignment (assignment_frame_of f)
-frame_of (frame_kinds.Statement f) = frames.InStatement (statement_frame_of f)
-frame_of (frame_kinds.Sequel f) = frames.Sequel (sequel_frame_of f)
-frame_of (frame_kinds.Body f) = frames.Body (body_frame_of f)
-frame_of (frame_kinds.EndsCall n) = frames.EndsCall n
-frame_of (frame_kinds.Lands held block p) =
+abbrev pub waiting_of : Waiting → frames.Frame
+waiting_of (waiting.Operand f) = frames.Operand (operand_frame_of f)
+waiting_of (waiting.Assignment f) = frames.Assignment (assignment_frame_of f)
+waiting_of (waiting.Statement f) = frames.InStatement (statement_frame_of f)
+waiting_of (waiting.Sequel f) = frames.Sequel (sequel_frame_of f)
+waiting_of (waiting.Body f) = frames.Body (body_frame_of f)
+waiting_of (waiting.EndsCall n) = frames.EndsCall n
+waiting_of (waiting.Lands held block p) =
     frames.Lands held (all_statements block.now.items) (place_of p)
-frame_of (frame_kinds.Finishes k last p) =
+waiting_of (waiting.Finishes k last p) =
     frames.Finishes k (all_statements last.now.items) (place_of p)
+
+abbrev pub frame_of : Frame → frames.Frame
+frame_of (frame_kinds.Waits w) = waiting_of w
+frame_of (frame_kinds.PassesArgument callee vs es i p) =
+    frames.Operand (frames.PassesArgument (callee_of callee) vs.items
+    (arguments_from es.now.items i) (place_of p))
 
 abbrev pub finish_of : Finish → Result
 finish_of (finishes.Gave how) = result_of how
@@ -240,28 +249,32 @@ abbrev pub phased : Phase → tasks.Task → frames.Place → frames.Next
 phased phases.Before task p = frames.Start task p
 phased phases.After task p = frames.Begin task p
 
+abbrev pub action_of : Action → frames.Next
+action_of (actions.Over how) = frames.Over (finish_of how)
+action_of (actions.Give how) = frames.Give (result_of how)
+action_of (actions.Do phase task p) = phased phase (task_of task) (place_of p)
+action_of (actions.Evaluate n p) = frames.Evaluate (node n.now) (place_of p)
+action_of (actions.Find l p) = frames.Find (lvalue l.now) (place_of p)
+action_of (actions.Fetch l a p) = frames.Fetch (lvalue l.now) a (place_of p)
+action_of (actions.Put l a v p) = frames.Put (lvalue l.now) a v (place_of p)
+action_of (actions.Operate o a b p) = frames.Operate o a b (place_of p)
+action_of (actions.Proceed ss i p) = frames.Proceed (statements_from ss.now.items i) (place_of p)
+action_of (actions.DeclareEach ds i p) =
+    frames.DeclareEach (declared_from ds.now.items i) (place_of p)
+action_of (actions.DeclareName d p) = frames.DeclareName (statements.declared d.now) (place_of p)
+action_of (actions.SetLocal x v p) = frames.SetLocal x v (place_of p)
+action_of (actions.Guard body f block p) =
+    frames.Guard (all_statements body.now.items) (filter f.now) (all_statements block.now.items)
+    (place_of p)
+action_of (actions.Answer v) = frames.Answer v
+action_of actions.LetGo = frames.LetGo
+action_of (actions.Search level exc p) = frames.Search level (exception_of exc) (place_of p)
+
 abbrev pub next_of : Next → frames.Next
-next_of (nexts.Over how) = frames.Over (finish_of how)
-next_of (nexts.Give how) = frames.Give (result_of how)
-next_of (nexts.Do phase task p) = phased phase (task_of task) (place_of p)
-next_of (nexts.Evaluate n p) = frames.Evaluate (node n.now) (place_of p)
-next_of (nexts.Find l p) = frames.Find (lvalue l.now) (place_of p)
-next_of (nexts.Fetch l a p) = frames.Fetch (lvalue l.now) a (place_of p)
-next_of (nexts.Put l a v p) = frames.Put (lvalue l.now) a v (place_of p)
-next_of (nexts.Operate o a b p) = frames.Operate o a b (place_of p)
+next_of (nexts.Does action) = action_of action
 next_of (nexts.Pass callee vs es i p) =
     frames.Pass (callee_of callee) vs.items (arguments_from es.now.items i) (place_of p)
 next_of (nexts.Call callee vs p) = frames.Call (callee_of callee) vs.items (place_of p)
-next_of (nexts.Proceed ss i p) = frames.Proceed (statements_from ss.now.items i) (place_of p)
-next_of (nexts.DeclareEach ds i p) = frames.DeclareEach (declared_from ds.now.items i) (place_of p)
-next_of (nexts.DeclareName d p) = frames.DeclareName (statements.declared d.now) (place_of p)
-next_of (nexts.SetLocal x v p) = frames.SetLocal x v (place_of p)
-next_of (nexts.Guard body f block p) =
-    frames.Guard (all_statements body.now.items) (filter f.now) (all_statements block.now.items)
-    (place_of p)
-next_of (nexts.Answer v) = frames.Answer v
-next_of nexts.LetGo = frames.LetGo
-next_of (nexts.Search level exc p) = frames.Search level (exception_of exc) (place_of p)
 
 abbrev pub after_push : Option Frame → frames.Next → frames.Plan
 after_push None next = frames.Then next

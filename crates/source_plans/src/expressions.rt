@@ -9,7 +9,8 @@ ghost use Rattle.source_plans.specs.Kinds.{IsCompoundAssign, IsIncrement};
 ghost use Rattle.source_plans.specs.Views.{place_of, plan_of};
 
 use crate::frame::{
-    AssignmentFrame, Callee, Compound, Frame, Next, OperandFrame, Outcome, Phase, Plan, Stepped,
+    Action, AssignmentFrame, Callee, Compound, Frame, Next, OperandFrame, Outcome, Phase, Plan,
+    Stepped, Waiting,
 };
 use crate::place::Place;
 use crate::task::Task;
@@ -39,14 +40,14 @@ pub fn push<'p>(frame: Frame<'p>, next: Next<'p>) -> Plan<'p>
 pub fn start<'p>(task: Task<'p>, place: Place) -> Next<'p>
     ensures { views.next_of result ≡ frames.Start (views.task_of task.entry) (place_of place) }
 {
-    Next::Do(Phase::Before, task, place)
+    Next::Does(Action::Do(Phase::Before, task, place))
 }
 
 /// A value is given.
 pub fn gives<'p>(value: u64) -> Plan<'p>
     ensures { plan_of result ≡ plans.gives value }
 {
-    then(Next::Give(Outcome::Value(value)))
+    then(Next::Does(Action::Give(Outcome::Value(value))))
 }
 
 /// An expression is evaluated.
@@ -62,7 +63,10 @@ pub fn operand<'p>(frame: OperandFrame<'p>, expr: &'p Expr, place: Place) -> Pla
         ≡ plans.operand (views.operand_frame_of frame.entry) (tree.expression expr.now)
         (place_of place) }
 {
-    push(Frame::Operand(frame), evaluates(expr, place))
+    push(
+        Frame::Waits(Waiting::Operand(frame)),
+        evaluates(expr, place),
+    )
 }
 
 /// A place is located, and then a frame continues.
@@ -71,7 +75,10 @@ fn located<'p>(frame: AssignmentFrame<'p>, target: &'p Lvalue, place: Place) -> 
         ≡ plans.assignment (views.assignment_frame_of frame.entry)
         (plans.locates (tree.lvalue target.now) (place_of place)) }
 {
-    push(Frame::Assignment(frame), start(Task::Locate(target), place))
+    push(
+        Frame::Waits(Waiting::Assignment(frame)),
+        start(Task::Locate(target), place),
+    )
 }
 
 /// For an expression: its node, and then its conversion.
@@ -79,8 +86,8 @@ pub fn expression_plan<'p>(expr: &'p Expr, place: Place) -> Plan<'p>
     ensures { plan_of result ≡ plans.expression_plan (tree.expression expr.now) (place_of place) }
 {
     push(
-        Frame::Operand(OperandFrame::Converts(expr.conversion)),
-        Next::Evaluate(&expr.node, place),
+        Frame::Waits(Waiting::Operand(OperandFrame::Converts(expr.conversion))),
+        Next::Does(Action::Evaluate(&expr.node, place)),
     )
 }
 
@@ -113,8 +120,8 @@ fn read_plan<'p>(target: &'p Lvalue, place: Place) -> Plan<'p>
         plans.node_plan (tree.Read (tree.lvalue target.now)) (place_of place) }
 {
     push(
-        Frame::Assignment(AssignmentFrame::Reads(target, place)),
-        Next::Find(target, place),
+        Frame::Waits(Waiting::Assignment(AssignmentFrame::ReadsPlace(target, place))),
+        Next::Does(Action::Find(target, place)),
     )
 }
 
@@ -279,9 +286,8 @@ pub fn pass_plan<'p>(
     if next >= arguments.len() {
         return then(Next::Call(callee, values, place));
     }
-    operand(
-        OperandFrame::PassesArgument(callee, values, arguments, next + 1, place),
-        &arguments[next],
-        place,
+    push(
+        Frame::PassesArgument(callee, values, arguments, next + 1, place),
+        evaluates(&arguments[next], place),
     )
 }

@@ -48,8 +48,8 @@ pub struct Stepped<'p> {
     pub after: Conversion,
 }
 
-/// What waits for an operand's value.
-#[derive(Drop)]
+/// What waits for an operand's value, without the arguments of a call.
+#[derive(Clone, Copy, Drop)]
 pub enum OperandFrame<'p> {
     Converts(Conversion),
     EvaluatesIndex(&'p Box<Expr>, Place),
@@ -66,14 +66,12 @@ pub enum OperandFrame<'p> {
     Tests,
     Chooses(&'p Box<Expr>, &'p Box<Expr>, Place),
     Discards(&'p Box<Expr>, Place),
-    /// The arguments that were evaluated, and the index of the next.
-    PassesArgument(Callee, Vec<u64>, &'p Vec<Expr>, usize, Place),
 }
 
 /// What waits for a place's address, or for a value on its way from or to a place.
 #[derive(Clone, Copy, Drop)]
 pub enum AssignmentFrame<'p> {
-    Reads(&'p Lvalue, Place),
+    ReadsPlace(&'p Lvalue, Place),
     Extends(Access),
     EvaluatesAssigned(&'p Lvalue, &'p Box<Expr>, Place),
     Assigns(&'p Lvalue, u64, Place),
@@ -88,14 +86,14 @@ pub enum AssignmentFrame<'p> {
 }
 
 /// What is done with an iteration of `for` or `while`.
-#[derive(Clone, Copy, Debug, PartialEq, Eq)]
+#[derive(Clone, Copy)]
 pub enum ForPart {
     Begins,
     Tests,
 }
 
 /// Whether a task's step was counted.
-#[derive(Clone, Copy, Debug, PartialEq, Eq)]
+#[derive(Clone, Copy)]
 pub enum Phase {
     Before,
     After,
@@ -118,7 +116,7 @@ pub enum StatementFrame<'p> {
 }
 
 /// What a part of a program comes to, where the program doesn't end there.
-#[derive(Clone, Copy, Debug, PartialEq, Eq)]
+#[derive(Clone, Copy)]
 pub enum Outcome {
     Value(u64),
     Normal,
@@ -150,9 +148,9 @@ pub enum BodyFrame<'p> {
     EndsDoBody(&'p Box<Stmt>, &'p Expr, Place),
 }
 
-/// What waits for a result.
-#[derive(Drop)]
-pub enum Frame<'p> {
+/// What waits for a result, and holds no values of arguments.
+#[derive(Clone, Copy, Drop)]
+pub enum Waiting<'p> {
     Operand(OperandFrame<'p>),
     Assignment(AssignmentFrame<'p>),
     Statement(StatementFrame<'p>),
@@ -167,6 +165,14 @@ pub enum Frame<'p> {
     Finishes(u32, &'p Vec<Stmt>, Place),
 }
 
+/// What waits for a result.
+#[derive(Drop)]
+pub enum Frame<'p> {
+    Waits(Waiting<'p>),
+    /// The arguments that were evaluated, and the index of the next.
+    PassesArgument(Callee, Vec<u64>, &'p Vec<Expr>, usize, Place),
+}
+
 /// How a run ended.
 #[derive(Clone, Copy, Drop)]
 pub enum Finish {
@@ -176,9 +182,9 @@ pub enum Finish {
     OutOfSteps,
 }
 
-/// What is to be done next.
-#[derive(Drop)]
-pub enum Next<'p> {
+/// What is to be done next, other than to pass arguments.
+#[derive(Clone, Copy, Drop)]
+pub enum Action<'p> {
     /// The run is over.
     Over(Finish),
     Give(Outcome),
@@ -189,9 +195,6 @@ pub enum Next<'p> {
     Fetch(&'p Lvalue, u64, Place),
     Put(&'p Lvalue, u64, u64, Place),
     Operate(Operation, u64, u64, Place),
-    /// Arguments from an index on, after those that were evaluated.
-    Pass(Callee, Vec<u64>, &'p Vec<Expr>, usize, Place),
-    Call(Callee, Vec<u64>, Place),
     /// Statements, or declared names, from an index on.
     Proceed(&'p Vec<Stmt>, usize, Place),
     DeclareEach(&'p Vec<Declared>, usize, Place),
@@ -205,6 +208,15 @@ pub enum Next<'p> {
     LetGo,
     /// The handlers below this number are asked, the highest first.
     Search(usize, Exception, Place),
+}
+
+/// What is to be done next.
+#[derive(Drop)]
+pub enum Next<'p> {
+    Does(Action<'p>),
+    /// Arguments from an index on, after those that were evaluated.
+    Pass(Callee, Vec<u64>, &'p Vec<Expr>, usize, Place),
+    Call(Callee, Vec<u64>, Place),
 }
 
 /// What is done next, maybe with one more frame on the stack.

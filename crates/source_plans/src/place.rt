@@ -4,7 +4,7 @@ use c_checked::statement::Filter;
 use seh_num::code::NONCONTINUABLE_EXCEPTION;
 
 /// An exception (Windows headers, `winnt.h`, EXCEPTION_RECORD).
-#[derive(Clone, Copy, Debug, PartialEq, Eq)]
+#[derive(Clone, Copy)]
 pub struct Exception {
     /// The code, which GetExceptionCode answers.
     pub code: u32,
@@ -16,7 +16,7 @@ pub struct Exception {
 
 /// The activation in which a part of a program runs, the exception that GetExceptionCode is about
 /// there, and what AbnormalTermination answers there.
-#[derive(Clone, Copy, Debug, PartialEq, Eq)]
+#[derive(Clone, Copy)]
 pub struct Place {
     /// The activation's index, the outermost being 0.
     pub activation: usize,

@@ -10,8 +10,8 @@ ghost use Rattle.source_plans.specs.Views.{place_of, plan_of};
 
 use crate::expressions::{evaluates, gives, operand, push, start, then};
 use crate::frame::{
-    AssignmentFrame, BodyFrame, Compound, ForPart, Frame, Next, OperandFrame, Outcome, Plan,
-    SequelFrame, StatementFrame, Stepped,
+    Action, AssignmentFrame, BodyFrame, Callee, Compound, ForPart, Frame, Next, OperandFrame,
+    Outcome, Plan, SequelFrame, StatementFrame, Stepped, Waiting,
 };
 use crate::place::{Exception, NONCONTINUABLE, Place};
 use crate::statements::{branch, ends, first_plan, for_body, iterate, tested};
@@ -62,11 +62,10 @@ fn choose_plan<'p>(condition: u64, yes: &'p Expr, no: &'p Expr, place: Place) ->
 }
 
 /// An operand's value is there.
-pub fn operand_plan<'p>(frame: OperandFrame<'p>, value: u64) -> Result<Plan<'p>, AllocError>
-    ensures { IfOk result (λ plan. plan_of plan ≡ plans.operand_plan
-        (views.operand_frame_of frame.entry) value) }
+pub fn operand_plan<'p>(frame: OperandFrame<'p>, value: u64) -> Plan<'p>
+    ensures { plan_of result ≡ plans.operand_plan (views.operand_frame_of frame.entry) value }
 {
-    Ok(match frame {
+    match frame {
         OperandFrame::Converts(conversion) => gives(converted(conversion, value)),
         OperandFrame::EvaluatesIndex(index, place) => {
             operand(OperandFrame::AddsIndex(value), index, place)
@@ -81,7 +80,7 @@ pub fn operand_plan<'p>(frame: OperandFrame<'p>, value: u64) -> Result<Plan<'p>,
             place,
         ),
         OperandFrame::Operates(operation, left, place) => {
-            then(Next::Operate(operation, left, value, place))
+            then(Next::Does(Action::Operate(operation, left, value, place)))
         }
         OperandFrame::EvaluatesSubtrahend(size, right, place) => {
             operand(OperandFrame::Measures(size, value), right, place)
@@ -93,19 +92,32 @@ pub fn operand_plan<'p>(frame: OperandFrame<'p>, value: u64) -> Result<Plan<'p>,
         OperandFrame::Tests => gives(of_test(value != 0)),
         OperandFrame::Chooses(yes, no, place) => choose_plan(value, yes, no, place),
         OperandFrame::Discards(right, place) => then(evaluates(right, place)),
-        OperandFrame::PassesArgument(callee, values, arguments, next, place) => {
-            let mut values = values;
-            values.push(value)?;
-            then(Next::Pass(callee, values, arguments, next, place))
-        }
-    })
+    }
+}
+
+/// An argument's value is there, and those from an index on follow.
+pub fn passed_plan<'p>(
+    callee: Callee,
+    values: Vec<u64>,
+    value: u64,
+    arguments: &'p Vec<Expr>,
+    next: usize,
+    place: Place,
+) -> Result<Plan<'p>, AllocError>
+    ensures { IfOk result (λ plan. plan_of plan ≡ plans.operand_plan (frames.PassesArgument
+        (views.callee_of callee) values.items (views.arguments_from arguments.now.items next)
+        (place_of place)) value) }
+{
+    let mut values = values;
+    values.push(value)?;
+    Ok(then(Next::Pass(callee, values, arguments, next, place)))
 }
 
 fn assignment<'p>(frame: AssignmentFrame<'p>, next: Next<'p>) -> Plan<'p>
     ensures { plan_of result ≡ plans.assignment (views.assignment_frame_of frame.entry)
         (views.next_of next.entry) }
 {
-    push(Frame::Assignment(frame), next)
+    push(Frame::Waits(Waiting::Assignment(frame)), next)
 }
 
 /// The address of an operator's target is there: what is there is read.
@@ -115,7 +127,7 @@ fn read_compound<'p>(of: Compound<'p>, address: u64, place: Place) -> Plan<'p>
 {
     assignment(
         AssignmentFrame::EvaluatesCompound(of, address, place),
-        Next::Fetch(of.target, address, place),
+        Next::Does(Action::Fetch(of.target, address, place)),
     )
 }
 
@@ -144,7 +156,7 @@ fn operate_compound<'p>(
     let first = converted(of.before, old);
     assignment(
         AssignmentFrame::AssignsCompound(of, address, place),
-        Next::Operate(of.operation, first, value, place),
+        Next::Does(Action::Operate(of.operation, first, value, place)),
     )
 }
 
@@ -155,7 +167,7 @@ fn read_stepped<'p>(of: Stepped<'p>, address: u64, place: Place) -> Plan<'p>
 {
     assignment(
         AssignmentFrame::OperatesStepped(of, address, place),
-        Next::Fetch(of.target, address, place),
+        Next::Does(Action::Fetch(of.target, address, place)),
     )
 }
 
@@ -167,7 +179,7 @@ fn operate_stepped<'p>(of: Stepped<'p>, address: u64, old: u64, place: Place) ->
     let first = converted(of.before, old);
     assignment(
         AssignmentFrame::AssignsStepped(of, address, old, place),
-        Next::Operate(of.operation, first, of.amount, place),
+        Next::Does(Action::Operate(of.operation, first, of.amount, place)),
     )
 }
 
@@ -179,7 +191,7 @@ fn assign_stepped<'p>(of: Stepped<'p>, address: u64, old: u64, value: u64, place
     let new = converted(of.after, value);
     assignment(
         AssignmentFrame::GivesStepped(of.fixity, old),
-        Next::Put(of.target, address, new, place),
+        Next::Does(Action::Put(of.target, address, new, place)),
     )
 }
 
@@ -197,7 +209,7 @@ pub fn assignment_plan<'p>(frame: AssignmentFrame<'p>, value: u64) -> Plan<'p>
         }
         AssignmentFrame::AssignsCompound(of, address, place) => {
             let new = converted(of.after, value);
-            then(Next::Put(of.target, address, new, place))
+            then(Next::Does(Action::Put(of.target, address, new, place)))
         }
         AssignmentFrame::ReadsStepped(of, place) => read_stepped(of, value, place),
         AssignmentFrame::OperatesStepped(of, address, place) => {
@@ -207,14 +219,16 @@ pub fn assignment_plan<'p>(frame: AssignmentFrame<'p>, value: u64) -> Plan<'p>
             assign_stepped(of, address, old, value, place)
         }
         AssignmentFrame::GivesStepped(fixity, old) => gives(incremented_value(fixity, old, value)),
-        AssignmentFrame::Reads(target, place) => then(Next::Fetch(target, value, place)),
+        AssignmentFrame::ReadsPlace(target, place) => then(Next::Does(Action::Fetch(
+            target, value, place,
+        ))),
         AssignmentFrame::Extends(access) => gives(value_of(access, value)),
         AssignmentFrame::EvaluatesAssigned(target, expr, place) => assignment(
             AssignmentFrame::Assigns(target, value, place),
             evaluates(expr, place),
         ),
         AssignmentFrame::Assigns(target, address, place) => {
-            then(Next::Put(target, address, value, place))
+            then(Next::Does(Action::Put(target, address, value, place)))
         }
     }
 }
@@ -226,9 +240,9 @@ fn answer_plan<'p>(answer: u64, level: usize, exception: Exception, place: Place
 {
     let number = zero_extend(Width::W32, answer);
     if number == 0 {
-        then(Next::Search(level, exception, place))
+        then(Next::Does(Action::Search(level, exception, place)))
     } else if number < 0x8000_0000 {
-        then(Next::Give(Outcome::Target(level, exception)))
+        then(Next::Does(Action::Give(Outcome::Target(level, exception))))
     } else if exception.flag {
         then(start(Task::Raise(NONCONTINUABLE), place))
     } else {
@@ -242,13 +256,15 @@ pub fn in_statement_plan<'p>(frame: StatementFrame<'p>, value: u64) -> Plan<'p>
         (views.statement_frame_of frame.entry) value }
 {
     match frame {
-        StatementFrame::Initialises(local, place) => { then(Next::SetLocal(local, value, place)) }
+        StatementFrame::Initialises(local, place) => {
+            then(Next::Does(Action::SetLocal(local, value, place)))
+        }
         StatementFrame::EndsEvaluation => ends(),
         StatementFrame::Branches(yes, no, place) => branch(value == 0, yes, no, place),
         StatementFrame::For(part, of, place) => for_step(part, value, of, place),
         StatementFrame::TestsDo(body, condition, place) => do_test(value, body, condition, place),
-        StatementFrame::Returns => then(Next::Give(Outcome::Returned(value))),
-        StatementFrame::EndsFilter => then(Next::Answer(value)),
+        StatementFrame::Returns => then(Next::Does(Action::Give(Outcome::Returned(value)))),
+        StatementFrame::EndsFilter => then(Next::Does(Action::Answer(value))),
         StatementFrame::IsAnswered(level, exception, place) => {
             answer_plan(value, level, exception, place)
         }
@@ -296,9 +312,11 @@ pub fn sequel_plan<'p>(frame: SequelFrame<'p>) -> Plan<'p>
     ensures { plan_of result ≡ plans.sequel_plan (views.sequel_frame_of frame.entry) }
 {
     match frame {
-        SequelFrame::Continues(stmts, next, place) => then(Next::Proceed(stmts, next, place)),
+        SequelFrame::Continues(stmts, next, place) => then(Next::Does(Action::Proceed(
+            stmts, next, place,
+        ))),
         SequelFrame::DeclaresRest(declared, next, place) => {
-            then(Next::DeclareEach(declared, next, place))
+            then(Next::Does(Action::DeclareEach(declared, next, place)))
         }
         SequelFrame::EvaluatesFirst(first, of, place) => first_plan(first, of, place),
         SequelFrame::Retries(operation, first, second, place) => then(start(
@@ -310,8 +328,8 @@ pub fn sequel_plan<'p>(frame: SequelFrame<'p>) -> Plan<'p>
             place,
         )),
         SequelFrame::GivesZero => gives(0),
-        SequelFrame::GivesResult(how) => then(Next::Give(how)),
-        SequelFrame::EndsFinally => then(Next::LetGo),
+        SequelFrame::GivesResult(how) => then(Next::Does(Action::Give(how))),
+        SequelFrame::EndsFinally => then(Next::Does(Action::LetGo)),
     }
 }
 

@@ -10,7 +10,9 @@ ghost use Rattle.source_plans.specs.Views as views;
 ghost use Rattle.source_plans.specs.Views.{place_of, plan_of};
 
 use crate::expressions::{evaluates, push, start, then};
-use crate::frame::{BodyFrame, ForPart, Frame, Next, Outcome, Plan, SequelFrame, StatementFrame};
+use crate::frame::{
+    Action, BodyFrame, ForPart, Frame, Next, Outcome, Plan, SequelFrame, StatementFrame, Waiting,
+};
 use crate::place::Place;
 use crate::task::{ForLoop, Task};
 use c_checked::expression::Expr;
@@ -20,13 +22,13 @@ use c_checked::statement::{Declared, Stmt};
 pub fn ends<'p>() -> Plan<'p>
     ensures { plan_of result ≡ plans.ends }
 {
-    then(Next::Give(Outcome::Normal))
+    then(Next::Does(Action::Give(Outcome::Normal)))
 }
 
 fn leaves<'p>(how: Outcome) -> Plan<'p>
     ensures { plan_of result ≡ frames.Then (frames.Give (views.result_of how)) }
 {
-    then(Next::Give(how))
+    then(Next::Does(Action::Give(how)))
 }
 
 fn runs<'p>(stmt: &'p Box<Stmt>, place: Place) -> Next<'p>
@@ -42,7 +44,10 @@ pub fn tested<'p>(frame: StatementFrame<'p>, expr: &'p Expr, place: Place) -> Pl
         (views.statement_frame_of frame.entry)) (plans.evaluates (tree.expression expr.now)
         (place_of place)) }
 {
-    push(Frame::Statement(frame), evaluates(expr, place))
+    push(
+        Frame::Waits(Waiting::Statement(frame)),
+        evaluates(expr, place),
+    )
 }
 
 /// An expression's value is given to a frame, and without an expression the rest is done at once.
@@ -57,7 +62,10 @@ fn evaluated<'p>(
 {
     match expr {
         None => plan,
-        Some(expr) => tested(frame, expr, place),
+        Some(expr) => {
+            drop(plan);
+            tested(frame, expr, place)
+        }
     }
 }
 
@@ -70,7 +78,7 @@ pub fn proceed_plan<'p>(stmts: &'p Vec<Stmt>, next: usize, place: Place) -> Plan
         return ends();
     }
     push(
-        Frame::Sequel(SequelFrame::Continues(stmts, next + 1, place)),
+        Frame::Waits(Waiting::Sequel(SequelFrame::Continues(stmts, next + 1, place))),
         start(Task::RunListed(stmts, next), place),
     )
 }
@@ -84,7 +92,7 @@ pub fn declare_plan<'p>(declared: &'p Vec<Declared>, next: usize, place: Place) 
         return ends();
     }
     push(
-        Frame::Sequel(SequelFrame::DeclaresRest(declared, next + 1, place)),
+        Frame::Waits(Waiting::Sequel(SequelFrame::DeclaresRest(declared, next + 1, place))),
         start(Task::Declare(&declared[next]), place),
     )
 }
@@ -99,7 +107,7 @@ pub fn initialise_plan<'p>(declared: &'p Declared, place: Place) -> Plan<'p>
         StatementFrame::Initialises(declared.local, place),
         &declared.value,
         place,
-        then(Next::SetLocal(declared.local, 0, place)),
+        then(Next::Does(Action::SetLocal(declared.local, 0, place))),
     )
 }
 
@@ -115,7 +123,7 @@ pub fn for_body<'p>(of: ForLoop<'p>, place: Place) -> Plan<'p>
     ensures { plan_of result ≡ plans.for_body (views.for_loop_of of.entry) (place_of place) }
 {
     push(
-        Frame::Body(BodyFrame::EndsForBody(of, place)),
+        Frame::Waits(Waiting::Body(BodyFrame::EndsForBody(of, place))),
         runs(of.body, place),
     )
 }
@@ -140,7 +148,7 @@ pub fn do_plan<'p>(body: &'p Box<Stmt>, condition: &'p Expr, place: Place) -> Pl
         (frames.Start (tasks.Run (trees.statement body.now.value)) (place_of place)) }
 {
     push(
-        Frame::Body(BodyFrame::EndsDoBody(body, condition, place)),
+        Frame::Waits(Waiting::Body(BodyFrame::EndsDoBody(body, condition, place))),
         runs(body, place),
     )
 }
@@ -193,8 +201,8 @@ fn loop_plan<'p>(
         k.condition k.next k.body) (place_of place) }
 {
     push(
-        Frame::Sequel(SequelFrame::EvaluatesFirst(first, of, place)),
-        Next::DeclareEach(declared, 0, place),
+        Frame::Waits(Waiting::Sequel(SequelFrame::EvaluatesFirst(first, of, place))),
+        Next::Does(Action::DeclareEach(declared, 0, place)),
     )
 }
 
@@ -218,7 +226,7 @@ fn finally_plan<'p>(body: &'p Vec<Stmt>, number: u32, last: &'p Vec<Stmt>, place
         (views.all_statements last.now.items)) (place_of place) }
 {
     push(
-        Frame::Finishes(number, last, place),
+        Frame::Waits(Waiting::Finishes(number, last, place)),
         start(Task::TryBody(body), place),
     )
 }
@@ -228,8 +236,8 @@ pub fn statement_plan<'p>(stmt: &'p Stmt, place: Place) -> Plan<'p>
     ensures { plan_of result ≡ plans.statement_plan (trees.statement stmt.now) (place_of place) }
 {
     match stmt {
-        Stmt::Declare(declared) => then(Next::DeclareName(declared, place)),
-        Stmt::Block(stmts) => then(Next::Proceed(stmts, 0, place)),
+        Stmt::Declare(declared) => then(Next::Does(Action::DeclareName(declared, place))),
+        Stmt::Block(stmts) => then(Next::Does(Action::Proceed(stmts, 0, place))),
         Stmt::Evaluate(expr) => evaluated(StatementFrame::EndsEvaluation, expr, place, ends()),
         Stmt::If {
             condition,
@@ -259,7 +267,7 @@ pub fn statement_plan<'p>(stmt: &'p Stmt, place: Place) -> Plan<'p>
             body,
             filter,
             handler,
-        } => then(Next::Guard(body, filter, handler, place)),
+        } => then(Next::Does(Action::Guard(body, filter, handler, place))),
         Stmt::TryFinally { body, number, last } => finally_plan(body, *number, last, place),
     }
 }
@@ -270,7 +278,7 @@ pub fn listed_plan<'p>(stmts: &'p Vec<Stmt>, index: usize, place: Place) -> Plan
         ≡ plans.statement_plan (views.statement_at stmts.now.items index) (place_of place) }
 {
     if index >= stmts.len() {
-        return then(Next::Proceed(stmts, stmts.len(), place));
+        return then(Next::Does(Action::Proceed(stmts, stmts.len(), place)));
     }
     statement_plan(&stmts[index], place)
 }

@@ -4,7 +4,8 @@ use Rattle.c_model.specs.declared.ended.Ended.TheVariants.{Deep}
 use Rattle.c_model.specs.State.{End}
 use Rattle.source_machine.specs.Machine.{Machine, over, unless_deep}
 
-pub too_deep_is : (b : Bool) (m other next : Machine) → b ≡ true → next ≡ over m (End (Some (Deep 1001))) → unless_deep b m other ≡ next
+pub too_deep_is : (b : Bool) (m other next : Machine) → b ≡ true
+    → next ≡ over m (End (Some (Deep 1001))) → unless_deep b m other ≡ next
 too_deep_is b m other next e n = ap (λ b. unless_deep b m other) e ∙ sym n
 
 pub goes_deeper : (b : Bool) (m other : Machine) → b ≡ false → unless_deep b m other ≡ other

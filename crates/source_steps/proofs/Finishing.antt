@@ -9,8 +9,10 @@ use Rattle.source_plans.specs.declared.frame.Outcome.{Outcome}
 use Rattle.source_plans.specs.declared.frame.Outcome.TheVariants as outcomes
 use Rattle.source_plans.specs.Views.{result_of}
 
-pub finished_other : (m : Machine) (k : ℕ) (last : Statements) (p : Place) (o : Outcome) → (o ≡ outcomes.Normal → ⊥) → (o ≡ outcomes.LeftTry → ⊥)
-    → finished m k last p (result_of o) ≡ follow m (Push (Sequel (frames.GivesResult (result_of o))) (Start (tasks.RunFinally k last true) p))
+pub finished_other : (m : Machine) (k : ℕ) (last : Statements) (p : Place) (o : Outcome)
+    → (o ≡ outcomes.Normal → ⊥) → (o ≡ outcomes.LeftTry → ⊥)
+    → finished m k last p (result_of o) ≡ follow m
+    (Push (Sequel (frames.GivesResult (result_of o))) (Start (tasks.RunFinally k last true) p))
 finished_other m k last p (outcomes.Value v) n l = refl
 finished_other m k last p outcomes.Normal n l = absurd (n refl)
 finished_other m k last p (outcomes.Returned v) n l = refl

@@ -6,5 +6,8 @@ use Rattle.source_machine.specs.Frames as frames
 use Rattle.source_plans.specs.declared.frame.Frame.{Frame}
 use Rattle.source_plans.specs.Views.{frame_of}
 
-pub pushed : (fs : List Frame) (f : Frame) → reverse (map frame_of (fs ++ f ∷ [])) ≡ frame_of f ∷ reverse (map frame_of fs)
-pushed fs f = ap reverse (map-append frame_of fs (f ∷ [])) ∙ reverse-append (map frame_of fs) (frame_of f ∷ [])
+pub pushed : (fs : List Frame) (f : Frame) → reverse (map frame_of (fs ++ f ∷ [])) ≡ frame_of f
+    ∷ reverse (map frame_of fs)
+pushed fs f =
+    ap reverse (map-append frame_of fs (f ∷ []))
+    ∙ reverse-append (map frame_of fs) (frame_of f ∷ [])

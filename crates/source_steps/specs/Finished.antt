@@ -11,12 +11,12 @@ use Rattle.source_machine.specs.Frames as frames
 use Rattle.source_machine.specs.Frames.{Place, Frame, Sequel, Give, Start, Push}
 use Rattle.source_machine.specs.Machine.{Machine, with_next, follow, over, outside, resumed}
 
-abbrev pub finished : Machine → Operation → ℕ → ℕ → Place → Performed → Machine
-finished m o a b p (performed.Gives v) = with_next m (Give (Value v))
-finished m o a b p (performed.Raises code access) =
+abbrev pub operation_finished : Machine → Operation → ℕ → ℕ → Place → Performed → Machine
+operation_finished m o a b p (performed.Gives v) = with_next m (Give (Value v))
+operation_finished m o a b p (performed.Raises code access) =
     follow m (Push (Sequel (frames.Retries o a b p))
     (Start (tasks.Raise (record { code = code.0; flag = false; access = access })) p))
-finished m o a b p (performed.Undefined at) = over m (End (Some (Undefined at)))
+operation_finished m o a b p (performed.Undefined at) = over m (End (Some (Undefined at)))
 
 -- a frame's result, where the frame's handler is still there
 abbrev pub resumed_from : Machine → Frame → Result → Machine

@@ -4,5 +4,5 @@ use Rattle.std.specs.Prelude.{ℕ, List, [], slice_get, slice_set, Option, Some,
 abbrev pub frame_in : List (List ℕ) → ℕ → List ℕ
 frame_in frames k = elim (slice_get frames k) [ Some frame ↦ frame | None ↦ [] ]
 
-abbrev pub with_local : List (List ℕ) → ℕ → ℕ → ℕ → List (List ℕ)
-with_local frames k x v = slice_set frames k (slice_set (frame_in frames k) x v)
+abbrev pub with_local_in : List (List ℕ) → ℕ → ℕ → ℕ → List (List ℕ)
+with_local_in frames k x v = slice_set frames k (slice_set (frame_in frames k) x v)

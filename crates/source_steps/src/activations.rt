@@ -2,7 +2,7 @@
 
 ghost use Rattle.std.specs.Prelude.{◌≡◌, ◌++◌, [], ◌∷◌, length, take, replicate, slice_set};
 ghost use Rattle.std.specs.Prelude.{slice_index, OnOk, IfOk};
-ghost use Rattle.source_steps.specs.Locals.{frame_in, with_local};
+ghost use Rattle.source_steps.specs.Locals.{frame_in, with_local_in};
 
 use std::alloc::{AllocError, Global};
 
@@ -57,7 +57,7 @@ impl Activations {
 
     /// Sets a local; nothing where there is none.
     pub fn set_local(&mut self, activation: usize, local: u64, value: u64)
-        ensures { frames_of self.new ≡ with_local (frames_of self.old) activation local value }
+        ensures { frames_of self.new ≡ with_local_in (frames_of self.old) activation local value }
     {
         let local = local as usize;
         if activation >= self.frames.len() {

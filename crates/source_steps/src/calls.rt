@@ -22,7 +22,7 @@ use seh_num::event::Event;
 use seh_num::extension::sign_extend;
 use seh_num::width::Width;
 use source_plans::expressions::start;
-use source_plans::frame::{Callee, Frame, Next, Outcome, SequelFrame};
+use source_plans::frame::{Action, Callee, Frame, Next, Outcome, SequelFrame, Waiting};
 use source_plans::place::{Exception, NO_EXCEPTION, Place};
 use source_plans::task::Task;
 use source_plans::values::of_test;
@@ -69,13 +69,13 @@ impl<'p> Machine<'p> {
         let activation = self.activations.len();
         let locals = with_zeros(values, function.locals.len())?;
         self.activations.push(locals)?;
-        self.push(Frame::EndsCall(activation))?;
+        self.push(Frame::Waits(Waiting::EndsCall(activation)))?;
         let place = Place {
             activation,
             exception: NO_EXCEPTION,
             abnormal: false,
         };
-        Ok(Next::Proceed(&function.body, 0, place))
+        Ok(Next::Does(Action::Proceed(&function.body, 0, place)))
     }
 
     /// A built-in function is called.
@@ -93,14 +93,14 @@ impl<'p> Machine<'p> {
         match function {
             BuiltIn::Put => {
                 let event = Event::Put(sign_extend(Width::W64, first));
-                Ok(showing(event, Next::Give(Outcome::Value(0))))
+                Ok(showing(event, Next::Does(Action::Give(Outcome::Value(0)))))
             }
             BuiltIn::Protect => {
                 let is_set = self.memory.protect(first, low_signed(second));
-                Ok(quiet(Next::Give(Outcome::Value(of_test(is_set)))))
+                Ok(quiet(Next::Does(Action::Give(Outcome::Value(of_test(is_set))))))
             }
             BuiltIn::RaiseException => {
-                self.push(Frame::Sequel(SequelFrame::GivesZero))?;
+                self.push(Frame::Waits(Waiting::Sequel(SequelFrame::GivesZero)))?;
                 let task = Task::Raise(raised(first, second));
                 Ok(quiet(start(task, place)))
             }
@@ -122,7 +122,7 @@ impl<'p> Machine<'p> {
         match callee {
             Callee::BuiltIn(function) => self.call_built_in(function, &values, place),
             Callee::Defined(index) => match program.functions.get(index as usize) {
-                None => Ok(quiet(Next::Give(Outcome::Value(0)))),
+                None => Ok(quiet(Next::Does(Action::Give(Outcome::Value(0))))),
                 Some(function) => Ok(quiet(self.enter(function, values)?)),
             },
         }

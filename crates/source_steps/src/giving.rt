@@ -13,16 +13,17 @@ ghost use Rattle.source_steps.specs.Machines.{machine_of, shown_after, Moved, Sh
 ghost use Rattle.source_steps.specs.Finished.{resumed_from};
 
 use crate::machine::{Machine, Step, quiet, showing};
+use c_checked::expression::Expr;
 use c_checked::statement::Stmt;
 use seh_num::event::{Code, Event};
 use source_plans::expressions::start;
 use source_plans::frame::{
-    AssignmentFrame, BodyFrame, Finish, Frame, Next, OperandFrame, Outcome, SequelFrame,
-    StatementFrame,
+    Action, AssignmentFrame, BodyFrame, Callee, Finish, Frame, Next, OperandFrame, Outcome,
+    SequelFrame, StatementFrame, Waiting,
 };
 use source_plans::place::{Exception, Place};
 use source_plans::results::{
-    assignment_plan, body_plan, in_statement_plan, operand_plan, sequel_plan,
+    assignment_plan, body_plan, in_statement_plan, operand_plan, passed_plan, sequel_plan,
 };
 use source_plans::task::Task;
 use std::alloc::AllocError;
@@ -64,13 +65,13 @@ impl<'p> Machine<'p> {
     {
         self.activations.truncate(count);
         match how {
-            Outcome::Normal => Ok(Next::Give(Outcome::Value(0))),
-            Outcome::Returned(value) => Ok(Next::Give(Outcome::Value(value))),
+            Outcome::Normal => Ok(Next::Does(Action::Give(Outcome::Value(0)))),
+            Outcome::Returned(value) => Ok(Next::Does(Action::Give(Outcome::Value(value)))),
             Outcome::Target(level, exception) => {
                 self.hold_activation()?;
-                Ok(Next::Give(Outcome::Target(level, exception)))
+                Ok(Next::Does(Action::Give(Outcome::Target(level, exception))))
             }
-            other => Ok(Next::Give(other)),
+            other => Ok(Next::Does(Action::Give(other))),
         }
     }
 
@@ -88,7 +89,7 @@ impl<'p> Machine<'p> {
             (views.exception_of exception))) result }
     {
         if level != self.handlers.len() {
-            return quiet(Next::Give(Outcome::Target(level, exception)));
+            return quiet(Next::Does(Action::Give(Outcome::Target(level, exception))));
         }
         self.held = held;
         let inside = Place {
@@ -98,7 +99,7 @@ impl<'p> Machine<'p> {
         };
         showing(
             Event::Except(Code(exception.code)),
-            Next::Proceed(block, 0, inside),
+            Next::Does(Action::Proceed(block, 0, inside)),
         )
     }
 
@@ -117,7 +118,7 @@ impl<'p> Machine<'p> {
             Outcome::Normal => Ok(finally(number, last, false, place)),
             Outcome::LeftTry => Ok(finally(number, last, false, place)),
             other => {
-                self.push(Frame::Sequel(SequelFrame::GivesResult(other)))?;
+                self.push(Frame::Waits(Waiting::Sequel(SequelFrame::GivesResult(other))))?;
                 Ok(finally(number, last, true, place))
             }
         }
@@ -133,11 +134,32 @@ impl<'p> Machine<'p> {
             (views.operand_frame_of frame.entry)) (views.result_of how))) }
     {
         match how {
+            Outcome::Value(value) => self.follow(operand_plan(frame, value)),
+            other => Ok(Next::Does(Action::Give(other))),
+        }
+    }
+
+    /// A result is given to a call, as the value of an argument.
+    fn resume_passing(
+        &mut self,
+        callee: Callee,
+        values: Vec<u64>,
+        arguments: &'p Vec<Expr>,
+        next: usize,
+        place: Place,
+        how: Outcome,
+    ) -> Result<Next<'p>, AllocError>
+        ensures { IfOk result (Moved self.old self.new (λ m. model.resumed m (frames.Operand
+            (frames.PassesArgument (views.callee_of callee) values.items
+            (views.arguments_from arguments.now.items next) (place_of place)))
+            (views.result_of how))) }
+    {
+        match how {
             Outcome::Value(value) => {
-                let plan = operand_plan(frame, value)?;
+                let plan = passed_plan(callee, values, value, arguments, next, place)?;
                 self.follow(plan)
             }
-            other => Ok(Next::Give(other)),
+            other => Ok(Next::Does(Action::Give(other))),
         }
     }
 
@@ -152,7 +174,7 @@ impl<'p> Machine<'p> {
     {
         match how {
             Outcome::Value(value) => self.follow(assignment_plan(frame, value)),
-            other => Ok(Next::Give(other)),
+            other => Ok(Next::Does(Action::Give(other))),
         }
     }
 
@@ -167,7 +189,7 @@ impl<'p> Machine<'p> {
     {
         match how {
             Outcome::Value(value) => self.follow(in_statement_plan(frame, value)),
-            other => Ok(Next::Give(other)),
+            other => Ok(Next::Does(Action::Give(other))),
         }
     }
 
@@ -182,7 +204,7 @@ impl<'p> Machine<'p> {
     {
         match how {
             Outcome::Normal => self.follow(sequel_plan(frame)),
-            other => Ok(Next::Give(other)),
+            other => Ok(Next::Does(Action::Give(other))),
         }
     }
 
@@ -194,8 +216,8 @@ impl<'p> Machine<'p> {
         match how {
             Outcome::Normal => self.follow(body_plan(frame)),
             Outcome::Continued => self.follow(body_plan(frame)),
-            Outcome::Broke => Ok(Next::Give(Outcome::Normal)),
-            other => Ok(Next::Give(other)),
+            Outcome::Broke => Ok(Next::Does(Action::Give(Outcome::Normal))),
+            other => Ok(Next::Does(Action::Give(other))),
         }
     }
 
@@ -212,30 +234,44 @@ impl<'p> Machine<'p> {
             (views.result_of how)) result }
     {
         match how {
-            Outcome::LeftTry => quiet(Next::Give(Outcome::Normal)),
+            Outcome::LeftTry => quiet(Next::Does(Action::Give(Outcome::Normal))),
             Outcome::Target(level, exception) => self.land(held, block, place, level, exception),
-            other => quiet(Next::Give(other)),
+            other => quiet(Next::Does(Action::Give(other))),
         }
     }
 
-    /// A result is given to a frame that isn't a landing.
+    /// A result is given to a frame that holds no values of arguments.
+    fn resume_waiting(&mut self, frame: Waiting<'p>, how: Outcome) -> Result<Step<'p>, AllocError>
+        ensures { IfOk result (Showed self.old self.new (λ m. resumed_from m
+            (views.waiting_of frame.entry) (views.result_of how))) }
+    {
+        match frame {
+            Waiting::Operand(frame) => Ok(quiet(self.resume_operand(frame, how)?)),
+            Waiting::Assignment(frame) => Ok(quiet(self.resume_assignment(frame, how)?)),
+            Waiting::Statement(frame) => Ok(quiet(self.resume_statement(frame, how)?)),
+            Waiting::Sequel(frame) => Ok(quiet(self.resume_sequel(frame, how)?)),
+            Waiting::Body(frame) => Ok(quiet(self.resume_body(frame, how)?)),
+            Waiting::EndsCall(count) => Ok(quiet(self.leave_call(count, how)?)),
+            Waiting::Lands(held, block, place) => {
+                let _ = self.handlers.pop();
+                Ok(self.resume_landing(held, block, place, how))
+            }
+            Waiting::Finishes(number, last, place) => {
+                Ok(quiet(self.finish_try(number, last, place, how)?))
+            }
+        }
+    }
+
+    /// A result is given to a frame.
     fn resume(&mut self, frame: Frame<'p>, how: Outcome) -> Result<Step<'p>, AllocError>
         ensures { IfOk result (Showed self.old self.new (λ m. resumed_from m
             (views.frame_of frame.entry) (views.result_of how))) }
     {
         match frame {
-            Frame::Operand(frame) => Ok(quiet(self.resume_operand(frame, how)?)),
-            Frame::Assignment(frame) => Ok(quiet(self.resume_assignment(frame, how)?)),
-            Frame::Statement(frame) => Ok(quiet(self.resume_statement(frame, how)?)),
-            Frame::Sequel(frame) => Ok(quiet(self.resume_sequel(frame, how)?)),
-            Frame::Body(frame) => Ok(quiet(self.resume_body(frame, how)?)),
-            Frame::EndsCall(count) => Ok(quiet(self.leave_call(count, how)?)),
-            Frame::Lands(held, block, place) => {
-                let _ = self.handlers.pop();
-                Ok(self.resume_landing(held, block, place, how))
-            }
-            Frame::Finishes(number, last, place) => {
-                Ok(quiet(self.finish_try(number, last, place, how)?))
+            Frame::Waits(frame) => self.resume_waiting(frame, how),
+            Frame::PassesArgument(callee, values, arguments, next, place) => {
+                let next = self.resume_passing(callee, values, arguments, next, place, how)?;
+                Ok(quiet(next))
             }
         }
     }
@@ -246,7 +282,7 @@ impl<'p> Machine<'p> {
             (views.result_of how) m.stack)) }
     {
         match self.stack.pop() {
-            None => Ok(quiet(Next::Over(Finish::Gave(how)))),
+            None => Ok(quiet(Next::Does(Action::Over(Finish::Gave(how))))),
             Some(frame) => self.resume(frame, how),
         }
     }

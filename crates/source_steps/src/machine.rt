@@ -14,7 +14,7 @@ use crate::activations::Activations;
 use c_model::depth::{DEEPEST, TOO_DEEP};
 use c_model::ended::Ended;
 use seh_num::event::Event;
-use source_plans::frame::{Finish, Frame, Next, Phase, Plan};
+use source_plans::frame::{Action, Finish, Frame, Next, Phase, Plan};
 use source_plans::place::{Handler, Place};
 use source_plans::task::Task;
 use std::alloc::AllocError;
@@ -71,7 +71,7 @@ pub fn showing<'p>(event: Event, next: Next<'p>) -> Step<'p>
 pub fn too_deep<'p>() -> Next<'p>
     ensures { views.next_of result ≡ frames.Over (states.End (Some (ends.Deep TOO_DEEP))) }
 {
-    Next::Over(Finish::Ended(Ended::Deep { depth: TOO_DEEP }))
+    Next::Does(Action::Over(Finish::Ended(Ended::Deep { depth: TOO_DEEP })))
 }
 
 impl<'p> Machine<'p> {
@@ -122,9 +122,9 @@ impl<'p> Machine<'p> {
             (place_of place) m.state.steps_left) result }
     {
         if self.steps_left == 0 {
-            return Next::Over(Finish::OutOfSteps);
+            return Next::Does(Action::Over(Finish::OutOfSteps));
         }
         self.steps_left -= 1;
-        Next::Do(Phase::After, task, place)
+        Next::Does(Action::Do(Phase::After, task, place))
     }
 }

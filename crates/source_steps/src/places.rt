@@ -11,7 +11,7 @@ ghost use Rattle.source_machine.specs.Plans as plans;
 ghost use Rattle.source_plans.specs.Views as views;
 ghost use Rattle.source_plans.specs.Views.{place_of};
 ghost use Rattle.source_steps.specs.Machines.{machine_of, state_of, Moved, Showed};
-ghost use Rattle.source_steps.specs.Finished.{finished};
+ghost use Rattle.source_steps.specs.Finished.{operation_finished};
 
 use crate::machine::Machine;
 use c_checked::expression::{Access, Lvalue};
@@ -19,7 +19,9 @@ use c_model::ended::Ended;
 use c_operations::operation::Operation;
 use source_operations::performing::{Performed, perform};
 use source_plans::expressions::{push, start, then};
-use source_plans::frame::{AssignmentFrame, Finish, Frame, Next, Outcome, Plan, SequelFrame};
+use source_plans::frame::{
+    Action, AssignmentFrame, Finish, Frame, Next, Outcome, Plan, SequelFrame, Waiting,
+};
 use source_plans::place::{Exception, Place};
 use source_plans::task::Task;
 use std::alloc::AllocError;
@@ -29,8 +31,8 @@ fn load_plan<'p>(access: Access, address: u64, place: Place) -> Plan<'p>
     ensures { views.plan_of result ≡ plans.load_plan access address (place_of place) }
 {
     push(
-        Frame::Assignment(AssignmentFrame::Extends(access)),
-        Next::Operate(Operation::Load(access.width), address, 0, place),
+        Frame::Waits(Waiting::Assignment(AssignmentFrame::Extends(access))),
+        Next::Does(Action::Operate(Operation::Load(access.width), address, 0, place)),
     )
 }
 
@@ -38,7 +40,7 @@ fn load_plan<'p>(access: Access, address: u64, place: Place) -> Plan<'p>
 fn store_plan<'p>(access: Access, address: u64, value: u64, place: Place) -> Plan<'p>
     ensures { views.plan_of result ≡ plans.store_plan access address value (place_of place) }
 {
-    then(Next::Operate(Operation::Store(access.width), address, value, place))
+    then(Next::Does(Action::Operate(Operation::Store(access.width), address, value, place)))
 }
 
 impl<'p> Machine<'p> {
@@ -63,7 +65,7 @@ impl<'p> Machine<'p> {
         match target {
             Lvalue::Local(local) => {
                 let value = self.activations.local(place.activation, *local);
-                Ok(Next::Give(Outcome::Value(value)))
+                Ok(Next::Does(Action::Give(Outcome::Value(value))))
             }
             Lvalue::Global { access, .. } => self.load(*access, address, place),
             Lvalue::Indirection { access, .. } => self.load(*access, address, place),
@@ -87,16 +89,16 @@ impl<'p> Machine<'p> {
         match target {
             Lvalue::Local(local) => {
                 self.set_local(*local, value, place);
-                Next::Give(Outcome::Value(value))
+                Next::Does(Action::Give(Outcome::Value(value)))
             }
             Lvalue::Global { access, .. } => {
-                Next::Operate(Operation::Store(access.width), address, value, place)
+                Next::Does(Action::Operate(Operation::Store(access.width), address, value, place))
             }
             Lvalue::Indirection { access, .. } => {
-                Next::Operate(Operation::Store(access.width), address, value, place)
+                Next::Does(Action::Operate(Operation::Store(access.width), address, value, place))
             }
             Lvalue::Element { access, .. } => {
-                Next::Operate(Operation::Store(access.width), address, value, place)
+                Next::Does(Action::Operate(Operation::Store(access.width), address, value, place))
             }
         }
     }
@@ -110,13 +112,15 @@ impl<'p> Machine<'p> {
         place: Place,
         outcome: Performed,
     ) -> Result<Next<'p>, AllocError>
-        ensures { IfOk result (Moved self.old self.new (λ m. finished m operation first second
+        ensures { IfOk result (Moved self.old self.new (λ m. operation_finished m operation first second
             (place_of place) outcome)) }
     {
         match outcome {
-            Performed::Gives(value) => Ok(Next::Give(Outcome::Value(value))),
+            Performed::Gives(value) => Ok(Next::Does(Action::Give(Outcome::Value(value)))),
             Performed::Raises { code, access } => {
-                self.push(Frame::Sequel(SequelFrame::Retries(operation, first, second, place)))?;
+                self.push(Frame::Waits(Waiting::Sequel(SequelFrame::Retries(
+                    operation, first, second, place,
+                ))))?;
                 let exception = Exception {
                     code: code.0,
                     flag: false,
@@ -125,7 +129,7 @@ impl<'p> Machine<'p> {
                 Ok(start(Task::Raise(exception), place))
             }
             Performed::Undefined(address) => {
-                Ok(Next::Over(Finish::Ended(Ended::Undefined { address })))
+                Ok(Next::Does(Action::Over(Finish::Ended(Ended::Undefined { address }))))
             }
         }
     }

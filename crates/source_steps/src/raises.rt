@@ -19,7 +19,9 @@ use c_checked::statement::{Filter, Stmt};
 use c_model::ended::Ended;
 use seh_num::event::{Code, Event};
 use source_plans::expressions::{evaluates, start};
-use source_plans::frame::{Finish, Frame, Next, Outcome, SequelFrame, StatementFrame};
+use source_plans::frame::{
+    Action, Finish, Frame, Next, Outcome, SequelFrame, StatementFrame, Waiting,
+};
 use source_plans::place::{Exception, Handler, Place};
 use source_plans::task::Task;
 use std::alloc::AllocError;
@@ -28,7 +30,7 @@ fn unhandled<'p>(exception: Exception) -> Next<'p>
     ensures { (m : model.Machine) → model.unhandled m (views.exception_of exception)
         ≡ model.with_next m (views.next_of result) }
 {
-    Next::Over(Finish::Ended(Ended::Unhandled(Code(exception.code))))
+    Next::Does(Action::Over(Finish::Ended(Ended::Unhandled(Code(exception.code)))))
 }
 
 impl<'p> Machine<'p> {
@@ -42,7 +44,10 @@ impl<'p> Machine<'p> {
             flag: exception.flag,
             access: exception.access,
         };
-        showing(event, Next::Search(self.handlers.len(), exception, place))
+        showing(
+            event,
+            Next::Does(Action::Search(self.handlers.len(), exception, place)),
+        )
     }
 
     /// A filter begins, in the activation of its `__try`.
@@ -63,7 +68,7 @@ impl<'p> Machine<'p> {
             return Ok(quiet(too_deep()));
         }
         self.held = self.held.saturating_add(2);
-        self.push(Frame::Statement(StatementFrame::EndsFilter))?;
+        self.push(Frame::Waits(Waiting::Statement(StatementFrame::EndsFilter)))?;
         let inside = Place {
             activation: handler.activation,
             exception,
@@ -88,7 +93,7 @@ impl<'p> Machine<'p> {
             return Ok(quiet(too_deep()));
         }
         self.held = self.held.saturating_add(2);
-        self.push(Frame::Sequel(SequelFrame::EndsFinally))?;
+        self.push(Frame::Waits(Waiting::Sequel(SequelFrame::EndsFinally)))?;
         let inside = Place {
             activation: place.activation,
             exception: place.exception,
@@ -96,7 +101,7 @@ impl<'p> Machine<'p> {
         };
         Ok(showing(
             Event::Finally { number, abnormal },
-            Next::Proceed(last, 0, inside),
+            Next::Does(Action::Proceed(last, 0, inside)),
         ))
     }
 
@@ -117,7 +122,8 @@ impl<'p> Machine<'p> {
             activation: place.activation,
             abnormal: place.abnormal,
         })?;
-        self.stack.push(Frame::Lands(self.held, block, place))?;
+        self.stack
+            .push(Frame::Waits(Waiting::Lands(self.held, block, place)))?;
         Ok(start(Task::TryBody(body), place))
     }
 
@@ -168,9 +174,11 @@ impl<'p> Machine<'p> {
             (views.exception_of exception) (place_of place))) }
     {
         match handler.filter {
-            Filter::Always => Ok(Next::Give(Outcome::Target(level, exception))),
+            Filter::Always => Ok(Next::Does(Action::Give(Outcome::Target(level, exception)))),
             Filter::Funclet { number, value } => {
-                self.push(Frame::Statement(StatementFrame::IsAnswered(level, exception, place)))?;
+                self.push(Frame::Waits(Waiting::Statement(StatementFrame::IsAnswered(
+                    level, exception, place,
+                ))))?;
                 let task = Task::RunFilter {
                     number: *number,
                     value,
@@ -190,7 +198,7 @@ impl<'p> Machine<'p> {
         self.held = self.held.saturating_sub(2);
         showing(
             Event::Answer(low_signed(value)),
-            Next::Give(Outcome::Value(value)),
+            Next::Does(Action::Give(Outcome::Value(value))),
         )
     }
 }

@@ -17,7 +17,7 @@ use crate::machine::{Machine, Step, quiet};
 use c_checked::checked::Checked;
 use c_checked::statement::Declared;
 use source_plans::expressions::{expression_plan, find_plan, node_plan, pass_plan};
-use source_plans::frame::{Next, Outcome, Phase, Plan};
+use source_plans::frame::{Action, Next, Outcome, Phase, Plan};
 use source_plans::place::Place;
 use source_plans::statements::{
     declare_plan, do_plan, for_plan, initialise_plan, listed_plan, proceed_plan, statement_plan,
@@ -33,15 +33,15 @@ impl<'p> Machine<'p> {
     {
         match task {
             Task::Eval(expr) => self.planned(expression_plan(expr, place)),
-            Task::Locate(target) => Ok(quiet(Next::Find(target, place))),
+            Task::Locate(target) => Ok(quiet(Next::Does(Action::Find(target, place)))),
             Task::RunListed(stmts, index) => self.planned(listed_plan(stmts, index, place)),
             Task::RunBoxed(stmt) => self.planned(statement_plan(stmt, place)),
-            Task::Declare(declared) => Ok(quiet(Next::DeclareName(declared, place))),
+            Task::Declare(declared) => Ok(quiet(Next::Does(Action::DeclareName(declared, place)))),
             Task::ForIteration(of) => self.planned(for_plan(of, place)),
             Task::DoIteration { body, condition } => {
                 self.planned(do_plan(body, condition, place))
             }
-            Task::TryBody(stmts) => Ok(quiet(Next::Proceed(stmts, 0, place))),
+            Task::TryBody(stmts) => Ok(quiet(Next::Does(Action::Proceed(stmts, 0, place)))),
             Task::Raise(exception) => Ok(self.raise(exception, place)),
             Task::RunFilter {
                 number,
@@ -58,7 +58,7 @@ impl<'p> Machine<'p> {
                 operation,
                 first,
                 second,
-            } => Ok(quiet(Next::Operate(operation, first, second, place))),
+            } => Ok(quiet(Next::Does(Action::Operate(operation, first, second, place)))),
         }
     }
 
@@ -95,6 +95,54 @@ impl<'p> Machine<'p> {
         }
     }
 
+    /// What is done next is done where it passes no arguments.
+    fn act(
+        &mut self,
+        alloc: Global,
+        _program: &'p Checked,
+        data_end: u64,
+        action: Action<'p>,
+    ) -> Result<Step<'p>, AllocError>
+        requires { data_end ≡ model_data_end _program.now.globals.items }
+        ensures { IfOk result (Showed self.old self.new (λ m. model.done
+            (whole.program _program.now) m (views.action_of action.entry))) }
+    {
+        match action {
+            Action::Over(how) => Ok(quiet(Next::Does(Action::Over(how)))),
+            Action::Give(how) => self.give(how),
+            Action::Do(phase, task, place) => self.take_up(phase, task, place),
+            Action::Evaluate(node, place) => self.planned(node_plan(alloc, node, place)),
+            Action::Find(target, place) => self.planned(find_plan(target, place)),
+            Action::Fetch(target, address, place) => Ok(quiet(self.fetch(target, address, place)?)),
+            Action::Put(target, address, value, place) => {
+                Ok(quiet(self.put(target, address, value, place)))
+            }
+            Action::Operate(operation, first, second, place) => {
+                Ok(quiet(self.operate(data_end, operation, first, second, place)?))
+            }
+            Action::Proceed(stmts, next, place) => self.planned(proceed_plan(stmts, next, place)),
+            Action::DeclareEach(declared, next, place) => {
+                self.planned(declare_plan(declared, next, place))
+            }
+            Action::DeclareName(declared, place) => self.declare(declared, place),
+            Action::SetLocal(local, value, place) => {
+                self.set_local(local, value, place);
+                Ok(quiet(Next::Does(Action::Give(Outcome::Normal))))
+            }
+            Action::Guard(body, filter, block, place) => {
+                Ok(quiet(self.guard(body, filter, block, place)?))
+            }
+            Action::Answer(value) => Ok(self.answer(value)),
+            Action::LetGo => {
+                self.held = self.held.saturating_sub(2);
+                Ok(quiet(Next::Does(Action::Give(Outcome::Normal))))
+            }
+            Action::Search(level, exception, place) => {
+                Ok(quiet(self.search(level, exception, place)?))
+            }
+        }
+    }
+
     /// What is done next is done, in memory whose globals' pages end at `data_end`.
     pub fn step(
         &mut self,
@@ -108,42 +156,11 @@ impl<'p> Machine<'p> {
             (whole.program program.now) m (views.next_of next.entry))) }
     {
         match next {
-            Next::Over(how) => Ok(quiet(Next::Over(how))),
-            Next::Give(how) => self.give(how),
-            Next::Do(phase, task, place) => self.take_up(phase, task, place),
-            Next::Evaluate(node, place) => self.planned(node_plan(alloc, node, place)),
-            Next::Find(target, place) => self.planned(find_plan(target, place)),
-            Next::Fetch(target, address, place) => Ok(quiet(self.fetch(target, address, place)?)),
-            Next::Put(target, address, value, place) => {
-                Ok(quiet(self.put(target, address, value, place)))
-            }
-            Next::Operate(operation, first, second, place) => {
-                Ok(quiet(self.operate(data_end, operation, first, second, place)?))
-            }
+            Next::Does(action) => self.act(alloc, program, data_end, action),
             Next::Pass(callee, values, arguments, next, place) => {
                 self.planned(pass_plan(callee, values, arguments, next, place))
             }
             Next::Call(callee, values, place) => self.call(program, callee, values, place),
-            Next::Proceed(stmts, next, place) => self.planned(proceed_plan(stmts, next, place)),
-            Next::DeclareEach(declared, next, place) => {
-                self.planned(declare_plan(declared, next, place))
-            }
-            Next::DeclareName(declared, place) => self.declare(declared, place),
-            Next::SetLocal(local, value, place) => {
-                self.set_local(local, value, place);
-                Ok(quiet(Next::Give(Outcome::Normal)))
-            }
-            Next::Guard(body, filter, block, place) => {
-                Ok(quiet(self.guard(body, filter, block, place)?))
-            }
-            Next::Answer(value) => Ok(self.answer(value)),
-            Next::LetGo => {
-                self.held = self.held.saturating_sub(2);
-                Ok(quiet(Next::Give(Outcome::Normal)))
-            }
-            Next::Search(level, exception, place) => {
-                Ok(quiet(self.search(level, exception, place)?))
-            }
         }
     }
 }

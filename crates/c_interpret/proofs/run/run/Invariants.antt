@@ -7,7 +7,10 @@ use Rattle.c_interpret.proofs.Reached.{Reached}
 use Rattle.c_interpret.proofs.run.run.Given as goal
 
 abbrev pub invariant-loop-how : goal.invariant-loop-how
-invariant-loop-how g l = Reached g.V.Events.took (whole.program l.program) (machine_of l.initial.machine (next_of l.initial.next) []) l.initial.to l.machine (next_of l.next) l.to
+invariant-loop-how g l =
+    Reached g.V.Events.took (whole.program l.program)
+    (machine_of l.initial.machine (next_of l.initial.next) []) l.initial.to l.machine
+    (next_of l.next) l.to
 
 abbrev pub decreases-loop-how : goal.decreases-loop-how
 decreases-loop-how g l = distance (machine_of l.machine (next_of l.next) [])

@@ -16,16 +16,35 @@ use Rattle.c_interpret.proofs.run.run_program.Goals as goal
 pub returns-in_err-finish-clause-part : goal.returns-in_err-finish-clause-part
 returns-in_err-finish-clause-part g c =
     let p = whole.program c.args.program.now in
-    let next = frames.Call (frames.Defined c.args.program.now.main) c.in_ok-arguments.arguments.items (record { activation = 0; exception = no_exception; abnormal = false }) in
-    let first : comes_to p (does p) (machine_of c.in_ok-machine.machine next []) ≡ comes_to p (does p) (beginning p c.args.budget next) = ap (comes_to p (does p)) (c.in_ok-machine.ensures next) in
-    let is : comes_to p (does p) (machine_of c.in_ok-machine.machine next []) ≡ ran p c.args.arg c.args.budget = first ∙ begins p c.args.arg c.args.budget c.in_ok-arguments.arguments.items (c.in_ok-arguments.ensures ∙ ap (main_arguments (slice_get p.functions p.main)) (to_z-of_z w64 c.args.arg c.ranges.arg)) in
+    let next = frames.Call (frames.Defined c.args.program.now.main)
+    c.in_ok-arguments.arguments.items (record
+    { activation = 0; exception = no_exception; abnormal = false }) in
+    let first : comes_to p (does p) (machine_of c.in_ok-machine.machine next [])
+    ≡ comes_to p (does p) (beginning p c.args.budget next) =
+    ap (comes_to p (does p)) (c.in_ok-machine.ensures next) in
+    let is : comes_to p (does p) (machine_of c.in_ok-machine.machine next [])
+    ≡ ran p c.args.arg c.args.budget = first
+    ∙ begins p c.args.arg c.args.budget c.in_ok-arguments.arguments.items
+    (c.in_ok-arguments.ensures ∙ ap (main_arguments (slice_get p.functions p.main))
+    (to_z-of_z w64 c.args.arg c.ranges.arg)) in
     on_err c.from_residual-in_err-finish.result
-    (part_of g.V.Events.took p c.args.arg c.args.budget (machine_of c.in_ok-machine.machine next []) is c.args.to.now c.run.new.to c.in_err-finish.ensures.part)
+    (part_of g.V.Events.took p c.args.arg c.args.budget (machine_of c.in_ok-machine.machine next [])
+    is c.args.to.now c.run.new.to c.in_err-finish.ensures.part)
 
 pub returns-clause-means : goal.returns-clause-means
 returns-clause-means g c =
     let p = whole.program c.args.program.now in
-    let next = frames.Call (frames.Defined c.args.program.now.main) c.in_ok-arguments.arguments.items (record { activation = 0; exception = no_exception; abnormal = false }) in
-    let first : comes_to p (does p) (machine_of c.in_ok-machine.machine next []) ≡ comes_to p (does p) (beginning p c.args.budget next) = ap (comes_to p (does p)) (c.in_ok-machine.ensures next) in
-    let is : comes_to p (does p) (machine_of c.in_ok-machine.machine next []) ≡ ran p c.args.arg c.args.budget = first ∙ begins p c.args.arg c.args.budget c.in_ok-arguments.arguments.items (c.in_ok-arguments.ensures ∙ ap (main_arguments (slice_get p.functions p.main)) (to_z-of_z w64 c.args.arg c.ranges.arg)) in
-    means_of g.V.Events.took p c.args.arg c.args.budget (machine_of c.in_ok-machine.machine next []) is c.args.to.now c.run.new.to (views.finish_of c.in_ok-finish.finish) c.end_of.result c.end_of.ensures c.in_ok-finish.ensures.ran
+    let next = frames.Call (frames.Defined c.args.program.now.main)
+    c.in_ok-arguments.arguments.items (record
+    { activation = 0; exception = no_exception; abnormal = false }) in
+    let first : comes_to p (does p) (machine_of c.in_ok-machine.machine next [])
+    ≡ comes_to p (does p) (beginning p c.args.budget next) =
+    ap (comes_to p (does p)) (c.in_ok-machine.ensures next) in
+    let is : comes_to p (does p) (machine_of c.in_ok-machine.machine next [])
+    ≡ ran p c.args.arg c.args.budget = first
+    ∙ begins p c.args.arg c.args.budget c.in_ok-arguments.arguments.items
+    (c.in_ok-arguments.ensures ∙ ap (main_arguments (slice_get p.functions p.main))
+    (to_z-of_z w64 c.args.arg c.ranges.arg)) in
+    means_of g.V.Events.took p c.args.arg c.args.budget (machine_of c.in_ok-machine.machine next [])
+    is c.args.to.now c.run.new.to (views.finish_of c.in_ok-finish.finish) c.end_of.result
+    c.end_of.ensures c.in_ok-finish.ensures.ran

@@ -6,7 +6,8 @@ use Rattle.c_interpret.proofs.Reached.{on_err}
 use Rattle.c_interpret.proofs.run.turn.Goals as goal
 
 pub returns-in_err-next-clause-nothing : goal.returns-in_err-next-clause-nothing
-returns-in_err-next-clause-nothing g c = on_err c.from_residual.result (g.met.V.Events.none c.args.to.now)
+returns-in_err-next-clause-nothing g c =
+    on_err c.from_residual.result (g.met.V.Events.none c.args.to.now)
 
 pub returns-in-None : goal.returns-in-None
 returns-in-None g c =
@@ -15,7 +16,10 @@ returns-in-None g c =
       turned = record {
         shown = [];
         took_shown = g.met.V.Events.none c.args.to.now;
-        stepped = λ es. c.in_ok-next.ensures next es ∙ ap (machine_of c.step.new.self (views.next_of c.in_ok-next.field-0.next)) (ap (shown_after es) c.in-None.is ∙ sym (append-nil es));
+        stepped =
+            λ es. c.in_ok-next.ensures next es
+            ∙ ap (machine_of c.step.new.self (views.next_of c.in_ok-next.field-0.next))
+            (ap (shown_after es) c.in-None.is ∙ sym (append-nil es));
       };
       nothing = tt;
     }
@@ -27,7 +31,10 @@ returns-in-Some g c =
       turned = record {
         shown = c.in-Some.event ∷ [];
         took_shown = c.take.ensures;
-        stepped = λ es. c.in_ok-next.ensures next es ∙ ap (machine_of c.step.new.self (views.next_of c.in_ok-next.field-0.next)) (ap (shown_after es) c.in-Some.is);
+        stepped =
+            λ es. c.in_ok-next.ensures next es
+            ∙ ap (machine_of c.step.new.self (views.next_of c.in_ok-next.field-0.next))
+            (ap (shown_after es) c.in-Some.is);
       };
       nothing = tt;
     }

@@ -11,5 +11,7 @@ returns c =
     let ss = c.args.stmts.now.items in
     let there : c.args.next < length ss = let k = c.args.stmts.now.ok.0 in omega arith in
     c.push.ensures
-    ∙ ap (λ n. frames.Push (frames.Sequel (frames.Continues (views.statements_from ss (c.args.next + 1)) p)) n) c.start.ensures
+    ∙ ap (λ n. frames.Push
+    (frames.Sequel (frames.Continues (views.statements_from ss (c.args.next + 1)) p)) n)
+    c.start.ensures
     ∙ ap (λ s. plans.proceed_plan s p) (sym (statements_next ss c.args.next there))

@@ -7,4 +7,6 @@ pub loop-i-init : goal.loop-i-init
 loop-i-init c = sym (append-nil c.args.values.items)
 
 pub loop-i-preserved : goal.loop-i-preserved
-loop-i-preserved c = one_zero_more c.args.values.items _ c.loop-i.all.items c.loop-i._i c.loop-i.invariant c.in_ok-push.ensures.items
+loop-i-preserved c =
+    one_zero_more c.args.values.items _ c.loop-i.all.items c.loop-i._i c.loop-i.invariant
+    c.in_ok-push.ensures.items

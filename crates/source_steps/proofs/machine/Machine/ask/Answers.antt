@@ -13,6 +13,8 @@ returns-in_ok-push-in-Funclet c = λ x es.
     let h = views.handler_of c.args.handler in
     let exc = views.exception_of c.args.exception in
     let p = views.place_of c.args.place in
-    ap (λ f. model.asked_by (machine_of c.args.self.now x es) (trees.filter f) h c.args.level exc p) c.in-Funclet.is
-    ∙ c.in_ok-push-in-Funclet.ensures (frames.Start (tasks.RunFilter c.in-Funclet.number (tree.expression c.in-Funclet.value) h exc) p) x es
+    ap (λ f. model.asked_by (machine_of c.args.self.now x es) (trees.filter f) h c.args.level exc p)
+    c.in-Funclet.is
+    ∙ c.in_ok-push-in-Funclet.ensures (frames.Start
+    (tasks.RunFilter c.in-Funclet.number (tree.expression c.in-Funclet.value) h exc) p) x es
     ∙ ap (λ n. machine_of c.push.new.self n es) (sym c.start.ensures)

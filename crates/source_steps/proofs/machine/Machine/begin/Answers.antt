@@ -7,15 +7,22 @@ use Rattle.source_steps.proofs.machine.Machine.begin.Goals as goal
 pub returns-in-Eval : goal.returns-in-Eval
 returns-in-Eval c =
     let p = views.place_of c.args.place in
-    subst (λ t. IfOk c.planned.result (Showed c.args.self.now c.planned.new.self (λ m. model.begun m (views.task_of t) p))) (sym c.in-Eval.is)
-    (subst (λ q. IfOk c.planned.result (Showed c.args.self.now c.planned.new.self (λ m. model.follow m q))) c.expression_plan.ensures c.planned.ensures)
+    subst (λ t. IfOk c.planned.result (Showed c.args.self.now c.planned.new.self
+    (λ m. model.begun m (views.task_of t) p))) (sym c.in-Eval.is)
+    (subst (λ q. IfOk c.planned.result (Showed c.args.self.now c.planned.new.self
+    (λ m. model.follow m q))) c.expression_plan.ensures c.planned.ensures)
 
 pub returns-in-Raise : goal.returns-in-Raise
 returns-in-Raise c = λ x es.
-    ap (λ t. model.begun (machine_of c.args.self.now x es) (views.task_of t) (views.place_of c.args.place)) c.in-Raise.is ∙ c.raise.ensures x es
+    ap (λ t. model.begun (machine_of c.args.self.now x es) (views.task_of t)
+    (views.place_of c.args.place)) c.in-Raise.is ∙ c.raise.ensures x es
 
 pub returns-in-DoIteration : goal.returns-in-DoIteration
 returns-in-DoIteration c =
     let p = views.place_of c.args.place in
-    subst (λ t. IfOk c.planned-in-DoIteration.result (Showed c.args.self.now c.planned-in-DoIteration.new.self (λ m. model.begun m (views.task_of t) p))) (sym c.in-DoIteration.is)
-    (subst (λ q. IfOk c.planned-in-DoIteration.result (Showed c.args.self.now c.planned-in-DoIteration.new.self (λ m. model.follow m q))) c.do_plan.ensures c.planned-in-DoIteration.ensures)
+    subst (λ t. IfOk c.planned-in-DoIteration.result
+    (Showed c.args.self.now c.planned-in-DoIteration.new.self
+    (λ m. model.begun m (views.task_of t) p))) (sym c.in-DoIteration.is)
+    (subst (λ q. IfOk c.planned-in-DoIteration.result
+    (Showed c.args.self.now c.planned-in-DoIteration.new.self (λ m. model.follow m q)))
+    c.do_plan.ensures c.planned-in-DoIteration.ensures)

@@ -10,8 +10,12 @@ use Rattle.source_steps.proofs.machine.Machine.call_built_in.Goals as goal
 pub returns-in_ok-push-in-RaiseException : goal.returns-in_ok-push-in-RaiseException
 returns-in_ok-push-in-RaiseException c = λ x es.
     let p = views.place_of c.args.place in
-    let exc_is = c.raised.ensures ∙ (λ i. raised (c.value_at-first.ensures i) (c.value_at-second.ensures i)) in
-    let next_is = c.quiet-in-RaiseException.ensures.next ∙ c.start.ensures ∙ ap (λ e. frames.Start (tasks.Raise e) p) exc_is in
-    ap (λ k. model.built_in (machine_of c.args.self.now x es) k c.args.values.now p) c.in-RaiseException.is
+    let exc_is = c.raised.ensures ∙ (λ i. raised (c.value_at-first.ensures i)
+    (c.value_at-second.ensures i)) in
+    let next_is = c.quiet-in-RaiseException.ensures.next ∙ c.start.ensures
+    ∙ ap (λ e. frames.Start (tasks.Raise e) p) exc_is in
+    ap (λ k. model.built_in (machine_of c.args.self.now x es) k c.args.values.now p)
+    c.in-RaiseException.is
     ∙ c.in_ok-push-in-RaiseException.ensures _ x es
-    ∙ (λ i. machine_of c.push.new.self (sym next_is i) (sym (c.quiet-in-RaiseException.ensures.shown es) i))
+    ∙ (λ i. machine_of c.push.new.self (sym next_is i)
+    (sym (c.quiet-in-RaiseException.ensures.shown es) i))

@@ -14,7 +14,8 @@ returns c =
     let p = views.place_of c.args.place in
     IfOk-weaker c.planned.result _ _
     (λ step h x es.
-    ap (λ m. model.follow m (evaluated (frames.Initialises d.local p) d.value p (frames.Then (frames.SetLocal d.local 0 p)))) (c.set_local.ensures x es)
+    ap (λ m. model.follow m (evaluated (frames.Initialises d.local p) d.value p
+    (frames.Then (frames.SetLocal d.local 0 p)))) (c.set_local.ensures x es)
     ∙ ap (model.follow (machine_of c.set_local.new.self x es)) (sym c.initialise_plan.ensures)
     ∙ h x es)
     c.planned.ensures

@@ -11,7 +11,8 @@ use Rattle.source_steps.proofs.machine.Machine.enter.Goals as goal
 
 pub returns-then-is_deep : goal.returns-then-is_deep
 returns-then-is_deep c = λ x es.
-    too_deep_is _ (machine_of c.args.self.now x es) _ _ (sym (c.is_deep.ensures es) ∙ c.if-is_deep.true)
+    too_deep_is _ (machine_of c.args.self.now x es) _ _
+    (sym (c.is_deep.ensures es) ∙ c.if-is_deep.true)
     (λ i. machine_of c.args.self.now (c.too_deep.ensures i) es)
 
 pub returns : goal.returns
@@ -23,6 +24,16 @@ returns c = λ x es.
     let locals_is = c.in_ok-locals.ensures ∙ ap (λ n. vs ++ replicate n 0) zeros in
     let frames_is = c.in_ok-push.ensures ∙ ap (λ l. frames_of m.activations ++ l ∷ []) locals_is in
     goes_deeper _ (machine_of m x es) _ (sym (c.is_deep.ensures es) ∙ c.if-is_deep.false)
-    ∙ (λ i. model.follow (record (machine_of m x es) { state = record (state_of m es) { frames = sym frames_is i } })
-    (frames.Push (frames.EndsCall (sym c.len-activation.ensures i)) (frames.Proceed body (record { activation = sym c.len-activation.ensures i; exception = no_exception; abnormal = false }))))
-    ∙ c.in_ok-push-2.ensures (frames.Proceed body (record { activation = c.len-activation.result; exception = no_exception; abnormal = false })) x es
+    ∙ (λ i. model.follow (record (machine_of m x es)
+    { state = record (state_of m es) { frames = sym frames_is i } })
+    (frames.Push (frames.EndsCall (sym c.len-activation.ensures i))
+    (frames.Proceed body
+    (record {
+      activation = sym c.len-activation.ensures i;
+      exception = no_exception;
+      abnormal =
+          false;
+    }))))
+    ∙ c.in_ok-push-2.ensures (frames.Proceed body
+    (record { activation = c.len-activation.result; exception = no_exception; abnormal = false })) x
+    es

@@ -6,5 +6,6 @@ use Rattle.source_steps.proofs.machine.Machine.follow.Goals as goal
 
 pub returns-in_ok-push-in-Some : goal.returns-in_ok-push-in-Some
 returns-in_ok-push-in-Some c = λ x es.
-    ap (λ o. model.follow (machine_of c.args.self.now x es) (views.after_push o (views.next_of c.args.plan.next))) c.in-Some.is
+    ap (λ o. model.follow (machine_of c.args.self.now x es)
+    (views.after_push o (views.next_of c.args.plan.next))) c.in-Some.is
     ∙ c.in_ok-push-in-Some.ensures (views.next_of c.args.plan.next) x es

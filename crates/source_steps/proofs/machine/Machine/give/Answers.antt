@@ -10,9 +10,11 @@ use Rattle.source_steps.proofs.machine.Machine.give.Goals as goal
 pub returns-in-Some : goal.returns-in-Some
 returns-in-Some c =
     let how = views.result_of c.args.how in
-    let all = c.pop.ensures.items ∙ ap (λ o. c.pop.new.self.items ++ option_to_list o) c.in-Some.is in
+    let all = c.pop.ensures.items ∙ ap (λ o. c.pop.new.self.items ++ option_to_list o)
+    c.in-Some.is in
     IfOk-weaker c.resume.result _ _
     (λ step h x es.
-    ap (λ fs. model.given (machine_of c.args.self.now x es) how fs) (ap (λ fs. reverse (map views.frame_of fs)) all ∙ pushed c.pop.new.self.items c.in-Some.frame)
+    ap (λ fs. model.given (machine_of c.args.self.now x es) how fs)
+    (ap (λ fs. reverse (map views.frame_of fs)) all ∙ pushed c.pop.new.self.items c.in-Some.frame)
     ∙ h x es)
     c.resume.ensures

@@ -12,7 +12,10 @@ returns c =
     let p = views.place_of c.args.place in
     IfOk-weaker c.finish.result _ _
     (λ next h x es.
-    ap (model.operated (machine_of c.args.self.now x es) c.args.operation c.args.first c.args.second p) (sym c.perform-outcome.ensures.outcome)
-    ∙ operated_is (machine_of c.args.self.now x es) (memory_of c.perform-outcome.new.space) c.args.operation c.args.first c.args.second p c.perform-outcome.result c.perform-outcome.ensures.kept
+    ap (model.operated (machine_of c.args.self.now x es) c.args.operation c.args.first c.args.second
+    p) (sym c.perform-outcome.ensures.outcome)
+    ∙ operated_is (machine_of c.args.self.now x es) (memory_of c.perform-outcome.new.space)
+    c.args.operation c.args.first c.args.second p c.perform-outcome.result
+    c.perform-outcome.ensures.kept
     ∙ h x es)
     c.finish.ensures

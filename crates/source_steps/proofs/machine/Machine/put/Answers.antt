@@ -10,5 +10,6 @@ use Rattle.source_steps.proofs.machine.Machine.put.Goals as goal
 
 pub returns-in-Local : goal.returns-in-Local
 returns-in-Local c = λ x es.
-    ap (λ l. model.put (machine_of c.args.self.now x es) l c.args.address c.args.value (views.place_of c.args.place)) (ap lvalue c.in-Local.is ∙ made.local_is _)
+    ap (λ l. model.put (machine_of c.args.self.now x es) l c.args.address c.args.value
+    (views.place_of c.args.place)) (ap lvalue c.in-Local.is ∙ made.local_is _)
     ∙ ap (λ m. model.with_next m (Give (Value c.args.value))) (c.set_local.ensures x es)

@@ -13,17 +13,30 @@ use Rattle.source_steps.proofs.machine.Machine.run_filter.Goals as goal
 
 pub returns-then-is_deep : goal.returns-then-is_deep
 returns-then-is_deep c = λ x es.
-    too_deep_is _ (machine_of c.args.self.now x es) _ _ (sym (c.is_deep.ensures es) ∙ c.if-is_deep.true)
-    (λ i. machine_of c.args.self.now ((c.quiet.ensures.next ∙ c.too_deep.ensures) i) (c.quiet.ensures.shown es i))
+    too_deep_is _ (machine_of c.args.self.now x es) _ _
+    (sym (c.is_deep.ensures es) ∙ c.if-is_deep.true)
+    (λ i. machine_of c.args.self.now ((c.quiet.ensures.next ∙ c.too_deep.ensures) i)
+    (c.quiet.ensures.shown es i))
 
 pub returns : goal.returns
 returns c = λ x es.
     let m = c.args.self.now in
-    let shallow : length (frames_of m.activations) + m.held + 2 ≤ 1000 = ltb-false 1000 (length (frames_of m.activations) + m.held + 2) (sym (c.is_deep.ensures es) ∙ c.if-is_deep.false) in
-    let held_is : c.saturating_add-self.result ≡ m.held + 2 = omega (arith, c.saturating_add-self.ensures) in
+    let shallow : length (frames_of m.activations) + m.held + 2 ≤ 1000 =
+    ltb-false 1000 (length (frames_of m.activations) + m.held + 2)
+    (sym (c.is_deep.ensures es) ∙ c.if-is_deep.false) in
+    let held_is : c.saturating_add-self.result ≡ m.held + 2 =
+    omega (arith, c.saturating_add-self.ensures) in
     let event = events.Filter c.args.number in
-    let next = plans.evaluates (tree.expression c.args.value.now) (record { activation = c.args.handler.activation; exception = views.exception_of c.args.exception; abnormal = c.args.handler.abnormal }) in
+    let next = plans.evaluates (tree.expression c.args.value.now)
+    (record {
+      activation = c.args.handler.activation;
+      exception =
+          views.exception_of c.args.exception;
+      abnormal = c.args.handler.abnormal;
+    }) in
     goes_deeper _ (machine_of m x es) _ (sym (c.is_deep.ensures es) ∙ c.if-is_deep.false)
-    ∙ ap (λ h. model.follow (machine_of (record m { held = h }) x (es ++ event ∷ [])) (frames.Push (frames.InStatement frames.EndsFilter) next)) (sym held_is)
+    ∙ ap (λ h. model.follow (machine_of (record m { held = h }) x (es ++ event ∷ []))
+    (frames.Push (frames.InStatement frames.EndsFilter) next)) (sym held_is)
     ∙ c.in_ok-push.ensures next x (es ++ event ∷ [])
-    ∙ (λ i. machine_of c.push.new.self (sym (c.showing.ensures.next ∙ c.evaluates.ensures) i) (sym (c.showing.ensures.shown es) i))
+    ∙ (λ i. machine_of c.push.new.self (sym (c.showing.ensures.next ∙ c.evaluates.ensures) i)
+    (sym (c.showing.ensures.shown es) i))
