@@ -27,7 +27,7 @@ use Rattle.linked_stack.specs.Stack.{StackItem, IsStack, Owned, Agree}
 use Rattle.linked_stack.specs.WalkLaws.{context_below}
 use Rattle.linked_stack.specs.PlainWalks.{state}
 use Rattle.linked_stack.proofs.WalkKeeping.{kept_by_other_stores, nothing_below_is_owned}
-use Rattle.linked_stack.specs.ImagePlan.{Plan}
+use Rattle.linked_stack.specs.ImagePlan.{ImagePlan}
 use Rattle.whole_runs.specs.Shadow.{is_call, calls, GivesCallers, WalkGives, AllKeep}
 use Rattle.whole_runs.proofs.Shadows.{past_frame, straight, keep_first}
 use Rattle.body_states.specs.Sites.{Sites}
@@ -198,7 +198,7 @@ plain_calls_nothing : (d e : ℕ) (i : Instr) → (is_idle i ≡ true) ⊎ IsKep
 plain_calls_nothing d e i (inl q) = idle_calls_nothing i q
 plain_calls_nothing d e i (inr k) = ap calls k.is
 
-module _ (t : Functions) (fs : List Funclet) (program : LinearProgram) (p : Plan) (q : Sites) where
+module _ (t : Functions) (fs : List Funclet) (program : LinearProgram) (p : ImagePlan) (q : Sites) where
   module _ (top from back : ℕ) (others : List ℕ) (is : List StackItem) where
     -- after an instruction that isn't a jump
     pub record Moved (s u : State) (i : Instr) : Type 0 where

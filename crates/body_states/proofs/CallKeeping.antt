@@ -27,7 +27,7 @@ use Rattle.x64_templates.proofs.PlacedCode.{thunk_encodable}
 use Rattle.x64_templates.proofs.Computes.{code_split}
 use Rattle.linked_stack.specs.Stack.{StackItem, Framed, Leaf, ItemIsAt, OwnedBy, context_after}
 use Rattle.linked_stack.specs.WalkLaws.{context_below}
-use Rattle.linked_stack.specs.ImagePlan.{Plan}
+use Rattle.linked_stack.specs.ImagePlan.{ImagePlan}
 use Rattle.whole_runs.specs.Shadow.{is_call, KeepsShadow, AllKeep}
 use Rattle.whole_runs.proofs.Shadows.{straight, keep_first}
 use Rattle.body_states.specs.Sites.{Sites, links_of}
@@ -40,7 +40,7 @@ use Rattle.body_states.proofs.Beneath.{read_here, effect_here, StepsTo, steps_sp
 use Rattle.body_states.proofs.Crossing.{gives_here, called, beneath_called, call_keeps_shadow, beneath_callee}
 use Rattle.body_states.proofs.Finding.{resumed_found, within_found, template_there}
 
-module _ (t : Functions) (fs : List Funclet) (program : LinearProgram) (p : Plan) (q : Sites) (image : IsProgramImage t fs program p q) where
+module _ (t : Functions) (fs : List Funclet) (program : LinearProgram) (p : ImagePlan) (q : Sites) (image : IsProgramImage t fs program p q) where
   module _ (name : BodyName) (b : LinearBody) (is : body_of program name ≡ Some b) (label : ℕ) (i : Instruction) (at : slice_get b.code label ≡ Some i) (goes : IsReturn i → ⊥)
       (before after : List Instr) (next to : ℕ) (parts : template (links_of p q name) (p.layout name) (p.address name label) i ≡ before ++ (call next to ∷ after))
       (next_is : p.address name label + sizes before + 5 ≡ next) (near : IsNear next to) (there : ℕ) (resumed : IsResumed t fs program p q name b there next) (enters : (m : Memory) → FindsReturn t m to 0)

@@ -18,7 +18,7 @@ use Rattle.x64_templates.specs.Runs.{HasCode}
 use Rattle.x64_templates.proofs.Computes.{code_split}
 use Rattle.x64_templates.proofs.Encoded.{near}
 use Rattle.linked_stack.specs.Stack.{StackItem}
-use Rattle.linked_stack.specs.ImagePlan.{Plan}
+use Rattle.linked_stack.specs.ImagePlan.{ImagePlan}
 use Rattle.whole_runs.specs.Shadow.{AllKeep}
 use Rattle.body_states.specs.Sites as sites
 use Rattle.body_states.specs.Sites.{Sites, begin_of, making_size}
@@ -74,7 +74,7 @@ base_plain d e (Some away) b lt le small = (fetched_plain d e Rdx away (lt away 
 
 -- ---- a routine is entered
 
-module _ (t : Functions) (fs : List Funclet) (program : LinearProgram) (p : Plan) (q : Sites) (image : IsProgramImage t fs program p q) where
+module _ (t : Functions) (fs : List Funclet) (program : LinearProgram) (p : ImagePlan) (q : Sites) (image : IsProgramImage t fs program p q) where
   module _ (name : BodyName) (b : LinearBody) (is : body_of program name ≡ Some b) (some : 0 < length b.code) (top from back : ℕ) (others : List ℕ) (list : List StackItem) where
     abbrev frame : ℕ
     frame = (p.layout name).frame

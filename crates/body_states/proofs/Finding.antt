@@ -25,7 +25,7 @@ use Rattle.x64_templates.proofs.Computes.{code_split}
 use Rattle.x64_templates.proofs.Linked.{template_placed}
 use Rattle.linked_stack.specs.Stack.{after_leaf}
 use Rattle.linked_stack.proofs.Visiting.{frame_is_visited, leaf_is_visited}
-use Rattle.linked_stack.specs.ImagePlan.{Plan}
+use Rattle.linked_stack.specs.ImagePlan.{ImagePlan}
 use Rattle.body_states.specs.Sites.{Sites, links_of, begin_of, making_size, frame_code, arguments_code, entry_code}
 use Rattle.body_states.specs.Programs.{frame_with, HasProgram, IsResumed, IsProgramImage}
 use Rattle.body_states.specs.Callers.{caller_above, HasCaller, FindsReturn}
@@ -41,7 +41,7 @@ first_of : (code : List Instr) → 1 ≤ sizes code → First code
 first_of [] le = absurd (omega arith)
 first_of (i ∷ is) le = record { item = i; left = is; parts = refl }
 
-module _ (t : Functions) (fs : List Funclet) (program : LinearProgram) (p : Plan) (q : Sites) (image : IsProgramImage t fs program p q) where
+module _ (t : Functions) (fs : List Funclet) (program : LinearProgram) (p : ImagePlan) (q : Sites) (image : IsProgramImage t fs program p q) where
   module _ (name : BodyName) (b : LinearBody) (is : body_of program name ≡ Some b) (m : Memory) (has : HasProgram t fs program p q m) where
     -- where a body waits, or is within an instruction that isn't a return
     pub resumed_found : (label rip : ℕ) → IsResumed t fs program p q name b label rip → FindsReturn t m rip (p.layout name).frame

@@ -21,7 +21,7 @@ use Rattle.x64_templates.specs.Chains.{AllTurns, IsMidst, IsTurnOf}
 use Rattle.x64_templates.proofs.PlacedCode.{Encodable}
 use Rattle.x64_templates.proofs.Chains.{all_turns}
 use Rattle.linked_stack.specs.PlainWalks.{state}
-use Rattle.linked_stack.specs.ImagePlan.{Plan}
+use Rattle.linked_stack.specs.ImagePlan.{ImagePlan}
 use Rattle.whole_runs.specs.Shadow as shadows
 use Rattle.whole_runs.specs.Shadow.{GivesCallers, WalkGives, KeepsShadow, AllKeep}
 use Rattle.whole_runs.proofs.Shadows.{HeadAbove, straight}
@@ -42,7 +42,7 @@ all_keep t fs (suc n) s h = λ u e. (let x = h u e in (x.0, all_keep t fs n u x.
 abbrev pub caller_by : List ℕ → ℕ → ℕ → Context
 caller_by kept size back = record { rip = back; kept = slice_set kept 0 (get_or kept 0 0 + size + 8) }
 
-module _ (t : Functions) (fs : List Funclet) (program : LinearProgram) (p : Plan) (q : Sites) where
+module _ (t : Functions) (fs : List Funclet) (program : LinearProgram) (p : ImagePlan) (q : Sites) where
   -- in this memory a routine, by RSP and its nonvolatile registers, has its return address so far
   -- above RSP, and the walk gives these callers from there
   pub record IsBelow (m : Memory) (kept : List ℕ) (size back : ℕ) (cs : List Context) : Type 0 where

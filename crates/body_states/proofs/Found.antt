@@ -8,7 +8,7 @@ use Rattle.host_model.specs.declared.funclet.Funclet.{Funclet}
 use Rattle.linear_code.specs.Program.{LinearProgram, LinearBody}
 use Rattle.linear_machine.specs.Frames.{BodyName, body_of}
 use Rattle.linked_stack.specs.PlainWalks.{state}
-use Rattle.linked_stack.specs.ImagePlan.{Plan}
+use Rattle.linked_stack.specs.ImagePlan.{ImagePlan}
 use Rattle.whole_runs.specs.Shadow.{GivesCallers}
 use Rattle.whole_runs.proofs.Shadows.{past_frame}
 use Rattle.body_states.specs.Sites.{Sites}
@@ -22,7 +22,7 @@ pub gives_caller : (t : Functions) (m : Memory) (c caller : Context) (cs : List 
 gives_caller t m c caller cs h g = subst (λ (x : Context). GivesCallers t m (state c 0) (x ∷ cs)) h.context (past_frame t m (state c 0) h.frame (state caller 0) cs h.visits g)
 
 -- at the first machine instruction of an instruction, by its number
-pub begin_finds : (t : Functions) (fs : List Funclet) (program : LinearProgram) (p : Plan) (q : Sites) (image : IsProgramImage t fs program p q) (m : Memory) (name : BodyName) (b : LinearBody) (label : ℕ)
+pub begin_finds : (t : Functions) (fs : List Funclet) (program : LinearProgram) (p : ImagePlan) (q : Sites) (image : IsProgramImage t fs program p q) (m : Memory) (name : BodyName) (b : LinearBody) (label : ℕ)
     → body_of program name ≡ Some b → HasProgram t fs program p q m → label < length b.code → FindsReturn t m (p.address name label) (p.layout name).frame
 begin_finds t fs program p q image m name b label there has lt = elim (slice_get_cases b.code label).1 [
   | inl x ↦ label_found t fs program p q image name b there m has label x.0 x.2

@@ -28,7 +28,7 @@ use Rattle.x64_templates.specs.Runs.{Steps, HasCode}
 use Rattle.x64_templates.proofs.Computes.{code_split}
 use Rattle.x64_templates.proofs.Encoded.{near}
 use Rattle.linked_stack.specs.Stack.{StackItem}
-use Rattle.linked_stack.specs.ImagePlan.{Plan}
+use Rattle.linked_stack.specs.ImagePlan.{ImagePlan}
 use Rattle.whole_runs.specs.Shadow.{is_call, KeepsShadow, AllKeep}
 use Rattle.whole_runs.proofs.Shadows.{keep_first}
 use Rattle.body_states.specs.Sites.{Sites, links_of, begin_of, making, making_size, frame_code, arguments_code, entry_code}
@@ -55,7 +55,7 @@ return_size : size instrs.Return ≡ 1
 unfolding size
 return_size = refl
 
-module _ (t : Functions) (fs : List Funclet) (program : LinearProgram) (p : Plan) (q : Sites) (image : IsProgramImage t fs program p q) where
+module _ (t : Functions) (fs : List Funclet) (program : LinearProgram) (p : ImagePlan) (q : Sites) (image : IsProgramImage t fs program p q) where
   module _ (name : BodyName) (b : LinearBody) (is : body_of program name ≡ Some b) (some : 0 < length b.code) where
     abbrev begin : ℕ
     begin = begin_of p q name

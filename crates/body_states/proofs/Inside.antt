@@ -23,7 +23,7 @@ use Rattle.template_code.specs.Slots.{fetched, put_back, local_at, fetch_local, 
 use Rattle.template_code.specs.Calls.{epilogue, finally_arguments, field_load}
 use Rattle.template_code.specs.Template.{template_size, offset_of}
 use Rattle.template_code.proofs.Sizes.{sizes_append, call_size, jump_size, address_size, jump_if_zero_size, call_code_size, passing_call_size, offset_next}
-use Rattle.linked_stack.specs.ImagePlan.{Plan, InCode}
+use Rattle.linked_stack.specs.ImagePlan.{ImagePlan, InCode}
 use Rattle.body_states.specs.Sites.{Sites}
 use Rattle.body_states.specs.Programs.{IsProgramImage}
 
@@ -80,7 +80,7 @@ template_some y (instructions.LocalUnwind label) = let a = call_size 15 0 in ome
 template_some y instructions.Separator = omega arith
 template_some y (instructions.Return from) = omega (arith, fetch_some y Rax from, sizes_append (fetch y Rax from) (epilogue y.frame))
 
-module _ (t : Functions) (fs : List Funclet) (program : LinearProgram) (p : Plan) (q : Sites) (image : IsProgramImage t fs program p q) where
+module _ (t : Functions) (fs : List Funclet) (program : LinearProgram) (p : ImagePlan) (q : Sites) (image : IsProgramImage t fs program p q) where
   -- the next instruction's code begins where this one's ends
   pub address_next : (name : BodyName) (b : LinearBody) (label : ℕ) → body_of program name ≡ Some b → label < length b.code → p.address name (label + 1) ≡ p.address name label + template_size (p.layout name) (get_or b.code label instructions.Separator)
   address_next name b label e lt =

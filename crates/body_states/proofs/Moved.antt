@@ -10,7 +10,7 @@ use Rattle.linear_code.specs.Program.{LinearProgram}
 use Rattle.linear_machine.specs.Frames.{Frame, Item, Waits, Searches, Unwinds}
 use Rattle.linked_stack.specs.Stack.{StackFrame, StackItem, Framed, Leaf, Searching, Unwinding, FrameIsAt, LeafIsAt, IsStack, after_frame, after_leaf}
 use Rattle.linked_stack.specs.WalkLaws.{context_below}
-use Rattle.linked_stack.specs.ImagePlan.{Plan}
+use Rattle.linked_stack.specs.ImagePlan.{ImagePlan}
 use Rattle.linked_stack.specs.Linked.{Activation, activations_below, BodyWaits, Linked}
 use Rattle.linked_stack.specs.ListLaws.{IsLinkedStack}
 use Rattle.linked_stack.specs.Records.{On}
@@ -38,7 +38,7 @@ pub head_apart : (xs : List ℕ) → length xs ≡ 9 → xs ≡ get_or xs 0 0 �
 head_apart [] n = absurd (omega arith)
 head_apart (x ∷ xs) n = refl
 
-module _ (t : Functions) (fs : List Funclet) (program : LinearProgram) (p : Plan) where
+module _ (t : Functions) (fs : List Funclet) (program : LinearProgram) (p : ImagePlan) where
   waits_moved : (m : Memory) (rip sp size end : ℕ) (os os' : List ℕ) (b : Frame) (acts : List Activation) → BodyWaits t fs program p m (context_below rip sp os) size end b acts → BodyWaits t fs program p m (context_below rip sp os') size end b acts
   waits_moved m rip sp size end os os' b acts w = record {
     code = w.code;

@@ -19,7 +19,7 @@ use Rattle.x64_templates.specs.Runs.{Reaches, HasCode}
 use Rattle.x64_templates.specs.Quiet.{IsReturn}
 use Rattle.x64_templates.proofs.Computes.{code_split}
 use Rattle.x64_templates.proofs.Flows.{IsFlow}
-use Rattle.linked_stack.specs.ImagePlan.{Plan}
+use Rattle.linked_stack.specs.ImagePlan.{ImagePlan}
 use Rattle.whole_runs.specs.Shadow.{AllKeep}
 use Rattle.body_states.specs.Sites.{Sites, links_of}
 use Rattle.body_states.specs.Callers.{FindsReturn}
@@ -27,7 +27,7 @@ use Rattle.body_states.specs.Programs.{HasProgram, IsProgramImage}
 use Rattle.body_states.proofs.Finding.{within_found, template_there}
 use Rattle.body_states.proofs.Flowing.{IsBelow, from_state, flow_keeps}
 
-module _ (t : Functions) (fs : List Funclet) (program : LinearProgram) (p : Plan) (q : Sites) (image : IsProgramImage t fs program p q) (name : BodyName) (b : LinearBody) (label : ℕ) (i : Instruction)
+module _ (t : Functions) (fs : List Funclet) (program : LinearProgram) (p : ImagePlan) (q : Sites) (image : IsProgramImage t fs program p q) (name : BodyName) (b : LinearBody) (label : ℕ) (i : Instruction)
     (there : body_of program name ≡ Some b) (at : slice_get b.code label ≡ Some i) where
   abbrev code_of : List Instr
   code_of = template (links_of p q name) (p.layout name) (p.address name label) i

@@ -39,7 +39,7 @@ use Rattle.x64_templates.specs.Thunks.{HasThunk}
 use Rattle.x64_templates.proofs.PlacedCode.{bytes_kept, bytes_split, spells, reads, same_number}
 use Rattle.x64_templates.proofs.Computes.{code_split}
 use Rattle.x64_templates.proofs.Encoded.{near}
-use Rattle.linked_stack.specs.ImagePlan.{Plan}
+use Rattle.linked_stack.specs.ImagePlan.{ImagePlan}
 use Rattle.whole_runs.specs.Shadow.{AllKeep}
 use Rattle.whole_runs.specs.Comes.{IsLive, Comes}
 use Rattle.whole_runs.proofs.Turns.{comes_by_step, comes_then}
@@ -72,7 +72,7 @@ thunk_kept m m' at service k h =
       bound = same_number m'.byte m.byte 8 (at + 6 + h.away) (omega arith) (λ a lo hi. k.fixed a (h.fixed a lo hi)) ∙ h.bound;
     }
 
-module _ (t : Functions) (fs : List Funclet) (program : LinearProgram) (p : Plan) (q : Sites) where
+module _ (t : Functions) (fs : List Funclet) (program : LinearProgram) (p : ImagePlan) (q : Sites) where
   service_kept : (m m' : Memory) (at : ℕ) (service : Service) → KeepsCode m m' → HasService t fs program p q m at service → HasService t fs program p q m' at service
   unfolding thunk_kept
   service_kept m m' at service k h = record { thunk = thunk_kept m m' at (address_of service) k h.thunk; inside = h.inside; slot = h.slot }

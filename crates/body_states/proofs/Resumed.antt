@@ -26,7 +26,7 @@ use Rattle.linear_machine.specs.Regions.{holds, regions_of}
 use Rattle.linked_stack.specs.Stack.{StackFrame, StackItem, Framed, Leaf, FrameIsAt, after_frame, after_leaf}
 use Rattle.linked_stack.specs.WalkLaws.{context_below}
 use Rattle.linked_stack.proofs.Visiting.{set_head}
-use Rattle.linked_stack.specs.ImagePlan.{Plan, InCode}
+use Rattle.linked_stack.specs.ImagePlan.{ImagePlan, InCode}
 use Rattle.linked_stack.specs.Linked.{Activation, activations_below, HoldsWords, HasActivation, temporaries_end, home_end, HasSpace, below_end, BodyWaits, FrameWaits, HasPointers, IsAbove, FuncletIsAbove, FunctionIsAbove}
 use Rattle.linked_stack.specs.Records.{On}
 use Rattle.linked_stack.specs.Unwinding.{on_top}
@@ -62,7 +62,7 @@ again b label ts landed = record b { next = label; temporaries = ts; landed = la
 abbrev pub IsFront : Memory → List ℕ → List ℕ → Type 0
 IsFront m vs ts = (at end : ℕ) → HoldsWords m at end vs → HoldsWords m at end ts
 
-module _ (t : Functions) (fs : List Funclet) (program : LinearProgram) (p : Plan) (q : Sites) where
+module _ (t : Functions) (fs : List Funclet) (program : LinearProgram) (p : ImagePlan) (q : Sites) where
   abbrev IsFunctionName : BodyName → Type 0
   IsFunctionName (FunctionBody f) = Unit {0}
   IsFunctionName (FuncletBody k) = ⊥

@@ -23,7 +23,7 @@ use Rattle.x64_templates.specs.Runs.{HasCode}
 use Rattle.x64_templates.proofs.Computes.{code_split}
 use Rattle.x64_templates.proofs.Encoded.{Fine, near}
 use Rattle.linked_stack.specs.Stack.{StackItem}
-use Rattle.linked_stack.specs.ImagePlan.{Plan}
+use Rattle.linked_stack.specs.ImagePlan.{ImagePlan}
 use Rattle.whole_runs.specs.Shadow.{is_call, AllKeep}
 use Rattle.whole_runs.proofs.Shadows.{keep_first}
 use Rattle.body_states.specs.Sites.{Sites, give_back}
@@ -44,7 +44,7 @@ pub fetch_plain : (d e : ℕ) (y : Layout) (x : Slot) → Fine (fetch y Rax x) �
 fetch_plain d e y (Temporary i) f = ((f.0, inl refl), tt)
 fetch_plain d e y (Local i) f = fetch_local_plain d e y.base (local_at y i) f
 
-module _ (t : Functions) (fs : List Funclet) (program : LinearProgram) (p : Plan) (q : Sites) (image : IsProgramImage t fs program p q) where
+module _ (t : Functions) (fs : List Funclet) (program : LinearProgram) (p : ImagePlan) (q : Sites) (image : IsProgramImage t fs program p q) where
   module _ (name : BodyName) (b : LinearBody) (is : body_of program name ≡ Some b) (label : ℕ) (from : Slot) (at : slice_get b.code label ≡ Some (instructions.Return from))
       (s w : State) (top back : ℕ) (others : List ℕ) (list : List StackItem) (here : s.cpu.rip ≡ p.address name label) (beneath : Beneath t s top (top + 8) back others list)
       (below : register s.cpu Rsp + (p.layout name).frame ≡ top) (has : HasProgram t fs program p q s.memory) (small : (p.layout name).frame < 2 ^ 31)

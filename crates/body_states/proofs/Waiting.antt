@@ -11,7 +11,7 @@ use Rattle.linear_machine.specs.Frames.{BodyName, FunctionBody, FuncletBody, Wai
 use Rattle.linear_machine.specs.Regions.{regions_of}
 use Rattle.linked_stack.specs.Stack.{StackItem, Framed, Leaf, LeafIsAt}
 use Rattle.linked_stack.specs.WalkLaws.{context_below}
-use Rattle.linked_stack.specs.ImagePlan.{Plan, IsGiven}
+use Rattle.linked_stack.specs.ImagePlan.{ImagePlan, IsGiven}
 use Rattle.linked_stack.specs.Linked.{Activation, activations_below, BodyWaits}
 use Rattle.linked_stack.proofs.Ends.{in_stack}
 use Rattle.linked_stack.specs.Records.{On}
@@ -20,7 +20,7 @@ use Rattle.body_states.specs.Layouts.{IsLayoutIf, IsLeafLayout, IsLaidOut}
 use Rattle.body_states.specs.Programs.{HasProgram, IsResumed, IsFramed, IsProgramImage, frame_with}
 use Rattle.body_states.specs.Bodies.{slots_end, last_temporary, InBody}
 
-module _ (t : Functions) (fs : List Funclet) (program : LinearProgram) (p : Plan) (q : Sites) where
+module _ (t : Functions) (fs : List Funclet) (program : LinearProgram) (p : ImagePlan) (q : Sites) where
   -- ---- leaf functions
 
   pub leaf_layout : (name : BodyName) (b : LinearBody) → p.leaf name ≡ true → IsLaidOut program p name b → IsLeafLayout (p.layout name) b

@@ -13,7 +13,7 @@ use Rattle.linear_machine.specs.Frames.{BodyName, Item, Waits, Searches, Unwinds
 use Rattle.template_code.specs.declared.layout.Layout.{Layout}
 use Rattle.linked_stack.specs.Stack.{StackItem}
 use Rattle.linked_stack.specs.WalkLaws.{context_below}
-use Rattle.linked_stack.specs.ImagePlan.{Plan}
+use Rattle.linked_stack.specs.ImagePlan.{ImagePlan}
 use Rattle.linked_stack.specs.Linked.{Activation, locals_of, activations_below, temporaries_end, home_end, BodyWaits, HasPointers, IsAbove, ReturnsTo}
 use Rattle.linked_stack.specs.Records.{On}
 use Rattle.linked_stack.specs.States.{IsSane}
@@ -43,7 +43,8 @@ held_below (Unwinds rest target ∷ below) = held_below below
 abbrev pub turns_left : Configuration → ℕ
 turns_left c = 3 * (length c.frame.temporaries + held_below c.below)
 
-module _ (t : Functions) (fs : List Funclet) (program : LinearProgram) (p : Plan) (q : Sites) where
+module _ (t : Functions) (fs : List Funclet) (program : LinearProgram) (p : ImagePlan)
+    (q : Sites) where
   -- the body's frame is from RSP up: its slots hold what linear code has in them, above them is the
   -- return address, and from there on is the list
   pub record InBody (s : State) (c : Configuration) : Type 0 where

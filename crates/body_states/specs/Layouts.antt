@@ -4,7 +4,7 @@ use Rattle.host_layout.specs.declared.range.TheConstants.{PAGE}
 use Rattle.linear_code.specs.Program.{LinearProgram, LinearBody, LinearFunclet}
 use Rattle.linear_machine.specs.Frames.{BodyName, FunctionBody, FuncletBody, body_of}
 use Rattle.template_code.specs.declared.layout.Layout.{Layout}
-use Rattle.linked_stack.specs.ImagePlan.{Plan}
+use Rattle.linked_stack.specs.ImagePlan.{ImagePlan}
 use Rattle.template_code.specs.declared.layout.TheConstants.{LARGEST_FRAME}
 
 -- a function's frame, from RSP up: home space and further arguments of its calls, temporaries,
@@ -36,7 +36,7 @@ pub record IsFuncletLayout (y function : Layout) (b : LinearBody) : Type 0 where
   pub locals : y.locals ≡ function.locals
   pub small : y.frame ≤ PAGE
 
-module _ (program : LinearProgram) (p : Plan) where
+module _ (program : LinearProgram) (p : ImagePlan) where
   -- the layout of a leaf function, or of one with a frame
   abbrev pub IsLayoutIf : Layout → LinearBody → Bool → Type 0
   IsLayoutIf y b true = IsLeafLayout y b

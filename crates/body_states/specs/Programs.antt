@@ -37,7 +37,7 @@ use Rattle.template_code.specs.Bytes.{size, sizes}
 use Rattle.template_code.specs.Slots.{fetch, operands_code}
 use Rattle.template_code.specs.Calls.{return_at}
 use Rattle.template_code.specs.Probing.{check_stack}
-use Rattle.template_code.specs.Template.{template, IsBody, body_size}
+use Rattle.template_code.specs.Template.{template, HasLabels, body_size}
 use Rattle.x64_templates.specs.Straight.{MachineView}
 use Rattle.x64_templates.specs.Frames.{Agrees}
 use Rattle.x64_templates.specs.Implements.{IsReady}
@@ -45,7 +45,7 @@ use Rattle.x64_templates.specs.Runs.{HasCode}
 use Rattle.x64_templates.specs.Thunks.{HasThunk}
 use Rattle.x64_templates.specs.Quiet.{IsReturn}
 use Rattle.linked_stack.specs.Stack.{StackFrame, FrameIsAt, LeafIsAt}
-use Rattle.linked_stack.specs.ImagePlan.{Plan, Gives}
+use Rattle.linked_stack.specs.ImagePlan.{ImagePlan, Gives}
 use Rattle.linked_stack.specs.Records.{IsData}
 use Rattle.seh_walk.specs.Walk.{filter_return, finally_return}
 use Rattle.body_states.specs.Sites.{Sites, links_of, begin_of, making_size, give_back, arguments_code, entry_code, code_of}
@@ -78,7 +78,8 @@ view_of c =
       memory = no_memory;
     }
 
-module _ (t : Functions) (fs : List Funclet) (program : LinearProgram) (p : Plan) (q : Sites) where
+module _ (t : Functions) (fs : List Funclet) (program : LinearProgram) (p : ImagePlan)
+    (q : Sites) where
   -- ---- addresses
 
   -- from one address up to another lies the image without its data, where no access of the source
@@ -91,7 +92,7 @@ module _ (t : Functions) (fs : List Funclet) (program : LinearProgram) (p : Plan
   -- a body's instructions follow what comes before them, one after another
   pub record HasAddresses (name : BodyName) (b : LinearBody) : Type 0 where
     pub first : p.address name 0 ≡ begin_of p q name + sizes (entry_code program p q name)
-    pub labels : IsBody (links_of p q name) (p.layout name) (p.address name 0) b.code
+    pub labels : HasLabels (links_of p q name) (p.layout name) (p.address name 0) b.code
     pub rises : (label : ℕ) → label < length b.code
         → p.address name label < p.address name (label + 1)
     pub inside : IsInImage (begin_of p q name) (p.address name 0 + body_size (p.layout name) b.code)

@@ -22,7 +22,7 @@ use Rattle.template_code.specs.Calls as calls
 use Rattle.template_code.specs.Calls.{enter_code, keep_register, parameters_code}
 use Rattle.template_code.specs.Probing.{enter_large}
 use Rattle.template_code.specs.Template.{Links, code_from}
-use Rattle.linked_stack.specs.ImagePlan.{Plan}
+use Rattle.linked_stack.specs.ImagePlan.{ImagePlan}
 
 -- the first bytes of functions, the thunks of the built-in functions and of `_local_unwind`, and
 -- `__chkstk`
@@ -33,7 +33,7 @@ pub record Sites : Type 0 where
   pub check_stack : ℕ
 
 -- what the code of a body refers to
-abbrev pub links_of : Plan → Sites → BodyName → Links
+abbrev pub links_of : ImagePlan → Sites → BodyName → Links
 links_of p q name =
     record {
       label = p.address name;
@@ -44,7 +44,7 @@ links_of p q name =
     }
 
 -- the first byte of a body's function or funclet
-abbrev pub begin_of : Plan → Sites → BodyName → ℕ
+abbrev pub begin_of : ImagePlan → Sites → BodyName → ℕ
 begin_of p q (FunctionBody f) = q.function f
 begin_of p q (FuncletBody k) = p.funclet k
 
@@ -61,7 +61,7 @@ frame_code size at check true = []
 frame_code size at check false = making size at check (nat_le size PAGE)
 
 -- how many bytes that takes
-abbrev pub making_size : Plan → Sites → BodyName → ℕ
+abbrev pub making_size : ImagePlan → Sites → BodyName → ℕ
 making_size p q name =
     sizes (frame_code (p.layout name).frame (begin_of p q name) q.check_stack (p.leaf name))
 
@@ -75,7 +75,7 @@ abbrev pub base_in : Layout → ℕ
 base_in y = elim y.base [ Some b ↦ b | None ↦ 0 ]
 
 -- where a funclet's parent keeps its base, if that is a funclet
-abbrev pub parent_base : Plan → Option ℕ → Option ℕ
+abbrev pub parent_base : ImagePlan → Option ℕ → Option ℕ
 parent_base p None = None
 parent_base p (Some parent) = (p.layout (FuncletBody parent)).base
 
@@ -95,26 +95,26 @@ function_arguments y None = []
 function_arguments y (Some f) = parameters_code y 0 f.parameters
 
 -- a funclet keeps its base and its argument
-abbrev pub funclet_arguments : Plan → Layout → Option LinearFunclet → List Instr
+abbrev pub funclet_arguments : ImagePlan → Layout → Option LinearFunclet → List Instr
 funclet_arguments p y None = []
 funclet_arguments p y (Some f) =
     keep_base (parent_base p f.parent) (base_in y) ++ keep_argument y f.kind
 
 -- what a body stores as it begins
-abbrev pub arguments_code : LinearProgram → Plan → BodyName → List Instr
+abbrev pub arguments_code : LinearProgram → ImagePlan → BodyName → List Instr
 arguments_code program p (FunctionBody f) =
     function_arguments (p.layout (FunctionBody f)) (slice_get program.functions f)
 arguments_code program p (FuncletBody k) =
     funclet_arguments p (p.layout (FuncletBody k)) (slice_get program.funclets k)
 
 -- the code before a body's first instruction
-abbrev pub entry_code : LinearProgram → Plan → Sites → BodyName → List Instr
+abbrev pub entry_code : LinearProgram → ImagePlan → Sites → BodyName → List Instr
 entry_code program p q name =
     frame_code (p.layout name).frame (begin_of p q name) q.check_stack (p.leaf name)
     ++ arguments_code program p name
 
 -- all of its code
-abbrev pub code_of : LinearProgram → Plan → Sites → BodyName → LinearBody → List Instr
+abbrev pub code_of : LinearProgram → ImagePlan → Sites → BodyName → LinearBody → List Instr
 code_of program p q name b =
     entry_code program p q name ++ code_from (links_of p q name) (p.layout name)
     (p.address name 0) b.code

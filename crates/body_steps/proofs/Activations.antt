@@ -14,8 +14,8 @@ use Rattle.linear_machine.specs.Frames.{BodyName, FunctionBody, FuncletBody, Ite
 use Rattle.linked_stack.specs.Stack.{StackItem, Framed, Leaf, Searching, Unwinding, IsStack, after_frame, after_leaf}
 use Rattle.linked_stack.proofs.Visiting.{set_head}
 use Rattle.linked_stack.proofs.WalkKeeping.{rises}
-use Rattle.linked_stack.specs.ImagePlan.{Plan}
-use Rattle.linked_stack.specs.Linked.{Activation, locals_of, activations_below, HoldsWords, HasActivation, HoldsLocals, IsActivation, HasBase, home_end, Linked}
+use Rattle.linked_stack.specs.ImagePlan.{ImagePlan}
+use Rattle.linked_stack.specs.Linked.{Activation, locals_of, activations_below, HoldsWords, HasActivation, HoldsLocals, IsActivation, ActivationHasBase, home_end, Linked}
 use Rattle.linked_stack.proofs.Ends.{words_fit, in_stack}
 use Rattle.body_steps.specs.Stores.{ActivationIsAt, ActivationsAreAt}
 
@@ -40,7 +40,7 @@ words_shorter m at end (v ∷ vs) h = (h.0, let e : at + 8 + 8 * length vs ≡ a
 
 -- ---- the list
 
-module _ (t : Functions) (fs : List Funclet) (program : LinearProgram) (p : Plan) where
+module _ (t : Functions) (fs : List Funclet) (program : LinearProgram) (p : ImagePlan) where
   higher : (m : Memory) (low above k base distance : ℕ) (acts : List Activation) → low ≤ above → ActivationIsAt t fs program p m above k base distance acts → ActivationIsAt t fs program p m low k base distance acts
   higher m low above k base distance acts le a = let l = a.low_end in record { values = a.values; number = a.number; low_end = omega arith; high_end = a.high_end; holds = a.holds }
 
@@ -48,7 +48,7 @@ module _ (t : Functions) (fs : List Funclet) (program : LinearProgram) (p : Plan
   one_more m low k base distance a outer s = record { values = s.values; number = got_before (locals_of outer) (a.values ∷ []) k s.values s.number; low_end = s.low_end; high_end = s.high_end; holds = s.holds }
 
   -- in a function's own frame
-  own : (m : Memory) (y : Layout) (sp size number k base distance : ℕ) (a : Activation) (outer : List Activation) → HoldsLocals m y sp size number a outer → HasBase k base distance a outer → sp + size ≤ STACK_END → ActivationIsAt t fs program p m sp k base distance (a ∷ outer)
+  own : (m : Memory) (y : Layout) (sp size number k base distance : ℕ) (a : Activation) (outer : List Activation) → HoldsLocals m y sp size number a outer → ActivationHasBase k base distance a outer → sp + size ≤ STACK_END → ActivationIsAt t fs program p m sp k base distance (a ∷ outer)
   own m y sp size number k base distance a outer h b le =
       let at : sp + y.locals ≡ base + distance = omega (arith, h.activation.base, h.activation.distance, b.base, b.distance) in
       let fit = words_fit m (sp + y.locals) (sp + size) a.values h.values in
@@ -102,5 +102,5 @@ module _ (t : Functions) (fs : List Funclet) (program : LinearProgram) (p : Plan
   are_there m c (Unwinding r ∷ is) (Waits b ∷ below) acts k base distance s h i = absurd h
   are_there m c (Unwinding r ∷ is) (Searches exception resumption asked rest ∷ below) acts k base distance s h i = absurd h
 
-pub activations_are_at : (t : Functions) (fs : List Funclet) (program : LinearProgram) (p : Plan) → ActivationsAreAt t fs program p
+pub activations_are_at : (t : Functions) (fs : List Funclet) (program : LinearProgram) (p : ImagePlan) → ActivationsAreAt t fs program p
 activations_are_at t fs program p m c is items acts k base distance s i = are_there t fs program p m c is items acts k base distance s.stack s.linked i

@@ -12,7 +12,7 @@ use Rattle.linear_code.specs.Program.{LinearProgram, LinearBody, LinearFunction}
 use Rattle.linear_machine.specs.Frames as linear
 use Rattle.linear_machine.specs.Frames.{BodyName, FunctionBody, FuncletBody, body_of, Frame, Item, Waits, Searches, Unwinds, Configuration, Next}
 use Rattle.linear_machine.specs.Run.{instruction_in, instruction_at}
-use Rattle.linked_stack.specs.ImagePlan.{Plan}
+use Rattle.linked_stack.specs.ImagePlan.{ImagePlan}
 use Rattle.linked_stack.specs.Linked.{Activation, activations_below}
 use Rattle.ir_typed.specs.Bodies.{function_of, owner_of}
 use Rattle.ir_typed.specs.Waiting.{IsAt, IsCalledBy, IsAbove, AreWaiting}
@@ -84,7 +84,7 @@ module _ (program : LinearProgram) where
   locals_are : (store : List (List ℕ)) (i : ℕ) (locals : List ℕ) → slice_get store i ≡ Some locals → elim (slice_get store i) [ Some x ↦ x | None ↦ [] ] ≡ locals
   locals_are store i locals e = ap (λ x. elim x [ Some y ↦ y | None ↦ [] ]) e
 
-module _ (t : Functions) (fs : List Funclet) (program : LinearProgram) (p : Plan) (q : Sites) (image : IsProgramImage t fs program p q) (made : IsWellMade program p) where
+module _ (t : Functions) (fs : List Funclet) (program : LinearProgram) (p : ImagePlan) (q : Sites) (image : IsProgramImage t fs program p q) (made : IsWellMade program p) where
   -- a body has as many locals as its function
   as_many : (name : BodyName) (b : LinearBody) (k : ℕ) (function : LinearFunction) → body_of program name ≡ Some b → owner_of program name ≡ Some k → slice_get program.functions k ≡ Some function → function.body.locals ≡ b.locals
   as_many (FunctionBody f) b k function there owner is =

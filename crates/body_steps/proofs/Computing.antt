@@ -31,7 +31,7 @@ use Rattle.template_code.specs.Template.{template_size}
 use Rattle.template_code.proofs.Lengths.{compute_length}
 use Rattle.x64_templates.specs.Runs.{Computed}
 use Rattle.x64_templates.proofs.Computes.{compute_run}
-use Rattle.linked_stack.specs.ImagePlan.{Plan}
+use Rattle.linked_stack.specs.ImagePlan.{ImagePlan}
 use Rattle.whole_runs.specs.Ends.{HasRule}
 use Rattle.whole_runs.specs.Matched.{Moves}
 use Rattle.ir_typed.specs.Room.{HaveRoom}
@@ -75,7 +75,7 @@ pub same_constant : (reserved : ℕ → Bool) (o : Operation) (a b x y : ℕ) (m
 same_constant reserved (operations.Pure (Constant n)) a b x y m e = refl
 same_constant reserved o a b x y m e = absurd cc
 
-module _ (t : Functions) (fs : List Funclet) (program : LinearProgram) (p : Plan) (q : Sites) (image : IsProgramImage t fs program p q) (roomy : HaveRoom program) (s : State) (c : Configuration) (b : Begins t fs program p q s c) (counted : IsCounted t fs program p q image c) (around : Surroundings t fs program p q image roomy s c b counted) where
+module _ (t : Functions) (fs : List Funclet) (program : LinearProgram) (p : ImagePlan) (q : Sites) (image : IsProgramImage t fs program p q) (roomy : HaveRoom program) (s : State) (c : Configuration) (b : Begins t fs program p q s c) (counted : IsCounted t fs program p q image c) (around : Surroundings t fs program p q image roomy s c b counted) where
   abbrev body : LinearBody
   body = code t fs program p q image roomy s c b counted
 

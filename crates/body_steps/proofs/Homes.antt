@@ -10,7 +10,7 @@ use Rattle.host_model.specs.declared.funclet.Funclet.{Funclet}
 use Rattle.linear_code.specs.Program.{LinearProgram}
 use Rattle.linear_machine.specs.Frames.{Item, Waits, Searches, Unwinds}
 use Rattle.linked_stack.specs.Stack.{StackItem, Framed, Leaf, Searching, Unwinding}
-use Rattle.linked_stack.specs.ImagePlan.{Plan}
+use Rattle.linked_stack.specs.ImagePlan.{ImagePlan}
 use Rattle.linked_stack.specs.Linked.{Activation}
 use Rattle.linked_stack.specs.ListLaws.{IsLinkedStack}
 use Rattle.body_states.specs.Layouts.{AreLaidOut}
@@ -18,12 +18,12 @@ use Rattle.body_steps.specs.Stores.{KeepsStackBut}
 use Rattle.body_steps.proofs.Outgoing.{outgoing_is_free}
 
 -- a body that waits at the top has a frame; where nothing waits, there is nothing to keep
-abbrev pub CallerHasFrame : Plan → List Item → Type 0
+abbrev pub CallerHasFrame : ImagePlan → List Item → Type 0
 CallerHasFrame p [] = Unit {0}
 CallerHasFrame p (Waits w ∷ below) = p.leaf w.body ≡ false
 CallerHasFrame p items = ⊥
 
-module _ (m m' : Memory) (t : Functions) (fs : List Funclet) (program : LinearProgram) (p : Plan) (laid : AreLaidOut program p) where
+module _ (m m' : Memory) (t : Functions) (fs : List Funclet) (program : LinearProgram) (p : ImagePlan) (laid : AreLaidOut program p) where
   module _ (c : Context) (keeps : KeepsStackBut m m' (rsp c) (rsp c) (rsp c + 32)) (start : STACK_START ≤ rsp c) where
     pub home_is_free : (is : List StackItem) (items : List Item) (acts : List Activation) → CallerHasFrame p items → IsLinkedStack t fs program p m c is items acts → IsLinkedStack t fs program p m' c is items acts
     home_is_free [] [] acts o s = record { stack = s.stack; linked = s.linked }

@@ -22,10 +22,10 @@ use Rattle.template_code.proofs.Lengths.{keep_length}
 use Rattle.x64_templates.specs.Straight.{machine}
 use Rattle.x64_templates.specs.Runs.{ReachesBody}
 use Rattle.x64_templates.proofs.Returns.{call_ends}
-use Rattle.linked_stack.specs.ImagePlan.{Plan}
+use Rattle.linked_stack.specs.ImagePlan.{ImagePlan}
 use Rattle.whole_runs.specs.Matched.{Moves}
 use Rattle.ir_typed.specs.Room.{HaveRoom}
-use Rattle.ir_typed.specs.Ready.{IsNext}
+use Rattle.ir_typed.specs.Ready.{IsNextSlot}
 use Rattle.body_states.specs.Sites.{Sites}
 use Rattle.body_states.specs.Programs.{IsProgramImage}
 use Rattle.body_states.specs.Bodies.{turns_left, Begins}
@@ -48,7 +48,7 @@ some_keep y (Local i) = by y.base
     by None = omega arith
     by (Some k) = omega arith
 
-module _ (t : Functions) (fs : List Funclet) (program : LinearProgram) (p : Plan) (q : Sites) (image : IsProgramImage t fs program p q) (roomy : HaveRoom program) (s : State) (c : Configuration) (b : Begins t fs program p q s c) (counted : IsCounted t fs program p q image c) (around : Surroundings t fs program p q image roomy s c b counted) where
+module _ (t : Functions) (fs : List Funclet) (program : LinearProgram) (p : ImagePlan) (q : Sites) (image : IsProgramImage t fs program p q) (roomy : HaveRoom program) (s : State) (c : Configuration) (b : Begins t fs program p q s c) (counted : IsCounted t fs program p q image c) (around : Surroundings t fs program p q image roomy s c b counted) where
   abbrev body : LinearBody
   body = code t fs program p q image roomy s c b counted
 
@@ -58,7 +58,7 @@ module _ (t : Functions) (fs : List Funclet) (program : LinearProgram) (p : Plan
   abbrev taken_over : Slot → ℕ → Configuration
   taken_over to value = at_other t fs program p q image roomy c (c.frame.next + 1) (locals_after (linear.locals_of c.store c.frame.activation) to value) (temporaries_after c.frame.temporaries to value) None c.store.memory c.events
 
-  fits_next : (to : Slot) → IsNext (length c.frame.temporaries) to → FitsAfter c.frame.temporaries to
+  fits_next : (to : Slot) → IsNextSlot (length c.frame.temporaries) to → FitsAfter c.frame.temporaries to
   fits_next (Local x) h = tt
   fits_next (Temporary i) h = h
 
@@ -76,7 +76,7 @@ module _ (t : Functions) (fs : List Funclet) (program : LinearProgram) (p : Plan
   unfolding with_some
   lands to value e fits next = ap (λ o. with_some c.events o (λ x. written (not_landed c) to x next)) e ∙ writes to value fits next
 
-  pub landing_step : (to : Slot) (value : ℕ) → c.frame.landed ≡ Some value → value < 2 ^ 64 → slice_get body.code c.frame.next ≡ Some (instructions.Landing to) → length c.frame.temporaries ≤ body.temporaries → IsNext (length c.frame.temporaries) to
+  pub landing_step : (to : Slot) (value : ℕ) → c.frame.landed ≡ Some value → value < 2 ^ 64 → slice_get body.code c.frame.next ≡ Some (instructions.Landing to) → length c.frame.temporaries ≤ body.temporaries → IsNextSlot (length c.frame.temporaries) to
       → GoesInside t fs program p q image roomy s c b counted around (instructions.Landing to) → Moves t fs program 16 turns_left (Begins t fs program p q) s c (instructions.Landing to)
   landing_step to value landed small e held next inside =
       let there = has_slots t fs program p q image roomy s c b counted (instructions.Landing to) e in

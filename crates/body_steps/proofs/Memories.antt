@@ -9,12 +9,12 @@ use Rattle.host_model.specs.declared.funclet.Funclet.{Funclet}
 use Rattle.c_model.specs.Source.{is_reserved}
 use Rattle.linear_code.specs.Program.{LinearProgram}
 use Rattle.x64_templates.specs.Frames.{Agrees}
-use Rattle.linked_stack.specs.ImagePlan.{Plan}
+use Rattle.linked_stack.specs.ImagePlan.{ImagePlan}
 use Rattle.body_states.specs.Sites.{Sites}
 use Rattle.body_states.specs.Programs.{IsMachineMemory, IsProgramImage}
 use Rattle.body_steps.proofs.Programs.{KeepsImage, program_stays}
 
-module _ (t : Functions) (fs : List Funclet) (program : LinearProgram) (p : Plan) (q : Sites) (image : IsProgramImage t fs program p q) where
+module _ (t : Functions) (fs : List Funclet) (program : LinearProgram) (p : ImagePlan) (q : Sites) (image : IsProgramImage t fs program p q) where
   -- where each page may be used as before
   pub memory_stays : (m m' old source : Memory) → KeepsImage program.globals m m' → AreBytes m'.byte → ((a : ℕ) → m'.protection a ≡ m.protection a) → Agrees (is_reserved program.globals) m' source
       → IsMachineMemory t fs program p q m old → IsMachineMemory t fs program p q m' source

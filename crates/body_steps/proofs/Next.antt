@@ -20,7 +20,7 @@ use Rattle.std.specs.List.{AllByRecursion}
 use Rattle.x64_machine.specs.Contexts.{context_of}
 use Rattle.linear_code.specs.declared.program.Region.{Region}
 use Rattle.linear_machine.specs.Regions.{holds, regions_of}
-use Rattle.linked_stack.specs.ImagePlan.{Plan, InCode}
+use Rattle.linked_stack.specs.ImagePlan.{ImagePlan, InCode}
 use Rattle.linked_stack.specs.WalkLaws.{context_below}
 use Rattle.linked_stack.specs.Linked.{Activation, locals_of, activations_below, HoldsWords, IsActivation, HasActivation, HasPointers, FuncletIsAbove, IsAbove, BodyWaits, HasSpace, below_end, home_end}
 use Rattle.linked_stack.specs.ListLaws.{IsLinkedStack}
@@ -64,7 +64,7 @@ pub record Leaves (b : LinearBody) (d : BodyState) (values ts : List ℕ) : Type
   pub few : length ts ≤ b.temporaries
   pub temporaries : (i v : ℕ) → slice_get ts i ≡ Some v → d.slots (Temporary i) ≡ v
 
-module _ (t : Functions) (fs : List Funclet) (program : LinearProgram) (p : Plan) (q : Sites) (image : IsProgramImage t fs program p q) where
+module _ (t : Functions) (fs : List Funclet) (program : LinearProgram) (p : ImagePlan) (q : Sites) (image : IsProgramImage t fs program p q) where
   -- linear code, further on in the body
   abbrev pub further : Configuration → List Activation → (label : ℕ) (values ts : List ℕ) (landed : Option ℕ) → Memory → List Event → Configuration
   further c acts label values ts landed source events = record {

@@ -12,7 +12,7 @@ use Rattle.linear_code.specs.Program.{LinearProgram, LinearBody}
 use Rattle.linear_machine.specs.Frames.{BodyName, FunctionBody, FuncletBody, body_of, Frame, Item, Waits, Searches, Unwinds}
 use Rattle.linked_stack.specs.Stack.{StackFrame, StackItem, Framed, Leaf, Searching, Unwinding, IsStack, after_frame}
 use Rattle.linked_stack.proofs.Visiting.{set_head}
-use Rattle.linked_stack.specs.ImagePlan.{Plan}
+use Rattle.linked_stack.specs.ImagePlan.{ImagePlan}
 use Rattle.linked_stack.specs.Linked.{Activation, activations_below, temporaries_end, HasActivation, HasPointers, IsAbove, Linked}
 use Rattle.linked_stack.specs.ListLaws.{IsLinkedStack}
 use Rattle.linked_stack.proofs.Ends.{words_fit, end_within, in_stack}
@@ -21,7 +21,7 @@ use Rattle.linked_stack.proofs.ListKeeping.{reads_other}
 use Rattle.body_states.specs.Layouts.{IsFunctionLayout, IsLayoutIf, IsLaidOut, AreLaidOut}
 use Rattle.body_steps.specs.Stores.{KeepsStackBut}
 
-module _ (m m' : Memory) (t : Functions) (fs : List Funclet) (program : LinearProgram) (p : Plan) (laid : AreLaidOut program p) (room : ℕ) where
+module _ (m m' : Memory) (t : Functions) (fs : List Funclet) (program : LinearProgram) (p : ImagePlan) (laid : AreLaidOut program p) (room : ℕ) where
   module _ (c : Context) (keeps : KeepsStackBut m m' (rsp c) (rsp c) (rsp c + room)) (start : STACK_START ≤ rsp c) where
     reads : ReadsSame m m' (rsp c + room) STACK_END
     reads = reads_other m m' (rsp c + room) STACK_END (record { bytes = λ x l u. keeps.bytes x (omega arith) u (inr l); protection = keeps.protection; code = keeps.code; no_more_code = keeps.no_more_code }) (omega arith) (omega arith)

@@ -25,7 +25,7 @@ use Rattle.x64_templates.specs.InstructionRuns.{InstructionDone}
 use Rattle.x64_templates.specs.Runs.{ReachesBody}
 use Rattle.template_code.specs.Template.{template, template_size, body_size, offset_of}
 use Rattle.body_steps.specs.Views.{counts_of}
-use Rattle.linked_stack.specs.ImagePlan.{Plan}
+use Rattle.linked_stack.specs.ImagePlan.{ImagePlan}
 use Rattle.linked_stack.specs.Linked.{locals_of}
 use Rattle.whole_runs.specs.Matched.{Moves}
 use Rattle.ir_typed.specs.Room.{HaveRoom}
@@ -60,7 +60,7 @@ got_within [] i lt = absurd (omega arith)
 got_within (x ∷ vs) zero lt = refl
 got_within (x ∷ vs) (suc i) lt = got_within vs i (omega arith)
 
-module _ (t : Functions) (fs : List Funclet) (program : LinearProgram) (p : Plan) (q : Sites) (image : IsProgramImage t fs program p q) (roomy : HaveRoom program) where
+module _ (t : Functions) (fs : List Funclet) (program : LinearProgram) (p : ImagePlan) (q : Sites) (image : IsProgramImage t fs program p q) (roomy : HaveRoom program) where
   -- linear code at another instruction of the body that runs, with these numbers in its slots
   abbrev pub at_other : Configuration → (label : ℕ) (values ts : List ℕ) (landed : Option ℕ) → Memory → List Event → Configuration
   at_other c label values ts landed source events = record {

@@ -22,7 +22,7 @@ use Rattle.x64_templates.specs.Runs.{HasCode}
 use Rattle.x64_templates.specs.Thunks.{HasThunk}
 use Rattle.x64_templates.proofs.PlacedCode.{same_number}
 use Rattle.x64_templates.proofs.Services.{thunk_size}
-use Rattle.linked_stack.specs.ImagePlan.{Plan}
+use Rattle.linked_stack.specs.ImagePlan.{ImagePlan}
 use Rattle.body_states.specs.Sites.{Sites, links_of, begin_of, entry_code, code_of}
 use Rattle.body_states.specs.Programs.{service_of, IsInImage, HasService, HasProgram, IsProgramImage}
 
@@ -54,7 +54,7 @@ pub record KeepsImage (globals : List ℕ) (m m' : Memory) : Type 0 where
   pub byte : (a : ℕ) → IMAGE_BASE ≤ a → a < IMAGE_RANGE_END → is_reserved globals a ≡ true → m'.byte a ≡ m.byte a
   pub protection : (a : ℕ) → IMAGE_BASE ≤ a → a < IMAGE_RANGE_END → is_reserved globals a ≡ true → m'.protection a ≡ m.protection a
 
-module _ (t : Functions) (fs : List Funclet) (program : LinearProgram) (p : Plan) (q : Sites) where
+module _ (t : Functions) (fs : List Funclet) (program : LinearProgram) (p : ImagePlan) (q : Sites) where
   there : (m m' : Memory) (from to : ℕ) → KeepsImage program.globals m m' → IsInImage t fs program p q from to → SameThere m m' from to
   there m m' from to keeps inside =
       let low = inside.low in

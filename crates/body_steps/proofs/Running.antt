@@ -20,12 +20,12 @@ use Rattle.template_code.specs.Template.{template, template_size, code_from, off
 use Rattle.template_code.proofs.Sizes.{offset_next}
 use Rattle.x64_templates.specs.Straight.{MachineView, machine}
 use Rattle.x64_templates.specs.CallStates.{sp_of}
-use Rattle.x64_templates.specs.Runs.{HasCode, Frame, ReachesBody}
+use Rattle.x64_templates.specs.Runs.{HasCode, FramePlace, ReachesBody}
 use Rattle.x64_templates.proofs.Computes.{code_split}
 use Rattle.x64_templates.specs.InstructionRuns.{InstructionDone}
 use Rattle.x64_templates.proofs.InstructionRuns.{body_instruction_run}
 use Rattle.x64_templates.proofs.Linked.{template_placed}
-use Rattle.linked_stack.specs.ImagePlan.{Plan}
+use Rattle.linked_stack.specs.ImagePlan.{ImagePlan}
 use Rattle.whole_runs.specs.Comes.{Comes}
 use Rattle.ir_typed.specs.Room.{HaveRoom}
 use Rattle.body_states.specs.Sites.{Sites, links_of, begin_of, entry_code}
@@ -75,7 +75,7 @@ nothing (Some x) value e f = cc
 
 -- ---- the body's code
 
-module _ (t : Functions) (fs : List Funclet) (program : LinearProgram) (p : Plan) (q : Sites) (image : IsProgramImage t fs program p q) (roomy : HaveRoom program) where
+module _ (t : Functions) (fs : List Funclet) (program : LinearProgram) (p : ImagePlan) (q : Sites) (image : IsProgramImage t fs program p q) (roomy : HaveRoom program) where
   module _ (s : State) (c : Configuration) (b : Begins t fs program p q s c) (counted : IsCounted t fs program p q image c) where
     abbrev pub code : LinearBody
     code = b.body.slots.code
@@ -92,7 +92,7 @@ module _ (t : Functions) (fs : List Funclet) (program : LinearProgram) (p : Plan
     abbrev pub base : ℕ
     base = (placed t fs program p q image s c b counted).base
 
-    abbrev pub frame : Frame
+    abbrev pub frame : FramePlace
     frame = frame_at program p name code (register s.cpu Rsp) base
 
     abbrev pub slots : BodyState

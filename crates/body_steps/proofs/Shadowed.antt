@@ -28,7 +28,7 @@ use Rattle.x64_templates.specs.Quiet.{IsReturn}
 use Rattle.x64_templates.proofs.Bodies.{holds_same, changes_same}
 use Rattle.x64_templates.proofs.Flows.{IsFlow}
 use Rattle.x64_templates.proofs.InstructionRuns.{LabelsNear, body_most, labels_near}
-use Rattle.linked_stack.specs.ImagePlan.{Plan}
+use Rattle.linked_stack.specs.ImagePlan.{ImagePlan}
 use Rattle.whole_runs.specs.Shadow.{WalkGives, AllKeep}
 use Rattle.body_states.specs.Sites.{Sites, links_of}
 use Rattle.body_states.specs.Callers.{FindsReturn}
@@ -60,7 +60,7 @@ kept_dropped (a ∷ b ∷ c ∷ xs) = refl
 pub kept_by_rest : (rest xs : List ℕ) → rest ≡ drop 3 xs → kept_of (0 ∷ 0 ∷ 0 ∷ rest) ≡ kept_of xs
 kept_by_rest rest xs e = ap (λ (r : List ℕ). kept_of (0 ∷ 0 ∷ 0 ∷ r)) e ∙ kept_dropped xs
 
-module _ (t : Functions) (fs : List Funclet) (program : LinearProgram) (p : Plan) (q : Sites) (image : IsProgramImage t fs program p q) (s : State) (c : Configuration) (b : Begins t fs program p q s c) (counted : IsCounted t fs program p q image c) where
+module _ (t : Functions) (fs : List Funclet) (program : LinearProgram) (p : ImagePlan) (q : Sites) (image : IsProgramImage t fs program p q) (s : State) (c : Configuration) (b : Begins t fs program p q s c) (counted : IsCounted t fs program p q image c) where
   abbrev code_here : LinearBody
   code_here = b.body.slots.code
 

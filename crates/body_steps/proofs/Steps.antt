@@ -15,7 +15,7 @@ use Rattle.linear_code.specs.Meaning.{IsSlot}
 use Rattle.linear_machine.specs.Frames.{Configuration}
 use Rattle.linear_machine.specs.Instructions.{is_constant, operand, act}
 use Rattle.linear_machine.specs.Run.{instruction_at, exec}
-use Rattle.linked_stack.specs.ImagePlan.{Plan}
+use Rattle.linked_stack.specs.ImagePlan.{ImagePlan}
 use Rattle.whole_runs.specs.Ends.{HasRule}
 use Rattle.whole_runs.specs.Matched.{Moves}
 use Rattle.ir_typed.specs.Ready as ready
@@ -51,7 +51,7 @@ lands_at program c i (Some v) h e f =
     let same : instructions.Landing (Local h.0) ≡ i = same_instruction (instruction_at program c) (instructions.Landing (Local h.0)) i h.1 e in
     absurd (let x : true ≡ false = ap is_landing same ∙ f in cc)
 
-module _ (t : Functions) (fs : List Funclet) (program : LinearProgram) (p : Plan) (q : Sites) (image : IsProgramImage t fs program p q) (made : IsWellMade program p) (s : State) (c : Configuration) (b : Begins t fs program p q s c) (known : IsKnown program c) where
+module _ (t : Functions) (fs : List Funclet) (program : LinearProgram) (p : ImagePlan) (q : Sites) (image : IsProgramImage t fs program p q) (made : IsWellMade program p) (s : State) (c : Configuration) (b : Begins t fs program p q s c) (known : IsKnown program c) where
   free : (i : Instruction) → instruction_at program c ≡ Some i → is_landing i ≡ false → c.frame.landed ≡ None
   free i e f = lands_at program c i c.frame.landed known.stacked.landed e f
 

@@ -16,8 +16,8 @@ use Rattle.seh_walk.specs.Walk.{filter_return, finally_return}
 use Rattle.linked_stack.specs.Stack.{StackFrame, StackItem, Framed, Leaf, Searching, Unwinding, FrameIsAt, LeafIsAt, IsStack, after_frame, after_leaf}
 use Rattle.linked_stack.proofs.Visiting.{set_head}
 use Rattle.linked_stack.proofs.WalkKeeping.{rises}
-use Rattle.linked_stack.specs.ImagePlan.{Plan}
-use Rattle.linked_stack.specs.Linked.{Activation, locals_of, activations_below, HoldsWords, temporaries_end, HasActivation, HoldsLocals, IsActivation, HasBase, home_end, HasPointers, IsAbove, HasSpace, below_end, record_room, BodyWaits, FrameWaits, LeafWaits, Linked}
+use Rattle.linked_stack.specs.ImagePlan.{ImagePlan}
+use Rattle.linked_stack.specs.Linked.{Activation, locals_of, activations_below, HoldsWords, temporaries_end, HasActivation, HoldsLocals, IsActivation, ActivationHasBase, home_end, HasPointers, IsAbove, HasSpace, below_end, record_room, BodyWaits, FrameWaits, LeafWaits, Linked}
 use Rattle.linked_stack.specs.ListLaws.{IsLinkedStack}
 use Rattle.linked_stack.proofs.Ends.{words_fit, in_stack}
 use Rattle.linked_stack.proofs.Kept.{ReadsSame, higher, words_kept, frame_kept, leaf_kept, own_kept, frame_above, frame_is_at, leaf_is_at, record_is_at, list_kept}
@@ -60,7 +60,7 @@ later_changes a outer k values lt = ap (λ b. with_values_if b a outer values (w
 
 -- ---- the list
 
-module _ (m m' : Memory) (t : Functions) (fs : List Funclet) (program : LinearProgram) (p : Plan) (k base distance : ℕ) (values : List ℕ) where
+module _ (m m' : Memory) (t : Functions) (fs : List Funclet) (program : LinearProgram) (p : ImagePlan) (k base distance : ℕ) (values : List ℕ) where
   abbrev from : ℕ
   from = base + distance
 
@@ -134,7 +134,7 @@ module _ (m m' : Memory) (t : Functions) (fs : List Funclet) (program : LinearPr
   no_pointers y sp size f b (Unwinds rest target ∷ below) a = absurd a
 
   -- its numbers, in a frame whose locals end before an address
-  own_activation : (y : Layout) (sp size number f : ℕ) (a : Activation) (outer : List Activation) → HasBase k base distance a outer → to ≤ sp + size → HoldsWords m' from to values → HoldsLocals m y sp size number a outer → HasActivation m' y sp size number (record a { values = values } ∷ outer) (FunctionBody f)
+  own_activation : (y : Layout) (sp size number f : ℕ) (a : Activation) (outer : List Activation) → ActivationHasBase k base distance a outer → to ≤ sp + size → HoldsWords m' from to values → HoldsLocals m y sp size number a outer → HasActivation m' y sp size number (record a { values = values } ∷ outer) (FunctionBody f)
   own_activation y sp size number f a outer own le words h =
       let at : from ≡ sp + y.locals = omega (arith, h.activation.base, h.activation.distance, own.base, own.distance) in
       record {
@@ -143,7 +143,7 @@ module _ (m m' : Memory) (t : Functions) (fs : List Funclet) (program : LinearPr
         values = subst (λ x. HoldsWords m' x (sp + size) values) at (words_longer m' from to (sp + size) values le words);
       }
 
-  own_body : (c : Context) (size end f : ℕ) (b : Frame) (a : Activation) (outer : List Activation) → b.body ≡ FunctionBody f → HasBase k base distance a outer → to ≤ rsp c + size → HoldsWords m' from to values
+  own_body : (c : Context) (size end f : ℕ) (b : Frame) (a : Activation) (outer : List Activation) → b.body ≡ FunctionBody f → ActivationHasBase k base distance a outer → to ≤ rsp c + size → HoldsWords m' from to values
       → HoldsLocals m (p.layout b.body) (rsp c) size b.activation a outer → HoldsWords m' (rsp c + (p.layout b.body).temporaries) (rsp c + end) b.temporaries
       → BodyWaits t fs program p m c size end b (a ∷ outer) → BodyWaits t fs program p m' c size end b (record a { values = values } ∷ outer)
   own_body c size end f b a outer is own le words locals temporaries h = record {
@@ -163,7 +163,7 @@ module _ (m m' : Memory) (t : Functions) (fs : List Funclet) (program : LinearPr
   abbrev Fits : List Activation → Type 0
   Fits acts = (vs : List ℕ) → slice_get (locals_of acts) k ≡ Some vs → length values ≡ length vs
 
-  own_count : (a : Activation) (outer : List Activation) → HasBase k base distance a outer → Fits (a ∷ outer) → length values ≡ length a.values
+  own_count : (a : Activation) (outer : List Activation) → ActivationHasBase k base distance a outer → Fits (a ∷ outer) → length values ≡ length a.values
   own_count a outer own fits =
       let n : length (locals_of outer) ≡ k = locals_count outer ∙ sym own.number in
       fits a.values (subst (λ x. slice_get (locals_of outer ++ a.values ∷ []) x ≡ Some a.values) n (got_last (locals_of outer) a.values))
@@ -181,7 +181,7 @@ module _ (m m' : Memory) (t : Functions) (fs : List Funclet) (program : LinearPr
     Stored c is items acts = IsLinkedStack t fs program p m' c is items (with_values acts k values)
 
     -- a function's frame whose activation it is
-    own_function : (c : Context) (f : StackFrame) (is : List StackItem) (b : Frame) (below : List Item) (a : Activation) (outer : List Activation) (n : ℕ) → b.body ≡ FunctionBody n → HasBase k base distance a outer → Fits (a ∷ outer)
+    own_function : (c : Context) (f : StackFrame) (is : List StackItem) (b : Frame) (below : List Item) (a : Activation) (outer : List Activation) (n : ℕ) → b.body ≡ FunctionBody n → ActivationHasBase k base distance a outer → Fits (a ∷ outer)
         → KeepsStackBut m m' (rsp c) from to → STACK_START ≤ rsp c → FrameIsAt t m c f → IsStack t m (after_frame c f) is
         → FrameWaits t fs program p m c f b below (a ∷ outer) → HasActivation m (p.layout b.body) (rsp c) f.size b.activation (a ∷ outer) (FunctionBody n) → IsAbove t fs program p b b.body below → Linked t fs program p m (after_frame c f) is below outer
         → Stored c (Framed f ∷ is) (Waits b ∷ below) (a ∷ outer)
@@ -351,7 +351,7 @@ module _ (m m' : Memory) (t : Functions) (fs : List Funclet) (program : LinearPr
     stored c (Unwinding d ∷ is) (Waits b ∷ below) acts s h i o fits keeps low = absurd h
     stored c (Unwinding d ∷ is) (Searches exception resumption asked rest ∷ below) acts s h i o fits keeps low = absurd h
 
-pub activations_are_stored : (t : Functions) (fs : List Funclet) (program : LinearProgram) (p : Plan) → ActivationsAreStored t fs program p
+pub activations_are_stored : (t : Functions) (fs : List Funclet) (program : LinearProgram) (p : ImagePlan) → ActivationsAreStored t fs program p
 activations_are_stored t fs program p m m' c is items acts k base distance old values s low i far owner number count keeps words =
     let a = are_there t fs program p m c is items acts k base distance s.stack s.linked i in
     let le = a.low_end in

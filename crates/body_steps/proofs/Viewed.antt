@@ -11,7 +11,7 @@ use Rattle.linear_machine.specs.Frames as linear
 use Rattle.linear_machine.specs.Frames.{BodyName, FunctionBody, FuncletBody, body_of, Configuration}
 use Rattle.x64_templates.specs.Straight.{machine}
 use Rattle.linked_stack.specs.WalkLaws.{context_below}
-use Rattle.linked_stack.specs.ImagePlan.{Plan}
+use Rattle.linked_stack.specs.ImagePlan.{ImagePlan}
 use Rattle.linked_stack.specs.Linked.{locals_of, activations_below, temporaries_end, HasActivation}
 use Rattle.linked_stack.proofs.Ends.{in_stack}
 use Rattle.body_states.specs.Sites.{Sites}
@@ -33,7 +33,7 @@ registers_are (a ∷ b ∷ c ∷ rs) e = refl
 pub is_machine : (s : State) → length s.cpu.registers ≡ 16 → s ≡ machine (seen_by_templates s) s.cpu.rip s.cpu.flags
 is_machine s e = ap (λ rs. let u : State = record { cpu = record { registers = rs; rip = s.cpu.rip; flags = s.cpu.flags }; memory = s.memory } in u) (registers_are s.cpu.registers e)
 
-module _ (t : Functions) (fs : List Funclet) (program : LinearProgram) (p : Plan) (q : Sites) (image : IsProgramImage t fs program p q) where
+module _ (t : Functions) (fs : List Funclet) (program : LinearProgram) (p : ImagePlan) (q : Sites) (image : IsProgramImage t fs program p q) where
   -- the body that runs has as many locals in its activation as its code names
   abbrev pub IsCounted : Configuration → Type 0
   IsCounted c = (b : LinearBody) → body_of program c.frame.body ≡ Some b → length (linear.locals_of c.store c.frame.activation) ≡ b.locals

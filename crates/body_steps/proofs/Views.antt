@@ -14,14 +14,14 @@ use Rattle.linear_code.specs.Program.{LinearProgram, LinearBody}
 use Rattle.linear_machine.specs.Frames as linear
 use Rattle.linear_machine.specs.Frames.{BodyName, FunctionBody, FuncletBody, body_of, Configuration, local_of}
 use Rattle.template_code.specs.declared.layout.Layout.{Layout}
-use Rattle.x64_templates.specs.Frames.{InTemporaries, InLocals, HasBase, HasRoom, KeepsBase, KeepsReserved, Agrees, IsBytes, HoldsBody}
+use Rattle.x64_templates.specs.Frames.{InTemporaries, InLocals, HasBase, SlotsHaveRoom, MemoryKeepsBase, KeepsReserved, Agrees, IsBytes, HoldsBody}
 use Rattle.x64_templates.specs.EntryStates.{body_in_memory}
 use Rattle.x64_templates.proofs.Entries.{holds_body_in_memory}
 use Rattle.x64_machine.specs.declared.context.Context.{Context}
 use Rattle.linear_machine.specs.Frames.{Item}
 use Rattle.linked_stack.specs.Stack.{StackItem}
 use Rattle.linked_stack.specs.ListLaws.{IsLinkedStack}
-use Rattle.linked_stack.specs.ImagePlan.{Plan}
+use Rattle.linked_stack.specs.ImagePlan.{ImagePlan}
 use Rattle.linked_stack.specs.Linked.{Activation, locals_of, HoldsWords, HasActivation, home_end}
 use Rattle.linked_stack.proofs.Ends.{words_fit, in_stack}
 use Rattle.body_states.specs.Layouts.{IsFunctionLayout, IsLeafLayout, IsFuncletLayout}
@@ -104,7 +104,7 @@ leaf_placed m y b sp k f (a ∷ outer) l low high h =
 same_slot : (x y : ℕ) → Some x ≡ Some y → x ≡ y
 same_slot x y e = cc
 
-module _ (t : Functions) (fs : List Funclet) (program : LinearProgram) (p : Plan) where
+module _ (t : Functions) (fs : List Funclet) (program : LinearProgram) (p : ImagePlan) where
   pub funclet_placed : (m : Memory) (y function : Layout) (b : LinearBody) (sp k j : ℕ) (acts : List Activation) (c : Context) (is : List StackItem) (items : List Item) → IsFuncletLayout y function b → STACK_START ≤ sp
       → rsp c ≡ sp + y.frame + 8 → IsLinkedStack t fs program p m c is items acts → HasActivation m y sp y.frame k acts (FuncletBody j) → ((values : List ℕ) → slice_get (locals_of acts) k ≡ Some values → 8 * length values < 2 ^ 30) → function.locals < 2 ^ 30
       → SlotsPlaced m y b.temporaries sp k acts
@@ -143,7 +143,7 @@ stack_is_reserved globals a l u =
     rw (low, high) refl
 
 -- the room of a body's slots
-pub room_of : (m : Memory) (y : Layout) (n : Counts) (sp k : ℕ) (acts : List Activation) → (h : SlotsPlaced m y n.temporaries sp k acts) → length h.values ≡ n.locals → HasRoom y n sp h.base
+pub room_of : (m : Memory) (y : Layout) (n : Counts) (sp k : ℕ) (acts : List Activation) → (h : SlotsPlaced m y n.temporaries sp k acts) → length h.values ≡ n.locals → SlotsHaveRoom y n sp h.base
 room_of m y n sp k acts h count =
     let t = h.temporaries_small in
     let l = h.locals_small in
@@ -162,7 +162,7 @@ room_of m y n sp k acts h count =
     based None e = e
     based (Some slot) e = (e.below_temporaries, e.below_locals)
 
-keeps_base : (m : Memory) (y : Layout) (o : Option ℕ) (sp base : ℕ) → ((a : ℕ) → STACK_START ≤ a → a < STACK_END → may_write m a ≡ true) → STACK_START ≤ sp → KeepsSlot m y o sp base → KeepsBase o sp base m
+keeps_base : (m : Memory) (y : Layout) (o : Option ℕ) (sp base : ℕ) → ((a : ℕ) → STACK_START ≤ a → a < STACK_END → may_write m a ≡ true) → STACK_START ≤ sp → KeepsSlot m y o sp base → MemoryKeepsBase o sp base m
 keeps_base m y None sp base may low h = tt
 keeps_base m y (Some slot) sp base may low h = let top = h.in_stack in (word_is m (sp + slot) base h.word_is, λ a l u. may a (omega arith) (omega arith))
 

@@ -32,7 +32,7 @@ use Rattle.x64_templates.specs.Runs.{Reaches, FrameHolds, HasCode}
 use Rattle.x64_templates.proofs.Chains.{rest_of}
 use Rattle.x64_templates.proofs.Computes.{code_split, Begun, operands_run, Worked, work_run}
 use Rattle.x64_templates.proofs.Flows.{work_flow, separator_flow, jump_flow, keep_flow, operands_flow, information_flow, jump_if_zero_flow}
-use Rattle.linked_stack.specs.ImagePlan.{Plan}
+use Rattle.linked_stack.specs.ImagePlan.{ImagePlan}
 use Rattle.whole_runs.specs.Shadow.{AllKeep}
 use Rattle.ir_typed.specs.Room.{HaveRoom}
 use Rattle.body_states.specs.Sites.{Sites, links_of}
@@ -60,7 +60,7 @@ keep_some y (Local i) = by y.base
 finish_some : (y : Layout) (o : Operation) (x : Slot) → 1 ≤ length (finish_code y o x)
 finish_some y o x = let k = keep_some y x in omega (arith, length-append (work o) (keep y x))
 
-module _ (t : Functions) (fs : List Funclet) (program : LinearProgram) (p : Plan) (q : Sites) (image : IsProgramImage t fs program p q) (roomy : HaveRoom program) (s : State) (c : Configuration) (b : Begins t fs program p q s c) (counted : IsCounted t fs program p q image c) where
+module _ (t : Functions) (fs : List Funclet) (program : LinearProgram) (p : ImagePlan) (q : Sites) (image : IsProgramImage t fs program p q) (roomy : HaveRoom program) (s : State) (c : Configuration) (b : Begins t fs program p q s c) (counted : IsCounted t fs program p q image c) where
   abbrev body : LinearBody
   body = code t fs program p q image roomy s c b counted
 

@@ -5,7 +5,7 @@ use Rattle.linear_code.specs.Program.{LinearProgram, LinearBody}
 use Rattle.linear_machine.specs.Frames.{BodyName, body_of, Configuration, Next}
 use Rattle.linear_machine.specs.Instructions.{act}
 use Rattle.linear_machine.specs.Run.{instruction_at}
-use Rattle.linked_stack.specs.ImagePlan.{Plan}
+use Rattle.linked_stack.specs.ImagePlan.{ImagePlan}
 use Rattle.ir_typed.specs.Ready.{CanContinue}
 use Rattle.ir_typed.specs.Bodies.{IsWhole}
 use Rattle.ir_typed.specs.Waiting.{IsStacked}
@@ -13,21 +13,21 @@ use Rattle.ir_typed.specs.Activations.{HasActivations}
 use Rattle.ir_typed.specs.Small.{HasSmallNumbers}
 use Rattle.ir_typed.specs.Depths.{HasDepths}
 use Rattle.ir_typed.specs.Room.{HaveRoom}
-use Rattle.ir_typed.specs.Apart.{AreApart, is_call}
+use Rattle.ir_typed.specs.Apart.{AllReturnsStayInRegions, is_call}
 
 module _ (program : LinearProgram) where
   -- a leaf function calls nothing (Microsoft x64 ABI, "Leaf functions")
-  abbrev pub LeavesCallNothing : Plan → Type 0
+  abbrev pub LeavesCallNothing : ImagePlan → Type 0
   LeavesCallNothing p =
       (name : BodyName) (b : LinearBody) (label : ℕ) (i : Instruction)
       → body_of program name ≡ Some b → p.leaf name ≡ true → slice_get b.code label ≡ Some i
       → is_call i ≡ false
 
   -- of the program
-  pub record IsWellMade (p : Plan) : Type 0 where
+  pub record IsWellMade (p : ImagePlan) : Type 0 where
     pub whole : IsWhole program
     pub room : HaveRoom program
-    pub apart : AreApart program
+    pub apart : AllReturnsStayInRegions program
     pub leaves : LeavesCallNothing p
 
   -- of a configuration, and of those after one turn

@@ -14,7 +14,7 @@ use Rattle.linear_code.specs.Program.{LinearProgram}
 use Rattle.linear_machine.specs.Frames.{Configuration}
 use Rattle.linear_machine.specs.Instructions.{is_constant, operand, act}
 use Rattle.linear_machine.specs.Run.{instruction_at, exec}
-use Rattle.linked_stack.specs.ImagePlan.{Plan}
+use Rattle.linked_stack.specs.ImagePlan.{ImagePlan}
 use Rattle.whole_runs.specs.Ends.{HasRule}
 use Rattle.whole_runs.specs.Matched.{Moves}
 use Rattle.body_states.specs.Sites.{Sites}
@@ -50,7 +50,7 @@ module _ (program : LinearProgram) where
 -- step in one turn or more, shows nothing, and represents the next configuration
 abbrev pub StepsWithinBodiesAreMatched : Type 0
 StepsWithinBodiesAreMatched =
-    (t : Functions) (fs : List Funclet) (program : LinearProgram) (p : Plan) (q : Sites)
+    (t : Functions) (fs : List Funclet) (program : LinearProgram) (p : ImagePlan) (q : Sites)
     → IsProgramImage t fs program p q → IsWellMade program p
     → (s : State) (c : Configuration) (i : Instruction)
     → Begins t fs program p q s c → IsKnown program c → instruction_at program c ≡ Some i

@@ -9,7 +9,7 @@ use Rattle.host_model.specs.declared.funclet.Funclet.{Funclet}
 use Rattle.linear_code.specs.Program.{LinearProgram}
 use Rattle.linear_machine.specs.Frames.{Item, Waits, Searches, Unwinds}
 use Rattle.linked_stack.specs.Stack.{StackItem}
-use Rattle.linked_stack.specs.ImagePlan.{Plan}
+use Rattle.linked_stack.specs.ImagePlan.{ImagePlan}
 use Rattle.linked_stack.specs.Linked.{Activation, locals_of, activations_below, IsActivation, HoldsWords}
 use Rattle.linked_stack.specs.ListLaws.{IsLinkedStack}
 
@@ -33,7 +33,7 @@ pub record KeepsStackBut (m m' : Memory) (low from to : ℕ) : Type 0 where
       → (m'.byte x ≡ m.byte x) × (m'.protection x ≡ m.protection x)
   pub no_more_code : (x : ℕ) → (m.protection x).execute ≡ false → (m'.protection x).execute ≡ false
 
-module _ (t : Functions) (fs : List Funclet) (program : LinearProgram) (p : Plan) where
+module _ (t : Functions) (fs : List Funclet) (program : LinearProgram) (p : ImagePlan) where
   -- where the locals of an activation are: above the stack pointer, and below the stack's end
   pub record ActivationIsAt (m : Memory) (low k base distance : ℕ)
       (acts : List Activation) : Type 0 where

@@ -9,8 +9,8 @@ use Rattle.linear_code.specs.Program.{LinearProgram, LinearBody}
 use Rattle.linear_machine.specs.Frames.{BodyName, body_of, Configuration, local_of}
 use Rattle.x64_templates.specs.Straight.{MachineView, machine}
 use Rattle.x64_templates.specs.EntryStates.{body_in_memory}
-use Rattle.x64_templates.specs.Runs.{Frame, Roomy, FrameHolds}
-use Rattle.linked_stack.specs.ImagePlan.{Plan}
+use Rattle.x64_templates.specs.Runs.{FramePlace, Roomy, FrameHolds}
+use Rattle.linked_stack.specs.ImagePlan.{ImagePlan}
 
 -- a state by its registers as templates name them
 abbrev pub seen_by_templates : State → MachineView
@@ -27,9 +27,9 @@ seen_by_templates s =
 abbrev pub counts_of : LinearBody → Counts
 counts_of b = record { locals = b.locals; temporaries = b.temporaries }
 
-module _ (program : LinearProgram) (p : Plan) where
+module _ (program : LinearProgram) (p : ImagePlan) where
   -- a body's frame, by RSP and by the base of its activation
-  abbrev pub frame_at : BodyName → LinearBody → (sp base : ℕ) → Frame
+  abbrev pub frame_at : BodyName → LinearBody → (sp base : ℕ) → FramePlace
   frame_at name b sp base =
       record {
         layout = p.layout name;

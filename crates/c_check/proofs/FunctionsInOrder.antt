@@ -54,7 +54,7 @@ function_added before after text file t n ps body block names walk walk' done ma
 
 -- ---- the first declaration, and the others
 
-abbrev first_of : List ℕ → Scope → ExternalDeclaration → ℕ → definitions.Functions
+abbrev first_of : List ℕ → Scope → ExternalDeclaration → ℕ → definitions.DeclaredFunctions
 first_of text file x number = functions_of text file (x ∷ []) number
 
 done_parts : (text : List ℕ) (file : Scope) (x : ExternalDeclaration) (xs : List ExternalDeclaration) (number : ℕ)

@@ -18,8 +18,8 @@ use Rattle.c_types.specs.declared.typed.TypedNode.{TypedNode as TypedNode'}
 use Rattle.c_types.specs.Views.{typed_node}
 
 -- The code gives what the rule gives, whatever the operands' faults are.
-abbrev pub Finds : Option TypedNode' → (List FaultAt → ResolvedExpression) → Type 0
-Finds r rule = (fs : List FaultAt) → option_map typed_node r ≡ (rule fs).found
+abbrev pub FindsByRule : Option TypedNode' → (List FaultAt → ResolvedExpression) → Type 0
+FindsByRule r rule = (fs : List FaultAt) → option_map typed_node r ≡ (rule fs).found
 
 -- Where the operands' faults are kept, it keeps the rule's too.
 abbrev pub Adds : Least → Least → (List FaultAt → ResolvedExpression) → Type 0

@@ -7,7 +7,7 @@ ghost use Rattle.c_resolved.specs.Expressions as definitions;
 ghost use Rattle.c_resolved.specs.Operators as operators;
 ghost use Rattle.c_expressions.specs.Calls.{call_of, expressions_of, passed_first, put_after};
 ghost use Rattle.c_expressions.specs.Calls.{AddsBefore, Passes};
-ghost use Rattle.c_expressions.specs.Rules.{Finds, Adds, allowed_call};
+ghost use Rattle.c_expressions.specs.Rules.{FindsByRule, Adds, allowed_call};
 ghost use Rattle.c_types.specs.Views.{typed_node, FindsTyped};
 
 use crate::least::Least;
@@ -146,7 +146,7 @@ pub fn only_where(
     fault: Fault,
     found: Option<TypedNode>,
 ) -> Option<TypedNode>
-    ensures found { Finds result (λ fs. allowed_call allowed at fault fs
+    ensures found { FindsByRule result (λ fs. allowed_call allowed at fault fs
         (option_map typed_node found)) }
     ensures faults { Adds worst.old worst.new
         (λ fs. allowed_call allowed at fault fs (option_map typed_node found)) }

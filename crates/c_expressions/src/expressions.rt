@@ -8,7 +8,7 @@ ghost use Rattle.c_expressions.specs.Kept.{AddsFaults};
 ghost use Rattle.c_expressions.specs.Resolved.{all_passed, called, called_with, resolved};
 ghost use Rattle.c_expressions.specs.Resolved.{resolved_with};
 ghost use Rattle.c_expressions.specs.Rules.{has_prefix_or_several, has_several, is_special};
-ghost use Rattle.c_expressions.specs.Rules.{is_conditional_or_assignment, Finds, Adds};
+ghost use Rattle.c_expressions.specs.Rules.{is_conditional_or_assignment, FindsByRule, Adds};
 ghost use Rattle.c_expressions.specs.Views.{entity, names_of};
 ghost use Rattle.c_types.specs.Views.{FindsTyped};
 
@@ -185,7 +185,7 @@ fn with_second(
     a: Option<TypedNode>,
     second: &Expr,
 ) -> Result<Option<TypedNode>, AllocError>
-    ensures found { IfOk result (λ r. Finds r
+    ensures found { IfOk result (λ r. FindsByRule r
         (resolved_with context.now at operator a second.now)) }
     ensures faults { OnOk result (Adds worst.old worst.new
         (resolved_with context.now at operator a second.now)) }

@@ -4,7 +4,7 @@ ghost use Rattle.std.specs.Prelude.{◌≡◌, IfOk, OnOk, option_map};
 ghost use Rattle.c_resolved.specs.Expressions as definitions;
 ghost use Rattle.c_resolved.specs.Expressions.{is_lvalue, is_addressable};
 ghost use Rattle.c_syntax.specs.Expression.{expression, start};
-ghost use Rattle.c_expressions.specs.Rules.{Finds, Adds, stepping, preceding, assigning_at};
+ghost use Rattle.c_expressions.specs.Rules.{FindsByRule, Adds, stepping, preceding, assigning_at};
 ghost use Rattle.c_expressions.specs.Rules.{assigning_to};
 ghost use Rattle.c_expressions.specs.Views.{names_of};
 ghost use Rattle.c_types.specs.Views.{typed_node};
@@ -83,7 +83,7 @@ pub fn step(
     operand: &Expr,
     a: Option<TypedNode>,
 ) -> Option<TypedNode>
-    ensures found { Finds result (λ fs. stepping (names_of context.now) at fixity operator
+    ensures found { FindsByRule result (λ fs. stepping (names_of context.now) at fixity operator
         (expression operand.now) fs (option_map typed_node a)) }
     ensures faults { Adds worst.old worst.new
         (λ fs. stepping (names_of context.now) at fixity operator (expression operand.now) fs
@@ -107,7 +107,7 @@ pub fn unary(
     operand: &Expr,
     a: Option<TypedNode>,
 ) -> Result<Option<TypedNode>, AllocError>
-    ensures found { IfOk result (λ r. Finds r
+    ensures found { IfOk result (λ r. FindsByRule r
         (λ fs. preceding (names_of context.now) at operator (expression operand.now) fs
         (option_map typed_node a))) }
     ensures faults { OnOk result (Adds worst.old worst.new
@@ -143,7 +143,7 @@ pub fn assign(
     a: Option<TypedNode>,
     b: Option<TypedNode>,
 ) -> Result<Option<TypedNode>, AllocError>
-    ensures found { IfOk result (λ r. Finds r
+    ensures found { IfOk result (λ r. FindsByRule r
         (λ fs. assigning_to (names_of context.now) (expression target.now) at operator fs
         (option_map typed_node a) (option_map typed_node b))) }
     ensures faults { OnOk result (Adds worst.old worst.new

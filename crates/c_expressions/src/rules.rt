@@ -4,7 +4,7 @@ ghost use Rattle.std.specs.Prelude.{IfOk, OnOk, option_map};
 ghost use Rattle.c_resolved.specs.declared.fault.Fault.TheVariants.{TypeClash};
 ghost use Rattle.c_resolved.specs.Expressions.{ruled};
 ghost use Rattle.c_resolved.specs.Operators.{unary_of, cast_of, conditional_of, incremented};
-ghost use Rattle.c_expressions.specs.Rules.{Finds, Adds, rule_of_two};
+ghost use Rattle.c_expressions.specs.Rules.{FindsByRule, Adds, rule_of_two};
 ghost use Rattle.c_expressions.specs.Rules.{unary_rule, binary_rule, ternary_rule};
 ghost use Rattle.c_types.specs.Views.{typed_node, FindsTyped};
 
@@ -32,7 +32,7 @@ pub enum TwoOperands {
 
 /// What a rule gave; a fault where it gave nothing.
 fn ruled(worst: &mut Least, at: u64, found: Option<TypedNode>) -> Option<TypedNode>
-    ensures found { Finds result (λ fs. ruled at TypeClash fs (option_map typed_node found)) }
+    ensures found { FindsByRule result (λ fs. ruled at TypeClash fs (option_map typed_node found)) }
     ensures faults { Adds worst.old worst.new
         (λ fs. ruled at TypeClash fs (option_map typed_node found)) }
 {
@@ -73,7 +73,7 @@ pub fn two(
     a: Option<TypedNode>,
     b: Option<TypedNode>,
 ) -> Result<Option<TypedNode>, AllocError>
-    ensures found { IfOk result (λ r. Finds r (binary_rule at (rule_of_two operator) a b)) }
+    ensures found { IfOk result (λ r. FindsByRule r (binary_rule at (rule_of_two operator) a b)) }
     ensures faults { OnOk result (Adds worst.old worst.new
         (binary_rule at (rule_of_two operator) a b)) }
 {
@@ -98,7 +98,7 @@ pub fn conditional(
     a: Option<TypedNode>,
     b: Option<TypedNode>,
 ) -> Result<Option<TypedNode>, AllocError>
-    ensures found { IfOk result (λ r. Finds r (ternary_rule at conditional_of c a b)) }
+    ensures found { IfOk result (λ r. FindsByRule r (ternary_rule at conditional_of c a b)) }
     ensures faults { OnOk result (Adds worst.old worst.new (ternary_rule at conditional_of c a b)) }
 {
     let Some(c) = c else {
@@ -128,7 +128,7 @@ pub fn increment(
     operator: Increment,
     a: Option<TypedNode>,
 ) -> Option<TypedNode>
-    ensures found { Finds result (unary_rule at (incremented fixity operator) a) }
+    ensures found { FindsByRule result (unary_rule at (incremented fixity operator) a) }
     ensures faults { Adds worst.old worst.new (unary_rule at (incremented fixity operator) a) }
 {
     match a {
@@ -148,7 +148,7 @@ pub fn unary(
     operator: UnaryOperator,
     a: Option<TypedNode>,
 ) -> Result<Option<TypedNode>, AllocError>
-    ensures found { IfOk result (λ r. Finds r (unary_rule at (unary_of operator) a)) }
+    ensures found { IfOk result (λ r. FindsByRule r (unary_rule at (unary_of operator) a)) }
     ensures faults { OnOk result (Adds worst.old worst.new (unary_rule at (unary_of operator) a)) }
 {
     match a {
@@ -168,7 +168,7 @@ pub fn cast(
     to: CType,
     a: Option<TypedNode>,
 ) -> Result<Option<TypedNode>, AllocError>
-    ensures found { IfOk result (λ r. Finds r (unary_rule at (cast_of to) a)) }
+    ensures found { IfOk result (λ r. FindsByRule r (unary_rule at (cast_of to) a)) }
     ensures faults { OnOk result (Adds worst.old worst.new (unary_rule at (cast_of to) a)) }
 {
     match a {

@@ -12,5 +12,5 @@ pub record IsFile (f : File') (d : File) : Type 0 where
   pub faults : least_of f.worst ≡ kept None d.faults
 
 -- after it the file is what the rule makes of the file before, whatever that is
-abbrev pub Declares : File' → File' → (File → File) → Type 0
-Declares before after rule = (d : File) → IsFile before d → IsFile after (rule d)
+abbrev pub DeclaresByRule : File' → File' → (File → File) → Type 0
+DeclaresByRule before after rule = (d : File) → IsFile before d → IsFile after (rule d)

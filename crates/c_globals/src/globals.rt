@@ -8,7 +8,7 @@ ghost use Rattle.c_resolved.specs.Scopes.{spelled};
 ghost use Rattle.c_resolved.specs.Statements.{is_taken, with_name, unless_holds};
 ghost use Rattle.c_resolved.specs.Types.{bytes_in};
 ghost use Rattle.c_syntax.specs.Program as trees;
-ghost use Rattle.c_globals.specs.Files.{Declares};
+ghost use Rattle.c_globals.specs.Files.{DeclaresByRule};
 ghost use Rattle.c_expressions.specs.Kept.{AddsFaults};
 ghost use Rattle.c_expressions.specs.Views.{block_of, entity};
 
@@ -263,7 +263,7 @@ fn global<'a>(
     base: Base,
     g: &Declarator,
 ) -> Result<(), AllocError>
-    ensures { OnOk result (Declares file.old file.new
+    ensures { OnOk result (DeclaresByRule file.old file.new
         (definitions.with_global text.now base (trees.global g.now))) }
 {
     let of = CType {
@@ -298,7 +298,7 @@ pub fn globals<'a>(
     base: Base,
     list: &[Declarator],
 ) -> Result<(), AllocError>
-    ensures { OnOk result (Declares file.old file.new
+    ensures { OnOk result (DeclaresByRule file.old file.new
         (definitions.with_globals text.now base (map trees.global list.now))) }
 {
     for g in list {

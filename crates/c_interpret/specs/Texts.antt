@@ -35,6 +35,6 @@ TookFront (Write taken) before text after = TookPart before text after taken
 TookFront Memory before text after =
     (part : List ℕ) × ((rest : List ℕ) × (text ≡ part ++ rest)) × Grew before part after
 
-abbrev pub HasCause : MeanErr → ℕ → ℕ → Type 0
-HasCause (Write taken) faults faults' = Rose faults faults'
-HasCause Memory faults faults' = Unit {0}
+abbrev pub MeaningHasCause : MeanErr → ℕ → ℕ → Type 0
+MeaningHasCause (Write taken) faults faults' = Rose faults faults'
+MeaningHasCause Memory faults faults' = Unit {0}

@@ -10,7 +10,7 @@ use Rattle.c_expressions.specs.Views.{block_of}
 use Rattle.c_locals.proofs.Declaring.{only_declared}
 use Rattle.c_locals.specs.declared.declarations.Beginning.{Beginning}
 use Rattle.c_locals.specs.declared.environment.Walk.{Walk}
-use Rattle.c_locals.specs.Resolved.{Resolves, Begins, declares}
+use Rattle.c_locals.specs.Resolved.{Resolves, IsBeginning, declares}
 use Rattle.c_locals.specs.Values.{MayEvaluate}
 use Rattle.c_locals.specs.Views.{numbering, resolved_at}
 use Rattle.c_resolved.specs.Statements.{Environment, any, declare_all, names_only, optional, resolve_for_initialiser}
@@ -22,7 +22,7 @@ use Rattle.c_syntax.specs.Statement.{Declaring, Evaluating, local}
 
 pub declaring : (a : Environment) (base : Base) (ls slice : List Local') (old block : List (Bor (List ℕ) × Entity')) (w w' : Walk) (b : Beginning)
     → old ≡ [] → slice ≡ ls → b.first ≡ None → Resolves block w w' (map declares b.declared.items) (declare_all a base (map local slice) (block_of old) (numbering w))
-    → Begins block w w' b (resolve_for_initialiser a (Declaring base (map local ls)) (numbering w))
+    → IsBeginning block w w' b (resolve_for_initialiser a (Declaring base (map local ls)) (numbering w))
 declaring a base ls slice old block w w' b empty same none h =
     let m = declare_all a base (map local ls) [] (numbering w) in
     let own : Resolves block w w' (map declares b.declared.items) m = subst (λ es. Resolves block w w' (map declares b.declared.items) (declare_all a base (map local ls) (block_of es) (numbering w))) empty
@@ -37,7 +37,7 @@ declaring a base ls slice old block w w' b empty same none h =
 
 pub evaluating : (a : Environment) (e : Option Expr) (old : List (Bor (List ℕ) × Entity')) (w w' : Walk) (b : Beginning)
     → old ≡ [] → b.declared.items ≡ [] → numbering w' ≡ numbering w → MayEvaluate w.worst w'.worst b.first (optional (λ x. any (resolved_at a (block_of old) x)) (option_map tree e))
-    → Begins old w w' b (resolve_for_initialiser a (Evaluating (option_map tree e)) (numbering w))
+    → IsBeginning old w w' b (resolve_for_initialiser a (Evaluating (option_map tree e)) (numbering w))
 evaluating a e old w w' b empty none counts h =
     let own : MayEvaluate w.worst w'.worst b.first (optional (λ x. any (resolved_at a [] x)) (option_map tree e)) = subst (λ es. MayEvaluate w.worst w'.worst b.first (optional (λ x. any (resolved_at a (block_of es) x)) (option_map tree e))) empty h in
     record { declared = ap (map declared) none; first = own.value; counts = counts; block = ap block_of empty; faults = own.faults }

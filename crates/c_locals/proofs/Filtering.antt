@@ -3,7 +3,7 @@ use Rattle.std.proofs.Common.{◌≡◌, ℕ, ◌+◌, Bool, true, false, cond, 
 use Rattle.c_checked.specs.declared.expression.Expr.{Expr}
 use Rattle.c_checked.specs.Statement.{Always, Funclet}
 use Rattle.c_expressions.specs.declared.least.Least.{Least}
-use Rattle.c_locals.specs.Values.{Evaluates, Answers}
+use Rattle.c_locals.specs.Values.{Evaluates, ResolvesFilter}
 use Rattle.c_locals.specs.Views.{filter_resolved_at}
 use Rattle.c_resolved.specs.Scopes.{Scope}
 use Rattle.c_resolved.specs.Statements.{Environment, ResolvedFilter, always, resolve_filter, to_answer}
@@ -14,9 +14,9 @@ filter_by a block x same number =
     let v = to_answer (start x) (filter_resolved_at a block x) in
     cond same (record { filter = Always; number = number; faults = [] }) (record { filter = Funclet number v.value; number = number + 1; faults = v.faults })
 
-pub always_same : (a : Environment) (block : Scope) (x : Expression) (before : Least) → always a block x ≡ true → Answers before before None (resolve_filter a block x)
-always_same a block x before same = subst (λ b. Answers before before None (filter_by a block x b)) (sym same) (record { filter = λ n. refl; number = λ n. refl; faults = λ n. refl })
+pub always_same : (a : Environment) (block : Scope) (x : Expression) (before : Least) → always a block x ≡ true → ResolvesFilter before before None (resolve_filter a block x)
+always_same a block x before same = subst (λ b. ResolvesFilter before before None (filter_by a block x b)) (sym same) (record { filter = λ n. refl; number = λ n. refl; faults = λ n. refl })
 
-pub answered : (a : Environment) (block : Scope) (x : Expression) (before after : Least) (e : Expr) → always a block x ≡ false → Evaluates before after e (to_answer (start x) (filter_resolved_at a block x)) → Answers before after (Some e) (resolve_filter a block x)
+pub answered : (a : Environment) (block : Scope) (x : Expression) (before after : Least) (e : Expr) → always a block x ≡ false → Evaluates before after e (to_answer (start x) (filter_resolved_at a block x)) → ResolvesFilter before after (Some e) (resolve_filter a block x)
 answered a block x before after e same h =
-    subst (λ b. Answers before after (Some e) (filter_by a block x b)) (sym same) (record { filter = λ n. ap (Funclet n) h.value; number = λ n. refl; faults = λ n. h.faults })
+    subst (λ b. ResolvesFilter before after (Some e) (filter_by a block x b)) (sym same) (record { filter = λ n. ap (Funclet n) h.value; number = λ n. refl; faults = λ n. h.faults })

@@ -27,7 +27,7 @@ pub record Resolves (names : List (Bor (List ℕ) × Entity)) (before after : Wa
   pub faults : least_of after.worst ≡ kept (least_of before.worst) r.faults
 
 -- what a `for` does first, likewise
-pub record Begins (names : List (Bor (List ℕ) × Entity)) (before after : Walk) (b : Beginning)
+pub record IsBeginning (names : List (Bor (List ℕ) × Entity)) (before after : Walk) (b : Beginning)
     (r : ResolvedForInitialiser) : Type 0 where
   pub declared : map declared b.declared.items ≡ r.declared
   pub first : option_map expression b.first ≡ r.first.value

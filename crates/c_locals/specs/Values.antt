@@ -27,7 +27,8 @@ number_after number None = number
 number_after number (Some e) = number + 1
 
 -- the answer of a filter, whatever its number is
-pub record Answers (before after : Least) (e : Option Expr) (r : ℕ → ResolvedFilter) : Type 0 where
+pub record ResolvesFilter (before after : Least) (e : Option Expr) (r : ℕ
+    → ResolvedFilter) : Type 0 where
   pub filter : (number : ℕ) → filter_with number (option_map expression e) ≡ (r number).filter
   pub number : (number : ℕ) → number_after number (option_map expression e) ≡ (r number).number
   pub faults : (number : ℕ) → least_of after ≡ kept (least_of before) (r number).faults

@@ -10,7 +10,7 @@ ghost use Rattle.c_resolved.specs.Statements.{is_taken, unless_holds};
 ghost use Rattle.c_resolved.specs.Types.{is_scalar};
 ghost use Rattle.c_expressions.specs.Kept.{AddsFaults};
 ghost use Rattle.c_expressions.specs.Views.{block_of};
-ghost use Rattle.c_locals.specs.Resolved.{Resolves, Begins, declares};
+ghost use Rattle.c_locals.specs.Resolved.{Resolves, IsBeginning, declares};
 ghost use Rattle.c_locals.specs.Views.{environment, numbering};
 ghost use Rattle.c_syntax.specs.Statement as trees;
 
@@ -147,7 +147,7 @@ pub fn for_initialiser<'t>(
     walk: &mut Walk,
 ) -> Result<Beginning, AllocError>
     requires { block.old.entries ≡ [] }
-    ensures { IfOk result (λ b. Begins block.new.entries walk.old walk.new b
+    ensures { IfOk result (λ b. IsBeginning block.new.entries walk.old walk.new b
         (definitions.resolve_for_initialiser (environment env.now) (trees.first initialiser.now)
         (numbering walk.old))) }
 {

@@ -7,7 +7,7 @@ ghost use Rattle.c_resolved.specs.Statements as definitions;
 ghost use Rattle.c_resolved.specs.Statements.{with_number};
 ghost use Rattle.c_expressions.specs.Kept.{AddsFaults};
 ghost use Rattle.c_expressions.specs.Views.{block_of, entity};
-ghost use Rattle.c_locals.specs.Values.{Evaluates, Answers, filter_with, number_after};
+ghost use Rattle.c_locals.specs.Values.{Evaluates, ResolvesFilter, filter_with, number_after};
 ghost use Rattle.c_locals.specs.Views.{environment, numbering, filter_resolved_in};
 ghost use Rattle.c_syntax.specs.Expression.{expression, start};
 ghost use Rattle.c_types.specs.Views.{FindsTyped};
@@ -116,7 +116,7 @@ pub fn filter_value<'t>(
     worst: &mut Least,
     e: &Expr,
 ) -> Result<Option<Checked>, AllocError>
-    ensures { IfOk result (λ r. Answers worst.old worst.new r
+    ensures { IfOk result (λ r. ResolvesFilter worst.old worst.new r
         (definitions.resolve_filter (environment env.now) (block_of block.now.entries)
         (expression e.now))) }
 {

@@ -30,7 +30,7 @@ use Rattle.c_parse_type.specs.Bases.{NoStar}
 use Rattle.c_syntax.specs.declared.limit.Count.TheVariants.{Globals}
 use Rattle.c_parse_expr.specs.declared.refusal.ParseErr.{ParseErr}
 use Rattle.c_parse_expr.specs.declared.refusal.ParseErr.TheVariants.{Unexpected, TooMany}
-use Rattle.c_parse_expr.specs.Refusals.{Placed}
+use Rattle.c_parse_expr.specs.Refusals.{IsPlacedRefusal}
 use Rattle.c_parse_stmt.specs.Parts.{NoPunctuator, APunctuator}
 use Rattle.c_parse.specs.Parts.{NoInitialiser, HasInitialiser, end_of, IsBracketed, NoneBracketed}
 use Rattle.c_parse.specs.Parts.{HasBracketed, IsAfterName, NoLength, HasLength, EndsScalar}
@@ -457,12 +457,12 @@ pub scalar : (e : ParseErr) (text : List ℕ) (base : Base) (pointers at : ℕ) 
     → at ≤ 1048576 → Lacks punctuators.OpenBracket ts → 1048576 < end_of base pointers None at
     → ((e ≡ TooMany (place text ts) Globals) × EndsScalar ts)
     ⊎ ((e ≡ Unexpected (place text ts)) × (EndsScalar ts → ⊥))
-    → Placed e (NoLength base pointers at) (HasLength base pointers at) text ts
+    → IsPlacedRefusal e (NoLength base pointers at) (HasLength base pointers at) text ts
 scalar e text base pointers at ts w l f (inl h) =
-    subst (λ (x : ParseErr). Placed x (NoLength base pointers at) (HasLength base pointers at) text
+    subst (λ (x : ParseErr). IsPlacedRefusal x (NoLength base pointers at) (HasLength base pointers at) text
     ts) (sym h.0) (scalar_too_far text base pointers at ts w l f h.1)
 scalar e text base pointers at ts w l f (inr h) =
-    subst (λ (x : ParseErr). Placed x (NoLength base pointers at) (HasLength base pointers at) text
+    subst (λ (x : ParseErr). IsPlacedRefusal x (NoLength base pointers at) (HasLength base pointers at) text
     ts) (sym h.0) (scalar_ends text base pointers at ts w l h.1)
 
 -- ---- one global

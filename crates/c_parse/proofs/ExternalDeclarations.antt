@@ -27,7 +27,7 @@ use Rattle.c_syntax.proofs.Files.{globals_type, apart}
 use Rattle.c_parse_type.specs.Bases.{NoBase, NoStar, EndsBase}
 use Rattle.c_parse.specs.declared.counts.Counts.{Counts}
 use Rattle.c_parse.specs.Counts.{Taken, NoExternalDeclaration, HasExternalDeclaration}
-use Rattle.c_parse.specs.Parts.{NoGlobals, HasGlobals, IsTail, NoTail, HasTail, IsHead, NoHead}
+use Rattle.c_parse.specs.Parts.{NoGlobals, HasGlobals, IsTail, NoTail, HasTail, IsDeclarationHead, NoHead}
 use Rattle.c_parse.specs.Parts.{HasHead}
 use Rattle.c_parse.proofs.Refusing.{missing, punctuator, named, name, has_it, following, Lacks}
 use Rattle.c_parse.proofs.Refusing.{NoIdentifier}
@@ -96,9 +96,9 @@ no_name text b k ts d a is far s z none =
         name = named;
         is = λ other.
             let rest = name ∷ other in
-            following (λ x. (g : List Token) × IsHead b k named x g other) (far.front ++ ms.front)
+            following (λ x. (g : List Token) × IsDeclarationHead b k named x g other) (far.front ++ ms.front)
             (name ∷ []) other
-            (following (λ x. (g : List Token) × IsHead b k named x g other) far.front ms.front rest (
+            (following (λ x. (g : List Token) × IsDeclarationHead b k named x g other) far.front ms.front rest (
               ms.front ++ rest,
               record {
                 after_stars = rest;
@@ -124,7 +124,7 @@ pub record Headed (b : Base) (n : ℕ) (called : Identifier) (ts d rest : List T
       → (a : List Token) × AreStars n (declared ++ other) a × IsIdentifier called a other
 
 pub headed : (text : List ℕ) (b : Base) (n : ℕ) (called : Identifier) (ts d rest : List Token)
-    → IsHead b n called ts d rest → Headed b n called ts d rest
+    → IsDeclarationHead b n called ts d rest → Headed b n called ts d rest
 headed text b n called ts d rest h =
     let mb = moves.base b text ts d h.base in
     let ms = moves.stars n text d h.after_stars h.stars in
@@ -144,7 +144,7 @@ headed text b n called ts d rest h =
 -- with these tokens after it
 is_head : (b : Base) (n : ℕ) (called : Identifier) (ts d rest : List Token)
     (m : Headed b n called ts d rest) (other : List Token)
-    → IsHead b n called (m.front ++ (m.declared ++ other)) (m.declared ++ other) other
+    → IsDeclarationHead b n called (m.front ++ (m.declared ++ other)) (m.declared ++ other) other
 is_head b n called ts d rest m other =
     let q = m.declares other in
     record { after_stars = q.0; base = m.again (m.declared ++ other); stars = q.1; name = q.2 }
@@ -162,7 +162,7 @@ has_head n text b k called ts d rest m =
       base = b;
       pointers = k;
       name = called;
-      is = λ other. following (λ x. (g : List Token) × IsHead b k called x g other) m.front
+      is = λ other. following (λ x. (g : List Token) × IsDeclarationHead b k called x g other) m.front
           m.declared
           other (m.declared ++ other, is_head b k called ts d rest m other);
     }
@@ -240,7 +240,7 @@ typed b n = record { base = b; pointers = n }
 
 -- no globals are where a parenthesis is after the head
 not_globals : (text : List ℕ) (b base : Base) (n : ℕ) (called : Identifier) (gs : List Global)
-    (ts d rest inner end : List Token) → IsHead base n called ts d rest
+    (ts d rest inner end : List Token) → IsDeclarationHead base n called ts d rest
     → HasPunctuator punctuators.OpenParenthesis rest inner
     → IsExternalDeclaration text (Globals b gs) ts end → ⊥
 not_globals text b base n called gs ts d rest inner end h o g =
@@ -249,7 +249,7 @@ not_globals text b base n called gs ts d rest inner end h o g =
 
 -- a function has one head
 head_once : (base other : Base) (n m : ℕ) (called again : Identifier) (ts d e rest end : List Token)
-    → IsHead base n called ts d rest → IsHead other m again ts e end → rest ≡ end
+    → IsDeclarationHead base n called ts d rest → IsDeclarationHead other m again ts e end → rest ≡ end
 head_once base other n m called again ts d e rest end h g =
     let b = base_once base other ts ts d e refl
     (declarators_type n called d h.after_stars rest h.stars h.name)
@@ -260,7 +260,7 @@ head_once base other n m called again ts d e rest end h g =
     (name_same called again h.after_stars g.after_stars rest end s.1 h.name g.name).1
 
 pub function : (text : List ℕ) (base : Base) (n : ℕ) (called : Identifier) (ps : List Parameter)
-    (body : Statements) (ts d rest inner end : List Token) → IsHead base n called ts d rest
+    (body : Statements) (ts d rest inner end : List Token) → IsDeclarationHead base n called ts d rest
     → HasPunctuator punctuators.OpenParenthesis rest inner → IsTail text ps body inner end
     → IsExternalDeclaration text (Function (typed base n) called ps body) ts end
 function text base n called ps body ts d rest inner end h o t = record {
@@ -276,7 +276,7 @@ function text base n called ps body ts d rest inner end h o t = record {
 }
 
 full : (counts : Counts) (k : ℕ) (text : List ℕ) (base : Base) (n : ℕ) (called : Identifier)
-    (ts d rest inner : List Token) → 4 ≤ k → IsHead base n called ts d rest
+    (ts d rest inner : List Token) → 4 ≤ k → IsDeclarationHead base n called ts d rest
     → HasPunctuator punctuators.OpenParenthesis rest inner → counts.functions ≡ 0
     → NoExternalDeclaration counts k text ts
 full counts k text base n called ts d rest inner four h o z (Globals b gs) end g w =
@@ -289,7 +289,7 @@ nothing = punctuator punctuators.CloseParenthesis ∷ punctuator punctuators.Ope
     punctuators.CloseBrace ∷ []
 
 pub functions_full : (text : List ℕ) (counts : Counts) (base : Base) (n : ℕ) (called : Identifier)
-    (ts d rest inner : List Token) → counts.bytes ≤ 1048576 → IsHead base n called ts d rest
+    (ts d rest inner : List Token) → counts.bytes ≤ 1048576 → IsDeclarationHead base n called ts d rest
     → HasPunctuator punctuators.OpenParenthesis rest inner → counts.functions ≡ 0
     → Failed 4 (place text rest) (NoExternalDeclaration counts) (HasExternalDeclaration counts) text
     ts
@@ -352,7 +352,7 @@ functions_full text counts base n called ts d rest inner w h o z =
     }
 
 no_tail : (counts : Counts) (k : ℕ) (text : List ℕ) (base : Base) (n : ℕ) (called : Identifier)
-    (ts d rest inner : List Token) → IsHead base n called ts d rest
+    (ts d rest inner : List Token) → IsDeclarationHead base n called ts d rest
     → HasPunctuator punctuators.OpenParenthesis rest inner → NoTail counts.funclets k text inner
     → NoExternalDeclaration counts k text ts
 no_tail counts k text base n called ts d rest inner h o none (Globals b gs) end g w =
@@ -377,7 +377,7 @@ no_tail counts k text base n called ts d rest inner h o none (Function t again p
     }) w.each.0 (λ six. let a = w.funclets six in omega arith)
 
 pub in_tail : (text : List ℕ) (counts : Counts) (base : Base) (n : ℕ) (called : Identifier)
-    (ts d rest inner : List Token) → counts.bytes ≤ 1048576 → IsHead base n called ts d rest
+    (ts d rest inner : List Token) → counts.bytes ≤ 1048576 → IsDeclarationHead base n called ts d rest
     → HasPunctuator punctuators.OpenParenthesis rest inner → (counts.functions ≡ 0 → ⊥)
     → Wraps (NoTail counts.funclets) (HasTail counts.funclets) (NoExternalDeclaration counts)
     (HasExternalDeclaration counts) text inner ts
@@ -437,7 +437,7 @@ function_taken text counts after type called ps body f b low w n =
 -- ---- globals
 
 no_globals : (counts : Counts) (k : ℕ) (text : List ℕ) (base : Base) (n : ℕ) (called : Identifier)
-    (ts d rest : List Token) → IsHead base n called ts d rest
+    (ts d rest : List Token) → IsDeclarationHead base n called ts d rest
     → Lacks punctuators.OpenParenthesis rest → NoGlobals base counts.bytes k text d
     → NoExternalDeclaration counts k text ts
 no_globals counts k text base n called ts d rest h l none (Globals b gs) end g w =
@@ -540,7 +540,7 @@ globals_has counts k text base front inner b h = record {
 -- What fails as globals fails as an external declaration: it fails after the head, which no
 -- parenthesis follows.
 pub as_globals : (text : List ℕ) (counts : Counts) (base : Base) (n : ℕ) (called : Identifier)
-    (ts d rest : List Token) → counts.bytes ≤ 1048576 → IsHead base n called ts d rest
+    (ts d rest : List Token) → counts.bytes ≤ 1048576 → IsDeclarationHead base n called ts d rest
     → Lacks punctuators.OpenParenthesis rest
     → (kind at : ℕ) → Failed kind at (NoGlobals base counts.bytes) (HasGlobals base counts.bytes)
     text d → Failed kind at (NoExternalDeclaration counts) (HasExternalDeclaration counts) text

@@ -5,7 +5,7 @@ use Rattle.c_lex.specs.declared.token.Token.{Token}
 use Rattle.c_syntax.specs.Faults.{place}
 use Rattle.c_syntax.specs.Limits.{every_limit, Within}
 use Rattle.c_syntax.specs.Programs.{IsProgram}
-use Rattle.c_syntax.specs.Viable.{Viable, Continues}
+use Rattle.c_syntax.specs.Viable.{Viable, ContinuesWithin}
 use Rattle.c_syntax.proofs.Failing.{append_append}
 use Rattle.c_parse.specs.Laws.{IsNoProgram, HasNoFault, ProgramOrFault}
 
@@ -22,7 +22,7 @@ module _ (text : List ℕ) (ts : List Token) (faultless : HasNoFault text ts) wh
   -- tokens before a place continue there within the first n limits: if they didn't, then they
   -- wouldn't within fewer, and there would be a fault
   continues : (front fault : List Token) → ts ≡ front ++ fault → Viable every_limit text front
-      → (n : ℕ) → (Continues n text front fault → ⊥) → ⊥
+      → (n : ℕ) → (ContinuesWithin n text front fault → ⊥) → ⊥
   continues front fault split viable zero stops =
       faultless 0 (place text fault)
       (record {
@@ -43,7 +43,7 @@ module _ (text : List ℕ) (ts : List Token) (faultless : HasNoFault text ts) wh
         viable = viable;
         stops = stops;
         fewer = λ k e. let same : n ≡ k = omega arith in
-            subst (λ (m : ℕ). Continues m text front fault) same before;
+            subst (λ (m : ℕ). ContinuesWithin m text front fault) same before;
       }))
 
   -- token by token, up to the end

@@ -11,7 +11,7 @@ use Rattle.c_syntax.specs.Limits.{Number, order, every_limit, WithinFirst, Withi
 use Rattle.c_syntax.specs.Limits.{funclets_of_all, funclets_in, bytes_from}
 use Rattle.c_syntax.specs.Program.{ExternalDeclaration, Globals, Function, external_declaration}
 use Rattle.c_syntax.specs.Programs.{IsExternalDeclaration, IsProgram}
-use Rattle.c_syntax.specs.Viable.{Continues, IsSyntaxFault}
+use Rattle.c_syntax.specs.Viable.{ContinuesWithin, IsSyntaxFault}
 use Rattle.c_syntax.proofs.Failing.{append_append, alike_same, alike_inner}
 use Rattle.c_syntax.proofs.Fronts.{front}
 use Rattle.c_syntax.proofs.FirstFault.{function_fewer, no_fault_in_program}
@@ -20,9 +20,9 @@ use Rattle.c_syntax.proofs.MovesPrograms as moves
 use Rattle.c_parse_expr.specs.declared.refusal.ParseErr.{ParseErr}
 use Rattle.c_parse_expr.specs.declared.refusal.ParseErr.TheVariants.{Unexpected, TooDeep, TooMany}
 use Rattle.c_parse_expr.specs.declared.refusal.ParseErr.TheVariants.{Memory}
-use Rattle.c_parse_expr.specs.Refusals.{Placed, Refuses}
+use Rattle.c_parse_expr.specs.Refusals.{IsPlacedRefusal, ParserRefuses}
 use Rattle.c_parse.specs.declared.counts.Counts.{Counts}
-use Rattle.c_parse.specs.Counts.{Fits, Taken, NoExternalDeclaration, HasExternalDeclaration}
+use Rattle.c_parse.specs.Counts.{FitsCounts, Taken, NoExternalDeclaration, HasExternalDeclaration}
 use Rattle.c_parse.proofs.Beyond as beyond
 use Rattle.c_parse.proofs.Placing.{grows}
 use Rattle.c_parse.proofs.Refusing.{following}
@@ -44,9 +44,9 @@ pub record Read (text : List ℕ) (ts : List Token) (found : List ExternalDeclar
       → (ys : List ExternalDeclaration) × (xs ≡ map external_declaration found ++ ys) × IsProgram
       text' ys other
   pub within : (n : ℕ) (text' : List ℕ) → Alike text text' ts → (xs : List ExternalDeclaration)
-      → Fits n text' counts xs → WithinFirst n text' (map external_declaration found ++ xs)
+      → FitsCounts n text' counts xs → WithinFirst n text' (map external_declaration found ++ xs)
   pub fits : (n : ℕ) (text' : List ℕ) → Alike text text' ts → (xs : List ExternalDeclaration)
-      → WithinFirst n text' (map external_declaration found ++ xs) → Fits n text' counts xs
+      → WithinFirst n text' (map external_declaration found ++ xs) → FitsCounts n text' counts xs
   pub low : counts.bytes ≤ 1048576
 
 pub begins : (text : List ℕ) (ts : List Token) (counts : Counts) → counts.functions ≡ 4096
@@ -74,8 +74,8 @@ begins text ts counts f b n = record {
 -- ---- one declaration more
 
 more : (n : ℕ) (text : List ℕ) (counts less : Counts) (x : ExternalDeclaration)
-    (xs : List ExternalDeclaration) → Taken text counts less x → Fits n text less xs
-    → Fits n text counts (x ∷ xs)
+    (xs : List ExternalDeclaration) → Taken text counts less x → FitsCounts n text less xs
+    → FitsCounts n text counts (x ∷ xs)
 more n text counts less (Globals b gs) xs t w =
     let p = t.functions in let v = t.funclets in record {
       each = w.each;
@@ -94,8 +94,8 @@ more n text counts less (Function r name ps body) xs t w =
     }
 
 fewer : (n : ℕ) (text : List ℕ) (counts less : Counts) (x : ExternalDeclaration)
-    (xs : List ExternalDeclaration) → Taken text counts less x → Fits n text counts (x ∷ xs)
-    → Fits n text less xs
+    (xs : List ExternalDeclaration) → Taken text counts less x → FitsCounts n text counts (x ∷ xs)
+    → FitsCounts n text less xs
 fewer n text counts less (Globals b gs) xs t w =
     let p = t.functions in let v = t.funclets in record {
       each = w.each;
@@ -226,7 +226,7 @@ bytes_grow (Globals b gs ∷ xs) at = let a = grows b gs at in let c =
 bytes_grow (Function r name ps body ∷ xs) at = bytes_grow xs at
 
 one : (n : ℕ) (text : List ℕ) (counts : Counts) (x : ExternalDeclaration)
-    (xs : List ExternalDeclaration) → Fits n text counts (x ∷ xs) → Fits n text counts (x ∷ [])
+    (xs : List ExternalDeclaration) → FitsCounts n text counts (x ∷ xs) → FitsCounts n text counts (x ∷ [])
 one n text counts (Globals b gs) xs w =
     let a = bytes_grow xs (end_of_globals b gs counts.bytes) in record {
       each = tt;
@@ -260,7 +260,7 @@ stuck n text text' ts rest other found counts xs d a e none h w =
     by r.0 r.2 (d.fits n text' a r.0
     (subst (λ (z : List ExternalDeclaration). WithinFirst n text' z) r.1 w))
   where
-    by : (ys : List ExternalDeclaration) → IsProgram text' ys other → Fits n text' counts ys → ⊥
+    by : (ys : List ExternalDeclaration) → IsProgram text' ys other → FitsCounts n text' counts ys → ⊥
     by [] g f = e g
     by (y ∷ ys) g f = none y g.0 g.1 (one n text' counts y ys f)
 
@@ -268,7 +268,7 @@ stops : (n at : ℕ) (text : List ℕ) (ts rest begin fault : List Token)
     (found : List ExternalDeclaration') (counts : Counts) (d : Read text ts found rest counts)
     → IsTokens text ts → (rest ≡ [] → ⊥)
     → (f : Failed n at (NoExternalDeclaration counts) (HasExternalDeclaration counts) text rest)
-    → begin ≡ d.front ++ f.front → fault ≡ f.fault → Continues n text begin fault → ⊥
+    → begin ≡ d.front ++ f.front → fault ≡ f.fault → ContinuesWithin n text begin fault → ⊥
 stops n at text ts rest begin [] found counts d k e f p q h =
     let same = alike_same text ts in
     let r : rest ≡ f.front = f.split ∙ ap (λ (z : List Token). f.front ++ z) (sym q)
@@ -338,7 +338,7 @@ fault n at text ts rest found counts d k e f =
           let j = joined m text text' ts rest (f.front ++ o.token ∷ o.more) found counts d a
           o.has in
           let xs = map external_declaration found ++ o.has.tree ∷ [] in
-          subst (λ (z : List Token). Continues m text (d.front ++ f.front) z) (sym o.is)
+          subst (λ (z : List Token). ContinuesWithin m text (d.front ++ f.front) z) (sym o.is)
           (record {
             beyond = beyond.words;
             more = o.more;
@@ -353,8 +353,8 @@ fault n at text ts rest found counts d k e f =
 pub refuses : (e : ParseErr) (text : List ℕ) (ts rest : List Token)
     (found : List ExternalDeclaration') (counts : Counts) → Read text ts found rest counts
     → IsTokens text ts → (rest ≡ [] → ⊥)
-    → Placed e (NoExternalDeclaration counts) (HasExternalDeclaration counts) text rest
-    → Refuses e text ts
+    → IsPlacedRefusal e (NoExternalDeclaration counts) (HasExternalDeclaration counts) text rest
+    → ParserRefuses e text ts
 refuses (Unexpected at) text ts rest found counts d k n p =
     fault 0 at text ts rest found counts d k n p
 refuses (TooDeep at) text ts rest found counts d k n p =
@@ -366,7 +366,7 @@ refuses Memory text ts rest found counts d k n p = tt
 -- ---- no program within the limits is refused
 
 pub memory : (e : ParseErr) (text : List ℕ) (ts : List Token) (xs : List ExternalDeclaration)
-    → Refuses e text ts → IsProgram text xs ts → Within text xs → e ≡ Memory
+    → ParserRefuses e text ts → IsProgram text xs ts → Within text xs → e ≡ Memory
 memory (Unexpected at) text ts xs r h w = absurd (no_fault_in_program text ts 0 at xs r h w)
 memory (TooDeep at) text ts xs r h w = absurd (no_fault_in_program text ts 1 at xs r h w)
 memory (TooMany at what) text ts xs r h w =

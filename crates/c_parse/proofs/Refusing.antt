@@ -17,13 +17,13 @@ use Rattle.c_syntax.specs.Limits.{Number, order}
 use Rattle.c_parse_expr.specs.declared.refusal.ParseErr.{ParseErr}
 use Rattle.c_parse_expr.specs.declared.refusal.ParseErr.TheVariants.{Unexpected, TooDeep, TooMany}
 use Rattle.c_parse_expr.specs.declared.refusal.ParseErr.TheVariants.{Memory}
-use Rattle.c_parse_expr.specs.Refusals.{Placed}
+use Rattle.c_parse_expr.specs.Refusals.{IsPlacedRefusal}
 
 -- ---- refusals
 
 -- in a greater phrase
 pub placed_in : (e : ParseErr) (No Has No' Has' : Family) (text : List ℕ) (ts ts' : List Token)
-    → Wraps No Has No' Has' text ts ts' → Placed e No Has text ts → Placed e No' Has' text ts'
+    → Wraps No Has No' Has' text ts ts' → IsPlacedRefusal e No Has text ts → IsPlacedRefusal e No' Has' text ts'
 placed_in (Unexpected at) No Has No' Has' text ts ts' w p =
     wrapped No Has No' Has' 0 at text ts ts' w p
 placed_in (TooDeep at) No Has No' Has' text ts ts' w p =
@@ -35,7 +35,7 @@ placed_in Memory No Has No' Has' text ts ts' w p = tt
 -- by what each failure is
 pub placed_so : (e : ParseErr) (No Has No' Has' : Family) (text : List ℕ) (ts ts' : List Token)
     → ((kind at : ℕ) → Failed kind at No Has text ts → Failed kind at No' Has' text ts')
-    → Placed e No Has text ts → Placed e No' Has' text ts'
+    → IsPlacedRefusal e No Has text ts → IsPlacedRefusal e No' Has' text ts'
 placed_so (Unexpected at) No Has No' Has' text ts ts' w p = w 0 at p
 placed_so (TooDeep at) No Has No' Has' text ts ts' w p = w 1 at p
 placed_so (TooMany at what) No Has No' Has' text ts ts' w p = w (order (Number what)) at p
@@ -44,7 +44,7 @@ placed_so Memory No Has No' Has' text ts ts' w p = tt
 pub refused_so : {A : Type 0} (r : Result A ParseErr) (No Has No' Has' : Family) (text : List ℕ)
     (ts ts' : List Token)
     → ((kind at : ℕ) → Failed kind at No Has text ts → Failed kind at No' Has' text ts')
-    → IfErr r (λ e. Placed e No Has text ts) → IfErr r (λ e. Placed e No' Has' text ts')
+    → IfErr r (λ e. IsPlacedRefusal e No Has text ts) → IfErr r (λ e. IsPlacedRefusal e No' Has' text ts')
 refused_so (Ok x) No Has No' Has' text ts ts' w p = tt
 refused_so (Err e) No Has No' Has' text ts ts' w p = placed_so e No Has No' Has' text ts ts' w p
 

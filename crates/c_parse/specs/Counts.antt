@@ -12,7 +12,7 @@ use Rattle.c_syntax.specs.Programs.{IsExternalDeclaration}
 use Rattle.c_parse.specs.declared.counts.Counts.{Counts}
 
 -- within the first n limits after what was counted
-pub record Fits (n : ℕ) (text : List ℕ) (counts : Counts)
+pub record FitsCounts (n : ℕ) (text : List ℕ) (counts : Counts)
     (xs : List ExternalDeclaration) : Type 0 where
   pub each : EachWithinFirst n xs
   pub functions : IsInForce (Number Functions) n → limits.functions xs ≤ counts.functions
@@ -30,10 +30,10 @@ pub record Taken (text : List ℕ) (counts after : Counts) (x : ExternalDeclarat
 abbrev pub NoExternalDeclaration : Counts → ℕ → List ℕ → List Token → Type 0
 NoExternalDeclaration counts n text ts =
     (x : ExternalDeclaration) (end : List Token) → IsExternalDeclaration text x ts end
-    → Fits n text counts (x ∷ []) → ⊥
+    → FitsCounts n text counts (x ∷ []) → ⊥
 
 pub record HasExternalDeclaration (counts : Counts) (n : ℕ) (text : List ℕ)
     (ts : List Token) : Type 0 where
   pub tree : ExternalDeclaration
   pub is : (other : List Token) → IsExternalDeclaration text tree (ts ++ other) other
-  pub fits : Fits n text counts (tree ∷ [])
+  pub fits : FitsCounts n text counts (tree ∷ [])

@@ -188,7 +188,7 @@ pub record HasTail (funclets n : ℕ) (text : List ℕ) (ts : List Token) : Type
 -- ---- external declarations
 
 -- a base, stars and a name
-pub record IsHead (b : Base) (pointers : ℕ) (called : Identifier)
+pub record IsDeclarationHead (b : Base) (pointers : ℕ) (called : Identifier)
     (ts declarators rest : List Token) : Type 0 where
   pub after_stars : List Token
   pub base : IsBase b ts declarators
@@ -198,11 +198,11 @@ pub record IsHead (b : Base) (pointers : ℕ) (called : Identifier)
 abbrev pub NoHead : ℕ → List ℕ → List Token → Type 0
 NoHead n text ts =
     (base : Base) (pointers : ℕ) (name : Identifier) (declarators end : List Token)
-    → IsHead base pointers name ts declarators end → ⊥
+    → IsDeclarationHead base pointers name ts declarators end → ⊥
 
 pub record HasHead (n : ℕ) (text : List ℕ) (ts : List Token) : Type 0 where
   pub base : Base
   pub pointers : ℕ
   pub name : Identifier
   pub is : (other : List Token) → (declarators : List Token)
-      × IsHead base pointers name (ts ++ other) declarators other
+      × IsDeclarationHead base pointers name (ts ++ other) declarators other

@@ -8,7 +8,7 @@ ghost use Rattle.c_syntax.specs.Programs.{IsParameter, AreParameters};
 ghost use Rattle.c_syntax.specs.Statement.{statement, statements};
 ghost use Rattle.c_syntax.specs.declared.limit.Count.TheVariants as counts;
 ghost use Rattle.c_parse_expr.specs.declared.refusal.ParseErr.TheVariants.{TooMany};
-ghost use Rattle.c_parse_expr.specs.Refusals.{Placed};
+ghost use Rattle.c_parse_expr.specs.Refusals.{IsPlacedRefusal};
 ghost use Rattle.c_parse.specs.Parts.{NoParameter, HasParameter, IsVoid, NoListed, HasListed, NoParameters, HasParameters, IsTail};
 ghost use Rattle.c_parse.specs.Refused.{RefusesTail};
 
@@ -40,7 +40,7 @@ fn too_many_parameters(text: &[u8], tokens: &[Token]) -> ParseErr
 /// The parameter at the front, and what follows it.
 fn parameter<'a>(text: &[u8], tokens: &'a [Token]) -> Result<(Parameter, &'a [Token]), ParseErr>
     ensures found { IfOk result (λ x. IsParameter x.0 tokens.now x.1.now) }
-    ensures refused { IfErr result (λ e. Placed e NoParameter HasParameter text.now tokens.now) }
+    ensures refused { IfErr result (λ e. IsPlacedRefusal e NoParameter HasParameter text.now tokens.now) }
 {
     match c_type(tokens) {
         Some((of, following)) => match name(following) {
@@ -70,7 +70,7 @@ fn listed<'a>(
 ) -> Result<(Vec<Parameter>, &'a [Token]), ParseErr>
     ensures found { IfOk result (λ x. AreParameters x.0.items tokens.now x.1.now) }
     ensures few { IfOk result (λ x. length x.0.items ≤ MOST_PARAMETERS) }
-    ensures refused { IfErr result (λ e. Placed e NoListed HasListed text.now tokens.now) }
+    ensures refused { IfErr result (λ e. IsPlacedRefusal e NoListed HasListed text.now tokens.now) }
 {
     let (first, mut rest) = parameter(text, tokens)?;
     let mut left = MOST_PARAMETERS - 1;
@@ -98,7 +98,7 @@ fn parameters<'a>(
 ) -> Result<(Vec<Parameter>, &'a [Token]), ParseErr>
     ensures found { IfOk result (λ x. AreParameters x.0.items tokens.now x.1.now) }
     ensures few { IfOk result (λ x. length x.0.items ≤ MOST_PARAMETERS) }
-    ensures refused { IfErr result (λ e. Placed e NoParameters HasParameters text.now tokens.now) }
+    ensures refused { IfErr result (λ e. IsPlacedRefusal e NoParameters HasParameters text.now tokens.now) }
 {
     if let Some(rest) = after(Punctuator::CloseParenthesis, tokens) {
         return Ok((Vec::new(alloc), rest));

@@ -8,7 +8,7 @@ ghost use Rattle.c_syntax.specs.Programs.{IsConstant, AreConstants, IsInitialise
 ghost use Rattle.c_syntax.specs.Tokens.{IsPunctuator};
 ghost use Rattle.c_syntax.specs.Faults as faults;
 ghost use Rattle.c_parse_expr.specs.declared.refusal.ParseErr.TheVariants.{Unexpected};
-ghost use Rattle.c_parse_expr.specs.Refusals.{Placed};
+ghost use Rattle.c_parse_expr.specs.Refusals.{IsPlacedRefusal};
 ghost use Rattle.c_parse.specs.Parts.{NoConstant, HasConstant, NoConstants, HasConstants, IsGiven, NoneGiven, HasGiven, NoInitialiser, HasInitialiser};
 
 use c_lex::punctuator::Punctuator;
@@ -57,7 +57,7 @@ pub fn stop(text: &[u8], level: u8, tokens: &[Token]) -> Result<(), ParseErr>
 /// The constant at the front, a literal or `-` and a literal, and what follows it.
 fn constant<'a>(text: &[u8], tokens: &'a [Token]) -> Result<(Constant, &'a [Token]), ParseErr>
     ensures found { IfOk result (λ x. IsConstant x.0 tokens.now x.1.now) }
-    ensures refused { IfErr result (λ e. Placed e NoConstant HasConstant text.now tokens.now) }
+    ensures refused { IfErr result (λ e. IsPlacedRefusal e NoConstant HasConstant text.now tokens.now) }
 {
     match punctuator_at(Punctuator::Minus, tokens) {
         Some((at, following)) => match literal(following) {
@@ -92,7 +92,7 @@ fn constants<'a>(
     tokens: &'a [Token],
 ) -> Result<(Vec<Constant>, &'a [Token]), ParseErr>
     ensures found { IfOk result (λ x. AreConstants x.0.items tokens.now x.1.now) }
-    ensures refused { IfErr result (λ e. Placed e NoConstants HasConstants text.now tokens.now) }
+    ensures refused { IfErr result (λ e. IsPlacedRefusal e NoConstants HasConstants text.now tokens.now) }
 {
     let (first, mut rest) = constant(text, tokens)?;
     let mut found = Vec::new(alloc);
@@ -113,7 +113,7 @@ fn given<'a>(
     tokens: &'a [Token],
 ) -> Result<(Initialiser, &'a [Token]), ParseErr>
     ensures found { IfOk result (λ x. IsGiven (trees.initialiser x.0) tokens.now x.1.now) }
-    ensures refused { IfErr result (λ e. Placed e NoneGiven HasGiven text.now tokens.now) }
+    ensures refused { IfErr result (λ e. IsPlacedRefusal e NoneGiven HasGiven text.now tokens.now) }
 {
     match punctuator_at(Punctuator::OpenBrace, tokens) {
         Some((at, inner)) => {
@@ -137,7 +137,7 @@ pub fn initialiser<'a>(
         IsInitialiser (option_map trees.initialiser x.0) tokens.now x.1.now) }
     ensures stops { IfOk result (λ x. Stops ASSIGNMENT x.1.now) }
     ensures refused { IfErr result (λ e.
-        Placed e NoInitialiser HasInitialiser text.now tokens.now) }
+        IsPlacedRefusal e NoInitialiser HasInitialiser text.now tokens.now) }
 {
     match after(Punctuator::Assign, tokens) {
         Some(value) => {

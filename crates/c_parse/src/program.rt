@@ -10,11 +10,11 @@ ghost use Rattle.c_syntax.specs.Programs.{IsExternalDeclaration, IsProgram};
 ghost use Rattle.c_syntax.specs.Tokens.{HasPunctuator};
 ghost use Rattle.c_syntax.specs.declared.limit.Count.TheVariants as counts;
 ghost use Rattle.c_parse_expr.specs.declared.refusal.ParseErr.TheVariants.{TooMany, Memory};
-ghost use Rattle.c_parse_expr.specs.Refusals.{Placed, Refuses};
+ghost use Rattle.c_parse_expr.specs.Refusals.{IsPlacedRefusal, ParserRefuses};
 ghost use Rattle.c_parse.specs.Bounds.{IsBounded};
 ghost use Rattle.c_parse.specs.Counts.{Taken};
 ghost use Rattle.c_syntax.specs.Nodes.{nodes_of};
-ghost use Rattle.c_parse.specs.Parts.{IsHead, NoHead, HasHead};
+ghost use Rattle.c_parse.specs.Parts.{IsDeclarationHead, NoHead, HasHead};
 ghost use Rattle.c_parse.specs.Refused.{RefusesExternalDeclaration};
 
 use crate::counts::Counts;
@@ -67,8 +67,8 @@ struct Heading<'a> {
 /// The head of the external declaration at the front.
 fn head<'a>(text: &[u8], tokens: &'a [Token]) -> Result<Heading<'a>, ParseErr>
     ensures found { IfOk result (λ h.
-        IsHead h.base h.pointers h.name tokens.now h.declarators.now h.rest.now) }
-    ensures refused { IfErr result (λ e. Placed e NoHead HasHead text.now tokens.now) }
+        IsDeclarationHead h.base h.pointers h.name tokens.now h.declarators.now h.rest.now) }
+    ensures refused { IfErr result (λ e. IsPlacedRefusal e NoHead HasHead text.now tokens.now) }
 {
     match base(tokens) {
         Some((base, declarators)) => {
@@ -102,7 +102,7 @@ fn function<'a>(
     inner: &'a [Token],
 ) -> Result<(ExternalDeclaration, Counts, &'a [Token]), ParseErr>
     requires bytes { counts.bytes ≤ MOST_GLOBALS }
-    requires head { IsHead head.base head.pointers head.name tokens.now head.declarators.now
+    requires head { IsDeclarationHead head.base head.pointers head.name tokens.now head.declarators.now
         head.rest.now }
     requires parenthesis { HasPunctuator punctuators.OpenParenthesis head.rest.now inner.now }
     ensures found { IfOk result (λ x.
@@ -182,7 +182,7 @@ pub fn parse(alloc: Global, text: &[u8], tokens: &[Token]) -> Result<Program, Pa
         → Within text.now xs → MatchResult result (λ p.
         map trees.external_declaration p.external_declarations.items ≡ xs) (λ e. e ≡ Memory) }
     // A refusal is at the first fault, and names the first limit that excludes all programs there.
-    ensures refused { IfErr result (λ e. Refuses e text.now tokens.now) }
+    ensures refused { IfErr result (λ e. ParserRefuses e text.now tokens.now) }
 {
     let mut external_declarations = Vec::new(alloc);
     let mut counts = Counts {

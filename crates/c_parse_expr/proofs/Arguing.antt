@@ -13,7 +13,7 @@ use Rattle.c_syntax.proofs.Firsts as firsts
 use Rattle.c_syntax.proofs.Failing.{append_append}
 use Rattle.c_syntax.proofs.Moves.{Moves}
 use Rattle.c_syntax.proofs.Moves as moved
-use Rattle.c_parse_expr.specs.Readings.{NoExpression, HasExpression, NoArguments, HasArguments, AreMore, AreListed, Begins, NeverBegins}
+use Rattle.c_parse_expr.specs.Readings.{NoExpression, HasExpression, NoArguments, HasArguments, AreMoreExpressions, AreListed, CanBeginExpression, NeverBegins}
 use Rattle.c_parse_expr.proofs.Listing.{listed_after, heights_after, listed_spelled, stuck, no_next, no_first, no_place}
 use Rattle.c_parse_expr.proofs.Placing.{unexpected_at, deep_at, punctuator_token}
 
@@ -51,7 +51,7 @@ first_wraps room text ts r c = record {
 has_none : (room n : ℕ) (text : List ℕ) → HasArguments room n text (close ∷ [])
 has_none room n text = record { trees = Done; spells = λ other. (0, (0, refl)); low = λ k. omega arith }
 
-pub deep_there : (text : List ℕ) (ts : List Token) → ((rest : List Token) → HasPunctuator punctuators.CloseParenthesis ts rest → ⊥) → Begins ts → Failed 1 (place text ts) (NoArguments 0) (HasArguments 0) text ts
+pub deep_there : (text : List ℕ) (ts : List Token) → ((rest : List Token) → HasPunctuator punctuators.CloseParenthesis ts rest → ⊥) → CanBeginExpression ts → Failed 1 (place text ts) (NoArguments 0) (HasArguments 0) text ts
 deep_there text ts c b =
     deep_at (NoArguments 0) (HasArguments 0) text ts [] ts refl
     (λ text' other a s. no_place text' other (firsts.no_punctuator punctuators.CloseParenthesis ts other s c))
@@ -73,7 +73,7 @@ none_there text ts c b =
 
 -- ---- after others
 
-more_moves : (text : List ℕ) (es : List Expression) (ts rest : List Token) → AreMore text es ts rest → Moves (λ t. AreMore t es) text ts rest
+more_moves : (text : List ℕ) (es : List Expression) (ts rest : List Token) → AreMoreExpressions text es ts rest → Moves (λ t. AreMoreExpressions t es) text ts rest
 more_moves text [] ts rest h = moved.nothing text ts rest h
 more_moves text (e ∷ es) ts rest h =
     moved.map

@@ -32,7 +32,7 @@ use Rattle.c_syntax.proofs.Once.{expression_front}
 use Rattle.c_parse_atom.proofs.Punctuators.{increment_only, unary_only}
 use Rattle.c_parse_type.specs.Bases.{NoBase, EndsType}
 use Rattle.c_parse_type.specs.Fronts.{first}
-use Rattle.c_parse_expr.specs.Readings.{NoExpression, HasExpression, NoneEnclosed, HasEnclosed, NoArguments, HasArguments, NoOperand, NoInformation, HasInformation, Begins, NeverBegins, Opens, Parenthesis, Steps, Operates}
+use Rattle.c_parse_expr.specs.Readings.{NoExpression, HasExpression, NoneEnclosed, HasEnclosed, NoArguments, HasArguments, NoOperand, NoInformation, HasInformation, CanBeginExpression, NeverBegins, BeginsOperand, Parenthesis, Steps, Operates}
 use Rattle.c_parse_expr.proofs.Departing.{introduction, ends, has_information}
 use Rattle.c_parse_expr.proofs.Operands.{none_begins, no_call, no_operator, no_room, no_prefixed, no_unary, no_cast, not_cast, no_group, OnlyType}
 use Rattle.c_parse_expr.proofs.Placing.{unexpected_at, deep_at, able_now, one, one_tree, punctuator_token, has_one, loosen}
@@ -278,18 +278,18 @@ none_of : {A : Type 0} (o : Option A) → ((x : A) → o ≡ Some x → ⊥) →
 none_of None n = refl
 none_of (Some x) n = absurd (n x refl)
 
-pub no_operand_there : (l room : ℕ) (s : Punctuator) (at : ℕ) (text : List ℕ) (ts rest : List Token) → IsPunctuator s at ts rest → (Opens s → ⊥) → Failed 0 (place text ts) (NoOperand l room) (HasExpression l room) text ts
+pub no_operand_there : (l room : ℕ) (s : Punctuator) (at : ℕ) (text : List ℕ) (ts rest : List Token) → IsPunctuator s at ts rest → (BeginsOperand s → ⊥) → Failed 0 (place text ts) (NoOperand l room) (HasExpression l room) text ts
 no_operand_there l room s at text ts rest h x =
     unexpected_at (NoOperand l room) (HasExpression l room) text ts [] ts refl
     (λ text' other q f. let g = subst (λ (z : List Token). SameFirst z other) h.1 f in no_operator text' 0 l room s at other g.0 (h.0, g.1) (λ e. x (Parenthesis e)) (none_of (increment_of s) (λ op e. x (Steps op e))) (none_of (unary_of s) (λ op e. x (Operates op e))))
     (λ text' q k. record { more = one ∷ []; has = has_one l room 6 text' })
 
-abbrev pub shortest : (s : Punctuator) → Opens s → List Token
+abbrev pub shortest : (s : Punctuator) → BeginsOperand s → List Token
 shortest s (Parenthesis e) = one ∷ punctuator_token punctuators.CloseParenthesis ∷ []
 shortest s (Steps op e) = one ∷ []
 shortest s (Operates op e) = one ∷ []
 
-pub has_shortest : (l room : ℕ) (s : Punctuator) (o : Opens s) (at end : ℕ) (text : List ℕ)
+pub has_shortest : (l room : ℕ) (s : Punctuator) (o : BeginsOperand s) (at end : ℕ) (text : List ℕ)
     → unary ≤ l → HasExpression l room 0 text (token (kinds.Punctuator s) at end ∷ shortest s o)
 has_shortest l room s (Parenthesis e) at end text p = subst (λ (z : Punctuator). HasExpression l room 0 text (token (kinds.Punctuator z) at end ∷ one ∷ punctuator_token punctuators.CloseParenthesis ∷ [])) (sym e)
     (loosen l (0 + 1) room text (token (kinds.Punctuator punctuators.OpenParenthesis) at end ∷ one ∷ punctuator_token punctuators.CloseParenthesis ∷ [])
@@ -303,7 +303,7 @@ has_shortest l room s (Operates op e) at end text p =
     (has_one cast (room - 1) 0 text)
 
 pub no_room_there : (l : ℕ) (s : Punctuator) (at : ℕ) (text : List ℕ) (ts rest : List Token)
-    → unary ≤ l → IsPunctuator s at ts rest → Opens s
+    → unary ≤ l → IsPunctuator s at ts rest → BeginsOperand s
     → Failed 1 (place text ts) (NoOperand l 0) (HasExpression l 0) text ts
 no_room_there l s at text ts rest p h o =
     deep_at (NoOperand l 0) (HasExpression l 0) text ts [] ts refl
@@ -312,14 +312,14 @@ no_room_there l s at text ts rest p h o =
     (λ text' q k. record { token = token (kinds.Punctuator s) at h.0; rest = rest; more = shortest s o; is = h.1; has = has_shortest l 0 s o at h.0 text' p })
 
 -- only what it leaves after: `(`
-pub only_parenthesis : (s : Punctuator) → Opens s → increment_of s ≡ None → unary_of s ≡ None → s ≡ punctuators.OpenParenthesis
+pub only_parenthesis : (s : Punctuator) → BeginsOperand s → increment_of s ≡ None → unary_of s ≡ None → s ≡ punctuators.OpenParenthesis
 only_parenthesis s (Parenthesis e) a b = e
 only_parenthesis s (Steps op e) a b = let q = sym a ∙ e in absurd cc
 only_parenthesis s (Operates op e) a b = let q = sym b ∙ e in absurd cc
 
 -- ---- whether an expression begins with a token
 
-pub name_begins : (start end : ℕ) (rest : List Token) → Begins (token kinds.Identifier start end ∷ rest)
+pub name_begins : (start end : ℕ) (rest : List Token) → CanBeginExpression (token kinds.Identifier start end ∷ rest)
 name_begins start end rest = λ text k. record {
   token = token kinds.Identifier start end;
   rest = rest;
@@ -328,7 +328,7 @@ name_begins start end rest = λ text k. record {
   has = record { tree = Variable (record { start = start; end = end }); derives = λ other. record { fits = omega arith; spells = refl }; low = λ q. omega arith };
 }
 
-pub literal_begins : (x : Literal) (start end : ℕ) (rest : List Token) → Begins (token (literal_kind x) start end ∷ rest)
+pub literal_begins : (x : Literal) (start end : ℕ) (rest : List Token) → CanBeginExpression (token (literal_kind x) start end ∷ rest)
 literal_begins x start end rest = λ text k. record {
   token = token (literal_kind x) start end;
   rest = rest;
@@ -337,7 +337,7 @@ literal_begins x start end rest = λ text k. record {
   has = record { tree = Constant start x; derives = λ other. record { fits = omega arith; spells = (end, refl) }; low = λ q. omega arith };
 }
 
-pub keyword_begins : (start end : ℕ) (rest : List Token) → Begins (token (kinds.Keyword keywords.GetExceptionInformation) start end ∷ rest)
+pub keyword_begins : (start end : ℕ) (rest : List Token) → CanBeginExpression (token (kinds.Keyword keywords.GetExceptionInformation) start end ∷ rest)
 keyword_begins start end rest = λ text k.
     let h = has_information 0 text k start end in
     record {
@@ -348,7 +348,7 @@ keyword_begins start end rest = λ text k.
       has = record { tree = Information h.at h.field; derives = λ other. record { fits = omega arith; spells = h.spells other }; low = λ q. omega arith };
     }
 
-pub punctuator_begins : (s : Punctuator) (start end : ℕ) (rest : List Token) → Opens s → Begins (token (kinds.Punctuator s) start end ∷ rest)
+pub punctuator_begins : (s : Punctuator) (start end : ℕ) (rest : List Token) → BeginsOperand s → CanBeginExpression (token (kinds.Punctuator s) start end ∷ rest)
 punctuator_begins s start end rest o =
     λ text k. record {
       token = token (kinds.Punctuator s) start end;
@@ -375,7 +375,7 @@ pub other_keyword : (k : Keyword) → (k ≡ keywords.GetExceptionInformation �
 other_keyword keywords.GetExceptionInformation n = absurd (n refl)
 other_keyword k n = omega arith
 
-pub other_punctuator : (s : Punctuator) → (Opens s → ⊥) → 5 < kind_class (kinds.Punctuator s)
+pub other_punctuator : (s : Punctuator) → (BeginsOperand s → ⊥) → 5 < kind_class (kinds.Punctuator s)
 other_punctuator punctuators.OpenParenthesis n = absurd (n (Parenthesis refl))
 other_punctuator punctuators.Ampersand n = absurd (n (Operates unary_operators.AddressOf refl))
 other_punctuator punctuators.Plus n = absurd (n (Operates unary_operators.Plus refl))
@@ -387,19 +387,19 @@ other_punctuator punctuators.PlusPlus n = absurd (n (Steps increments.Increment 
 other_punctuator punctuators.MinusMinus n = absurd (n (Steps increments.Decrement refl))
 other_punctuator s n = omega arith
 
-pub plain_begins : (k : Kind) → (k ≡ kinds.Identifier) ⊎ (((value : ℕ) × (type : IntegerType) × (k ≡ kinds.Integer value type)) ⊎ ((value : ℤ) × (k ≡ kinds.CharacterConstant value))) → (start end : ℕ) (rest : List Token) → Begins (token k start end ∷ rest)
-plain_begins k (inl e) start end rest = subst (λ (z : Kind). Begins (token z start end ∷ rest)) (sym e) (name_begins start end rest)
-plain_begins k (inr (inl e)) start end rest = subst (λ (z : Kind). Begins (token z start end ∷ rest)) (sym e.2) (literal_begins (literals.Integer e.0 e.1) start end rest)
-plain_begins k (inr (inr e)) start end rest = subst (λ (z : Kind). Begins (token z start end ∷ rest)) (sym e.1) (literal_begins (literals.CharacterConstant e.0) start end rest)
+pub plain_begins : (k : Kind) → (k ≡ kinds.Identifier) ⊎ (((value : ℕ) × (type : IntegerType) × (k ≡ kinds.Integer value type)) ⊎ ((value : ℤ) × (k ≡ kinds.CharacterConstant value))) → (start end : ℕ) (rest : List Token) → CanBeginExpression (token k start end ∷ rest)
+plain_begins k (inl e) start end rest = subst (λ (z : Kind). CanBeginExpression (token z start end ∷ rest)) (sym e) (name_begins start end rest)
+plain_begins k (inr (inl e)) start end rest = subst (λ (z : Kind). CanBeginExpression (token z start end ∷ rest)) (sym e.2) (literal_begins (literals.Integer e.0 e.1) start end rest)
+plain_begins k (inr (inr e)) start end rest = subst (λ (z : Kind). CanBeginExpression (token z start end ∷ rest)) (sym e.1) (literal_begins (literals.CharacterConstant e.0) start end rest)
 
 some_of : {A : Type 0} (o : Option A) → is_some o ≡ true → (x : A) × (o ≡ Some x)
 some_of None e = absurd cc
 some_of (Some x) e = (x, refl)
 
-pub steps_by : (s : Punctuator) → is_some (increment_of s) ≡ true → Opens s
+pub steps_by : (s : Punctuator) → is_some (increment_of s) ≡ true → BeginsOperand s
 steps_by s e = let h = some_of (increment_of s) e in Steps h.0 h.1
 
-pub operates_by : (s : Punctuator) → is_some (unary_of s) ≡ true → Opens s
+pub operates_by : (s : Punctuator) → is_some (unary_of s) ≡ true → BeginsOperand s
 operates_by s e = let h = some_of (unary_of s) e in Operates h.0 h.1
 
 pub first_is : (ts : List Token) (t : Token) (rest : List Token) → first ts ≡ Some (t, rest) → ts ≡ t ∷ rest

@@ -9,7 +9,7 @@ use Rattle.c_syntax.specs.Operators.{assignment}
 use Rattle.c_syntax.specs.Tokens.{HasPunctuator}
 use Rattle.c_syntax.proofs.Fronts.{has_same, punctuator_same, front}
 use Rattle.c_syntax.proofs.Once.{has_stops, one_expression, expression_front}
-use Rattle.c_parse_expr.specs.Readings.{NoExpression, NoArguments, AreMore, AreListed}
+use Rattle.c_parse_expr.specs.Readings.{NoExpression, NoArguments, AreMoreExpressions, AreListed}
 
 -- ---- one more argument
 
@@ -18,8 +18,8 @@ pub one_listed : (text : List ℕ) (e : Expression) (ts rest : List Token)
 one_listed text e ts rest d = record { after_first = rest; first = d; others = refl }
 
 more_after : (text : List ℕ) (es : List Expression) (e : Expression) (ts rest b end : List Token)
-    → AreMore text es ts rest → HasPunctuator punctuators.Comma rest b
-    → Derives text assignment e b end → AreMore text (es ++ e ∷ []) ts end
+    → AreMoreExpressions text es ts rest → HasPunctuator punctuators.Comma rest b
+    → Derives text assignment e b end → AreMoreExpressions text (es ++ e ∷ []) ts end
 more_after text [] e ts rest b end h c d = record {
   after_comma = b;
   after_element = end;
@@ -59,7 +59,7 @@ positive (suc n) h = omega arith
 
 -- ---- the parenthesis after them
 
-more_spelled : (text : List ℕ) (es : List Expression) (ts rest end : List Token) → AreMore text es ts rest → HasPunctuator punctuators.CloseParenthesis rest end → SpellsMoreArguments text (arguments es) ts end
+more_spelled : (text : List ℕ) (es : List Expression) (ts rest end : List Token) → AreMoreExpressions text es ts rest → HasPunctuator punctuators.CloseParenthesis rest end → SpellsMoreArguments text (arguments es) ts end
 more_spelled text [] ts rest end h c = subst (λ (z : List Token). HasPunctuator punctuators.CloseParenthesis z end) (sym h) c
 more_spelled text (e ∷ es) ts rest end h c = record {
   after_comma = h.after_comma;
@@ -91,7 +91,7 @@ spelled_stops : (text : List ℕ) (xs : Arguments) (ts end : List Token)
 spelled_stops text Done ts end h = close_stops ts end h
 spelled_stops text (Next x xs) ts end h = comma_stops ts h.after_comma h.comma
 
-more_stops : (text : List ℕ) (es : List Expression) (ts rest : List Token) → AreMore text es ts rest
+more_stops : (text : List ℕ) (es : List Expression) (ts rest : List Token) → AreMoreExpressions text es ts rest
     → Stops assignment rest → Stops assignment ts
 more_stops text [] ts rest h s = subst (λ (z : List Token). Stops assignment z) (sym h) s
 more_stops text (e ∷ es) ts rest h s = comma_stops ts h.after_comma h.comma
@@ -115,7 +115,7 @@ same_next text e x ts us rest end p d s g z =
     (subst (λ (y : List Token). Derives text assignment x y end) (sym p) g) s z).1
 
 more_back : (text : List ℕ) (w room : ℕ) (es : List Expression) (xs : Arguments)
-    (ts rest end : List Token) → AreMore text es ts rest → Stops assignment rest →
+    (ts rest end : List Token) → AreMoreExpressions text es ts rest → Stops assignment rest →
     SpellsMoreArguments text xs ts end → (1 ≤ w → heights xs ≤ room) → Left text w room rest end
 more_back text w room [] xs ts rest end h s g low = record { others = xs; spells = subst (λ (z : List Token). SpellsMoreArguments text xs z end) h g; low = low }
 more_back text w room (e ∷ es) Done ts rest end h s g low =

@@ -20,7 +20,7 @@ use Rattle.c_parse_expr.specs.declared.step.Infix.TheVariants as infixes
 use Rattle.c_parse_expr.specs.declared.step.Operation.{Operation}
 use Rattle.c_parse_expr.specs.declared.step.Operation.TheVariants.{Index, Postfix, Infix, Conditional}
 use Rattle.c_parse_expr.specs.Operations.{operation_of, punctuator, right, bound, with, operation, place}
-use Rattle.c_parse_expr.specs.Readings.{Reads, NoExpression, Encloses, NoneEnclosed, AfterPunctuator, IsAfterPunctuator, NoneAfterPunctuator, IsStep, NoStep}
+use Rattle.c_parse_expr.specs.Readings.{DerivesAndStops, NoExpression, Encloses, NoneEnclosed, AfterPunctuator, IsAfterPunctuator, NoneAfterPunctuator, IsStep, NoStep}
 use Rattle.c_parse_expr.specs.Steps.{over}
 use Rattle.c_parse_expr.proofs.Climbing.{enclosed_once}
 
@@ -194,7 +194,7 @@ none_indexed text w room ts n k end e b low = absurd cc
 same_infix : (a b : Infix') → Infix a ≡ Infix b → a ≡ b
 same_infix a b e = cc
 
-at_level : (text : List ℕ) (w room a b : ℕ) (f : Expression) (ts end : List Token) → a ≡ b → NoExpression b room w text ts → Reads text a f ts end → (1 ≤ w → height f ≤ room) → ⊥
+at_level : (text : List ℕ) (w room a b : ℕ) (f : Expression) (ts end : List Token) → a ≡ b → NoExpression b room w text ts → DerivesAndStops text a f ts end → (1 ≤ w → height f ≤ room) → ⊥
 at_level text w room a b f ts end p n r low = n f end (record { fits = let x = r.derives.fits in omega arith; spells = r.derives.spells }) (let s = r.stops in omega arith) low
 
 pub none_right : (text : List ℕ) (w room : ℕ) (op : Infix') (ts : List Token) → NoExpression (right op) room w text ts → NoneAfterPunctuator room (Infix op) w text ts

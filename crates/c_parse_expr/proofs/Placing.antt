@@ -13,18 +13,18 @@ use Rattle.c_syntax.specs.Limits.{Number, order}
 use Rattle.c_parse_expr.specs.declared.refusal.ParseErr.{ParseErr}
 use Rattle.c_parse_expr.specs.declared.refusal.ParseErr.TheVariants as errs
 use Rattle.c_parse_expr.specs.Readings.{HasExpression}
-use Rattle.c_parse_expr.specs.Refusals.{Placed}
+use Rattle.c_parse_expr.specs.Refusals.{IsPlacedRefusal}
 
 -- ---- refusals
 
-pub placed_so : (e : ParseErr) (No Has No' Has' : Family) (text : List ℕ) (ts ts' : List Token) → Wraps No Has No' Has' text ts ts' → Placed e No Has text ts → Placed e No' Has' text ts'
+pub placed_so : (e : ParseErr) (No Has No' Has' : Family) (text : List ℕ) (ts ts' : List Token) → Wraps No Has No' Has' text ts ts' → IsPlacedRefusal e No Has text ts → IsPlacedRefusal e No' Has' text ts'
 placed_so (errs.Unexpected at) No Has No' Has' text ts ts' w h = wrapped No Has No' Has' 0 at text ts ts' w h
 placed_so (errs.TooDeep at) No Has No' Has' text ts ts' w h = wrapped No Has No' Has' 1 at text ts ts' w h
 placed_so (errs.TooMany at what) No Has No' Has' text ts ts' w h = wrapped No Has No' Has' (order (Number what)) at text ts ts' w h
 placed_so errs.Memory No Has No' Has' text ts ts' w h = tt
 
-pub placed_as : (e f : ParseErr) (No Has : Family) (text : List ℕ) (ts : List Token) → e ≡ f → Placed f No Has text ts → Placed e No Has text ts
-placed_as e f No Has text ts p h = subst (λ (x : ParseErr). Placed x No Has text ts) (sym p) h
+pub placed_as : (e f : ParseErr) (No Has : Family) (text : List ℕ) (ts : List Token) → e ≡ f → IsPlacedRefusal f No Has text ts → IsPlacedRefusal e No Has text ts
+placed_as e f No Has text ts p h = subst (λ (x : ParseErr). IsPlacedRefusal x No Has text ts) (sym p) h
 
 pub unexpected_at : (No Has : Family) (text : List ℕ) (ts front fault : List Token) → ts ≡ front ++ fault
     → ((text' : List ℕ) (other : List Token) → Alike text text' ts → SameFirst fault other → No 0 text' (front ++ other))

@@ -15,14 +15,15 @@ use Rattle.c_syntax.specs.declared.operator.UnaryOperator.{UnaryOperator}
 use Rattle.c_syntax.specs.Operators.{level, conditional, assignment}
 use Rattle.c_syntax.specs.Phrases.{IsAnother}
 use Rattle.c_syntax.specs.PunctuatorReaders.{increment_of, unary_of}
-use Rattle.c_syntax.specs.Steps.{Step, At, After, With, Choose, Set, And, apply, bound, Tail, IsHead, Closes}
+use Rattle.c_syntax.specs.Steps.{Step, At, After, With, Choose, Set, And, apply, bound, Tail, IsOperandAlone, Closes}
 use Rattle.c_syntax.specs.Tokens.{IsPunctuator, HasPunctuator}
 use Rattle.c_parse_expr.specs.declared.step.Operation.{Operation}
 use Rattle.c_parse_expr.specs.Operations.{operation, place, punctuator}
 use Rattle.c_parse_expr.specs.Steps.{over}
 
 -- an expression of a level, as far as it goes
-pub record Reads (text : List ℕ) (l : ℕ) (e : Expression) (ts rest : List Token) : Type 0 where
+pub record DerivesAndStops (text : List ℕ) (l : ℕ) (e : Expression)
+    (ts rest : List Token) : Type 0 where
   pub derives : Derives text l e ts rest
   pub stops : Stops l rest
 
@@ -70,20 +71,21 @@ pub record HasArguments (room n : ℕ) (text : List ℕ) (ts : List Token) : Typ
   pub low : IsInForce Nesting n → heights trees ≤ room
 
 -- expressions with commas between them
-abbrev pub AreMore : List ℕ → List Expression → List Token → List Token → Type 0
-AreMore text [] ts rest = ts ≡ rest
-AreMore text (e ∷ es) ts rest =
-    IsAnother (Derives text assignment e) (AreMore text es) ts rest
+abbrev pub AreMoreExpressions : List ℕ → List Expression → List Token → List Token → Type 0
+AreMoreExpressions text [] ts rest = ts ≡ rest
+AreMoreExpressions text (e ∷ es) ts rest =
+    IsAnother (Derives text assignment e) (AreMoreExpressions text es) ts rest
 
 abbrev pub AreListed : List ℕ → List Expression → List Token → List Token → Type 0
 AreListed text [] ts rest = ⊥
-AreListed text (e ∷ es) ts rest = AreArguments (Derives text assignment e) (AreMore text es) ts rest
+AreListed text (e ∷ es) ts rest = AreArguments (Derives text assignment e)
+    (AreMoreExpressions text es) ts rest
 
 -- ---- the first operand of an expression of a level
 
 pub record IsOperand (text : List ℕ) (l : ℕ) (e : Expression) (ts rest : List Token) : Type 0 where
   pub derives : Derives text l e ts rest
-  pub head : IsHead e
+  pub head : IsOperandAlone e
   pub closes : Closes e rest
 
 abbrev pub NoOperand : ℕ → ℕ → ℕ → List ℕ → List Token → Type 0
@@ -121,11 +123,11 @@ HasStep room operand l n text ts = (ts ≡ []) ⊎ AStep room operand l n text t
 abbrev pub AfterPunctuator : List ℕ → Step → List Token → List Token → Type 0
 AfterPunctuator text (At at i) ts rest = Encloses text punctuators.CloseBracket i ts rest
 AfterPunctuator text (After op at) ts rest = ts ≡ rest
-AfterPunctuator text (With at op e) ts rest = Reads text (level op - 1) e ts rest
+AfterPunctuator text (With at op e) ts rest = DerivesAndStops text (level op - 1) e ts rest
 AfterPunctuator text (Choose at a b) ts rest =
-    IsApplied (Encloses text punctuators.Colon a) (Reads text conditional b) ts rest
-AfterPunctuator text (Set at op e) ts rest = Reads text assignment e ts rest
-AfterPunctuator text (And at e) ts rest = Reads text assignment e ts rest
+    IsApplied (Encloses text punctuators.Colon a) (DerivesAndStops text conditional b) ts rest
+AfterPunctuator text (Set at op e) ts rest = DerivesAndStops text assignment e ts rest
+AfterPunctuator text (And at e) ts rest = DerivesAndStops text assignment e ts rest
 
 pub record IsAfterPunctuator (text : List ℕ) (o : Operation) (at : ℕ) (s : Step)
     (ts rest : List Token) : Type 0 where
@@ -170,8 +172,9 @@ pub record HasInformation (n : ℕ) (text : List ℕ) (ts : List Token) : Type 0
 -- ---- the first token
 
 -- some expression begins with it
-abbrev pub Begins : List Token → Type 0
-Begins ts = (text : List ℕ) → Speaks text → Onward (HasExpression assignment 0) 0 text [] ts
+abbrev pub CanBeginExpression : List Token → Type 0
+CanBeginExpression ts = (text : List ℕ) → Speaks text
+    → Onward (HasExpression assignment 0) 0 text [] ts
 
 -- no expression begins with it
 abbrev pub NeverBegins : List Token → Type 0
@@ -180,7 +183,7 @@ NeverBegins ts =
     → SpellsExpression text e other end → ⊥
 
 -- a punctuator that begins an operand
-pub data Opens (s : Punctuator) : Type 0 where
-  Parenthesis : s ≡ punctuators.OpenParenthesis → Opens s
-  Steps : (op : Increment) → increment_of s ≡ Some op → Opens s
-  Operates : (op : UnaryOperator) → unary_of s ≡ Some op → Opens s
+pub data BeginsOperand (s : Punctuator) : Type 0 where
+  Parenthesis : s ≡ punctuators.OpenParenthesis → BeginsOperand s
+  Steps : (op : Increment) → increment_of s ≡ Some op → BeginsOperand s
+  Operates : (op : UnaryOperator) → unary_of s ≡ Some op → BeginsOperand s

@@ -4,7 +4,7 @@ ghost use Rattle.std.specs.Prelude.{ℕ, IsTrue, IsFalse, List, ◌∷◌};
 ghost use Rattle.c_lex.specs.declared.token.Token.{Token};
 ghost use Rattle.c_syntax.specs.Faults.{place, Failed};
 ghost use Rattle.c_syntax.specs.Tokens.{token};
-ghost use Rattle.c_parse_expr.specs.Readings.{NoField, HasField, NoInformation, HasInformation, Begins, NeverBegins, Opens};
+ghost use Rattle.c_parse_expr.specs.Readings.{NoField, HasField, NoInformation, HasInformation, CanBeginExpression, NeverBegins, BeginsOperand};
 
 use c_lex::keyword::Keyword;
 use c_lex::punctuator::Punctuator;
@@ -16,8 +16,8 @@ use c_parse_type::front::{after, front};
 
 /// Whether an operand can begin with a punctuator.
 pub fn opens(punctuator: Punctuator) -> bool
-    ensures opens { IsTrue result → Opens punctuator }
-    ensures never { IsFalse result → Opens punctuator → ⊥ }
+    ensures opens { IsTrue result → BeginsOperand punctuator }
+    ensures never { IsFalse result → BeginsOperand punctuator → ⊥ }
 {
     punctuator == Punctuator::OpenParenthesis
         || unary_of(punctuator).is_some()
@@ -27,7 +27,7 @@ pub fn opens(punctuator: Punctuator) -> bool
 /// Whether an expression can begin with a token of this kind.
 fn begins_with(kind: Kind) -> bool
     ensures begins { IsTrue result → (start end : ℕ) (rest : List Token)
-        → Begins (token kind start end ∷ rest) }
+        → CanBeginExpression (token kind start end ∷ rest) }
     ensures never { IsFalse result → (start end : ℕ) (rest : List Token)
         → NeverBegins (token kind start end ∷ rest) }
 {
@@ -41,7 +41,7 @@ fn begins_with(kind: Kind) -> bool
 
 /// Whether an expression can begin with the first token.
 pub fn begins(tokens: &[Token]) -> bool
-    ensures begins { IsTrue result → Begins tokens.now }
+    ensures begins { IsTrue result → CanBeginExpression tokens.now }
     ensures never { IsFalse result → NeverBegins tokens.now }
 {
     match front(tokens) {

@@ -11,7 +11,7 @@ use Rattle.c_syntax.specs.declared.limit.Count.{Count}
 use Rattle.c_syntax.specs.declared.limit.Count.TheVariants.{Locals}
 use Rattle.c_parse_expr.specs.declared.refusal.ParseErr.{ParseErr}
 use Rattle.c_parse_expr.specs.declared.refusal.ParseErr.TheVariants.{Unexpected, TooDeep, TooMany, Memory}
-use Rattle.c_parse_expr.specs.Refusals.{Placed}
+use Rattle.c_parse_expr.specs.Refusals.{IsPlacedRefusal}
 use Rattle.c_parse_stmt.specs.Filters.{numbers_of, NoFilter, HasFilter, Departs}
 use Rattle.c_parse_stmt.specs.Parts.{NoCondition, HasCondition}
 
@@ -52,7 +52,7 @@ failed_none : (kind at : ℕ) (text : List ℕ) (ts : List Token) → Failed kin
 failed_none kind at text ts d f end h low count =
     d.against text d.fault (alike_same text ts) (first_same d.fault) f end (subst (λ (z : List Token). IsCondition text f z end) d.split h) (λ k. low (omega arith))
 
-pub placed_none : (e : ParseErr) (text : List ℕ) (ts : List Token) → (e ≡ Memory → ⊥) → Placed e NoCondition HasCondition text ts → NoFilter 0 6 text ts
+pub placed_none : (e : ParseErr) (text : List ℕ) (ts : List Token) → (e ≡ Memory → ⊥) → IsPlacedRefusal e NoCondition HasCondition text ts → NoFilter 0 6 text ts
 placed_none (Unexpected at) text ts m d = failed_none 0 at text ts d
 placed_none (TooDeep at) text ts m d = failed_none 1 at text ts d
 placed_none (TooMany at what) text ts m d = failed_none (order (Number what)) at text ts d
@@ -114,7 +114,7 @@ number_low : (what : Count) → order (Number what) ≤ 6
 number_low Locals = omega arith
 number_low what = omega arith
 
-pub placed_stays : (e : ParseErr) (text : List ℕ) (ts rest : List Token) → Departs text ts rest → Placed e NoCondition HasCondition text ts → Placed e (NoFilter 0) (HasFilter 0) text ts
+pub placed_stays : (e : ParseErr) (text : List ℕ) (ts rest : List Token) → Departs text ts rest → IsPlacedRefusal e NoCondition HasCondition text ts → IsPlacedRefusal e (NoFilter 0) (HasFilter 0) text ts
 placed_stays (Unexpected at) text ts rest d f = stays 0 at text ts rest (omega arith) d f
 placed_stays (TooDeep at) text ts rest d f = stays 1 at text ts rest (omega arith) d f
 placed_stays (TooMany at what) text ts rest d f = stays (order (Number what)) at text ts rest (number_low what) d f

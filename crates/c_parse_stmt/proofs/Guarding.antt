@@ -17,11 +17,11 @@ use Rattle.c_syntax.proofs.MovesStatements.{condition, items, filter, funclets_o
 use Rattle.c_parse_stmt.specs.declared.endings.Clause.{Clause}
 use Rattle.c_parse_stmt.specs.declared.endings.Clause.TheVariants as clauses
 use Rattle.c_parse_stmt.specs.declared.left.Left.{Left}
-use Rattle.c_parse_stmt.specs.Endings.{IsClause, Continues, with_clause}
+use Rattle.c_parse_stmt.specs.Endings.{IsClause, ClauseIsTaken, with_clause}
 use Rattle.c_parse_stmt.specs.Filters.{numbers_of, NoFilter, HasFilter}
 use Rattle.c_parse_stmt.specs.Openings.{IsTry, Guards}
 use Rattle.c_parse_stmt.specs.Parts.{NoPunctuator, APunctuator}
-use Rattle.c_parse_stmt.specs.Within.{AllWithin, AllTaken, NoBlockItems, HasBlockItems, Reads, NoStatement, HasStatement}
+use Rattle.c_parse_stmt.specs.Within.{AllWithin, AllTaken, NoBlockItems, HasBlockItems, IsStatementWithin, NoStatement, HasStatement}
 use Rattle.c_parse_stmt.proofs.Heading.{Key, Sig, Condition, key_moves, key_wraps, unit, braces, finally}
 use Rattle.c_parse_stmt.proofs.Sequences.{able_more, Both, Fixed, both_fixed, both_moves, moves_so, able_now, wraps, failed, first_kind, kind_place}
 use Rattle.c_parse_stmt.proofs.Tails.{IsBraced}
@@ -323,7 +323,7 @@ Clausing body c = Both (Guard body) (λ t. IsClause t c)
 clausing_moves : (room : ℕ) (whole left : Left) (body : Statements) (c : Clause) (text : List ℕ) (ts rest j : List Token) → Guards text room whole left body ts rest → IsClause text c rest j → Moves (Clausing body c) text ts j
 clausing_moves room whole left body c text ts rest j g is = both_moves (Guard body) (λ t. IsClause t c) text ts rest j (guard_moves room whole left body text ts rest g) (clause_moves c text rest j is)
 
-pub last_block : (room : ℕ) (whole left next : Left) (body : Statements) (c : Clause) (text : List ℕ) (ts rest j : List Token) → Guards text room whole left body ts rest → Continues text room left next c rest j → Wraps (NoBlockItems room next) (HasBlockItems room next) (NoStatement room whole) (HasStatement room whole) text j ts
+pub last_block : (room : ℕ) (whole left next : Left) (body : Statements) (c : Clause) (text : List ℕ) (ts rest j : List Token) → Guards text room whole left body ts rest → ClauseIsTaken text room left next c rest j → Wraps (NoBlockItems room next) (HasBlockItems room next) (NoStatement room whole) (HasStatement room whole) text j ts
 last_block room whole left next body (clauses.Except at f) text ts rest j g c =
     wraps (Clausing body (clauses.Except at f)) (NoBlockItems room next) (HasBlockItems room next) (NoStatement room whole) (HasStatement room whole) text ts j (clausing_moves room whole left body (clauses.Except at f) text ts rest j g c.is)
     (λ n text' all other h e r none.
@@ -392,7 +392,7 @@ last_block room whole left next body (clauses.Finally at) text ts rest j g c =
       };
     }))
 
-pub guarded_found : (room : ℕ) (whole left next after : Left) (body last : Statements) (c : Clause) (text : List ℕ) (ts rest j end : List Token) → Guards text room whole left body ts rest → Continues text room left next c rest j → AreBlockItems text last j end → AllTaken text room next after last → Reads text room whole after (with_clause body c last) ts end
+pub guarded_found : (room : ℕ) (whole left next after : Left) (body last : Statements) (c : Clause) (text : List ℕ) (ts rest j end : List Token) → Guards text room whole left body ts rest → ClauseIsTaken text room left next c rest j → AreBlockItems text last j end → AllTaken text room next after last → IsStatementWithin text room whole after (with_clause body c last) ts end
 guarded_found room whole left next after body last (clauses.Except at f) text ts rest j end g c are t =
     except_found text room g.is.1.0 at whole left next after body last
     (expression f) g.is.0 rest c.is.after_keyword c.is.after_filter end c.statements

@@ -23,7 +23,7 @@ use Rattle.c_parse_stmt.specs.declared.openings.Opening.{Opening}
 use Rattle.c_parse_stmt.specs.declared.openings.Opening.TheVariants as openings
 use Rattle.c_parse_stmt.specs.Openings.{Opens}
 use Rattle.c_parse_stmt.specs.Parts.{NoDeclaration, HasDeclaration}
-use Rattle.c_parse_stmt.specs.Within.{AllTaken, NoBlockItems, HasBlockItems, Within, Reads, NoStatement, HasStatement, ReadsBlockItem, NoBlockItem, AnItem, HasBlockItem}
+use Rattle.c_parse_stmt.specs.Within.{AllTaken, NoBlockItems, HasBlockItems, Within, IsStatementWithin, NoStatement, HasStatement, ReadsBlockItem, NoBlockItem, AnItem, HasBlockItem}
 use Rattle.c_parse_stmt.proofs.Clauses.{Items, brace, is_brace}
 use Rattle.c_parse_stmt.proofs.Heading.{Sig}
 use Rattle.c_parse_stmt.proofs.Inside.{Item}
@@ -46,7 +46,7 @@ both : (b : Bool) → b ≡ false → b ≡ true → ⊥
 both b f t = let e = sym f ∙ t in cc
 
 -- a statement's reading is an item's
-pub counted : (text : List ℕ) (room less : ℕ) (left after : Left) (s : Statement) (ts rest : List Token) → less + 1 ≡ room → Reads text less left after s ts rest → ReadsBlockItem text room left after s ts rest
+pub counted : (text : List ℕ) (room less : ℕ) (left after : Left) (s : Statement) (ts rest : List Token) → less + 1 ≡ room → IsStatementWithin text less left after s ts rest → ReadsBlockItem text room left after s ts rest
 counted text room less left after s ts rest n r = by (kind s)
   where
     by : Kind s → ReadsBlockItem text room left after s ts rest
@@ -244,7 +244,7 @@ block_fails text room left after o ts rest i e =
     subst (λ (x : Left). Wraps (NoBlockItems room x) (HasBlockItems room x) (NoStatement room left) (HasStatement room left) text rest ts) (sym q.0) (block_items room left text ts rest q.1)
 
 -- a brace, and what the block holds: the block is a statement
-pub block_found : (text : List ℕ) (room : ℕ) (left between after : Left) (o : Opening) (ss : Statements) (ts a rest : List Token) → Opens text room left between o ts a → o ≡ openings.Block → AreBlockItems text ss a rest → AllTaken text room between after ss → Reads text room left after (Block ss) ts rest
+pub block_found : (text : List ℕ) (room : ℕ) (left between after : Left) (o : Opening) (ss : Statements) (ts a rest : List Token) → Opens text room left between o ts a → o ≡ openings.Block → AreBlockItems text ss a rest → AllTaken text room between after ss → IsStatementWithin text room left after (Block ss) ts rest
 block_found text room left between after o ss ts a rest i e are t =
     let q : Opens text room left between openings.Block ts a = subst (λ (x : Opening). Opens text room left between x ts a) e i in
     let same : between ≡ left = q.0 in

@@ -27,9 +27,9 @@ use Rattle.c_parse_stmt.specs.declared.openings.Head.TheVariants as heads
 use Rattle.c_parse_stmt.specs.declared.openings.Opening.{Opening}
 use Rattle.c_parse_stmt.specs.declared.openings.Opening.TheVariants as openings
 use Rattle.c_parse_stmt.specs.Endings.{Ends}
-use Rattle.c_parse_stmt.specs.Openings.{IsHead, expressions_over, locals, Heads, Opens, Holds}
+use Rattle.c_parse_stmt.specs.Openings.{IsStatementHead, expressions_over, locals, Heads, Opens, Holds}
 use Rattle.c_parse_stmt.specs.Parts.{NoPunctuator, APunctuator, NoCondition, HasCondition}
-use Rattle.c_parse_stmt.specs.Within.{Within, Reads, NoStatement, HasStatement}
+use Rattle.c_parse_stmt.specs.Within.{Within, IsStatementWithin, NoStatement, HasStatement}
 use Rattle.c_parse_stmt.proofs.Heading.{Key, Sig, Condition, key_moves, for_item, semicolon, in_parentheses, is_unit, unit, while_end}
 use Rattle.c_parse_stmt.proofs.Sequences.{Both, Fixed, both_fixed, both_moves, moves_so, able_now, wraps, failed, a_punctuator, a_word}
 use Rattle.c_parse_stmt.proofs.Loops.{no_while_body, while_found, no_do_body, no_do_while, no_do_condition, no_do_end, do_found, no_for_body, for_found}
@@ -38,12 +38,12 @@ use Rattle.c_parse_stmt.proofs.Wholes.{left_of, no_then, no_otherwise, if_found,
 -- ---- relations
 
 abbrev pub Headed : Head → List ℕ → List Token → List Token → Type 0
-Headed h text = IsHead text h
+Headed h text = IsStatementHead text h
 
 abbrev pub Item : Statement → List ℕ → List Token → List Token → Type 0
 Item s text = IsBlockItem text s
 
-pub head_moves : (h : Head) (text : List ℕ) (ts rest : List Token) → IsHead text h ts rest → Moves (Headed h) text ts rest
+pub head_moves : (h : Head) (text : List ℕ) (ts rest : List Token) → IsStatementHead text h ts rest → Moves (Headed h) text ts rest
 head_moves (heads.If at c) text ts rest h =
     moves_so (Both (Key keywords.If at) (Condition (expression c))) (Headed (heads.If at c)) text ts rest (λ t us end x. (x.mid, x.first, x.second))
     (both_moves (Key keywords.If at) (Condition (expression c)) text ts h.0 rest (key_moves keywords.If at text ts h.0 h.1) (condition (expression c) text h.0 rest h.2))
@@ -60,14 +60,14 @@ head_moves (heads.For at f c n) text ts rest h =
 same_left : (a b : Left) → a.locals ≡ b.locals → a.funclets ≡ b.funclets → a ≡ b
 same_left a b p q = ap (λ (x : ℕ). left_of x a.funclets) p ∙ ap (λ (x : ℕ). left_of b.locals x) q
 
-reads_from : (text : List ℕ) (room : ℕ) (left mid after : Left) (s : Statement) (ts rest : List Token) → left ≡ mid → Reads text room left after s ts rest → Reads text room mid after s ts rest
-reads_from text room left mid after s ts rest e r = subst (λ (x : Left). Reads text room x after s ts rest) e r
+reads_from : (text : List ℕ) (room : ℕ) (left mid after : Left) (s : Statement) (ts rest : List Token) → left ≡ mid → IsStatementWithin text room left after s ts rest → IsStatementWithin text room mid after s ts rest
+reads_from text room left mid after s ts rest e r = subst (λ (x : Left). IsStatementWithin text room x after s ts rest) e r
 
 none_from : (n : ℕ) (text : List ℕ) (room : ℕ) (left mid : Left) (ts : List Token) → left ≡ mid → NoStatement room left n text ts → NoStatement room mid n text ts
 none_from n text room left mid ts e none = subst (λ (x : Left). NoStatement room x n text ts) e none
 
 -- a statement that was read, in a text that spells it alike and before what begins alike
-pub reads_moved : (text text' : List ℕ) (room : ℕ) (left after : Left) (s : Statement) (ts rest all other : List Token) → Alike text text' ts → Reads text room left after s ts rest → IsBlockItem text' s all other → Closed s other → Reads text' room left after s all other
+pub reads_moved : (text text' : List ℕ) (room : ℕ) (left after : Left) (s : Statement) (ts rest all other : List Token) → Alike text text' ts → IsStatementWithin text room left after s ts rest → IsBlockItem text' s all other → Closed s other → IsStatementWithin text' room left after s all other
 reads_moved text text' room left after s ts rest all other h r i c =
     let e = ap (λ (x : List ℕ). length x) (same_funclets s text text' ts rest r.is h) in
     let t = r.taken in let f = t.funclets in
@@ -93,7 +93,7 @@ is_while_end text other = record {
 
 -- ---- the first statement
 
-no_inner : (h : Head) (n : ℕ) (text : List ℕ) (room less : ℕ) (whole left : Left) (all other : List Token) → less + 1 ≡ room → IsHead text h all other → expressions_over h ≤ 64 → left.locals + locals h ≡ whole.locals → left.funclets ≡ whole.funclets → NoStatement less left n text other → NoStatement room whole n text all
+no_inner : (h : Head) (n : ℕ) (text : List ℕ) (room less : ℕ) (whole left : Left) (all other : List Token) → less + 1 ≡ room → IsStatementHead text h all other → expressions_over h ≤ 64 → left.locals + locals h ≡ whole.locals → left.funclets ≡ whole.funclets → NoStatement less left n text other → NoStatement room whole n text all
 no_inner (heads.If at c) n text room less whole left all other m h w l f none =
     no_then n text room less at whole (expression c) h.0 other m h.2 (none_from n text less left whole other (same_left left whole (omega arith) f) none) all h.1
 no_inner (heads.While at c) n text room less whole left all other m h w l f none =
@@ -184,11 +184,11 @@ inner_fails h room less whole left text ts rest m g =
 abbrev pub Inner : Head → Statement → List ℕ → List Token → List Token → Type 0
 Inner h s = Both (Headed h) (Item s)
 
-inner_moves : (h : Head) (s : Statement) (text : List ℕ) (ts mid rest : List Token) → IsHead text h ts mid → IsBlockItem text s mid rest → Moves (Inner h s) text ts rest
+inner_moves : (h : Head) (s : Statement) (text : List ℕ) (ts mid rest : List Token) → IsStatementHead text h ts mid → IsBlockItem text s mid rest → Moves (Inner h s) text ts rest
 inner_moves h s text ts mid rest i j = both_moves (Headed h) (Item s) text ts mid rest (head_moves h text ts mid i) (item s text mid rest j)
 
 -- the statement after the head, wherever both are, before what begins alike
-inner_reads : (room : ℕ) (whole left : Left) (h : Head) (s : Statement) (text text' : List ℕ) (ts rest all mid other : List Token) (g : Holds text room whole left h s ts rest) → Alike text text' ts → IsBlockItem text' s mid other → Closed s other → Reads text' g.less g.between left s mid other
+inner_reads : (room : ℕ) (whole left : Left) (h : Head) (s : Statement) (text text' : List ℕ) (ts rest all mid other : List Token) (g : Holds text room whole left h s ts rest) → Alike text text' ts → IsBlockItem text' s mid other → Closed s other → IsStatementWithin text' g.less g.between left s mid other
 inner_reads room whole left h s text text' ts rest all mid other g k i c =
     let m = head_moves h text ts g.mid g.head.is in
     reads_moved text text' g.less g.between left s g.mid rest mid other (alike_inner text text' m.front g.mid ts m.split k) g.inner i c
@@ -238,7 +238,7 @@ else_fails at room whole left c s text ts rest j g els =
       };
     }))
 
-pub else_found : (at room : ℕ) (whole left after : Left) (c : Expr) (s z : Statement) (text : List ℕ) (ts rest j end : List Token) (g : Holds text room whole left (heads.If at c) s ts rest) → HasKeyword keywords.Else rest j → Reads text g.less left after z j end → Reads text room whole after (IfElse at (expression c) s z) ts end
+pub else_found : (at room : ℕ) (whole left after : Left) (c : Expr) (s z : Statement) (text : List ℕ) (ts rest j end : List Token) (g : Holds text room whole left (heads.If at c) s ts rest) → HasKeyword keywords.Else rest j → IsStatementWithin text g.less left after z j end → IsStatementWithin text room whole after (IfElse at (expression c) s z) ts end
 else_found at room whole left after c s z text ts rest j end g els r =
     let l = g.head.locals in
     let p = same_left g.between whole (omega arith) g.head.funclets in
@@ -247,21 +247,21 @@ else_found at room whole left after c s z text ts rest j end g els r =
 
 -- ---- without another statement
 
-pub if_ends : (at room : ℕ) (whole left : Left) (c : Expr) (s : Statement) (text : List ℕ) (ts rest : List Token) → Holds text room whole left (heads.If at c) s ts rest → NoElse rest → Reads text room whole left (If at (expression c) s) ts rest
+pub if_ends : (at room : ℕ) (whole left : Left) (c : Expr) (s : Statement) (text : List ℕ) (ts rest : List Token) → Holds text room whole left (heads.If at c) s ts rest → NoElse rest → IsStatementWithin text room whole left (If at (expression c) s) ts rest
 if_ends at room whole left c s text ts rest g els =
     let l = g.head.locals in
     let p = same_left g.between whole (omega arith) g.head.funclets in
     let i = g.head.is in
     if_found text room g.less at whole left (expression c) s i.0 g.mid rest g.more i.2 g.head.low (reads_from text g.less g.between whole left s g.mid rest p g.inner) els ts i.1
 
-pub while_ends : (at room : ℕ) (whole left : Left) (c : Expr) (s : Statement) (text : List ℕ) (ts rest : List Token) → Holds text room whole left (heads.While at c) s ts rest → Reads text room whole left (While at (expression c) s) ts rest
+pub while_ends : (at room : ℕ) (whole left : Left) (c : Expr) (s : Statement) (text : List ℕ) (ts rest : List Token) → Holds text room whole left (heads.While at c) s ts rest → IsStatementWithin text room whole left (While at (expression c) s) ts rest
 while_ends at room whole left c s text ts rest g =
     let l = g.head.locals in
     let p = same_left g.between whole (omega arith) g.head.funclets in
     let i = g.head.is in
     while_found text room g.less at whole left (expression c) s i.0 g.mid rest g.more i.2 g.head.low (reads_from text g.less g.between whole left s g.mid rest p g.inner) ts i.1
 
-pub for_ends : (at room : ℕ) (whole left : Left) (f : ForInitialiser) (c n : Option Expr) (s : Statement) (text : List ℕ) (ts rest : List Token) → Holds text room whole left (heads.For at f c n) s ts rest → Reads text room whole left (For at (first f) (option_map expression c) (option_map expression n) s) ts rest
+pub for_ends : (at room : ℕ) (whole left : Left) (f : ForInitialiser) (c n : Option Expr) (s : Statement) (text : List ℕ) (ts rest : List Token) → Holds text room whole left (heads.For at f c n) s ts rest → IsStatementWithin text room whole left (For at (first f) (option_map expression c) (option_map expression n) s) ts rest
 for_ends at room whole left f c n s text ts rest g =
     let i = g.head.is in let low = g.head.low in
     for_found text room g.less at whole g.between left (first f) (option_map expression c)
@@ -276,14 +276,14 @@ for_ends at room whole left f c n s text ts rest g =
 
 -- ---- `do`
 
-pub do_ends : (room p : ℕ) (whole left : Left) (s : Statement) (c : Expression) (text : List ℕ) (ts rest d e end : List Token) → Holds text room whole left heads.Do s ts rest → IsKeyword keywords.While p rest d → IsCondition text c d e → height c ≤ 64 → HasPunctuator punctuators.Semicolon e end → Reads text room whole left (DoWhile s p c) ts end
+pub do_ends : (room p : ℕ) (whole left : Left) (s : Statement) (c : Expression) (text : List ℕ) (ts rest d e end : List Token) → Holds text room whole left heads.Do s ts rest → IsKeyword keywords.While p rest d → IsCondition text c d e → height c ≤ 64 → HasPunctuator punctuators.Semicolon e end → IsStatementWithin text room whole left (DoWhile s p c) ts end
 do_ends room p whole left s c text ts rest d e end g k is low semi =
     let l = g.head.locals in
     let q = same_left g.between whole (omega arith) g.head.funclets in
     let i = g.head.is in
     do_found text room g.less i.0 p whole left s c g.mid rest d e end g.more (reads_from text g.less g.between whole left s g.mid rest q g.inner) k is low semi ts i.1
 
-do_reads : (room : ℕ) (whole left : Left) (s : Statement) (text text' : List ℕ) (ts rest all other : List Token) (g : Holds text room whole left heads.Do s ts rest) → Alike text text' ts → (r : Inner heads.Do s text' all other) → Closed s other → Reads text' g.less whole left s r.mid other
+do_reads : (room : ℕ) (whole left : Left) (s : Statement) (text text' : List ℕ) (ts rest all other : List Token) (g : Holds text room whole left heads.Do s ts rest) → Alike text text' ts → (r : Inner heads.Do s text' all other) → Closed s other → IsStatementWithin text' g.less whole left s r.mid other
 do_reads room whole left s text text' ts rest all other g k r c =
     let l = g.head.locals in
     let q = same_left g.between whole (omega arith) g.head.funclets in
@@ -389,23 +389,23 @@ do_semicolon room p whole left s c text ts rest d f g key is low =
 
 -- ---- by what was read
 
-abbrev pub holds : (text : List ℕ) (room less : ℕ) (whole left after : Left) (h : Head) (s : Statement) (ts mid rest : List Token) → less + 1 ≡ room → Heads text room whole left h ts mid → Reads text less left after s mid rest → Holds text room whole after h s ts rest
+abbrev pub holds : (text : List ℕ) (room less : ℕ) (whole left after : Left) (h : Head) (s : Statement) (ts mid rest : List Token) → less + 1 ≡ room → Heads text room whole left h ts mid → IsStatementWithin text less left after s mid rest → Holds text room whole after h s ts rest
 holds text room less whole left after h s ts mid rest m g r = record { less = less; more = m; between = left; mid = mid; head = g; inner = r }
 
-pub otherwise_fails : (text : List ℕ) (room less at : ℕ) (whole left after : Left) (h : Head) (c : Expr) (t : Stmt) (s : Statement) (z : Ending) (ts mid rest j : List Token) → less + 1 ≡ room → Heads text room whole left h ts mid → Reads text less left after s mid rest → Ends text h s z rest j → z ≡ endings.Else at c t → Wraps (NoStatement less after) (HasStatement less after) (NoStatement room whole) (HasStatement room whole) text j ts
+pub otherwise_fails : (text : List ℕ) (room less at : ℕ) (whole left after : Left) (h : Head) (c : Expr) (t : Stmt) (s : Statement) (z : Ending) (ts mid rest j : List Token) → less + 1 ≡ room → Heads text room whole left h ts mid → IsStatementWithin text less left after s mid rest → Ends text h s z rest j → z ≡ endings.Else at c t → Wraps (NoStatement less after) (HasStatement less after) (NoStatement room whole) (HasStatement room whole) text j ts
 otherwise_fails text room less at whole left after h c t s z ts mid rest j m g r i e =
     let q : Ends text h s (endings.Else at c t) rest j = subst (λ (x : Ending). Ends text h s x rest j) e i in
     let g' : Heads text room whole left (heads.If at c) ts mid = subst (λ (x : Head). Heads text room whole left x ts mid) q.0 g in
     else_fails at room whole after c s text ts rest j (holds text room less whole left after (heads.If at c) s ts mid rest m g' r) q.2
 
-pub otherwise_found : (text : List ℕ) (room less at : ℕ) (whole left after last : Left) (h : Head) (c : Expr) (t : Stmt) (s y : Statement) (z : Ending) (ts mid rest j end : List Token) → less + 1 ≡ room → Heads text room whole left h ts mid → Reads text less left after s mid rest → Ends text h s z rest j → z ≡ endings.Else at c t → Reads text less after last y j end → Reads text room whole last (IfElse at (expression c) (statement t) y) ts end
+pub otherwise_found : (text : List ℕ) (room less at : ℕ) (whole left after last : Left) (h : Head) (c : Expr) (t : Stmt) (s y : Statement) (z : Ending) (ts mid rest j end : List Token) → less + 1 ≡ room → Heads text room whole left h ts mid → IsStatementWithin text less left after s mid rest → Ends text h s z rest j → z ≡ endings.Else at c t → IsStatementWithin text less after last y j end → IsStatementWithin text room whole last (IfElse at (expression c) (statement t) y) ts end
 otherwise_found text room less at whole left after last h c t s y z ts mid rest j end m g r i e d =
     let q : Ends text h s (endings.Else at c t) rest j = subst (λ (x : Ending). Ends text h s x rest j) e i in
     let g' : Heads text room whole left (heads.If at c) ts mid = subst (λ (x : Head). Heads text room whole left x ts mid) q.0 g in
-    subst (λ (x : Statement). Reads text room whole last (IfElse at (expression c) x y) ts end) (sym q.1)
+    subst (λ (x : Statement). IsStatementWithin text room whole last (IfElse at (expression c) x y) ts end) (sym q.1)
     (else_found at room whole after last c s y text ts rest j end (holds text room less whole left after (heads.If at c) s ts mid rest m g' r) q.2 d)
 
-pub whole_found : (text : List ℕ) (room less : ℕ) (whole left after : Left) (h : Head) (made : Stmt) (s : Statement) (z : Ending) (ts mid rest end : List Token) → less + 1 ≡ room → Heads text room whole left h ts mid → Reads text less left after s mid rest → Ends text h s z rest end → z ≡ endings.Whole made → Reads text room whole after (statement made) ts end
+pub whole_found : (text : List ℕ) (room less : ℕ) (whole left after : Left) (h : Head) (made : Stmt) (s : Statement) (z : Ending) (ts mid rest end : List Token) → less + 1 ≡ room → Heads text room whole left h ts mid → IsStatementWithin text less left after s mid rest → Ends text h s z rest end → z ≡ endings.Whole made → IsStatementWithin text room whole after (statement made) ts end
 whole_found text room less whole left after h made s z ts mid rest end m g r i e =
     let q : Ends text h s (endings.Whole made) rest end = subst (λ (x : Ending). Ends text h s x rest end) e i in
     q room whole after ts (holds text room less whole left after h s ts mid rest m g r)

@@ -12,13 +12,13 @@ use Rattle.c_syntax.proofs.Fronts.{has_same}
 use Rattle.c_syntax.proofs.Blocks.{condition, first, place, while_else, one_statement}
 use Rattle.c_parse_stmt.specs.declared.left.Left.{Left}
 use Rattle.c_parse_stmt.specs.Parts.{NoCondition, NoneUpTo, NoForInitialiser}
-use Rattle.c_parse_stmt.specs.Within.{Reads, NoStatement, AfterKeyword}
+use Rattle.c_parse_stmt.specs.Within.{IsStatementWithin, NoStatement, AfterKeyword}
 use Rattle.c_parse_stmt.proofs.Tails.{after_while, after_do, after_for}
 use Rattle.c_parse_stmt.proofs.Wholes.{Lacks, fits, closed_as, after_condition, up_to}
 
 -- ---- `while`
 
-pub while_found : (text : List ℕ) (room less at : ℕ) (left after : Left) (c : Expression) (z : Statement) (a b rest : List Token) → less + 1 ≡ room → IsCondition text c a b → height c ≤ 64 → Reads text less left after z b rest → AfterKeyword keywords.While at a (λ ts. Reads text room left after (While at c z) ts rest)
+pub while_found : (text : List ℕ) (room less at : ℕ) (left after : Left) (c : Expression) (z : Statement) (a b rest : List Token) → less + 1 ≡ room → IsCondition text c a b → height c ≤ 64 → IsStatementWithin text less left after z b rest → AfterKeyword keywords.While at a (λ ts. IsStatementWithin text room left after (While at c z) ts rest)
 while_found text room less at left after c z a b rest n is low r ts k =
     let t = r.taken in let o = t.statements in let x = t.expressions in
     record {
@@ -88,7 +88,7 @@ no_do_body limits text room less at left a n none ts k s end h d c w =
       funclets = v.funclets;
     })
 
-pub no_do_while : (limits : ℕ) (text : List ℕ) (room less at : ℕ) (left mid : Left) (z : Statement) (a b : List Token) → Reads text less left mid z a b → ((rest : List Token) → HasKeyword keywords.While b rest → ⊥) → AfterKeyword keywords.Do at a (NoStatement room left limits text)
+pub no_do_while : (limits : ℕ) (text : List ℕ) (room less at : ℕ) (left mid : Left) (z : Statement) (a b : List Token) → IsStatementWithin text less left mid z a b → ((rest : List Token) → HasKeyword keywords.While b rest → ⊥) → AfterKeyword keywords.Do at a (NoStatement room left limits text)
 no_do_while limits text room less at left mid z a b r none ts k s end h d c w =
     let t = after_do text at s ts a end k h in
     let p = (one_statement text z t.body a b t.after_body r.is t.is_body.item r.closed
@@ -96,7 +96,7 @@ no_do_while limits text room less at left mid z a b r none ts k s end h d c w =
     none t.after_while (subst (λ (y : List Token). HasKeyword keywords.While y t.after_while)
     (sym p) (t.at, t.keyword))
 
-pub no_do_condition : (limits : ℕ) (text : List ℕ) (room less at p : ℕ) (left mid : Left) (z : Statement) (a b j : List Token) → Reads text less left mid z a b → IsKeyword keywords.While p b j → NoCondition limits text j → AfterKeyword keywords.Do at a (NoStatement room left limits text)
+pub no_do_condition : (limits : ℕ) (text : List ℕ) (room less at p : ℕ) (left mid : Left) (z : Statement) (a b j : List Token) → IsStatementWithin text less left mid z a b → IsKeyword keywords.While p b j → NoCondition limits text j → AfterKeyword keywords.Do at a (NoStatement room left limits text)
 no_do_condition limits text room less at p left mid z a b j r kw none ts k s end h d c w =
     let t = after_do text at s ts a end k h in
     let v = fits limits text room left s (DoWhile t.body t.at t.condition) t.same w in
@@ -107,7 +107,7 @@ no_do_condition limits text room less at p left mid z a b j r kw none ts k s end
     (subst (λ (y : List Token). IsCondition text t.condition y t.after_condition)
     (sym u.1) t.is_condition) (λ lim. let o = v.expressions lim in omega arith)
 
-pub no_do_end : (limits : ℕ) (text : List ℕ) (room less at p : ℕ) (left mid : Left) (z : Statement) (e : Expression) (a b j g : List Token) → Reads text less left mid z a b → IsKeyword keywords.While p b j → IsCondition text e j g → Lacks punctuators.Semicolon g → AfterKeyword keywords.Do at a (NoStatement room left limits text)
+pub no_do_end : (limits : ℕ) (text : List ℕ) (room less at p : ℕ) (left mid : Left) (z : Statement) (e : Expression) (a b j g : List Token) → IsStatementWithin text less left mid z a b → IsKeyword keywords.While p b j → IsCondition text e j g → Lacks punctuators.Semicolon g → AfterKeyword keywords.Do at a (NoStatement room left limits text)
 no_do_end limits text room less at p left mid z e a b j g r kw is none ts k s end h d c w =
     let t = after_do text at s ts a end k h in
     let q = (one_statement text z t.body a b t.after_body r.is t.is_body.item r.closed
@@ -118,7 +118,7 @@ no_do_end limits text room less at p left mid z e a b j g r kw is none ts k s en
     none end (subst (λ (y : List Token). HasPunctuator punctuators.Semicolon y end)
     (sym v.1) t.semicolon)
 
-pub do_found : (text : List ℕ) (room less at p : ℕ) (left after : Left) (z : Statement) (c : Expression) (a b d e rest : List Token) → less + 1 ≡ room → Reads text less left after z a b → IsKeyword keywords.While p b d → IsCondition text c d e → height c ≤ 64 → HasPunctuator punctuators.Semicolon e rest → AfterKeyword keywords.Do at a (λ ts. Reads text room left after (DoWhile z p c) ts rest)
+pub do_found : (text : List ℕ) (room less at p : ℕ) (left after : Left) (z : Statement) (c : Expression) (a b d e rest : List Token) → less + 1 ≡ room → IsStatementWithin text less left after z a b → IsKeyword keywords.While p b d → IsCondition text c d e → height c ≤ 64 → HasPunctuator punctuators.Semicolon e rest → AfterKeyword keywords.Do at a (λ ts. IsStatementWithin text room left after (DoWhile z p c) ts rest)
 do_found text room less at p left after z c a b d e rest n r kw is low semi ts k =
     let t = r.taken in let o = t.statements in let x = t.expressions in
     record {
@@ -225,7 +225,7 @@ no_for_body limits text room less at left mid f m n a b e g j i st is is' none t
       funclets = λ lim. let o = v.funclets lim in omega (arith, length-append {A = ℕ});
     })
 
-pub for_found : (text : List ℕ) (room less at : ℕ) (left mid after : Left) (f : ForInitialiser) (m n : Option Expression) (z : Statement) (a b e g j rest : List Token) → less + 1 ≡ room → Started text left mid f a b e → IsUpTo text punctuators.Semicolon m e g → height_of m ≤ 64 → IsUpTo text punctuators.CloseParenthesis n g j → height_of n ≤ 64 → Reads text less mid after z j rest → AfterKeyword keywords.For at a (λ ts. Reads text room left after (For at f m n z) ts rest)
+pub for_found : (text : List ℕ) (room less at : ℕ) (left mid after : Left) (f : ForInitialiser) (m n : Option Expression) (z : Statement) (a b e g j rest : List Token) → less + 1 ≡ room → Started text left mid f a b e → IsUpTo text punctuators.Semicolon m e g → height_of m ≤ 64 → IsUpTo text punctuators.CloseParenthesis n g j → height_of n ≤ 64 → IsStatementWithin text less mid after z j rest → AfterKeyword keywords.For at a (λ ts. IsStatementWithin text room left after (For at f m n z) ts rest)
 for_found text room less at left mid after f m n z a b e g j rest i st is low is' low' r ts k =
     let t = r.taken in let o = t.statements in let x = t.expressions in let l = t.locals in let u = t.funclets in
     let y = st.low in let v = st.locals in let v' = st.funclets in

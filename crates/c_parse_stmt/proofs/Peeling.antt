@@ -10,7 +10,7 @@ use Rattle.c_syntax.specs.Expression.{Expression, Constant, Variable, Informatio
 use Rattle.c_syntax.specs.Expressions.{SpellsExpression}
 use Rattle.c_syntax.specs.Faults.{SameFirst}
 use Rattle.c_syntax.specs.Statements.{IsCondition}
-use Rattle.c_syntax.specs.Steps.{IsHead}
+use Rattle.c_syntax.specs.Steps.{IsOperandAlone}
 use Rattle.c_syntax.specs.Tokens.{HasPunctuator}
 use Rattle.c_syntax.specs.Types.{IsBase}
 use Rattle.c_syntax.proofs.Failing.{alike_same, first_keeps}
@@ -33,7 +33,7 @@ opening_untyped zero ts rest h other e = other (ap front (sym h) ∙ e)
 opening_untyped (suc n) ts rest h other e = let p = has_front punctuators.OpenParenthesis ts h.0 h.1 in absurd (omega arith)
 
 -- where an expression begins with a parenthesis, and no type is in it
-inner_head : (text : List ℕ) (n : ℕ) (ts y : List Token) → HasPunctuator punctuators.OpenParenthesis ts y → (front y ≡ 7 → ⊥) → ((e : Expression) (rest r : List Token) → SpellsExpression text e y rest → HasPunctuator punctuators.CloseParenthesis rest r → n ≤ height e) → (h : Expression) (after : List Token) → IsHead h → SpellsExpression text h ts after → suc n ≤ height h
+inner_head : (text : List ℕ) (n : ℕ) (ts y : List Token) → HasPunctuator punctuators.OpenParenthesis ts y → (front y ≡ 7 → ⊥) → ((e : Expression) (rest r : List Token) → SpellsExpression text e y rest → HasPunctuator punctuators.CloseParenthesis rest r → n ≤ height e) → (h : Expression) (after : List Token) → IsOperandAlone h → SpellsExpression text h ts after → suc n ≤ height h
 inner_head text n ts y o bare f (Constant at (literals.Integer value type)) after i s = let p = has_front punctuators.OpenParenthesis ts y o in let q = ap front s.1 in absurd (omega arith)
 inner_head text n ts y o bare f (Constant at (literals.CharacterConstant value)) after i s = let p = has_front punctuators.OpenParenthesis ts y o in let q = ap front s.1 in absurd (omega arith)
 inner_head text n ts y o bare f (Variable named) after i s = let p = has_front punctuators.OpenParenthesis ts y o in let q = ap front s in absurd (omega arith)
@@ -75,7 +75,7 @@ least (suc m) n text ts v h f bare e rest r s c =
 
 -- ---- by the first token
 
-head_over : (text : List ℕ) (h : Expression) (ts after : List Token) → IsHead h → SpellsExpression text h ts after → first_over ts ≤ height h
+head_over : (text : List ℕ) (h : Expression) (ts after : List Token) → IsOperandAlone h → SpellsExpression text h ts after → first_over ts ≤ height h
 head_over text (Constant at (literals.Integer value type)) ts after i s = let p = ap first_over s.1 in omega arith
 head_over text (Constant at (literals.CharacterConstant value)) ts after i s = let p = ap first_over s.1 in omega arith
 head_over text (Variable named) ts after i s = let p = ap first_over s in omega arith

@@ -10,11 +10,11 @@ use Rattle.c_syntax.proofs.Fronts.{front}
 use Rattle.c_syntax.specs.Limits.{Number, order}
 use Rattle.c_parse_expr.specs.declared.refusal.ParseErr.{ParseErr}
 use Rattle.c_parse_expr.specs.declared.refusal.ParseErr.TheVariants.{Unexpected, TooDeep, TooMany, Memory}
-use Rattle.c_parse_expr.specs.Refusals.{Placed}
+use Rattle.c_parse_expr.specs.Refusals.{IsPlacedRefusal}
 use Rattle.c_parse_stmt.specs.Parts.{NoPunctuator, APunctuator}
 
 -- a refusal of a phrase in a greater one
-pub placed_so : (e : ParseErr) (No Has No' Has' : Family) (text : List ℕ) (ts ts' : List Token) → Wraps No Has No' Has' text ts ts' → Placed e No Has text ts → Placed e No' Has' text ts'
+pub placed_so : (e : ParseErr) (No Has No' Has' : Family) (text : List ℕ) (ts ts' : List Token) → Wraps No Has No' Has' text ts ts' → IsPlacedRefusal e No Has text ts → IsPlacedRefusal e No' Has' text ts'
 placed_so (Unexpected at) No Has No' Has' text ts ts' w f = wrapped No Has No' Has' 0 at text ts ts' w f
 placed_so (TooDeep at) No Has No' Has' text ts ts' w f = wrapped No Has No' Has' 1 at text ts ts' w f
 placed_so (TooMany at what) No Has No' Has' text ts ts' w f = wrapped No Has No' Has' (order (Number what)) at text ts ts' w f

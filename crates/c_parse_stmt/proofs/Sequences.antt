@@ -14,17 +14,17 @@ use Rattle.c_syntax.proofs.Moves.{Moves}
 use Rattle.c_syntax.specs.Limits.{Number, order}
 use Rattle.c_parse_expr.specs.declared.refusal.ParseErr.{ParseErr}
 use Rattle.c_parse_expr.specs.declared.refusal.ParseErr.TheVariants.{Unexpected, TooDeep, TooMany, Memory}
-use Rattle.c_parse_expr.specs.Refusals.{Placed}
+use Rattle.c_parse_expr.specs.Refusals.{IsPlacedRefusal}
 
 -- ---- refusals
 
-pub placed : (e : ParseErr) (No Has No' Has' : Family) (text : List ℕ) (ts ts' : List Token) → Wraps No Has No' Has' text ts ts' → Placed e No Has text ts → Placed e No' Has' text ts'
+pub placed : (e : ParseErr) (No Has No' Has' : Family) (text : List ℕ) (ts ts' : List Token) → Wraps No Has No' Has' text ts ts' → IsPlacedRefusal e No Has text ts → IsPlacedRefusal e No' Has' text ts'
 placed (Unexpected at) No Has No' Has' text ts ts' w f = wrapped No Has No' Has' 0 at text ts ts' w f
 placed (TooDeep at) No Has No' Has' text ts ts' w f = wrapped No Has No' Has' 1 at text ts ts' w f
 placed (TooMany at what) No Has No' Has' text ts ts' w f = wrapped No Has No' Has' (order (Number what)) at text ts ts' w f
 placed Memory No Has No' Has' text ts ts' w f = tt
 
-pub placed_so : {A : Type 0} (r : Result A ParseErr) (No Has No' Has' : Family) (text : List ℕ) (ts ts' : List Token) → Wraps No Has No' Has' text ts ts' → IfErr r (λ e. Placed e No Has text ts) → IfErr r (λ e. Placed e No' Has' text ts')
+pub placed_so : {A : Type 0} (r : Result A ParseErr) (No Has No' Has' : Family) (text : List ℕ) (ts ts' : List Token) → Wraps No Has No' Has' text ts ts' → IfErr r (λ e. IsPlacedRefusal e No Has text ts) → IfErr r (λ e. IsPlacedRefusal e No' Has' text ts')
 placed_so (Ok x) No Has No' Has' text ts ts' w h = tt
 placed_so (Err e) No Has No' Has' text ts ts' w h = placed e No Has No' Has' text ts ts' w h
 

@@ -14,7 +14,7 @@ use Rattle.c_syntax.proofs.Fronts.{keyword_same, has_same}
 use Rattle.c_syntax.proofs.Blocks.{condition, place, same_items}
 use Rattle.c_parse_stmt.specs.declared.left.Left.{Left}
 use Rattle.c_parse_stmt.specs.Filters.{numbers_of, NoFilter}
-use Rattle.c_parse_stmt.specs.Within.{AllWithin, AllTaken, NoBlockItems, Reads, NoStatement, AfterKeyword}
+use Rattle.c_parse_stmt.specs.Within.{AllWithin, AllTaken, NoBlockItems, IsStatementWithin, NoStatement, AfterKeyword}
 use Rattle.c_parse_stmt.proofs.Tails.{IsBraced, AfterExcept, AfterFinally, after_try}
 use Rattle.c_parse_stmt.proofs.Wholes.{fits}
 
@@ -128,7 +128,7 @@ no_handler limits text room at p left mid next body f a b j g is tk kw cn nx ny 
         })
     by (inr t) = not_finally text body p s a b j end is kw t
 
-pub except_found : (text : List ℕ) (room at p : ℕ) (left mid next after : Left) (body handler : Statements) (f : Expression) (a b j g rest : List Token) → 1 ≤ room → IsBraced text body a b → AllTaken text room left mid body → IsKeyword keywords.Except p b j → IsCondition text f j g → height f ≤ 64 → next.funclets + numbers_of (accepts text f) ≡ mid.funclets → next.locals ≡ mid.locals → IsBraced text handler g rest → AllTaken text room next after handler → AfterKeyword keywords.Try at a (λ ts. Reads text room left after (TryExcept body p f handler) ts rest)
+pub except_found : (text : List ℕ) (room at p : ℕ) (left mid next after : Left) (body handler : Statements) (f : Expression) (a b j g rest : List Token) → 1 ≤ room → IsBraced text body a b → AllTaken text room left mid body → IsKeyword keywords.Except p b j → IsCondition text f j g → height f ≤ 64 → next.funclets + numbers_of (accepts text f) ≡ mid.funclets → next.locals ≡ mid.locals → IsBraced text handler g rest → AllTaken text room next after handler → AfterKeyword keywords.Try at a (λ ts. IsStatementWithin text room left after (TryExcept body p f handler) ts rest)
 except_found text room at p left mid next after body handler f a b j g rest n is tk kw cn low nx ny is' tk' ts k =
     let o = tk.statements in let x = tk.expressions in let l = tk.locals in let m = tk.funclets in
     let o' = tk'.statements in let x' = tk'.expressions in let l' = tk'.locals in let m' = tk'.funclets in
@@ -195,7 +195,7 @@ no_last limits text room at p left mid next body a b j is tk kw nx ny none ts k 
           funclets = λ lim. let o = v.funclets lim in omega (arith, length-append {A = ℕ});
         })
 
-pub finally_found : (text : List ℕ) (room at p : ℕ) (left mid next after : Left) (body last : Statements) (a b j rest : List Token) → IsBraced text body a b → AllTaken text room left mid body → IsKeyword keywords.Finally p b j → next.funclets + 1 ≡ mid.funclets → next.locals ≡ mid.locals → IsBraced text last j rest → AllTaken text room next after last → AfterKeyword keywords.Try at a (λ ts. Reads text room left after (TryFinally body p last) ts rest)
+pub finally_found : (text : List ℕ) (room at p : ℕ) (left mid next after : Left) (body last : Statements) (a b j rest : List Token) → IsBraced text body a b → AllTaken text room left mid body → IsKeyword keywords.Finally p b j → next.funclets + 1 ≡ mid.funclets → next.locals ≡ mid.locals → IsBraced text last j rest → AllTaken text room next after last → AfterKeyword keywords.Try at a (λ ts. IsStatementWithin text room left after (TryFinally body p last) ts rest)
 finally_found text room at p left mid next after body last a b j rest is tk kw nx ny is' tk' ts k =
     let o = tk.statements in let x = tk.expressions in let l = tk.locals in let m = tk.funclets in
     let o' = tk'.statements in let x' = tk'.expressions in let l' = tk'.locals in let m' = tk'.funclets in

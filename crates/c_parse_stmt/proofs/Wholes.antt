@@ -18,7 +18,7 @@ use Rattle.c_syntax.proofs.Fronts.{punctuator_class}
 use Rattle.c_syntax.proofs.Blocks.{condition, optional, word, absent, one_statement}
 use Rattle.c_parse_stmt.specs.declared.left.Left.{Left}
 use Rattle.c_parse_stmt.specs.Parts.{NoCondition, NoneUpTo}
-use Rattle.c_parse_stmt.specs.Within.{AllTaken, NoBlockItems, Within, Reads, NoStatement, NoEvaluation, AfterKeyword}
+use Rattle.c_parse_stmt.specs.Within.{AllTaken, NoBlockItems, Within, IsStatementWithin, NoStatement, NoEvaluation, AfterKeyword}
 use Rattle.c_parse_stmt.proofs.Tails.{AfterIf, AfterIfElse, after_if, after_return, after_break, after_continue, after_leave, after_brace}
 
 abbrev pub Fits : ℕ → List ℕ → ℕ → Left → Statement → Type 0
@@ -93,7 +93,7 @@ no_then limits text room less at left e a b n is none ts k s end h d c w = by (a
           funclets = λ lim. let o = v.funclets lim in omega (arith, length-append {A = ℕ});
         })
 
-pub no_otherwise : (limits : ℕ) (text : List ℕ) (room less at : ℕ) (left mid : Left) (e : Expression) (z : Statement) (a b j g : List Token) → less + 1 ≡ room → IsCondition text e a b → Reads text less left mid z b j → HasKeyword keywords.Else j g → NoStatement less mid limits text g → AfterKeyword keywords.If at a (NoStatement room left limits text)
+pub no_otherwise : (limits : ℕ) (text : List ℕ) (room less at : ℕ) (left mid : Left) (e : Expression) (z : Statement) (a b j g : List Token) → less + 1 ≡ room → IsCondition text e a b → IsStatementWithin text less left mid z b j → HasKeyword keywords.Else j g → NoStatement less mid limits text g → AfterKeyword keywords.If at a (NoStatement room left limits text)
 no_otherwise limits text room less at left mid e z a b j g n is r els none ts k s end h d c w = by (after_if text at s ts a end k h)
   where
     by : (AfterIf text at s a end ⊎ AfterIfElse text at s a end) → ⊥
@@ -123,7 +123,7 @@ no_otherwise limits text room less at left mid e z a b j g n is r els none ts k 
           funclets = λ lim. let o = v.funclets lim in omega (arith, length-append {A = ℕ});
         })
 
-pub if_found : (text : List ℕ) (room less at : ℕ) (left after : Left) (c : Expression) (z : Statement) (a b rest : List Token) → less + 1 ≡ room → IsCondition text c a b → height c ≤ 64 → Reads text less left after z b rest → NoElse rest → AfterKeyword keywords.If at a (λ ts. Reads text room left after (If at c z) ts rest)
+pub if_found : (text : List ℕ) (room less at : ℕ) (left after : Left) (c : Expression) (z : Statement) (a b rest : List Token) → less + 1 ≡ room → IsCondition text c a b → height c ≤ 64 → IsStatementWithin text less left after z b rest → NoElse rest → AfterKeyword keywords.If at a (λ ts. IsStatementWithin text room left after (If at c z) ts rest)
 if_found text room less at left after c z a b rest n is low r f ts k =
     let t = r.taken in let o = t.statements in let x = t.expressions in
     record {
@@ -148,7 +148,7 @@ pub not_dangling : (b : Bool) → (IsTrue b → ⊥) → IsFalse b
 not_dangling true h = absurd (h refl)
 not_dangling false h = refl
 
-pub if_else_found : (text : List ℕ) (room less at : ℕ) (left mid after : Left) (c : Expression) (z y : Statement) (a b d e rest : List Token) → less + 1 ≡ room → IsCondition text c a b → height c ≤ 64 → Reads text less left mid z b d → HasKeyword keywords.Else d e → Reads text less mid after y e rest → AfterKeyword keywords.If at a (λ ts. Reads text room left after (IfElse at c z y) ts rest)
+pub if_else_found : (text : List ℕ) (room less at : ℕ) (left mid after : Left) (c : Expression) (z y : Statement) (a b d e rest : List Token) → less + 1 ≡ room → IsCondition text c a b → height c ≤ 64 → IsStatementWithin text less left mid z b d → HasKeyword keywords.Else d e → IsStatementWithin text less mid after y e rest → AfterKeyword keywords.If at a (λ ts. IsStatementWithin text room left after (IfElse at c z y) ts rest)
 if_else_found text room less at left mid after c z y a b d e rest n is low r els q ts k =
     let t = r.taken in let o = t.statements in let x = t.expressions in let l = t.locals in let m = t.funclets in
     let u = q.taken in let o' = u.statements in let x' = u.expressions in let l' = u.locals in let m' = u.funclets in
@@ -175,13 +175,13 @@ if_else_found text room less at left mid after c z y a b d e rest n is low r els
 pub up_to : (text : List ℕ) (s : Punctuator) (e f : Option Expression) (ts us r q : List Token) → ts ≡ us → comma < punctuator_follows s → punctuator_class s ≡ 6 → IsUpTo text s e ts r → IsUpTo text s f us q → r ≡ q
 up_to text s e f ts us r q p l c h g = (optional text s e f ts us h.0 g.0 r q p l c h.1 g.1 h.2 g.2).1
 
-pub evaluated : (text : List ℕ) (room : ℕ) (left : Left) (e : Option Expression) (ts rest : List Token) → IsUpTo text punctuators.Semicolon e ts rest → height_of e ≤ 64 → one_over e ≤ room → Reads text room left left (Evaluate e) ts rest
+pub evaluated : (text : List ℕ) (room : ℕ) (left : Left) (e : Option Expression) (ts rest : List Token) → IsUpTo text punctuators.Semicolon e ts rest → height_of e ≤ 64 → one_over e ≤ room → IsStatementWithin text room left left (Evaluate e) ts rest
 evaluated text room left e ts rest is low over = record { is = is; statement = refl; closed = λ i. absurd cc; taken = record { statements = over; expressions = low; locals = omega arith; funclets = omega arith } }
 
 pub no_evaluation : (limits : ℕ) (text : List ℕ) (room : ℕ) (left : Left) (ts : List Token) → NoneUpTo punctuators.Semicolon room limits text ts → NoEvaluation room left limits text ts
 no_evaluation limits text room left ts none e end h w = none e end h w.expressions w.statements
 
-pub returned : (text : List ℕ) (room at : ℕ) (left : Left) (e : Option Expression) (a rest : List Token) → IsUpTo text punctuators.Semicolon e a rest → height_of e ≤ 64 → one_over e ≤ room → AfterKeyword keywords.Return at a (λ ts. Reads text room left left (Return at e) ts rest)
+pub returned : (text : List ℕ) (room at : ℕ) (left : Left) (e : Option Expression) (a rest : List Token) → IsUpTo text punctuators.Semicolon e a rest → height_of e ≤ 64 → one_over e ≤ room → AfterKeyword keywords.Return at a (λ ts. IsStatementWithin text room left left (Return at e) ts rest)
 returned text room at left e a rest is low over ts k = record {
   is = (a, k, is);
   statement = refl;
@@ -200,13 +200,13 @@ no_return limits text room at left a none ts k s end h d c w =
     let v = fits limits text room left s (Return at t.0) t.1 w in
     none t.0 end t.2 v.expressions v.statements
 
-pub broken : (text : List ℕ) (room at : ℕ) (left : Left) (ts a rest : List Token) → IsKeyword keywords.Break at ts a → HasPunctuator punctuators.Semicolon a rest → Reads text room left left (Break at) ts rest
+pub broken : (text : List ℕ) (room at : ℕ) (left : Left) (ts a rest : List Token) → IsKeyword keywords.Break at ts a → HasPunctuator punctuators.Semicolon a rest → IsStatementWithin text room left left (Break at) ts rest
 broken text room at left ts a rest k h = record { is = (a, k, h); statement = refl; closed = λ i. absurd cc; taken = record { statements = omega arith; expressions = omega arith; locals = omega arith; funclets = omega arith } }
 
-pub continued : (text : List ℕ) (room at : ℕ) (left : Left) (ts a rest : List Token) → IsKeyword keywords.Continue at ts a → HasPunctuator punctuators.Semicolon a rest → Reads text room left left (Continue at) ts rest
+pub continued : (text : List ℕ) (room at : ℕ) (left : Left) (ts a rest : List Token) → IsKeyword keywords.Continue at ts a → HasPunctuator punctuators.Semicolon a rest → IsStatementWithin text room left left (Continue at) ts rest
 continued text room at left ts a rest k h = record { is = (a, k, h); statement = refl; closed = λ i. absurd cc; taken = record { statements = omega arith; expressions = omega arith; locals = omega arith; funclets = omega arith } }
 
-pub left_by : (text : List ℕ) (room at : ℕ) (left : Left) (ts a rest : List Token) → IsKeyword keywords.Leave at ts a → HasPunctuator punctuators.Semicolon a rest → Reads text room left left (Leave at) ts rest
+pub left_by : (text : List ℕ) (room at : ℕ) (left : Left) (ts a rest : List Token) → IsKeyword keywords.Leave at ts a → HasPunctuator punctuators.Semicolon a rest → IsStatementWithin text room left left (Leave at) ts rest
 left_by text room at left ts a rest k h = record { is = (a, k, h); statement = refl; closed = λ i. absurd cc; taken = record { statements = omega arith; expressions = omega arith; locals = omega arith; funclets = omega arith } }
 
 pub no_break : (limits : ℕ) (text : List ℕ) (room at : ℕ) (left : Left) (ts a : List Token) → IsKeyword keywords.Break at ts a → Lacks punctuators.Semicolon a → NoStatement room left limits text ts
@@ -220,7 +220,7 @@ no_leave limits text room at left ts a k none s end h d c w = none end (after_le
 
 -- ---- blocks
 
-pub block_found : (text : List ℕ) (room : ℕ) (left after : Left) (ss : Statements) (ts a rest : List Token) → HasPunctuator punctuators.OpenBrace ts a → AreBlockItems text ss a rest → AllTaken text room left after ss → Reads text room left after (Block ss) ts rest
+pub block_found : (text : List ℕ) (room : ℕ) (left after : Left) (ss : Statements) (ts a rest : List Token) → HasPunctuator punctuators.OpenBrace ts a → AreBlockItems text ss a rest → AllTaken text room left after ss → IsStatementWithin text room left after (Block ss) ts rest
 block_found text room left after ss ts a rest o is t = record {
   is = record { after_brace = a; brace = o; items = is };
   statement = refl;

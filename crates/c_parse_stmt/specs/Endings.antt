@@ -21,14 +21,14 @@ use Rattle.c_parse_stmt.specs.declared.openings.Head.{Head}
 use Rattle.c_parse_stmt.specs.declared.openings.Head.TheVariants as heads
 use Rattle.c_parse_stmt.specs.Filters.{numbers_of}
 use Rattle.c_parse_stmt.specs.Openings.{Holds}
-use Rattle.c_parse_stmt.specs.Within.{Reads, AfterKeyword}
+use Rattle.c_parse_stmt.specs.Within.{IsStatementWithin, AfterKeyword}
 
 -- With the head and the first statement it is a whole statement, or an `else` follows that belongs
 -- to the head's `if`.
 abbrev pub Ends : List ℕ → Head → Statement → Ending → List Token → List Token → Type 0
 Ends text h s (endings.Whole z) ts rest =
     (room : ℕ) (left after : Left) (start : List Token) → Holds text room left after h s start ts
-    → Reads text room left after (statement z) start rest
+    → IsStatementWithin text room left after (statement z) start rest
 Ends text h s (endings.Else at c t) ts rest =
     (h ≡ heads.If at c) × (statement t ≡ s) × HasKeyword keywords.Else ts rest
 
@@ -60,7 +60,7 @@ numbers text (clauses.Except at f) = numbers_of (accepts text (expression f))
 numbers text (clauses.Finally at) = 1
 
 -- within the limits, and of the counts so much is left after it
-pub record Continues (text : List ℕ) (room : ℕ) (left after : Left) (c : Clause)
+pub record ClauseIsTaken (text : List ℕ) (room : ℕ) (left after : Left) (c : Clause)
     (ts rest : List Token) : Type 0 where
   pub is : IsClause text c ts rest
   pub statements : statements_over c ≤ room
@@ -72,7 +72,7 @@ pub record Continues (text : List ℕ) (room : ℕ) (left after : Left) (c : Cla
 abbrev pub ContinuesAfterKeyword : Keyword → ℕ → List ℕ → ℕ → Left → Left → Clause → List Token
     → List Token → Type 0
 ContinuesAfterKeyword keyword at text room left after c following rest =
-    AfterKeyword keyword at following (λ ts. Continues text room left after c ts rest)
+    AfterKeyword keyword at following (λ ts. ClauseIsTaken text room left after c ts rest)
 
 abbrev pub with_clause : Statements → Clause → Statements → Statement
 with_clause body (clauses.Except at f) last = TryExcept body at (expression f) last

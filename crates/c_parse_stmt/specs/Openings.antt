@@ -17,16 +17,17 @@ use Rattle.c_parse_stmt.specs.declared.openings.Head.{Head}
 use Rattle.c_parse_stmt.specs.declared.openings.Head.TheVariants as heads
 use Rattle.c_parse_stmt.specs.declared.openings.Opening.{Opening}
 use Rattle.c_parse_stmt.specs.declared.openings.Opening.TheVariants as openings
-use Rattle.c_parse_stmt.specs.Within.{AllTaken, Reads, AfterKeyword}
+use Rattle.c_parse_stmt.specs.Within.{AllTaken, IsStatementWithin, AfterKeyword}
 
 -- ---- what is before the first statement
 
-abbrev pub IsHead : List ℕ → Head → Phrase
-IsHead text (heads.If at c) = InTurn (IsKeyword keywords.If at) (IsCondition text (expression c))
-IsHead text (heads.While at c) =
+abbrev pub IsStatementHead : List ℕ → Head → Phrase
+IsStatementHead text (heads.If at c) = InTurn (IsKeyword keywords.If at)
+    (IsCondition text (expression c))
+IsStatementHead text (heads.While at c) =
     InTurn (IsKeyword keywords.While at) (IsCondition text (expression c))
-IsHead text heads.Do = HasKeyword keywords.Do
-IsHead text (heads.For at f c n) =
+IsStatementHead text heads.Do = HasKeyword keywords.Do
+IsStatementHead text (heads.For at f c n) =
     IsForHead at (IsForInitialiser text (first f))
     (IsUpTo text punctuators.Semicolon (option_map expression c))
     (IsUpTo text punctuators.CloseParenthesis (option_map expression n))
@@ -48,7 +49,7 @@ locals (heads.For at f c n) = locals_of_for_initialiser (first f)
 -- within the limits, with room for the statement, and of the counts so much is left after it
 pub record Heads (text : List ℕ) (room : ℕ) (left after : Left) (h : Head)
     (ts rest : List Token) : Type 0 where
-  pub is : IsHead text h ts rest
+  pub is : IsStatementHead text h ts rest
   pub some : 1 ≤ room
   pub low : expressions_over h ≤ MOST_EXPRESSIONS
   pub locals : after.locals + locals h ≡ left.locals
@@ -59,7 +60,7 @@ IsTry = InTurn (HasKeyword keywords.Try) (HasPunctuator punctuators.OpenBrace)
 
 abbrev pub Opens : List ℕ → ℕ → Left → Left → Opening → List Token → List Token → Type 0
 Opens text room left after (openings.Whole s) ts rest =
-    Reads text room left after (statement s) ts rest
+    IsStatementWithin text room left after (statement s) ts rest
 Opens text room left after openings.Block ts rest =
     (after ≡ left) × HasPunctuator punctuators.OpenBrace ts rest
 Opens text room left after openings.Try ts rest =
@@ -76,7 +77,7 @@ pub record Holds (text : List ℕ) (room : ℕ) (left after : Left) (h : Head) (
   pub between : Left
   pub mid : List Token
   pub head : Heads text room left between h ts mid
-  pub inner : Reads text less between after s mid rest
+  pub inner : IsStatementWithin text less between after s mid rest
 
 -- `__try` and its block, after which it can continue
 pub record Guards (text : List ℕ) (room : ℕ) (left after : Left) (body : Statements)
@@ -100,9 +101,9 @@ abbrev pub ReadsAfterHead : Head → List ℕ → ℕ → Left → Left → Stat
     → Type 0
 ReadsAfterHead h text room left after s following rest =
     (whole : Left) (ts : List Token) → Heads text room whole left h ts following
-    → Reads text room whole after s ts rest
+    → IsStatementWithin text room whole after s ts rest
 
 -- `__try` and a brace
 abbrev pub ReadsAfterTry : List ℕ → ℕ → Left → Left → Statement → List Token → List Token → Type 0
 ReadsAfterTry text room left after s following rest =
-    (ts : List Token) → IsTry ts following → Reads text room left after s ts rest
+    (ts : List Token) → IsTry ts following → IsStatementWithin text room left after s ts rest

@@ -5,7 +5,7 @@ use Rattle.c_lex.specs.declared.punctuator.Punctuator.{Punctuator}
 use Rattle.c_lex.specs.declared.token.Token.{Token}
 use Rattle.c_syntax.specs.Statement.{Statement, Statements}
 use Rattle.c_parse_expr.specs.declared.refusal.ParseErr.{ParseErr}
-use Rattle.c_parse_expr.specs.Refusals.{Placed}
+use Rattle.c_parse_expr.specs.Refusals.{IsPlacedRefusal}
 use Rattle.c_parse_stmt.specs.declared.left.Left.{Left}
 use Rattle.c_parse_stmt.specs.declared.openings.Head.{Head}
 use Rattle.c_parse_stmt.specs.Filters.{NoFilter, HasFilter}
@@ -16,53 +16,57 @@ use Rattle.c_parse_stmt.specs.Within.{NoStatement, HasStatement, NoEvaluation, H
 -- ---- parts
 
 abbrev pub RefusesPunctuator : ParseErr → Punctuator → List ℕ → List Token → Type 0
-RefusesPunctuator e wanted text ts = Placed e (NoPunctuator wanted) (APunctuator wanted) text ts
+RefusesPunctuator e wanted text ts = IsPlacedRefusal e (NoPunctuator wanted)
+    (APunctuator wanted) text ts
 
 abbrev pub RefusesCondition : ParseErr → List ℕ → List Token → Type 0
-RefusesCondition e text ts = Placed e NoCondition HasCondition text ts
+RefusesCondition e text ts = IsPlacedRefusal e NoCondition HasCondition text ts
 
 abbrev pub RefusesUpTo : ParseErr → Punctuator → ℕ → List ℕ → List Token → Type 0
-RefusesUpTo e end room text ts = Placed e (NoneUpTo end room) (HasUpTo end room) text ts
+RefusesUpTo e end room text ts = IsPlacedRefusal e (NoneUpTo end room) (HasUpTo end room) text ts
 
 abbrev pub RefusesFilter : ParseErr → ℕ → List ℕ → List Token → Type 0
-RefusesFilter e funclets text ts = Placed e (NoFilter funclets) (HasFilter funclets) text ts
+RefusesFilter e funclets text ts = IsPlacedRefusal e (NoFilter funclets)
+    (HasFilter funclets) text ts
 
 -- ---- locals
 
 abbrev pub RefusesInitialiser : ParseErr → ℕ → List ℕ → List Token → Type 0
-RefusesInitialiser e room text ts = Placed e (NoInitialiser room) (HasInitialiser room) text ts
+RefusesInitialiser e room text ts = IsPlacedRefusal e (NoInitialiser room)
+    (HasInitialiser room) text ts
 
 abbrev pub RefusesLocal : ParseErr → ℕ → List ℕ → List Token → Type 0
-RefusesLocal e room text ts = Placed e (NoLocal room) (HasLocal room) text ts
+RefusesLocal e room text ts = IsPlacedRefusal e (NoLocal room) (HasLocal room) text ts
 
 abbrev pub RefusesLocals : ParseErr → ℕ → ℕ → List ℕ → List Token → Type 0
-RefusesLocals e room left text ts = Placed e (NoLocals room left) (HasLocals room left) text ts
+RefusesLocals e room left text ts = IsPlacedRefusal e (NoLocals room left)
+    (HasLocals room left) text ts
 
 abbrev pub RefusesDeclaration : ParseErr → ℕ → ℕ → List ℕ → List Token → Type 0
 RefusesDeclaration e room left text ts =
-    Placed e (NoDeclaration room left) (HasDeclaration room left) text ts
+    IsPlacedRefusal e (NoDeclaration room left) (HasDeclaration room left) text ts
 
 abbrev pub RefusesForInitialiser : ParseErr → ℕ → List ℕ → List Token → Type 0
 RefusesForInitialiser e left text ts =
-    Placed e (NoForInitialiser left) (HasForInitialiser left) text ts
+    IsPlacedRefusal e (NoForInitialiser left) (HasForInitialiser left) text ts
 
 -- ---- statements
 
 abbrev pub RefusesStatement : ParseErr → ℕ → Left → List ℕ → List Token → Type 0
 RefusesStatement e room left text ts =
-    Placed e (NoStatement room left) (HasStatement room left) text ts
+    IsPlacedRefusal e (NoStatement room left) (HasStatement room left) text ts
 
 abbrev pub RefusesEvaluation : ParseErr → ℕ → Left → List ℕ → List Token → Type 0
 RefusesEvaluation e room left text ts =
-    Placed e (NoEvaluation room left) (HasEvaluation room left) text ts
+    IsPlacedRefusal e (NoEvaluation room left) (HasEvaluation room left) text ts
 
 abbrev pub RefusesBlockItem : ParseErr → ℕ → Left → List ℕ → List Token → Type 0
 RefusesBlockItem e room left text ts =
-    Placed e (NoBlockItem room left) (HasBlockItem room left) text ts
+    IsPlacedRefusal e (NoBlockItem room left) (HasBlockItem room left) text ts
 
 abbrev pub RefusesBlockItems : ParseErr → ℕ → Left → List ℕ → List Token → Type 0
 RefusesBlockItems e room left text ts =
-    Placed e (NoBlockItems room left) (HasBlockItems room left) text ts
+    IsPlacedRefusal e (NoBlockItems room left) (HasBlockItems room left) text ts
 
 -- ---- statements whose first tokens were read
 

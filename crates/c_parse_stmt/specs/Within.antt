@@ -59,7 +59,7 @@ pub record Taken (text : List ℕ) (over room : ℕ) (left after : Left) (s : St
   pub funclets : after.funclets + length (numbered text s) ≡ left.funclets
 
 -- a statement that isn't a declaration, as far as it continues
-pub record Reads (text : List ℕ) (room : ℕ) (left after : Left) (s : Statement)
+pub record IsStatementWithin (text : List ℕ) (room : ℕ) (left after : Left) (s : Statement)
     (ts rest : List Token) : Type 0 where
   pub is : IsBlockItem text s ts rest
   pub statement : IsFalse (is_declaration s)

@@ -6,7 +6,7 @@ ghost use Rattle.c_lex.specs.declared.token.Token.{Token};
 ghost use Rattle.c_syntax.specs.Statement.{statement, statements};
 ghost use Rattle.c_parse_stmt.specs.declared.left.Left.{Left};
 ghost use Rattle.c_parse_stmt.specs.declared.openings.Head.TheVariants.{Do};
-ghost use Rattle.c_parse_stmt.specs.Endings.{Ends, Continues, ContinuesAfterKeyword, with_clause};
+ghost use Rattle.c_parse_stmt.specs.Endings.{Ends, ClauseIsTaken, ContinuesAfterKeyword, with_clause};
 ghost use Rattle.c_parse_stmt.specs.Refused.{RefusesEnd, RefusesClause, RefusesClauseAfter};
 
 use crate::build::{do_of, except_of, finally_of, for_of, if_of, while_of};
@@ -193,7 +193,7 @@ pub fn read_clause<'a>(
     tokens: &'a [Token],
 ) -> Result<(Clause, Left, &'a [Token]), ParseErr>
     requires { 1 ≤ room + left.funclets }
-    ensures found { IfOk result (λ x. Continues text.now room left x.1 x.0 tokens.now x.2.now) }
+    ensures found { IfOk result (λ x. ClauseIsTaken text.now room left x.1 x.0 tokens.now x.2.now) }
     ensures refused { IfErr result (λ e. RefusesClause e room left text.now tokens.now) }
 {
     if let Some((at, following)) = word(Keyword::Except, tokens) {

@@ -7,7 +7,7 @@ ghost use Rattle.c_syntax.specs.Statements.{AreBlockItems};
 ghost use Rattle.c_parse_type.specs.Bases.{NoBase};
 ghost use Rattle.c_parse_stmt.specs.declared.left.Left.{Left};
 ghost use Rattle.c_parse_stmt.specs.Openings.{ReadsAfterHead, ReadsAfterTry};
-ghost use Rattle.c_parse_stmt.specs.Within.{AllTaken, Reads, ReadsBlockItem};
+ghost use Rattle.c_parse_stmt.specs.Within.{AllTaken, IsStatementWithin, ReadsBlockItem};
 ghost use Rattle.c_parse_stmt.specs.Refused.{RefusesStatement, RefusesBlockItem, RefusesBlockItems, RefusesAfterHead, RefusesAfterTry};
 
 use crate::build::{block_of, declare, if_else_of};
@@ -141,7 +141,7 @@ fn statement<'a>(
 ) -> Result<(Stmt, Left, &'a [Token]), ParseErr>
     requires { room < MOST_STATEMENTS }
     ensures found { IfOk result (λ x.
-        Reads text.now room left x.1 (statement x.0) tokens.now x.2.now) }
+        IsStatementWithin text.now room left x.1 (statement x.0) tokens.now x.2.now) }
     ensures refused { IfErr result (λ e. RefusesStatement e room left text.now tokens.now) }
 {
     let (opening, left, following) = read_opening(alloc, text, room, left, tokens)?;

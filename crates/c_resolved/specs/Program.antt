@@ -170,7 +170,7 @@ parameter_faults text (p ∷ ps) block =
 abbrev pub result_size : CType → Option Size
 result_size t = if is_void t then None else Some (size_of t)
 
-pub record Functions : Type 0 where
+pub record DeclaredFunctions : Type 0 where
   pub done : List checked_program.Function
   pub number : ℕ
   pub faults : List FaultAt
@@ -189,7 +189,7 @@ around text file t =
     }
 
 abbrev pub function_of : List ℕ → Scope → CType → Identifier → List Parameter → Statements → ℕ
-    → Functions
+    → DeclaredFunctions
 function_of text file t n ps body number =
     let sizes = map (λ p. size_of p.of) ps in
     let m =
@@ -207,7 +207,7 @@ function_of text file t n ps body number =
       faults = parameter_faults text ps [] ++ m.faults;
     }
 
-abbrev pub functions_of : List ℕ → Scope → List ExternalDeclaration → ℕ → Functions
+abbrev pub functions_of : List ℕ → Scope → List ExternalDeclaration → ℕ → DeclaredFunctions
 functions_of text file [] number = record { done = []; number = number; faults = [] }
 functions_of text file (Globals base gs ∷ xs) number = functions_of text file xs number
 functions_of text file (Function t n ps body ∷ xs) number =

@@ -12,8 +12,8 @@ use Rattle.c_expressions.specs.Kept.{least_of, kept}
 use Rattle.c_expressions.specs.Views.{block_of}
 use Rattle.c_locals.specs.declared.declarations.Beginning.{Beginning}
 use Rattle.c_locals.specs.declared.environment.Walk.{Walk}
-use Rattle.c_locals.specs.Resolved.{Begins}
-use Rattle.c_locals.specs.Values.{MayEvaluate, Answers, filter_with, number_after}
+use Rattle.c_locals.specs.Resolved.{IsBeginning}
+use Rattle.c_locals.specs.Values.{MayEvaluate, ResolvesFilter, filter_with, number_after}
 use Rattle.c_locals.specs.Views.{numbering, resolved_at, in_loop, in_body, in_handler, in_last}
 use Rattle.c_resolved.specs.Expressions.{FaultAt}
 use Rattle.c_resolved.specs.Scopes.{Scope}
@@ -52,7 +52,7 @@ finally_is b w0 w1 w2 w3 vs ks number made a ss at ls m is n kept_so k p =
 -- ---- `__try` with a filter
 
 pub except_is : (b : Scope) (w0 w1 w2 w3 w4 : Walk) (answer : Option Expr) (filter : Filter) (vs ks : List Stmt) (made : Stmt) (a : Environment) (ss : Statements) (at : ℕ) (e : Expression) (hs : Statements)
-    → numbering w1 ≡ numbering w0 → Answers w0.worst w1.worst answer (resolve_filter a b e)
+    → numbering w1 ≡ numbering w0 → ResolvesFilter w0.worst w1.worst answer (resolve_filter a b e)
     → MakesBlock w1 w2 vs (resolve_statements ss (in_body (inside a b)) [] (numbering w1))
     → checked.filter filter ≡ filter_with w2.number (option_map expression answer)
     → numbering w3 ≡ with_number (numbering w2) (number_after w2.number (option_map expression answer)) → w3.worst ≡ w2.worst
@@ -93,7 +93,7 @@ four first w1 w2 w3 w4 x y z u p q r s = kept_more first w3 w4 ((x ++ y) ++ z) u
 -- w1 after what it does first, w2 after the condition, w3 after what follows each iteration, w4
 -- after the body
 for_is : (b : Scope) (es : Entries) (w0 w1 w2 w3 w4 : Walk) (beginning : Beginning) (value next : Option Expr) (s made : Stmt) (a : Environment) (at : ℕ) (first : ForInitialiser) (c n : Option Expression) (t : Statement)
-    → Begins es w0 w1 beginning (resolve_for_initialiser (inside a b) first (numbering w0))
+    → IsBeginning es w0 w1 beginning (resolve_for_initialiser (inside a b) first (numbering w0))
     → MayEvaluate w1.worst w2.worst value (optional (λ x. condition at (resolved_at (inside a b) (block_of es) x)) c)
     → MayEvaluate w2.worst w3.worst next (optional (λ x. any (resolved_at (inside a b) (block_of es) x)) n)
     → numbering w3 ≡ numbering w1
@@ -127,7 +127,7 @@ for_is b es w0 w1 w2 w3 w4 beginning value next s made a at first c n t m v0 u0 
 -- the same over the environments that the code makes
 pub for_over : (b : Scope) (es : Entries) (w0 w1 w2 w3 w4 : Walk) (beginning : Beginning) (value next : Option Expr) (s made : Stmt) (a here inner : Environment) (at : ℕ) (first : ForInitialiser) (c n : Option Expression) (t : Statement)
     → here ≡ inside a b → inner ≡ in_loop (inside here (block_of es))
-    → Begins es w0 w1 beginning (resolve_for_initialiser here first (numbering w0))
+    → IsBeginning es w0 w1 beginning (resolve_for_initialiser here first (numbering w0))
     → MayEvaluate w1.worst w2.worst value (optional (λ x. condition at (resolved_at here (block_of es) x)) c)
     → MayEvaluate w2.worst w3.worst next (optional (λ x. any (resolved_at here (block_of es) x)) n)
     → numbering w3 ≡ numbering w1
@@ -136,7 +136,7 @@ pub for_over : (b : Scope) (es : Entries) (w0 w1 w2 w3 w4 : Walk) (beginning : B
     → MakesOne b w0 w4 made (resolve_statement (trees.For at first c n t) a b (numbering w0))
 for_over b es w0 w1 w2 w3 w4 beginning value next s made a here inner at first c n t is below m v u same k p =
     for_is b es w0 w1 w2 w3 w4 beginning value next s made a at first c n t
-    (subst (λ x. Begins es w0 w1 beginning (resolve_for_initialiser x first (numbering w0))) is m)
+    (subst (λ x. IsBeginning es w0 w1 beginning (resolve_for_initialiser x first (numbering w0))) is m)
     (subst (λ x. MayEvaluate w1.worst w2.worst value (optional (λ e. condition at (resolved_at x (block_of es) e)) c)) is v)
     (subst (λ x. MayEvaluate w2.worst w3.worst next (optional (λ e. any (resolved_at x (block_of es) e)) n)) is u)
     same

@@ -8,7 +8,7 @@ use Rattle.c_syntax.specs.Limits.{every_limit, FunctionWithinFirst, EachWithinFi
 use Rattle.c_syntax.specs.Program.{ExternalDeclaration, Globals, Function}
 use Rattle.c_syntax.specs.Programs.{IsProgram}
 use Rattle.c_syntax.specs.Statement.{Statements}
-use Rattle.c_syntax.specs.Viable.{Viable, Continues, IsSyntaxFault, OneFirstFault, NoFaultInProgram}
+use Rattle.c_syntax.specs.Viable.{Viable, ContinuesWithin, IsSyntaxFault, OneFirstFault, NoFaultInProgram}
 
 -- ---- fewer limits
 
@@ -43,7 +43,7 @@ fewer n m text xs f h = record {
 }
 
 continues_fewer : (n m : ℕ) (text : List ℕ) (front fault : List Token) → AreAmong m n
-    → Continues n text front fault → Continues m text front fault
+    → ContinuesWithin n text front fault → ContinuesWithin m text front fault
 continues_fewer n m text front [] f h = (h.0, h.1, fewer n m text h.0 f h.2)
 continues_fewer n m text front (t ∷ fault) f h = record {
   beyond = h.beyond;
@@ -102,12 +102,12 @@ cuts (t ∷ front) fault (t' ∷ front') fault' e =
     (further t front fault front' fault' (cuts front fault front' fault' q))
 
 goes_to : (n : ℕ) (text : List ℕ) (front fault front' : List Token) → Longer front fault front'
-    → Viable every_limit text front' → Continues n text front fault
+    → Viable every_limit text front' → ContinuesWithin n text front fault
 goes_to n text front fault front' l v =
     let e : front' ++ v.more ≡ (front ++ l.token ∷ []) ++ (l.more ++ v.more) =
     ap (λ z. z ++ v.more) l.longer ∙ append_assoc front (l.token ∷ l.more) v.more
     ∙ sym (append_assoc front (l.token ∷ []) (l.more ++ v.more)) in
-    subst (λ z. Continues n text front z) (sym l.is)
+    subst (λ z. ContinuesWithin n text front z) (sym l.is)
     (record {
       beyond = v.beyond;
       more = l.more ++ v.more;
@@ -118,7 +118,7 @@ goes_to n text front fault front' l v =
 
 -- the limits before one are fewer
 order : (n m : ℕ) (text : List ℕ) (front fault : List Token) → n < m
-    → (Continues n text front fault → ⊥) → ((k : ℕ) → m ≡ suc k → Continues k text front fault) → ⊥
+    → (ContinuesWithin n text front fault → ⊥) → ((k : ℕ) → m ≡ suc k → ContinuesWithin k text front fault) → ⊥
 order n zero text front fault l s f = absurd (omega arith)
 order n (suc m) text front fault l s f =
     s (continues_fewer m n text front fault (λ k a b. omega arith) (f m refl))
@@ -134,12 +134,12 @@ at_same : (text : List ℕ) (ts : List Token) (n m at to : ℕ) (x : IsSyntaxFau
 at_same text ts n m at to x y (same p q) =
     let g : (n < m → ⊥) =
     λ l. order n m text x.front x.fault l x.stops
-    (λ k e. subst (λ z. Continues k text z x.fault) (sym p)
-    (subst (λ z. Continues k text y.front z) (sym q) (y.fewer k e))) in
+    (λ k e. subst (λ z. ContinuesWithin k text z x.fault) (sym p)
+    (subst (λ z. ContinuesWithin k text y.front z) (sym q) (y.fewer k e))) in
     let h : (m < n → ⊥) =
     λ l. order m n text y.front y.fault l y.stops
-    (λ k e. subst (λ z. Continues k text z y.fault) p
-    (subst (λ z. Continues k text x.front z) q (x.fewer k e))) in
+    (λ k e. subst (λ z. ContinuesWithin k text z y.fault) p
+    (subst (λ z. ContinuesWithin k text x.front z) q (x.fewer k e))) in
     (neither n m g h, x.located ∙ ap (place text) q ∙ sym y.located)
 at_same text ts n m at to x y (before l) =
     absurd (x.stops (goes_to n text x.front x.fault y.front l y.viable))
@@ -153,7 +153,7 @@ one_first_fault text ts n m at to x y =
 -- ---- no fault in a program
 
 whole_goes : (n : ℕ) (text : List ℕ) (front fault : List Token) (xs : List ExternalDeclaration)
-    → IsProgram text xs (front ++ fault) → WithinFirst n text xs → Continues n text front fault
+    → IsProgram text xs (front ++ fault) → WithinFirst n text xs → ContinuesWithin n text front fault
 whole_goes n text front [] xs h w = (xs, subst (λ z. IsProgram text xs z) (append-nil front) h, w)
 whole_goes n text front (t ∷ fault) xs h w =
     let e : text ≡ text ++ [] = sym (append-nil text) in

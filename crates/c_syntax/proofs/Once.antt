@@ -24,7 +24,7 @@ use Rattle.c_syntax.specs.Follow.{follows, Stops, OneExpression}
 use Rattle.c_syntax.specs.Operators.{primary, unary, cast, assignment, comma, unary_punctuator}
 use Rattle.c_syntax.specs.Operators.{increment_punctuator}
 use Rattle.c_syntax.specs.Tokens.{HasPunctuator, HasWord}
-use Rattle.c_syntax.specs.Steps.{Run, IsHead, Closes}
+use Rattle.c_syntax.specs.Steps.{Run, IsOperandAlone, Closes}
 use Rattle.c_syntax.proofs.Spine.{spine, follows_punctuator, closes, run_reach, run_height}
 use Rattle.c_syntax.proofs.Fronts.{kind_same, punctuator_same, has_same, name_same, same_unary}
 use Rattle.c_syntax.proofs.Fronts.{same_increment, punctuator_class, kind_class, front}
@@ -48,7 +48,7 @@ literal_class : (literal : Literal) → kind_class (literal_kind literal) ≡ 2
 literal_class (literals.Integer value type) = refl
 literal_class (literals.CharacterConstant value) = refl
 
-pub head_front : (text : List ℕ) (e : Expression) (ts rest : List Token) → IsHead e
+pub head_front : (text : List ℕ) (e : Expression) (ts rest : List Token) → IsOperandAlone e
     → SpellsExpression text e ts rest → front ts ≡ head_class e
 head_front text (Constant at literal) ts rest i h = ap front h.1 ∙ literal_class literal
 head_front text (Variable name) ts rest i h = ap front h
@@ -244,7 +244,7 @@ field_once text (fields.Information index at) (fields.Information number to) ts 
 -- ---- first operands
 
 pub same_head : (text : List ℕ) (n : ℕ) (e f : Expression) (ts rest end : List Token) → Below text n
-    → height e ≤ n → IsHead e → IsHead f → Closes e rest → Closes f end
+    → height e ≤ n → IsOperandAlone e → IsOperandAlone f → Closes e rest → Closes f end
     → SpellsExpression text e ts rest → SpellsExpression text f ts end → (e ≡ f) × (rest ≡ end)
 same_head text n (Constant at literal) (Constant at' literal') ts rest end u low k m r z h g =
     let a = kind_same (literal_kind literal) (literal_kind literal') at at' ts ts rest end refl h

@@ -25,14 +25,14 @@ use Rattle.c_syntax.specs.Operators.{level_of_comparison, binary_punctuator}
 use Rattle.c_syntax.specs.Operators.{punctuator_of_arithmetic, punctuator_of_comparison}
 use Rattle.c_syntax.specs.Operators.{increment_punctuator, assignment_punctuator}
 use Rattle.c_syntax.specs.Steps.{Step, At, After, With, Choose, Set, And, apply, bound, Tail, Run}
-use Rattle.c_syntax.specs.Steps.{IsHead, Closes}
+use Rattle.c_syntax.specs.Steps.{IsOperandAlone, Closes}
 use Rattle.c_syntax.specs.Tokens.{IsPunctuator}
 
 pub record Spine (text : List ℕ) (e : Expression) (ts end : List Token) : Type 0 where
   pub head : Expression
   pub steps : List Step
   pub after : List Token
-  pub is_head : IsHead head
+  pub is_head : IsOperandAlone head
   pub spells : SpellsExpression text head ts after
   pub run : Run text head steps after e end
 
@@ -56,7 +56,7 @@ snoc text left (x ∷ steps) ts e mid s end r h t = record {
   others = snoc text (apply left x) steps r.after_step e mid s end r.others h t;
 }
 
-alone : (text : List ℕ) (e : Expression) (ts end : List Token) → IsHead e
+alone : (text : List ℕ) (e : Expression) (ts end : List Token) → IsOperandAlone e
     → SpellsExpression text e ts end → Spine text e ts end
 alone text e ts end i h =
     record { head = e; steps = []; after = end; is_head = i; spells = h; run = (refl, refl) }

@@ -74,21 +74,21 @@ Run text left [] ts e end = (left ≡ e) × (ts ≡ end)
 Run text left (s ∷ steps) ts e end =
     RunsOn text left s (λ mid. Run text (apply left s) steps mid e end) ts
 
-abbrev pub IsHead : Expression → Type 0
-IsHead (Constant at literal) = Unit {0}
-IsHead (Variable name) = Unit {0}
-IsHead (Information at field) = Unit {0}
-IsHead (Call name es) = Unit {0}
-IsHead (Parentheses at e) = Unit {0}
-IsHead (Index a at i) = ⊥
-IsHead (Postfix e op at) = ⊥
-IsHead (Prefix at op e) = Unit {0}
-IsHead (Unary at op e) = Unit {0}
-IsHead (Cast at to e) = Unit {0}
-IsHead (Binary a at op b) = ⊥
-IsHead (Conditional c at a b) = ⊥
-IsHead (Assign a at op b) = ⊥
-IsHead (Comma a at b) = ⊥
+abbrev pub IsOperandAlone : Expression → Type 0
+IsOperandAlone (Constant at literal) = Unit {0}
+IsOperandAlone (Variable name) = Unit {0}
+IsOperandAlone (Information at field) = Unit {0}
+IsOperandAlone (Call name es) = Unit {0}
+IsOperandAlone (Parentheses at e) = Unit {0}
+IsOperandAlone (Index a at i) = ⊥
+IsOperandAlone (Postfix e op at) = ⊥
+IsOperandAlone (Prefix at op e) = Unit {0}
+IsOperandAlone (Unary at op e) = Unit {0}
+IsOperandAlone (Cast at to e) = Unit {0}
+IsOperandAlone (Binary a at op b) = ⊥
+IsOperandAlone (Conditional c at a b) = ⊥
+IsOperandAlone (Assign a at op b) = ⊥
+IsOperandAlone (Comma a at b) = ⊥
 
 -- what follows doesn't continue with the last operand, nor make a call of a name
 abbrev pub Closes : Expression → List Token → Type 0

@@ -16,10 +16,10 @@ pub record Viable (n : ℕ) (text : List ℕ) (front : List Token) : Type 0 wher
   pub within : WithinFirst n (text ++ beyond) program
 
 -- It begins with the first token of the others too; where there is none, the tokens are a program.
-abbrev pub Continues : ℕ → List ℕ → List Token → List Token → Type 0
-Continues n text front [] =
+abbrev pub ContinuesWithin : ℕ → List ℕ → List Token → List Token → Type 0
+ContinuesWithin n text front [] =
     (xs : List ExternalDeclaration) × IsProgram text xs front × WithinFirst n text xs
-Continues n text front (t ∷ ts) = Viable n text (front ++ t ∷ [])
+ContinuesWithin n text front (t ∷ ts) = Viable n text (front ++ t ∷ [])
 
 -- The first fault of a list of tokens: what is before the place begins a program within all limits,
 -- and none within the first n limits continues, though one within one limit fewer does. With n = 0
@@ -30,8 +30,8 @@ pub record IsSyntaxFault (n at : ℕ) (text : List ℕ) (ts : List Token) : Type
   pub split : ts ≡ front ++ fault
   pub located : at ≡ place text fault
   pub viable : Viable every_limit text front
-  pub stops : Continues n text front fault → ⊥
-  pub fewer : (k : ℕ) → n ≡ suc k → Continues k text front fault
+  pub stops : ContinuesWithin n text front fault → ⊥
+  pub fewer : (k : ℕ) → n ≡ suc k → ContinuesWithin k text front fault
 
 -- A list of tokens has one first fault at most, of one kind.
 abbrev pub OneFirstFault : Type 0

@@ -16,26 +16,26 @@ use Rattle.c_syntax.specs.Viable.{IsSyntaxFault}
 use Rattle.c_syntax.proofs.Files.{one_program}
 use Rattle.c_syntax.proofs.FirstFault.{no_fault_in_program}
 use Rattle.c_text.specs.declared.accepting.TextErr.TheVariants as texts
-use Rattle.c_text.specs.Texts.{IsWithin, IsAccepted, IsNoText, IsNoProgram, IsBroken}
+use Rattle.c_text.specs.Texts.{IsProgramText, IsAccepted, IsNoText, IsRefusedByGrammar, IsBroken}
 use Rattle.c_text.specs.Laws.{AcceptedIsNotRefused, AcceptedIsOne}
 
 -- a text that is read is one program
 read_once :
     (text : List ℕ) (xs ys : List ExternalDeclaration)
-    → IsWithin text xs → IsWithin text ys → xs ≡ ys
+    → IsProgramText text xs → IsProgramText text ys → xs ≡ ys
 read_once text xs ys a b =
     one_program text xs ys (a.tokens, a.lexed, a.derives) (b.tokens, b.lexed, b.derives)
 
 -- it is made of tokens
 made_of_tokens :
     (text : List ℕ) (xs : List ExternalDeclaration) (e : LexErr)
-    → IsWithin text xs → IsNoText text e → ⊥
+    → IsProgramText text xs → IsNoText text e → ⊥
 made_of_tokens text xs e a h = no_fault text a.tokens h.0 h.1 a.lexed h.3
 
 -- its tokens have no fault
 without_fault :
     (text : List ℕ) (xs : List ExternalDeclaration) (ts : List Token) (n at : ℕ)
-    → IsWithin text xs → IsTokens text ts → IsSyntaxFault n at text ts → ⊥
+    → IsProgramText text xs → IsTokens text ts → IsSyntaxFault n at text ts → ⊥
 without_fault text xs ts n at a lexed fault =
     let same = tokens_once text a.tokens ts a.lexed lexed in
     no_fault_in_program text ts n at xs fault
@@ -43,7 +43,7 @@ without_fault text xs ts n at a lexed fault =
 
 is_program :
     (text : List ℕ) (xs : List ExternalDeclaration) (e : ParseErr)
-    → IsWithin text xs → IsNoProgram text e → ⊥
+    → IsProgramText text xs → IsRefusedByGrammar text e → ⊥
 is_program text xs (parses.Unexpected at) a h =
     without_fault text xs h.tokens 0 at a h.lexed h.refused
 is_program text xs (parses.TooDeep at) a h =

@@ -11,7 +11,7 @@ use Rattle.c_lex.specs.Answers.{refused}
 use Rattle.c_lex.specs.Text.{IsTokens, IsLexicalFault}
 use Rattle.c_parse_expr.specs.declared.refusal.ParseErr.{ParseErr}
 use Rattle.c_parse_expr.specs.declared.refusal.ParseErr.TheVariants as parses
-use Rattle.c_parse_expr.specs.Refusals.{Refuses}
+use Rattle.c_parse_expr.specs.Refusals.{ParserRefuses}
 use Rattle.c_resolved.specs.declared.fault.Fault.{Fault}
 use Rattle.c_resolved.specs.Accepted.{Accepted, reported}
 use Rattle.c_resolved.specs.Program.{resolve}
@@ -22,7 +22,7 @@ use Rattle.c_text.specs.declared.accepting.TextErr.{TextErr}
 use Rattle.c_text.specs.declared.accepting.TextErr.TheVariants as texts
 
 -- the text's tokens are a program of C within the limits
-pub record IsWithin (text : List ℕ) (xs : List ExternalDeclaration) : Type 0 where
+pub record IsProgramText (text : List ℕ) (xs : List ExternalDeclaration) : Type 0 where
   pub tokens : List Token
   pub lexed : IsTokens text tokens
   pub derives : IsProgram text xs tokens
@@ -30,7 +30,7 @@ pub record IsWithin (text : List ℕ) (xs : List ExternalDeclaration) : Type 0 w
 
 -- and it breaks no rule of names, types and jumps
 pub record IsAccepted (text : List ℕ) (xs : List ExternalDeclaration) : Type 0 where
-  pub read : IsWithin text xs
+  pub read : IsProgramText text xs
   pub rules : Accepted text xs
 
 -- it is resolved to this checked program
@@ -49,26 +49,26 @@ IsNoText text e = (f : LexicalFault) × (at : ℕ) × (e ≡ refused f at) × Is
 pub record HasFault (text : List ℕ) (e : ParseErr) : Type 0 where
   pub tokens : List Token
   pub lexed : IsTokens text tokens
-  pub refused : Refuses e text tokens
+  pub refused : ParserRefuses e text tokens
 
-abbrev pub IsNoProgram : List ℕ → ParseErr → Type 0
-IsNoProgram text (parses.Unexpected at) = HasFault text (parses.Unexpected at)
-IsNoProgram text (parses.TooDeep at) = HasFault text (parses.TooDeep at)
-IsNoProgram text (parses.TooMany at what) = HasFault text (parses.TooMany at what)
-IsNoProgram text parses.Memory = ⊥
+abbrev pub IsRefusedByGrammar : List ℕ → ParseErr → Type 0
+IsRefusedByGrammar text (parses.Unexpected at) = HasFault text (parses.Unexpected at)
+IsRefusedByGrammar text (parses.TooDeep at) = HasFault text (parses.TooDeep at)
+IsRefusedByGrammar text (parses.TooMany at what) = HasFault text (parses.TooMany at what)
+IsRefusedByGrammar text parses.Memory = ⊥
 
 -- the text's program breaks rules, and this is the least of them
 pub record IsBroken (text : List ℕ) (at : ℕ) (fault : Fault) : Type 0 where
   pub whole : List ExternalDeclaration
-  pub read : IsWithin text whole
+  pub read : IsProgramText text whole
   pub least : reported text whole ≡ Some (record { at = at; fault = fault })
 
 -- why a text isn't accepted; want of memory says nothing
-abbrev pub IsRefused : List ℕ → TextErr → Type 0
-IsRefused text (texts.Lex e) = IsNoText text e
-IsRefused text (texts.Parse e) = IsNoProgram text e
-IsRefused text (texts.Check at fault) = IsBroken text at fault
-IsRefused text texts.Memory = Unit {0}
+abbrev pub TextIsRefused : List ℕ → TextErr → Type 0
+TextIsRefused text (texts.Lex e) = IsNoText text e
+TextIsRefused text (texts.Parse e) = IsRefusedByGrammar text e
+TextIsRefused text (texts.Check at fault) = IsBroken text at fault
+TextIsRefused text texts.Memory = Unit {0}
 
 -- ---- the refusals of the three parts as one
 

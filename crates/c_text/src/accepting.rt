@@ -3,7 +3,7 @@
 ghost use Rattle.std.specs.Prelude.{◌≡◌, IfOk, IfErr, map};
 ghost use Rattle.c_checked.specs.Whole.{program};
 ghost use Rattle.c_syntax.specs.Program.{external_declaration};
-ghost use Rattle.c_text.specs.Texts.{IsWithin, IsCheckedAs, IsRefused, lexical, syntactic};
+ghost use Rattle.c_text.specs.Texts.{IsProgramText, IsCheckedAs, TextIsRefused, lexical, syntactic};
 ghost use Rattle.c_text.specs.Texts.{semantic};
 
 use c_check::check::{CheckErr, check};
@@ -72,9 +72,9 @@ fn semantic(error: CheckErr) -> TextErr
 
 /// The program within the limits that a text is.
 fn read(alloc: Global, text: &[u8]) -> Result<Program, TextErr>
-    ensures found { IfOk result (λ p. IsWithin text.now
+    ensures found { IfOk result (λ p. IsProgramText text.now
         (map external_declaration p.external_declarations.items)) }
-    ensures refused { IfErr result (λ e. IsRefused text.now e) }
+    ensures refused { IfErr result (λ e. TextIsRefused text.now e) }
 {
     let tokens = match lex(alloc, text) {
         Ok(tokens) => tokens,
@@ -93,7 +93,7 @@ fn read(alloc: Global, text: &[u8]) -> Result<Program, TextErr>
 pub fn accept(alloc: Global, text: &[u8]) -> Result<Accepted, TextErr>
     ensures found { IfOk result (λ a. IsCheckedAs text.now
         (map external_declaration a.program.external_declarations.items) (program a.checked)) }
-    ensures refused { IfErr result (λ e. IsRefused text.now e) }
+    ensures refused { IfErr result (λ e. TextIsRefused text.now e) }
 {
     let program = match read(alloc, text) {
         Ok(program) => program,

@@ -75,18 +75,18 @@ pub record HasOptions (options : RunOptions) (rows : List Row) : Type 0 where
   pub trace : options.trace ≡ option_map_or (λ t. bytes_eq t (codes "true"))
       (first_of (codes "trace") rows) false
 
-abbrev pub Names : Command → Text × List Row → Type 0
-Names Compile x = x.0 ≡ codes "compile"
-Names Show x = x.0 ≡ codes "show"
-Names (Exec options) x = (x.0 ≡ codes "exec") × HasOptions options x.1
-Names (Run options) x = (x.0 ≡ codes "run") × HasOptions options x.1
-Names (Meaning options) x = (x.0 ≡ codes "meaning") × HasOptions options x.1
+abbrev pub IsNamedBy : Command → Text × List Row → Type 0
+IsNamedBy Compile x = x.0 ≡ codes "compile"
+IsNamedBy Show x = x.0 ≡ codes "show"
+IsNamedBy (Exec options) x = (x.0 ≡ codes "exec") × HasOptions options x.1
+IsNamedBy (Run options) x = (x.0 ≡ codes "run") × HasOptions options x.1
+IsNamedBy (Meaning options) x = (x.0 ≡ codes "meaning") × HasOptions options x.1
 
 -- the words are a line of the command set, which means the command
 abbrev pub IsLine : List Text → Command → Type 0
 IsLine words command =
     (fault_of seh_app words ≡ []) × ((x : Text × List Row) × (subcommand_of seh_app words ≡ Some x)
-    × Names command x)
+    × IsNamedBy command x)
 
 abbrev pub IsNoLine : List Text → Type 0
 IsNoLine words = (command : Command) → IsLine words command → ⊥

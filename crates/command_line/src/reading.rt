@@ -7,7 +7,7 @@ ghost use Rattle.clap.specs.Words.{app_of, fault_of, found_of, rows_of, subcomma
 ghost use Rattle.clap.specs.declared.builder.command.Command.TheViews.{out-Command};
 ghost use Rattle.command_line.specs.declared.command.Command.{Command};
 ghost use Rattle.command_line.specs.declared.command.RunOptions.{RunOptions};
-ghost use Rattle.command_line.specs.Lines.{seh_app, run_app_named, HasOptions, IsLine, IsNoLine, IsNumber, Names};
+ghost use Rattle.command_line.specs.Lines.{seh_app, run_app_named, HasOptions, IsLine, IsNoLine, IsNumber, IsNamedBy};
 
 use crate::command::{Command, RunOptions};
 use clap::error::ErrorKind;
@@ -149,9 +149,9 @@ fn options_of(matches: &ArgMatches<'_>) -> Result<RunOptions, WordsErr>
 
 /// The command of this name with its options.
 fn command_named(name: &str, matches: &ArgMatches<'_>) -> Result<Command, WordsErr>
-    ensures found { IfOk result (λ c. Names c (name.now, rows_of (found_of matches.now))) }
+    ensures found { IfOk result (λ c. IsNamedBy c (name.now, rows_of (found_of matches.now))) }
     ensures usage { IfErr result (λ e. (e ≡ WordsErr.Usage)
-        × ((c : Command) → Names c (name.now, rows_of (found_of matches.now)) → ⊥)) }
+        × ((c : Command) → IsNamedBy c (name.now, rows_of (found_of matches.now)) → ⊥)) }
 {
     match name {
         "compile" => Ok(Command::Compile),

@@ -14,7 +14,7 @@ use Rattle.seh_ir.specs.Lowered.{lowered}
 use Rattle.ir_linked.specs.Pace.{pace_of}
 use Rattle.whole_runs.specs.Shadow.{WalkGives}
 use Rattle.whole_runs.specs.Shadowed.{WalkGivesShadow}
-use Rattle.whole_runs.specs.Laws.{Begins, ShowsAll, ShowsNoMore}
+use Rattle.whole_runs.specs.Laws.{RunBegins, ShowsAll, ShowsNoMore}
 
 -- turns of the machine for a step of linear code, and before `main`
 abbrev pub pace : ℕ
@@ -30,7 +30,8 @@ abbrev pub MatchedRunsShowAll : Type 0
 MatchedRunsShowAll =
     (t : Functions) (fs : List Funclet) (program : Program) → IsSound program
     → (credit : Configuration → ℕ) (arg : ℤ) (first n : ℕ) (s : State)
-    → Begins t fs (lowered program) pace credit arg first s (16 * n + 2) → first ≤ most_before_main
+    → RunBegins t fs (lowered program) pace credit arg first s (16 * n + 2)
+    → first ≤ most_before_main
     → ShowsAll (meaning program arg n) (run t fs (256 * n + 256) (host s) [])
 
 -- in m turns it shows no more than the program shows within (m + 1) * K steps, where these are
@@ -39,7 +40,7 @@ abbrev pub MatchedRunsShowNoMore : Type 0
 MatchedRunsShowNoMore =
     (t : Functions) (fs : List Funclet) (program : Program) → IsSound program
     → (credit : Configuration → ℕ) (arg : ℤ) (first m n : ℕ) (s : State)
-    → Begins t fs (lowered program) pace credit arg first s m → (m + 1) * pace_of program ≤ n
+    → RunBegins t fs (lowered program) pace credit arg first s m → (m + 1) * pace_of program ≤ n
     → Calm program arg n ≡ true
     → ShowsNoMore (meaning program arg n) (run t fs m (host s) [])
 
@@ -49,6 +50,6 @@ abbrev pub MatchedRunsWalkTheShadow : Type 0
 MatchedRunsWalkTheShadow =
     (t : Functions) (fs : List Funclet) (program : Program) → IsSound program
     → (credit : Configuration → ℕ) (arg : ℤ) (first m n : ℕ) (s : State) (cs : List Context)
-    → Begins t fs (lowered program) pace credit arg first s m → (m + 1) * pace_of program ≤ n
+    → RunBegins t fs (lowered program) pace credit arg first s m → (m + 1) * pace_of program ≤ n
     → Calm program arg n ≡ true → WalkGives t s cs → (run t fs m (host s) []).end ≡ None
     → WalkGivesShadow t fs m s cs

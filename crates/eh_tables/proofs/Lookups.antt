@@ -11,7 +11,7 @@ use Rattle.eh_tables.specs.declared.refusal.TableErr.TheVariants as refusals
 use Rattle.seh_num.specs.Answers.{◌>>=◌, unless, prepend}
 use Rattle.eh_tables.specs.Answer.{Table}
 use Rattle.eh_tables.specs.Infos.{info}
-use Rattle.eh_tables.specs.Tables.{Entry, Tables, entry, entry_at, parents, no_range, end_before, entries, entries_of, covers_address, entry_or, holding, IsWhole}
+use Rattle.eh_tables.specs.Tables.{Entry, Tables, entry, entry_at, parents, no_range, end_before, entries, entries_of, covers_address, entry_or, holding, TablesAreWhole}
 
 -- ---- what an answer without a refusal says
 
@@ -179,7 +179,7 @@ rising image index last (r ∷ rs) es (suc j) (suc k) h le lt =
     let s = split image index last r rs es h in
     rising image (index + 1) r.end rs s.rest j k s.others (omega arith) (omega arith)
 
-pub ends_rise : (t : Tables) → IsWhole t → (j k : ℕ) → j ≤ k → k < length t.ranges → (get_or t.ranges j no_range).end ≤ (get_or t.ranges k no_range).end
+pub ends_rise : (t : Tables) → TablesAreWhole t → (j k : ℕ) → j ≤ k → k < length t.ranges → (get_or t.ranges j no_range).end ≤ (get_or t.ranges k no_range).end
 ends_rise t w j k le lt = rising t.image 0 0 t.ranges (entries_of t) j k w.whole le lt
 
 begin_above : (image : Image) (index last : ℕ) (rs : List RuntimeFunction) (es : List Entry) (k : ℕ) → entries image index last rs ≡ Ok es → k < length rs → last ≤ (get_or rs k no_range).begin
@@ -205,7 +205,7 @@ in_order image index last (r ∷ rs) es (suc j) (suc k) h below lt =
     in_order image (index + 1) r.end rs s.rest j k s.others (omega arith) (omega arith)
 
 -- no range begins below the end of one before it
-pub ends_below : (t : Tables) → IsWhole t → (j k : ℕ) → j < k → k < length t.ranges → (get_or t.ranges j no_range).end ≤ (get_or t.ranges k no_range).begin
+pub ends_below : (t : Tables) → TablesAreWhole t → (j k : ℕ) → j < k → k < length t.ranges → (get_or t.ranges j no_range).end ≤ (get_or t.ranges k no_range).begin
 ends_below t w j k below lt = in_order t.image 0 0 t.ranges (entries_of t) j k w.whole below lt
 
 -- ---- a step halves what is left
@@ -221,7 +221,7 @@ still_cheap p s n q e some le = let one : 1 ≤ s = omega arith in let more = mu
 
 -- ---- in a table that was read whole
 
-module _ (t : Tables) (w : IsWhole t) (rva k : ℕ) (below : (j : ℕ) → j < k → (get_or t.ranges j no_range).end ≤ rva) where
+module _ (t : Tables) (w : TablesAreWhole t) (rva k : ℕ) (below : (j : ℕ) → j < k → (get_or t.ranges j no_range).end ≤ rva) where
   pub finds_none_past : length t.ranges ≡ k → holding rva (entries_of t) ≡ None
   finds_none_past e = all_past t.image 0 0 t.ranges (entries_of t) rva w.whole (record { passed = λ j lt. below j (omega arith) })
 

@@ -9,7 +9,7 @@ use Rattle.eh_tables.specs.declared.refusal.TableErr.{TableErr}
 use Rattle.seh_num.specs.Answers.{◌>>=◌, prepend}
 use Rattle.eh_tables.specs.Answer.{Table}
 use Rattle.eh_tables.specs.Infos.{range_at}
-use Rattle.eh_tables.specs.Tables.{Entry, Tables, entry, ranges, ranges_in, no_range, end_before, entries, all_entries, passed, checked, or_none, IsWhole, directory, tables}
+use Rattle.eh_tables.specs.Tables.{Entry, Tables, entry, ranges, ranges_in, no_range, end_before, entries, all_entries, passed, checked, or_none, TablesAreWhole, directory, tables}
 
 -- ---- the directory
 
@@ -81,7 +81,7 @@ first_refused : (r : Table (List Entry)) (e : TableErr) → passed r ≡ Err e �
 first_refused (Ok es) e h = cc
 first_refused (Err f) e h = let g : f ≡ e = cc in ap (λ (x : TableErr). Err x) g
 
-pub is_whole : (t : Tables) → Ok tt ≡ checked t → IsWhole t
+pub is_whole : (t : Tables) → Ok tt ≡ checked t → TablesAreWhole t
 is_whole t h = record { whole = all_passed (all_entries t) (sym h) }
 
 pub refused_directory : (image : Image) (e : TableErr) → directory image ≡ Err e → tables image ≡ Err e

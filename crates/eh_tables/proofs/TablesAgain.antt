@@ -16,7 +16,7 @@ use Rattle.eh_tables.specs.Scopes.{scope_record, rows, scope_records_in}
 use Rattle.eh_tables.specs.Tables.{ranges, ranges_in, unless_none, stored_ranges, directory}
 use Rattle.pe_image.specs.Numbers.{u32}
 use Rattle.eh_tables.specs.Written.{range_bytes, scope_record_bytes, table_bytes}
-use Rattle.eh_tables.specs.ReadAgain.{IsRange, IsScopeRecord, RangesAreReadAgain}
+use Rattle.eh_tables.specs.ReadAgain.{IsRuntimeFunction, IsScopeRecord, RangesAreReadAgain}
 
 -- ---- where bytes are stored, those at their front are too
 
@@ -44,7 +44,7 @@ four_is n lt = omega arith
 
 -- ---- entries of a function table
 
-pub range_again : (r : RuntimeFunction) (rest : List ℕ) → IsRange r → range_at (range_bytes r ++ rest) 0 ≡ r
+pub range_again : (r : RuntimeFunction) (rest : List ℕ) → IsRuntimeFunction r → range_at (range_bytes r ++ rest) 0 ≡ r
 unfolding u32
 range_again r rest is =
     let begin = four_is r.begin is.begin in
@@ -64,14 +64,14 @@ table_length : (rs : List RuntimeFunction) → length (table_bytes rs) ≡ 12 * 
 table_length [] = refl
 table_length (r ∷ rs) = omega (arith, length-append (range_bytes r) (table_bytes rs), range_length r, table_length rs)
 
-so_many : (rs : List RuntimeFunction) → AllByRecursion IsRange rs → ranges (length rs) (table_bytes rs) ≡ rs
+so_many : (rs : List RuntimeFunction) → AllByRecursion IsRuntimeFunction rs → ranges (length rs) (table_bytes rs) ≡ rs
 so_many [] are = refl
 so_many (r ∷ rs) are =
     ap (λ (t : RuntimeFunction). t ∷ ranges (length rs) (drop 12 (range_bytes r ++ table_bytes rs))) (range_again r (table_bytes rs) are.0)
     ∙ ap (λ (t : List ℕ). r ∷ ranges (length rs) t) (after_range r (table_bytes rs))
     ∙ ap (λ (t : List RuntimeFunction). r ∷ t) (so_many rs are.1)
 
-ranges_again : (rs : List RuntimeFunction) → AllByRecursion IsRange rs → ranges_in (table_bytes rs) ≡ rs
+ranges_again : (rs : List RuntimeFunction) → AllByRecursion IsRuntimeFunction rs → ranges_in (table_bytes rs) ≡ rs
 ranges_again rs are =
     let e : length (table_bytes rs) / 12 ≡ length rs = omega (arith, table_length rs) in
     ap (λ n. ranges n (table_bytes rs)) e ∙ so_many rs are

@@ -9,7 +9,7 @@ use Rattle.seh_num.specs.Answers.{◌>>=◌, prepend}
 use Rattle.eh_tables.specs.Answer.{Table}
 use Rattle.eh_tables.specs.Infos.{Info, info}
 use Rattle.eh_tables.specs.Tables.{Entry, entry, entries, parents}
-use Rattle.eh_tables.specs.ReadAgain.{WrittenInfo, WrittenEntry, HasScopes, IsInfoWritten, IsChainedTo, IsWritten, AreInOrder, info_read, as_read, ranges_of, has_c_handler, parent_of, info_written, TableIsReadAgain}
+use Rattle.eh_tables.specs.ReadAgain.{WrittenInfo, WrittenEntry, HasScopes, IsInfoWritten, IsChainedTo, IsEntryWritten, AreInOrder, info_read, as_read, ranges_of, has_c_handler, parent_of, info_written, TableIsReadAgain}
 use Rattle.eh_tables.proofs.Chains.{entry_is}
 use Rattle.eh_tables.proofs.InfosAgain.{reads_info, reads_scopes}
 use Rattle.eh_tables.proofs.TablesAgain.{reads_ranges}
@@ -37,13 +37,13 @@ chain_again (suc n) image index named (w ∷ ws) h le =
     ∙ ap (λ (t : Table Info). t >>= λ i. prepend i (parents n image index i.parent)) (info_again image index h.0.range.unwind_info w h.0.written)
     ∙ ap (prepend (info_read image w)) (chain_again n image index (parent_of w.info.trailer) ws h.1 (omega arith))
 
-entry_again : (image : Image) (index last : ℕ) (w : WrittenEntry) → IsWritten image w → last ≤ w.range.begin → w.range.begin < w.range.end → entry image index last w.range ≡ Ok (as_read image w)
+entry_again : (image : Image) (index last : ℕ) (w : WrittenEntry) → IsEntryWritten image w → last ≤ w.range.begin → w.range.begin < w.range.end → entry image index last w.range ≡ Ok (as_read image w)
 entry_again image index last w h le lt =
     entry_is image index last w.range (info_read image w.own) (map (info_read image) w.parents) lt le
     (info_again image index w.range.unwind_info w.own h.own)
     (chain_again MOST_PARENTS image index (parent_of w.own.info.trailer) w.parents h.chain h.count)
 
-entries_again : (image : Image) (index last : ℕ) (ws : List WrittenEntry) → AllByRecursion (IsWritten image) ws → AreInOrder last ws → entries image index last (ranges_of ws) ≡ Ok (map (as_read image) ws)
+entries_again : (image : Image) (index last : ℕ) (ws : List WrittenEntry) → AllByRecursion (IsEntryWritten image) ws → AreInOrder last ws → entries image index last (ranges_of ws) ≡ Ok (map (as_read image) ws)
 entries_again image index last [] h o = refl
 entries_again image index last (w ∷ ws) h o =
     ap (λ (t : Table Entry). t >>= λ e. prepend e (entries image (index + 1) w.range.end (ranges_of ws))) (entry_again image index last w h.0 o.0 o.1)

@@ -11,8 +11,8 @@ use Rattle.eh_tables.specs.Answer.{Table}
 -- ---- one code
 
 -- an operation, and how many slots of operands follow its code's first slot
-abbrev pub Taken : Type 0
-Taken = Option (UnwindOperation × ℕ)
+abbrev pub OperationAndSlots : Type 0
+OperationAndSlots = Option (UnwindOperation × ℕ)
 
 -- one slot of operands, a number of 16 bits, or two, a number of 32 bits
 abbrev pub one_slot : List ℕ → Option ℕ
@@ -27,19 +27,19 @@ two_slots (a ∷ b ∷ []) = None
 two_slots (a ∷ []) = None
 two_slots [] = None
 
-abbrev pub taken : (ℕ → UnwindOperation) → ℕ → Option ℕ → Taken
+abbrev pub taken : (ℕ → UnwindOperation) → ℕ → Option ℕ → OperationAndSlots
 taken f n None = None
 taken f n (Some v) = Some (f v, n)
 
 -- UWOP_ALLOC_LARGE: the size in units of 8 bytes, or the size
-abbrev pub large : ℕ → List ℕ → Taken
+abbrev pub large : ℕ → List ℕ → OperationAndSlots
 large info rest =
     if info == 0 then taken (λ n. Allocate (8 * n)) 1 (one_slot rest)
     else (if info == 1 then taken (λ n. Allocate n) 2 (two_slots rest) else None)
 
 -- the table of unwind operation codes. None where the operation isn't listed, its info isn't
 -- allowed, there is no frame register to set, or its operands aren't there
-unfoldable pub operation : Bool → ℕ → ℕ → List ℕ → Taken
+unfoldable pub operation : Bool → ℕ → ℕ → List ℕ → OperationAndSlots
 operation framed op info rest =
     if op == UWOP_PUSH_NONVOL then Some (Push info, 0)
     else (if op == UWOP_ALLOC_LARGE then large info rest
@@ -61,7 +61,7 @@ abbrev pub in_order : ℕ → ℕ → Table Unit → Bool → Table Unit
 in_order index slot others true = Err (refusals.CodeOrder index slot)
 in_order index slot others false = others
 
-abbrev pub code_checked : ℕ → ℕ → ℕ → ℕ → (ℕ → Table Unit) → Taken → Table Unit
+abbrev pub code_checked : ℕ → ℕ → ℕ → ℕ → (ℕ → Table Unit) → OperationAndSlots → Table Unit
 code_checked index slot last offset others None = Err (refusals.Op index slot)
 code_checked index slot last offset others (Some x) =
     in_order index slot (others x.1) (nat_lt last offset)
@@ -75,7 +75,7 @@ checked index framed slot last zero (a ∷ b ∷ rest) =
     (operation framed (b % 16) (b / 16) rest)
 
 -- what they say, up to the first that isn't known
-abbrev pub code_before : ℕ → (ℕ → List UnwindCode) → Taken → List UnwindCode
+abbrev pub code_before : ℕ → (ℕ → List UnwindCode) → OperationAndSlots → List UnwindCode
 code_before offset others None = []
 code_before offset others (Some x) = record { offset = offset; operation = x.0 } ∷ others x.1
 

@@ -31,7 +31,7 @@ IsOperation (Save r n) = n < 2 ^ 32
 IsOperation (SaveVector r n) = n < 2 ^ 32
 IsOperation (MachineFrame i) = Unit {0}
 
-pub record IsRange (r : RuntimeFunction) : Type 0 where
+pub record IsRuntimeFunction (r : RuntimeFunction) : Type 0 where
   pub begin : r.begin < 2 ^ 32
   pub end : r.end < 2 ^ 32
   pub info : r.unwind_info < 2 ^ 32
@@ -45,7 +45,7 @@ pub record IsScopeRecord (r : ScopeRecord) : Type 0 where
 abbrev pub HasTrailer : Trailer → Type 0
 HasTrailer Nothing = Unit {0}
 HasTrailer (Handler s u rva) = rva < 2 ^ 32
-HasTrailer (Parent r) = IsRange r
+HasTrailer (Parent r) = IsRuntimeFunction r
 
 pub record IsUnwindInfo (i : UnwindInfo) : Type 0 where
   pub operations : AllByRecursion (λ c. IsOperation c.operation) i.codes.items
@@ -108,7 +108,7 @@ ScopeRecordsAreReadAgain =
 
 abbrev pub RangesAreReadAgain : Type 0
 RangesAreReadAgain =
-    (image : Image) (rs : List RuntimeFunction) → AllByRecursion IsRange rs
+    (image : Image) (rs : List RuntimeFunction) → AllByRecursion IsRuntimeFunction rs
     → image.exceptions.rva % 4 ≡ 0 → image.exceptions.size ≡ length (table_bytes rs)
     → IsStoredAt image image.exceptions.rva (table_bytes rs)
     → directory image ≡ Ok rs
@@ -164,7 +164,7 @@ IsChainedTo image named (w ∷ ws) =
     IsParent image named w × IsChainedTo image (parent_of w.info.trailer) ws
 
 -- the own unwind info is stored where the range says, and its chain isn't too long
-pub record IsWritten (image : Image) (w : WrittenEntry) : Type 0 where
+pub record IsEntryWritten (image : Image) (w : WrittenEntry) : Type 0 where
   pub own : IsInfoWritten image w.range.unwind_info w.own
   pub chain : IsChainedTo image (parent_of w.own.info.trailer) w.parents
   pub count : length w.parents ≤ MOST_PARENTS
@@ -192,8 +192,8 @@ ranges_of ws = map (λ w. w.range) ws
 -- a whole function table, wherever it, its unwind infos and those of their chains are stored
 abbrev pub TableIsReadAgain : Type 0
 TableIsReadAgain =
-    (image : Image) (ws : List WrittenEntry) → AllByRecursion IsRange (ranges_of ws)
+    (image : Image) (ws : List WrittenEntry) → AllByRecursion IsRuntimeFunction (ranges_of ws)
     → image.exceptions.rva % 4 ≡ 0 → image.exceptions.size ≡ length (table_bytes (ranges_of ws))
     → IsStoredAt image image.exceptions.rva (table_bytes (ranges_of ws))
-    → AllByRecursion (IsWritten image) ws → AreInOrder 0 ws
+    → AllByRecursion (IsEntryWritten image) ws → AreInOrder 0 ws
     → tables image ≡ Ok (map (as_read image) ws)

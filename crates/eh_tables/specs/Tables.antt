@@ -112,7 +112,7 @@ abbrev pub entries_of : Tables → List Entry
 entries_of t = or_none (all_entries t)
 
 -- no entry is refused
-pub record IsWhole (t : Tables) : Type 0 where
+pub record TablesAreWhole (t : Tables) : Type 0 where
   pub whole : all_entries t ≡ Ok (entries_of t)
 
 -- the entry whose range covers an address

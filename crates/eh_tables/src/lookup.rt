@@ -13,7 +13,7 @@ use std::sync::ledger::{Blank, Ledger};
 impl<'image, 'bytes> Tables<'image, 'bytes> {
     /// The entry whose range covers an address, in a table that was read whole.
     pub fn lookup(&self, rva: u64) -> Option<Entry<'bytes>>
-        requires { spec.IsWhole self.now }
+        requires { spec.TablesAreWhole self.now }
         ensures { result ≡ spec.holding rva (spec.entries_of self.now) }
     {
         lookup_with::<Brand>(self, rva, Blank::new(1))
@@ -23,7 +23,7 @@ impl<'image, 'bytes> Tables<'image, 'bytes> {
     /// nothing of the table but its length and these ranges, and the entry that it finds is read
     /// after it.
     pub fn lookup_counted<L: Ledger>(&self, rva: u64, steps: &mut Steps<L>) -> Option<Entry<'bytes>>
-        requires { spec.IsWhole self.now }
+        requires { spec.TablesAreWhole self.now }
         ensures found { result ≡ spec.holding rva (spec.entries_of self.now) }
         ensures cost { 2 ^ (steps.new - steps.old) ≤ 2 * length self.now.ranges + 1 }
     {
@@ -38,7 +38,7 @@ fn covering<L: Ledger>(
     rva: u64,
     steps: &mut Steps<L>,
 ) -> Option<u64>
-    requires { spec.IsWhole ranges.now }
+    requires { spec.TablesAreWhole ranges.now }
     ensures within { IfSome result (λ index. index < length ranges.now.ranges) }
     ensures found { spec.entry_found ranges.now result
         ≡ spec.holding rva (spec.entries_of ranges.now) }
@@ -65,7 +65,7 @@ fn lookup_with<'bytes, L: Ledger>(
     rva: u64,
     blank: Blank,
 ) -> Option<Entry<'bytes>>
-    requires whole { spec.IsWhole tables.now }
+    requires whole { spec.TablesAreWhole tables.now }
     requires name { blank.name ≡ L.name }
     requires parts { blank.parts ≡ L.parts }
     requires some { 0 < L.parts }

@@ -99,7 +99,7 @@ impl<'image, 'bytes> Tables<'image, 'bytes> {
     pub fn read(image: &'image ImageView<'bytes>) -> Result<Tables<'image, 'bytes>, TableErr>
         ensures read { IfOk result
             (λ t. (spec.directory image.now ≡ Ok t.ranges) × (t.image ≡ image.now)) }
-        ensures whole { IfOk result (λ t. spec.IsWhole t) }
+        ensures whole { IfOk result (λ t. spec.TablesAreWhole t) }
         ensures refusal { IfErr result (λ e. spec.tables image.now ≡ Err e) }
     {
         let tables = Tables::of(image)?;

@@ -16,7 +16,7 @@ use Rattle.x64_instr.specs.declared.instruction.Instr.{Instr}
 use Rattle.x64_encode.specs.Chosen.{is_signed, modrm, opcode_register}
 use Rattle.eh_tables.specs.Infos.{Info}
 use Rattle.frame_rules.specs.Prologue.{bytes, items, codes_onto}
-use Rattle.frame_rules.specs.Plan.{Plan, allocation_then, allocating, instructions_of, spelled_by, turned, steps_of}
+use Rattle.frame_rules.specs.Plan.{FramePlan, allocation_then, allocating, instructions_of, spelled_by, turned, steps_of}
 use Rattle.frame_rules.specs.Plan as rules
 use Rattle.frame_rules.specs.Bytes.{spell, prologue_code}
 use Rattle.frame_layout.specs.declared.frame.Frame.{Frame}
@@ -25,7 +25,7 @@ use Rattle.frame_layout.specs.Layout.{plan_of, taking_size, Describes}
 abbrev pub of_size : ℕ → Frame
 of_size n = record { kept = 0; temporaries = 0; locals = 0; size = n }
 
-abbrev pub plan : ℕ → ℕ → Plan
+abbrev pub plan : ℕ → ℕ → FramePlan
 plan probe n = plan_of (of_size n) probe
 
 -- ---- an immediate of 8 bits, and one of 32

@@ -5,7 +5,7 @@ use Rattle.eh_tables.specs.declared.unwind_info.Trailer.{Trailer}
 use Rattle.eh_tables.specs.declared.unwind_info.Trailer.TheVariants.{Nothing}
 use Rattle.eh_tables.specs.declared.unwind_info.UnwindInfo.{UnwindInfo}
 use Rattle.eh_tables.specs.Infos.{Info}
-use Rattle.frame_rules.specs.Plan.{Plan}
+use Rattle.frame_rules.specs.Plan.{FramePlan}
 use Rattle.frame_rules.specs.Prologue.{bytes}
 use Rattle.frame_rules.specs.Plan as rules
 use Rattle.frame_rules.specs.Bytes.{spell, prologue_code}
@@ -43,7 +43,7 @@ pub record IsLaidOut (f : Facts) (frame : Frame) : Type 0 where
 
 -- a frame without saved registers and without a frame register, with the displacement of the call
 -- of `__chkstk`
-abbrev pub plan_of : Frame → ℕ → Plan
+abbrev pub plan_of : Frame → ℕ → FramePlan
 plan_of frame probe =
     record { pushes = []; size = frame.size; frame = 0; distance = 0; saves = []; probe = probe }
 

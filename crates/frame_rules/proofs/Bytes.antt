@@ -23,7 +23,7 @@ use Rattle.eh_tables.specs.declared.code.UnwindOperation.{UnwindOperation}
 use Rattle.virtual_unwind.specs.Tail.{FetchedInstr, is_plain, item_of, fetched_at}
 use Rattle.frame_rules.specs.Codes.{depth}
 use Rattle.frame_rules.specs.Prologue.{bytes, items}
-use Rattle.frame_rules.specs.Plan.{Saved, Plan, IsPlan, saves_then, spelled_by, all_encodable, operations_of, instructions_of, turned, steps_of, prologue, loads_then, opening_then, opening_by, pops_then, epilogue, with_epilogues, frame_size}
+use Rattle.frame_rules.specs.Plan.{Saved, FramePlan, IsPlan, saves_then, spelled_by, all_encodable, operations_of, instructions_of, turned, steps_of, prologue, loads_then, opening_then, opening_by, pops_then, epilogue, with_epilogues, frame_size}
 use Rattle.frame_rules.specs.States.{IsEntry, HasItems}
 use Rattle.frame_rules.specs.Rules.{ops}
 use Rattle.frame_rules.specs.Bytes.{spell, IsExecutableAt, code, SpellsAll, CodeHasItems, prologue_code, rest_code, all_code, spelled_parts, planned, all_parts, PlansAreEncodable, PlannedFramesAreRight}
@@ -132,7 +132,7 @@ encodable-append : (a b : List Instr) → all_encodable a ≡ true → all_encod
 encodable-append [] b p q = q
 encodable-append (i ∷ a) b p q = let r = and_parts (is_encodable i) (all_encodable a) p in and_from (is_encodable i) (all_encodable (a ++ b)) r.0 (encodable-append a b r.1 q)
 
-prologue_encodable : (p : Plan) (xs : List UnwindOperation) → IsPlan p → AllEmitted p xs → all_encodable (flat_map (instructions_of p) xs) ≡ true
+prologue_encodable : (p : FramePlan) (xs : List UnwindOperation) → IsPlan p → AllEmitted p xs → all_encodable (flat_map (instructions_of p) xs) ≡ true
 prologue_encodable p [] h e = refl
 prologue_encodable p (x ∷ xs) h e = encodable-append (instructions_of p x) (flat_map (instructions_of p) xs) (step_encodable p x h e.0) (prologue_encodable p xs h e.1)
 
@@ -140,7 +140,7 @@ abbrev Bounded : List Saved → Type 0
 Bounded [] = Unit {0}
 Bounded (s ∷ ss) = (s.offset < 2 ^ 31) × Bounded ss
 
-bounded : (p : Plan) (ss : List Saved) (xs : List UnwindOperation) → AllEmitted p (saves_then ss xs) → Bounded ss
+bounded : (p : FramePlan) (ss : List Saved) (xs : List UnwindOperation) → AllEmitted p (saves_then ss xs) → Bounded ss
 bounded p [] xs e = tt
 bounded p (s ∷ ss) xs e = (e.0.1, bounded p ss xs e.1)
 
@@ -161,11 +161,11 @@ difference_signed a b x y = elim (cases_lt a b) [
   | inr le ↦ small_signed ((a + (2 ^ 64 - b)) % 2 ^ 64) (omega arith)
 ]
 
-opening_encodable : (p : Plan) (b : Bool) → IsPlan p → is_encodable (opening_by p b) ≡ true
+opening_encodable : (p : FramePlan) (b : Bool) → IsPlan p → is_encodable (opening_by p b) ≡ true
 opening_encodable p true h = small_signed p.size h.size
 opening_encodable p false h = difference_signed p.size p.distance h.size h.distance
 
-opened_encodable : (p : Plan) (b : Bool) (is : List Instr) → IsPlan p → all_encodable is ≡ true → all_encodable (opening_then p b is) ≡ true
+opened_encodable : (p : FramePlan) (b : Bool) (is : List Instr) → IsPlan p → all_encodable is ≡ true → all_encodable (opening_then p b is) ≡ true
 opened_encodable p true is h e = e
 opened_encodable p false is h e = and_from (is_encodable (opening_by p (eqb p.frame 0))) (all_encodable is) (opening_encodable p (eqb p.frame 0) h) e
 
@@ -174,7 +174,7 @@ plans_are_encodable p h =
     let e = emitted_plan p h in
     (prologue_encodable p (turned [] (operations_of p)) h (all_turned p [] (operations_of p) tt e), loads_encodable p.saves (opening_then p (eqb p.size 0) (pops_then p.pushes (instrs.Return ∷ []))) (bounded p p.saves _ e) (opened_encodable p (eqb p.size 0) (pops_then p.pushes (instrs.Return ∷ [])) h (pops_encodable p.pushes)))
 
-rest_encodable : (p : Plan) → IsPlan p → (parts : List (List Instr)) (last : List Instr) → all_parts parts ≡ true → all_encodable last ≡ true → all_encodable (rest_code p parts last) ≡ true
+rest_encodable : (p : FramePlan) → IsPlan p → (parts : List (List Instr)) (last : List Instr) → all_parts parts ≡ true → all_encodable last ≡ true → all_encodable (rest_code p parts last) ≡ true
 rest_encodable p h [] last a b = b
 rest_encodable p h (is ∷ parts) last a b =
     let q = and_parts (all_encodable is) (all_parts parts) a in
@@ -186,11 +186,11 @@ spelled-append : (a b : List Instr) → spelled_by spell (a ++ b) ≡ spelled_by
 spelled-append [] b = refl
 spelled-append (i ∷ a) b = ap (λ (xs : List FetchedInstr). spell i ∷ xs) (spelled-append a b)
 
-spelled_steps : (p : Plan) (at : ℕ) (xs : List UnwindOperation) → spelled_by spell (flat_map (instructions_of p) xs) ≡ items (steps_of spell p at xs)
+spelled_steps : (p : FramePlan) (at : ℕ) (xs : List UnwindOperation) → spelled_by spell (flat_map (instructions_of p) xs) ≡ items (steps_of spell p at xs)
 spelled_steps p at [] = refl
 spelled_steps p at (x ∷ xs) = spelled-append (instructions_of p x) (flat_map (instructions_of p) xs) ∙ ap (λ (ys : List FetchedInstr). spelled_by spell (instructions_of p x) ++ ys) (spelled_steps p (at + bytes (spelled_by spell (instructions_of p x))) xs)
 
-spelled_rest : (p : Plan) (parts : List (List Instr)) (last : List Instr) → spelled_by spell (rest_code p parts last) ≡ with_epilogues spell p (spelled_parts parts) (spelled_by spell last)
+spelled_rest : (p : FramePlan) (parts : List (List Instr)) (last : List Instr) → spelled_by spell (rest_code p parts last) ≡ with_epilogues spell p (spelled_parts parts) (spelled_by spell last)
 spelled_rest p [] last = refl
 spelled_rest p (is ∷ parts) last =
     spelled-append is (epilogue p ++ rest_code p parts last)

@@ -16,7 +16,7 @@ use Rattle.frame_rules.specs.Codes.{allocation, pushes, pushed, is_saved, may_sa
 use Rattle.frame_rules.specs.Epilogue.{is_pop, gives_back}
 use Rattle.frame_rules.specs.Body.{written, may_write, may_write_all, saved_at, is_place, if_place, restored_by, with_restored, are_restored, Mode, Body, Leaving, only_if, is_ends, leaving, from_body, next, and_then, following, is_body}
 use Rattle.frame_rules.specs.States.{is_other}
-use Rattle.frame_rules.specs.Plan.{Saved, Plan, IsPlan, IsSpelling, frame_then, allocation_then, operations_of, stack_place, spelled_by, load_of, loads_then, opening_by, opening_then, pops_then, epilogue, is_inner, are_inner, with_epilogues, all_inner}
+use Rattle.frame_rules.specs.Plan.{Saved, FramePlan, IsPlan, IsSpelling, frame_then, allocation_then, operations_of, stack_place, spelled_by, load_of, loads_then, opening_by, opening_then, pops_then, epilogue, is_inner, are_inner, with_epilogues, all_inner}
 use Rattle.frame_rules.specs.Laws.{PlansAreRight}
 use Rattle.frame_rules.proofs.Bodies.{following-append}
 use Rattle.frame_rules.proofs.Planning.{nonvolatile_number, ordered_plan, framed_plan, codes_plan, are_steps}
@@ -69,20 +69,20 @@ pushes_kept f (r ∷ rs) h =
 
 -- ---- an opening
 
-frame_kept : (p : Plan) → IsPlan p → p.frame ≢ 0 → is_nonvolatile p.frame ≡ true
+frame_kept : (p : FramePlan) → IsPlan p → p.frame ≢ 0 → is_nonvolatile p.frame ≡ true
 frame_kept p h ne =
     let xs = frame_then (not (eqb p.frame 0)) (allocation_then (not (eqb p.size 0)) p.size (pushed p.pushes)) in
     let s = frame_saved p (not (eqb p.size 0)) p.size p.pushes (allowed_later p.frame p.saves xs h.allowed) ne in
     (saved_register p.frame p.frame (operations_of p) h.allowed (saved_later p.frame p.saves xs s)).0
 
-is_frame : (p : Plan) → IsPlan p → eqb p.frame 0 ≡ false → is_of p.frame (bases.Register (register p.frame)) None ≡ true
+is_frame : (p : FramePlan) → IsPlan p → eqb p.frame 0 ≡ false → is_of p.frame (bases.Register (register p.frame)) None ≡ true
 is_frame p h e = ap (λ b. cond b false (eqb (number (register p.frame)) p.frame)) e ∙ eq-eqb (number (register p.frame)) p.frame (nonvolatile_number p.frame (frame_kept p h (eqb-false p.frame 0 e)))
 
-opens_role : (p : Plan) → IsPlan p → (b : Bool) → eqb p.frame 0 ≡ b → (plain : Bool) → role_of p.frame plain (opening_by p b) ≡ Opens
+opens_role : (p : FramePlan) → IsPlan p → (b : Bool) → eqb p.frame 0 ≡ b → (plain : Bool) → role_of p.frame plain (opening_by p b) ≡ Opens
 opens_role p h true e plain = refl
 opens_role p h false e plain = ap opening (is_frame p h e)
 
-gives_all : (p : Plan) → IsPlan p → (b : Bool) → eqb p.frame 0 ≡ b → gives_back p.frame p.distance (allocation (operations_of p)) (opening_by p b) ≡ true
+gives_all : (p : FramePlan) → IsPlan p → (b : Bool) → eqb p.frame 0 ≡ b → gives_back p.frame p.distance (allocation (operations_of p)) (opening_by p b) ≡ true
 gives_all p h true e = eq-eqb p.size (allocation (operations_of p)) (sym (allocation_plan p))
 gives_all p h false e =
     let small = h.size in
@@ -121,7 +121,7 @@ module _ (spell : Instr → FetchedInstr) (sp : IsSpelling spell) where
       ap (and_then (following f offset ops (spelled_by spell (pops_then ps (instrs.Return ∷ []))))) (from_loaded f offset ops x rs (r ∷ ps) Restores (ap (role_of f x.plain) (sp.instr (instrs.Pop (register r)))) (inl refl) done z same) ∙ pops_following f offset ops (r ∷ ps) h
 
   -- an opening
-  opens_next : (p : Plan) → IsPlan p → (rs : List ℕ) → (b : Bool) → eqb p.frame 0 ≡ b → are_restored rs (operations_of p) ≡ true → next p.frame p.distance (operations_of p) (spell (opening_by p b)) (Body rs) ≡ Some (Leaving p.pushes)
+  opens_next : (p : FramePlan) → IsPlan p → (rs : List ℕ) → (b : Bool) → eqb p.frame 0 ≡ b → are_restored rs (operations_of p) ≡ true → next p.frame p.distance (operations_of p) (spell (opening_by p b)) (Body rs) ≡ Some (Leaving p.pushes)
   opens_next p h rs b e done =
       let f = p.frame in
       let ops = operations_of p in
@@ -134,10 +134,10 @@ module _ (spell : Instr → FetchedInstr) (sp : IsSpelling spell) where
       ∙ ap (only_if (Some (Leaving (pushes ops)))) (and_from (are_restored rs ops) (gives_back f p.distance (allocation ops) (opening_by p b)) done gives)
       ∙ ap (λ q. Some (Leaving q)) (pushes_plan p)
 
-  kept_pushes : (p : Plan) → IsPlan p → AllKept p.pushes
+  kept_pushes : (p : FramePlan) → IsPlan p → AllKept p.pushes
   kept_pushes p h = pushes_kept p.frame p.pushes (ap (λ rs. are_allowed p.frame (pushed rs)) (sym (pushes_plan p)) ∙ pushes_allowed p.frame (operations_of p) (ordered (operations_of p) (ordered_plan p)) h.allowed)
 
-  pub epilogue_following : (p : Plan) → IsPlan p → (rs : List ℕ) → following p.frame p.distance (operations_of p) (spelled_by spell (epilogue p)) (Body rs) ≡ Some (Body [])
+  pub epilogue_following : (p : FramePlan) → IsPlan p → (rs : List ℕ) → following p.frame p.distance (operations_of p) (spelled_by spell (epilogue p)) (Body rs) ≡ Some (Body [])
   epilogue_following p h rs = loads_following p.frame p.distance (operations_of p) p.saves (opening_then p (eqb p.size 0) (pops_then p.pushes (instrs.Return ∷ []))) rs (all_loadable p h) ∙ go (eqb p.size 0) refl
     where
       go : (b : Bool) → eqb p.size 0 ≡ b → following p.frame p.distance (operations_of p) (spelled_by spell (opening_then p b (pops_then p.pushes (instrs.Return ∷ [])))) (Body (loaded p.saves rs)) ≡ Some (Body [])
@@ -152,7 +152,7 @@ module _ (spell : Instr → FetchedInstr) (sp : IsSpelling spell) where
   is_the_other Restores e = absurd (false≢true e)
   is_the_other Ends e = absurd (false≢true e)
 
-  pub inner_following : (p : Plan) (xs : List FetchedInstr) (rs : List ℕ) → are_inner p xs ≡ true → (to : List ℕ) × (following p.frame p.distance (operations_of p) xs (Body rs) ≡ Some (Body to))
+  pub inner_following : (p : FramePlan) (xs : List FetchedInstr) (rs : List ℕ) → are_inner p xs ≡ true → (to : List ℕ) × (following p.frame p.distance (operations_of p) xs (Body rs) ≡ Some (Body to))
   inner_following p [] rs h = (rs, refl)
   inner_following p (x ∷ xs) rs h =
       let q = and_parts (is_inner p x) (are_inner p xs) h in
@@ -161,7 +161,7 @@ module _ (spell : Instr → FetchedInstr) (sp : IsSpelling spell) where
       let more = inner_following p xs (with_restored rs (restored_by p.frame p.distance (operations_of p) x.instr)) q.1 in
       (more.0, ap (and_then (following p.frame p.distance (operations_of p) xs)) n ∙ more.1)
 
-  parts_following : (p : Plan) → IsPlan p → (parts : List (List FetchedInstr)) (last : List FetchedInstr) (rs : List ℕ) → all_inner p parts ≡ true → are_inner p last ≡ true → (to : List ℕ) × (following p.frame p.distance (operations_of p) (with_epilogues spell p parts last) (Body rs) ≡ Some (Body to))
+  parts_following : (p : FramePlan) → IsPlan p → (parts : List (List FetchedInstr)) (last : List FetchedInstr) (rs : List ℕ) → all_inner p parts ≡ true → are_inner p last ≡ true → (to : List ℕ) × (following p.frame p.distance (operations_of p) (with_epilogues spell p parts last) (Body rs) ≡ Some (Body to))
   parts_following p h [] last rs a b = inner_following p last rs b
   parts_following p h (xs ∷ parts) last rs a b =
       let q = and_parts (are_inner p xs) (all_inner p parts) a in

@@ -9,7 +9,7 @@ use Rattle.virtual_unwind.specs.Undone.{operations}
 use Rattle.virtual_unwind.specs.Tail.{FetchedInstr}
 use Rattle.virtual_unwind.specs.CallerOf.{run_by}
 use Rattle.frame_rules.specs.Codes.{is_allowed, are_allowed}
-use Rattle.frame_rules.specs.Prologue.{bytes, does, sets_size, is_call, subtracts, PrologueStep, items, codes_onto, are_sized, AreSteps}
+use Rattle.frame_rules.specs.Prologue.{bytes, does, sets_size, is_call, subtracts, PrologueStep, items, codes_onto, are_sized, ArePrologueSteps}
 use Rattle.frame_rules.specs.States.{registers, RunsOne, RunsThrough, IsEntry}
 use Rattle.frame_rules.proofs.Order.{Ordered, allocate}
 use Rattle.frame_rules.proofs.Steps.{Running}
@@ -64,7 +64,7 @@ module _ (f offset back n : ℕ) (e : State) (entry : IsEntry n e) (small : offs
   same_size x y e = ap (λ (w : FetchedInstr). w.size) e
 
   -- before a step's end
-  within : (at d : ℕ) (done : List UnwindCode) (s : PrologueStep) (ss : List PrologueStep) (t : State) → AreSteps f offset at (s ∷ ss) → AtMost at done → at ≤ d → d < at + bytes s.items → Running f offset e back (operations done) t → At d (codes_onto done (s ∷ ss)) t
+  within : (at d : ℕ) (done : List UnwindCode) (s : PrologueStep) (ss : List PrologueStep) (t : State) → ArePrologueSteps f offset at (s ∷ ss) → AtMost at done → at ≤ d → d < at + bytes s.items → Running f offset e back (operations done) t → At d (codes_onto done (s ∷ ss)) t
   within at d done s ss t h m le lt run =
       let e1 = skips_first f offset at d done s ss lt h ∙ run_done d done (later done m) in
       subst (λ (cs : List UnwindCode). Running f offset e back (operations cs) t) (sym e1) run
@@ -74,7 +74,7 @@ module _ (f offset back n : ℕ) (e : State) (entry : IsEntry n e) (small : offs
       later (c ∷ cs) m = omega (arith, m)
 
   by_items : (at : ℕ) (done : List UnwindCode) (c : UnwindCode) (ss : List PrologueStep) (its xs ys : List FetchedInstr) (s t : State)
-      → let st : PrologueStep = record { code = c; items = its } in AreSteps f offset at (st ∷ ss) → AtMost at done → Good f n (operations (c ∷ done)) → its ++ items ss ≡ xs ++ ys → Running f offset e back (operations done) s → RunsThrough s xs t
+      → let st : PrologueStep = record { code = c; items = its } in ArePrologueSteps f offset at (st ∷ ss) → AtMost at done → Good f n (operations (c ∷ done)) → its ++ items ss ≡ xs ++ ys → Running f offset e back (operations done) s → RunsThrough s xs t
       → ((xs : List FetchedInstr) (s : State) → items ss ≡ xs ++ ys → Running f offset e back (operations (c ∷ done)) s → RunsThrough s xs t → At (at + bytes its + bytes xs) (codes_onto (c ∷ done) ss) t)
       → At (at + bytes xs) (codes_onto (c ∷ done) ss) t
   by_items at done c ss [] xs ys s t h m g same run runs rest = absurd (false≢true h.0.does)
@@ -126,7 +126,7 @@ module _ (f offset back n : ℕ) (e : State) (entry : IsEntry n e) (small : offs
           let d : at + (x.size + (y.size + (z.size + 0))) + bytes xs ≡ at + (x'.size + (y'.size + (z'.size + bytes xs))) = omega arith in
           subst (λ q. At q (codes_onto (c ∷ done) ss) t) d (rest xs w (cons_tail same) (subst (λ o. Running f offset e back (o ∷ ops) w) (sym large.is) third) runs.2)
 
-  pub entering : (at : ℕ) (done : List UnwindCode) (ss : List PrologueStep) (xs ys : List FetchedInstr) (s t : State) → AreSteps f offset at ss → AtMost at done → Good f n (operations (codes_onto done ss)) → items ss ≡ xs ++ ys → Running f offset e back (operations done) s → RunsThrough s xs t → At (at + bytes xs) (codes_onto done ss) t
+  pub entering : (at : ℕ) (done : List UnwindCode) (ss : List PrologueStep) (xs ys : List FetchedInstr) (s t : State) → ArePrologueSteps f offset at ss → AtMost at done → Good f n (operations (codes_onto done ss)) → items ss ≡ xs ++ ys → Running f offset e back (operations done) s → RunsThrough s xs t → At (at + bytes xs) (codes_onto done ss) t
   entering at done [] [] ys s t h m g same run runs =
       let d : at ≡ at + 0 = omega arith in
       subst (λ k. At k done t) d (subst (λ (cs : List UnwindCode). Running f offset e back (operations cs) t) (sym (run_done at done m)) (subst (λ w. Running f offset e back (operations done) w) runs run))

@@ -16,7 +16,7 @@ use Rattle.frame_rules.specs.Epilogue.{pops, is_epilogue}
 use Rattle.frame_rules.specs.Prologue.{bytes, items, codes_onto}
 use Rattle.frame_rules.specs.Body.{Mode, Body, Leaving, following, is_body}
 use Rattle.frame_rules.specs.States.{registers, RunsThrough, IsEntry, return_address, HasItems}
-use Rattle.frame_rules.specs.Rules.{Function, ops, IsRight, InPrologue, IsBody, IsLeaving, FindsContext}
+use Rattle.frame_rules.specs.Rules.{FramedFunction, ops, IsRight, InPrologue, IsBody, IsLeaving, FindsContext}
 use Rattle.frame_rules.specs.Laws.{FramesAreRight}
 use Rattle.frame_rules.proofs.Undoing.{stack_depth}
 use Rattle.frame_rules.proofs.Order.{ordered}
@@ -30,7 +30,7 @@ use Rattle.frame_rules.proofs.EpilogueRuns.{Has, leave_run, pushed_or_loaded}
 use Rattle.frame_rules.proofs.Epilogues.{pops_restore, epilogue_restores}
 use Rattle.frame_rules.proofs.Frames.{others_context, framed_context, based, finds, first_running, good_run, at_end, items_split, other_or_not}
 
-module _ (f : Function) (e : State) (right : IsRight f) (entry : IsEntry (depth (ops f)) e) where
+module _ (f : FramedFunction) (e : State) (right : IsRight f) (entry : IsEntry (depth (ops f)) e) where
   abbrev fr : ℕ
   fr = f.info.frame_register
 

@@ -17,7 +17,7 @@ use Rattle.virtual_unwind.specs.CallerOf.{found, base_if, sets_frame, run_or, ru
 use Rattle.virtual_unwind.proofs.Registers.{get-context}
 use Rattle.frame_rules.specs.Codes.{are_allowed}
 use Rattle.frame_rules.specs.Frame.{Framed, Others, HoldsFrame, left_to}
-use Rattle.frame_rules.specs.Prologue.{bytes, PrologueStep, items, codes_onto, AreSteps}
+use Rattle.frame_rules.specs.Prologue.{bytes, PrologueStep, items, codes_onto, ArePrologueSteps}
 use Rattle.frame_rules.specs.States.{registers, IsEntry, return_address, HasItems}
 use Rattle.frame_rules.specs.Rules.{FindsContext}
 use Rattle.frame_rules.proofs.Undoing.{undoing, framed_saved, saved_register, stack_depth}
@@ -92,7 +92,7 @@ pub bytes-append : (xs ys : List FetchedInstr) → bytes (xs ++ ys) ≡ bytes xs
 bytes-append [] ys = omega arith
 bytes-append (x ∷ xs) ys = let e = bytes-append xs ys in omega arith
 
-pub at_end : (f offset at : ℕ) (done : List UnwindCode) (ss : List PrologueStep) → AreSteps f offset at ss → AtMost at done → AtMost (at + bytes (items ss)) (codes_onto done ss)
+pub at_end : (f offset at : ℕ) (done : List UnwindCode) (ss : List PrologueStep) → ArePrologueSteps f offset at ss → AtMost at done → AtMost (at + bytes (items ss)) (codes_onto done ss)
 at_end f offset at done [] h m = subst (λ k. AtMost k done) (let e : at ≡ at + 0 = omega arith in e) m
 at_end f offset at done (s ∷ ss) h m =
     let e = bytes-append s.items (items ss) in

@@ -18,7 +18,7 @@ use Rattle.virtual_unwind.specs.Contexts.{is_nonvolatile}
 use Rattle.virtual_unwind.specs.Tail.{FetchedInstr}
 use Rattle.frame_rules.specs.Codes.{is_saved}
 use Rattle.frame_rules.specs.Frame.{IsWord, Stack}
-use Rattle.frame_rules.specs.Prologue.{bytes, does, is_stack, sets_size, subtracts, is_step, PrologueStep, items, AreSteps}
+use Rattle.frame_rules.specs.Prologue.{bytes, does, is_stack, sets_size, subtracts, is_step, PrologueStep, items, ArePrologueSteps}
 use Rattle.frame_rules.specs.Body.{written, is_a_call, has, may_write, may_write_all}
 use Rattle.frame_rules.specs.States.{registers, RunsThrough, KeepsWord, KeepsWords, is_other, writes, is_written}
 use Rattle.frame_rules.specs.Rules.{ops}
@@ -122,7 +122,7 @@ still_items f offset op (x ∷ y ∷ z ∷ []) xs e s t h st runs =
     }
 still_items f offset op (x ∷ y ∷ z ∷ w ∷ its) xs e s t h st runs = absurd (false≢true h)
 
-still_steps : (f offset at : ℕ) (ss : List PrologueStep) (e s t : State) → AreSteps f offset at ss → Still f e s → RunsThrough s (items ss) t → Still f e t
+still_steps : (f offset at : ℕ) (ss : List PrologueStep) (e s t : State) → ArePrologueSteps f offset at ss → Still f e s → RunsThrough s (items ss) t → Still f e t
 still_steps f offset at [] e s t h st runs = subst (Still f e) runs st
 still_steps f offset at (k ∷ ss) e s t h st runs =
     let n = still_items f offset k.code.operation k.items (items ss) e s t h.0.does st runs in

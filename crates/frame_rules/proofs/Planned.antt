@@ -6,7 +6,7 @@ use Rattle.eh_tables.specs.declared.code.UnwindOperation.TheVariants.{Save}
 use Rattle.virtual_unwind.specs.Contexts.{is_nonvolatile}
 use Rattle.frame_rules.specs.Codes.{allocation, pushes, pushed, is_saved, may_save, is_allowed, are_allowed}
 use Rattle.frame_rules.specs.Body.{has, saved_at, are_restored}
-use Rattle.frame_rules.specs.Plan.{Saved, Plan, IsPlan, saves_then, frame_then, allocation_then, operations_of}
+use Rattle.frame_rules.specs.Plan.{Saved, FramePlan, IsPlan, saves_then, frame_then, allocation_then, operations_of}
 
 -- ---- saves that can be loaded
 
@@ -64,7 +64,7 @@ loadable f (s ∷ ss) xs set a =
 
 -- ---- the codes of a plan
 
-pub frame_saved : (p : Plan) (b : Bool) (n : ℕ) (rs : List ℕ) → are_allowed p.frame (frame_then (not (eqb p.frame 0)) (allocation_then b n (pushed rs))) ≡ true → p.frame ≢ 0 → is_saved p.frame (frame_then (not (eqb p.frame 0)) (allocation_then b n (pushed rs))) ≡ true
+pub frame_saved : (p : FramePlan) (b : Bool) (n : ℕ) (rs : List ℕ) → are_allowed p.frame (frame_then (not (eqb p.frame 0)) (allocation_then b n (pushed rs))) ≡ true → p.frame ≢ 0 → is_saved p.frame (frame_then (not (eqb p.frame 0)) (allocation_then b n (pushed rs))) ≡ true
 frame_saved p b n rs a ne =
     let xs = allocation_then b n (pushed rs) in
     let e = ne_eqb p.frame 0 ne in
@@ -76,7 +76,7 @@ pub allowed_later : (f : ℕ) (ss : List Saved) (xs : List UnwindOperation) → 
 allowed_later f [] xs a = a
 allowed_later f (s ∷ ss) xs a = allowed_later f ss xs (and_parts (is_allowed f (saves_then ss xs) (Save s.register s.offset)) (are_allowed f (saves_then ss xs)) a).1
 
-pub all_loadable : (p : Plan) → IsPlan p → AllLoadable p.frame (operations_of p) p.saves
+pub all_loadable : (p : FramePlan) → IsPlan p → AllLoadable p.frame (operations_of p) p.saves
 all_loadable p h =
     let xs = frame_then (not (eqb p.frame 0)) (allocation_then (not (eqb p.size 0)) p.size (pushed p.pushes)) in
     loadable p.frame p.saves xs (frame_saved p (not (eqb p.size 0)) p.size p.pushes (allowed_later p.frame p.saves xs h.allowed)) h.allowed
@@ -113,10 +113,10 @@ size_pushes : (n : ℕ) (b : Bool) (rs : List ℕ) → pushes (allocation_then b
 size_pushes n true rs = pushed_pushes rs
 size_pushes n false rs = pushed_pushes rs
 
-pub allocation_plan : (p : Plan) → allocation (operations_of p) ≡ p.size
+pub allocation_plan : (p : FramePlan) → allocation (operations_of p) ≡ p.size
 allocation_plan p = saves_allocation p.saves _ ∙ frame_allocation (not (eqb p.frame 0)) _ ∙ size_allocation p.size (eqb p.size 0) p.pushes refl
 
-pub pushes_plan : (p : Plan) → pushes (operations_of p) ≡ p.pushes
+pub pushes_plan : (p : FramePlan) → pushes (operations_of p) ≡ p.pushes
 pushes_plan p = saves_pushes p.saves _ ∙ frame_pushes (not (eqb p.frame 0)) _ ∙ size_pushes p.size (not (eqb p.size 0)) p.pushes
 
 -- ---- the registers that have been loaded
@@ -152,5 +152,5 @@ saves_restored (s ∷ ss) more rs xs h i = and_from (has s.register (loaded more
       | inr there ↦ or_right (eqb t.register q) (has q a) (w q there)
     ]) k
 
-pub restored_plan : (p : Plan) (rs : List ℕ) → are_restored (loaded p.saves rs) (operations_of p) ≡ true
+pub restored_plan : (p : FramePlan) (rs : List ℕ) → are_restored (loaded p.saves rs) (operations_of p) ≡ true
 restored_plan p rs = saves_restored p.saves p.saves rs _ (λ k. frame_restored k (not (eqb p.frame 0)) (not (eqb p.size 0)) p.size p.pushes) (λ r k. k)

@@ -21,7 +21,7 @@ use Rattle.virtual_unwind.specs.Tail.{FetchedInstr}
 use Rattle.virtual_unwind.specs.CallerOf.{run_or, run_by}
 use Rattle.frame_rules.specs.Codes.{depth, allocation, may_save, is_allowed, are_allowed, is_saved, are_apart, are_pushes}
 use Rattle.frame_rules.specs.Frame.{Stack, Framed}
-use Rattle.frame_rules.specs.Prologue.{bytes, does, is_stack, sets_size, is_call, subtracts, allocates, is_step, PrologueStep, codes_onto, are_sized, AreSteps}
+use Rattle.frame_rules.specs.Prologue.{bytes, does, is_stack, sets_size, is_call, subtracts, allocates, is_step, PrologueStep, codes_onto, are_sized, ArePrologueSteps}
 use Rattle.frame_rules.specs.States.{registers, Called, RunsOne, IsEntry}
 use Rattle.frame_rules.proofs.Undoing.{stack_depth, saved_register, framed_saved}
 use Rattle.frame_rules.proofs.Order.{Ordered, push, allocate, frame, save, ordered_rest}
@@ -194,14 +194,14 @@ run_done d [] h = refl
 run_done d (c ∷ cs) h = ap (run_or (c ∷ cs) (run_by d cs)) (le-leb c.offset d h)
 
 -- the codes of instructions that end later haven't been
-pub skips : (f offset at d : ℕ) (done : List UnwindCode) (ss : List PrologueStep) → d ≤ at → AreSteps f offset at ss → run_by d (codes_onto done ss) ≡ run_by d done
+pub skips : (f offset at d : ℕ) (done : List UnwindCode) (ss : List PrologueStep) → d ≤ at → ArePrologueSteps f offset at ss → run_by d (codes_onto done ss) ≡ run_by d done
 skips f offset at d done [] le h = refl
 skips f offset at d done (s ∷ ss) le h =
     let pos = positive f offset s.code.operation s.items h.0.does h.0.sized in
     let end = h.0.ends in
     skips f offset (at + bytes s.items) d (s.code ∷ done) ss (omega arith) h.1 ∙ ap (run_or (s.code ∷ done) (run_by d done)) (lt-leb s.code.offset d (omega arith))
 
-pub skips_first : (f offset at d : ℕ) (done : List UnwindCode) (s : PrologueStep) (ss : List PrologueStep) → d < at + bytes s.items → AreSteps f offset at (s ∷ ss) → run_by d (codes_onto done (s ∷ ss)) ≡ run_by d done
+pub skips_first : (f offset at d : ℕ) (done : List UnwindCode) (s : PrologueStep) (ss : List PrologueStep) → d < at + bytes s.items → ArePrologueSteps f offset at (s ∷ ss) → run_by d (codes_onto done (s ∷ ss)) ≡ run_by d done
 skips_first f offset at d done s ss lt h =
     let end = h.0.ends in
     skips f offset (at + bytes s.items) d (s.code ∷ done) ss (omega arith) h.1 ∙ ap (run_or (s.code ∷ done) (run_by d done)) (lt-leb s.code.offset d (omega arith))

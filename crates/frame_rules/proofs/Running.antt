@@ -19,7 +19,7 @@ use Rattle.virtual_unwind.specs.Contexts.{is_nonvolatile}
 use Rattle.virtual_unwind.specs.Undone.{operations}
 use Rattle.virtual_unwind.specs.Tail.{FetchedInstr}
 use Rattle.frame_rules.specs.Codes.{depth, allocation, may_save, is_allowed, are_allowed, is_saved, are_apart}
-use Rattle.frame_rules.specs.Prologue.{bytes, does, is_stack, is_step, PrologueStep, items, codes_onto, AreSteps, is_single, are_single}
+use Rattle.frame_rules.specs.Prologue.{bytes, does, is_stack, is_step, PrologueStep, items, codes_onto, ArePrologueSteps, is_single, are_single}
 use Rattle.frame_rules.specs.States.{registers, RunsOne, RunsThrough, IsEntry, return_address}
 use Rattle.frame_rules.specs.Rules.{ops}
 use Rattle.frame_rules.specs.Laws.{ProloguesRun}
@@ -104,7 +104,7 @@ module _ (f offset back n : ℕ) (e : State) (entry : IsEntry n e) (small : offs
       let end = more.rip in
       record { to = more.to; runs = (l.to, turn, more.runs); rip = omega arith }
 
-  pub ends : (at : ℕ) (done : List UnwindCode) (ss : List PrologueStep) (s : State) → AreSteps f offset at ss → are_single ss ≡ true → Good f n (operations (codes_onto done ss)) → Running f offset e back (operations done) s → s.cpu.rip + bytes (items ss) < 2 ^ 64 → Ends s (items ss)
+  pub ends : (at : ℕ) (done : List UnwindCode) (ss : List PrologueStep) (s : State) → ArePrologueSteps f offset at ss → are_single ss ≡ true → Good f n (operations (codes_onto done ss)) → Running f offset e back (operations done) s → s.cpu.rip + bytes (items ss) < 2 ^ 64 → Ends s (items ss)
   ends at done [] s h one g run lt = record { to = s; runs = refl; rip = let z : s.cpu.rip ≡ s.cpu.rip + 0 = omega arith in z }
   ends at done (st ∷ ss) s h one g run lt =
       let o = and_parts (is_single st.items) (are_single ss) one in

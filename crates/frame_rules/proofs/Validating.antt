@@ -6,7 +6,7 @@ use Rattle.virtual_unwind.specs.Undone.{operations}
 use Rattle.virtual_unwind.specs.Tail.{FetchedInstr}
 use Rattle.virtual_unwind.specs.CallerOf.{has_frame, sets_frame}
 use Rattle.frame_rules.specs.Codes.{are_allowed, is_ordered}
-use Rattle.frame_rules.specs.Prologue.{bytes, is_step, are_sized, PrologueStep, items, codes_onto, AreSteps}
+use Rattle.frame_rules.specs.Prologue.{bytes, is_step, are_sized, PrologueStep, items, codes_onto, ArePrologueSteps}
 use Rattle.frame_rules.specs.Validated.{turned, fits, before, with_step, three, steps, are_steps, has_codes, has_prologue, has_body}
 use Rattle.frame_rules.specs.Laws.{RulesAreRight}
 
@@ -16,7 +16,7 @@ turned_twice done (c ∷ cs) = turned_twice (c ∷ done) cs
 
 -- the steps of codes and instructions
 pub record Has (f offset at : ℕ) (done cs : List UnwindCode) (xs : List FetchedInstr) (ss : List PrologueStep) : Type 0 where
-  pub are : AreSteps f offset at ss
+  pub are : ArePrologueSteps f offset at ss
   pub spelled : items ss ≡ xs
   pub codes : codes_onto done ss ≡ turned done cs
 
@@ -38,7 +38,7 @@ joined f offset at done cs c its xs rest ss h r e =
     let q = and_parts (are_sized its) (eqb c.offset (at + bytes its)) p.1 in
     let end = eqb-true c.offset (at + bytes its) q.1 in
     subst (Has f offset at done (c ∷ cs) (its ++ xs)) e (record {
-      are = (record { does = p.0; sized = q.0; ends = end }, subst (λ a. AreSteps f offset a rest) end r.are);
+      are = (record { does = p.0; sized = q.0; ends = end }, subst (λ a. ArePrologueSteps f offset a rest) end r.are);
       spelled = ap (λ (ys : List FetchedInstr). its ++ ys) r.spelled;
       codes = r.codes;
     })

@@ -9,9 +9,9 @@ use Rattle.x64_machine.specs.Contexts.{context_of}
 use Rattle.x64_machine.specs.Effect.{State}
 use Rattle.virtual_unwind.specs.CallerOf.{in_entry}
 use Rattle.frame_rules.specs.Frame.{left_to}
-use Rattle.frame_rules.specs.Plan.{IsSpelling, Plan, IsPlan, spelled_by, all_encodable, operations_of, instructions_of, turned, unwind_of, epilogue, are_inner, all_inner, function_of, frame_size}
+use Rattle.frame_rules.specs.Plan.{IsSpelling, FramePlan, IsPlan, spelled_by, all_encodable, operations_of, instructions_of, turned, unwind_of, epilogue, are_inner, all_inner, function_of, frame_size}
 use Rattle.frame_rules.specs.States.{registers, IsEntry, return_address, HasItems}
-use Rattle.frame_rules.specs.Rules.{Function, FindsContext}
+use Rattle.frame_rules.specs.Rules.{FramedFunction, FindsContext}
 use Rattle.frame_rules.specs.Rules as states
 
 abbrev pub spell : Instr → FetchedInstr
@@ -43,22 +43,22 @@ CodeHasItems =
 
 -- ---- the code of a planned function
 
-abbrev pub prologue_code : Plan → List Instr
+abbrev pub prologue_code : FramePlan → List Instr
 prologue_code p = flat_map (instructions_of p) (turned [] (operations_of p))
 
 -- parts of a body, an epilogue after each
-abbrev pub rest_code : Plan → List (List Instr) → List Instr → List Instr
+abbrev pub rest_code : FramePlan → List (List Instr) → List Instr → List Instr
 rest_code p [] last = last
 rest_code p (is ∷ parts) last = is ++ (epilogue p ++ rest_code p parts last)
 
-abbrev pub all_code : Plan → List (List Instr) → List Instr → List Instr
+abbrev pub all_code : FramePlan → List (List Instr) → List Instr → List Instr
 all_code p parts last = prologue_code p ++ rest_code p parts last
 
 abbrev pub spelled_parts : List (List Instr) → List (List FetchedInstr)
 spelled_parts [] = []
 spelled_parts (is ∷ parts) = spelled_by spell is ∷ spelled_parts parts
 
-abbrev pub planned : Plan → List (List Instr) → List Instr → Function
+abbrev pub planned : FramePlan → List (List Instr) → List Instr → FramedFunction
 planned p parts last = function_of spell p (spelled_parts parts) (spelled_by spell last)
 
 abbrev pub all_parts : List (List Instr) → Bool
@@ -67,13 +67,14 @@ all_parts (is ∷ parts) = all_encodable is && all_parts parts
 
 abbrev pub PlansAreEncodable : Type 0
 PlansAreEncodable =
-    (p : Plan) → IsPlan p → (all_encodable (prologue_code p) ≡ true)
+    (p : FramePlan) → IsPlan p → (all_encodable (prologue_code p) ≡ true)
     × (all_encodable (epilogue p) ≡ true)
 
 -- where the bytes of a planned function are, its caller is found in each of its states
 abbrev pub PlannedFramesAreRight : Type 0
 PlannedFramesAreRight =
-    (p : Plan) (parts : List (List Instr)) (last : List Instr) (e s : State) (begin distance : ℕ)
+    (p : FramePlan) (parts : List (List Instr)) (last : List Instr) (e s : State)
+    (begin distance : ℕ)
     → IsPlan p → all_parts parts ≡ true → all_encodable last ≡ true
     → all_inner p (spelled_parts parts) ≡ true → are_inner p (spelled_by spell last) ≡ true
     → IsEntry (frame_size p) e → IsExecutableAt s.memory begin (code (all_code p parts last))

@@ -18,8 +18,8 @@ use Rattle.frame_rules.specs.Codes.{depth, pushes, pushed, are_allowed, is_order
 use Rattle.frame_rules.specs.Epilogue.{pops, is_epilogue}
 use Rattle.frame_rules.specs.Prologue.{bytes, items, are_single}
 use Rattle.frame_rules.specs.States.{registers, RunsThrough, KeepsWords, InBody, IsEntry, return_address, HasItems}
-use Rattle.frame_rules.specs.Rules.{Function, ops, IsRight, IsLeaving, IsInFunction, FindsContext, IsFound, HasForm}
-use Rattle.frame_rules.specs.Plan.{Plan, IsPlan, IsSpelling, operations_of, frame_size, are_inner, all_inner, function_of}
+use Rattle.frame_rules.specs.Rules.{FramedFunction, ops, IsRight, IsLeaving, IsInFunction, FindsContext, IsFound, HasForm}
+use Rattle.frame_rules.specs.Plan.{FramePlan, IsPlan, IsSpelling, operations_of, frame_size, are_inner, all_inner, function_of}
 use Rattle.frame_rules.specs.Validated.{keeps_rules}
 use Rattle.frame_rules.specs.Body.{written, is_a_call, has, may_write_all, Body, following, is_body}
 use Rattle.frame_rules.specs.Frame.{Stack, Framed, Others, left_to}
@@ -62,7 +62,7 @@ EpilogueRestores =
 -- found, as it was at its first byte
 abbrev pub FramesAreRight : Type 0
 FramesAreRight =
-    (f : Function) (e s : State) (begin distance to : ℕ)
+    (f : FramedFunction) (e s : State) (begin distance to : ℕ)
     → IsRight f → IsEntry (depth (ops f)) e → HasItems s.memory begin (items f.steps ++ f.rest) to
     → to < 2 ^ 63 → s.cpu.rip ≡ begin + distance
     → IsInFunction f e s distance
@@ -74,7 +74,7 @@ FramesAreRight =
 -- where an entry of the tables holds RIP, and its function is right
 abbrev pub EntriesAreFound : Type 0
 EntriesAreFound =
-    (t : Tables) (entry : Entry) (f : Function) (e s : State) (begin d to : ℕ)
+    (t : Tables) (entry : Entry) (f : FramedFunction) (e s : State) (begin d to : ℕ)
     → holding (distance t.image.base s.cpu.rip) (entries_of t) ≡ Some entry → entry.info ≡ f.info
     → entry.parents ≡ [] → distance t.image.base s.cpu.rip ≡ entry.range.begin + d
     → IsRight f → IsEntry (depth (ops f)) e → HasItems s.memory begin (items f.steps ++ f.rest) to
@@ -101,7 +101,7 @@ RulesAreRight =
 -- prologue, bodies and epilogues of a plan are a function that is right
 abbrev pub PlansAreRight : Type 0
 PlansAreRight =
-    (spell : Instr → FetchedInstr) (p : Plan) (parts : List (List FetchedInstr))
+    (spell : Instr → FetchedInstr) (p : FramePlan) (parts : List (List FetchedInstr))
     (last : List FetchedInstr)
     → IsSpelling spell → IsPlan p → all_inner p parts ≡ true → are_inner p last ≡ true
     → IsRight (function_of spell p parts last)
@@ -128,7 +128,8 @@ pub record ReturnedToCaller (e s t : State) : Type 0 where
 -- the end of each epilogue, where it is a return, gives the caller what it had
 abbrev pub EpiloguesReturn : Type 0
 EpiloguesReturn =
-    (f : Function) (e s t : State) (distance a : ℕ) (x : FetchedInstr) (xs : List FetchedInstr)
+    (f : FramedFunction) (e s t : State) (distance a : ℕ) (x : FetchedInstr)
+    (xs : List FetchedInstr)
     → IsRight f → IsEntry (depth (ops f)) e → (h : IsLeaving f e s distance) → h.left ≡ x ∷ xs
     → x.instr ≡ instrs.Return → x.plain ≡ true
     → effect (with_rip s a) instrs.Return ≡ Ok t
@@ -146,11 +147,11 @@ LeavesReturn =
 
 -- the room that a plan's function takes below its first RSP, and its return address
 abbrev pub FrameHasItsSize : Type 0
-FrameHasItsSize = (p : Plan) → depth (operations_of p) + 8 ≡ frame_size p
+FrameHasItsSize = (p : FramePlan) → depth (operations_of p) + 8 ≡ frame_size p
 
 -- ---- a prologue can be run
 
-pub record EntersBody (f : Function) (e : State) : Type 0 where
+pub record EntersBody (f : FramedFunction) (e : State) : Type 0 where
   pub following : State
   pub runs : RunsThrough e (items f.steps) following
   pub rip : following.cpu.rip ≡ e.cpu.rip + bytes (items f.steps)
@@ -158,7 +159,8 @@ pub record EntersBody (f : Function) (e : State) : Type 0 where
 -- where it has no call: from each state with room for its frame
 abbrev pub ProloguesRun : Type 0
 ProloguesRun =
-    (f : Function) (e : State) → IsRight f → IsEntry (depth (ops f)) e → are_single f.steps ≡ true
+    (f : FramedFunction) (e : State) → IsRight f → IsEntry (depth (ops f)) e
+    → are_single f.steps ≡ true
     → e.cpu.rip + bytes (items f.steps) < 2 ^ 64 → EntersBody f e
 
 -- ---- the states of the body
@@ -166,14 +168,15 @@ ProloguesRun =
 -- the state after the prologue is one
 abbrev pub BodyBegins : Type 0
 BodyBegins =
-    (f : Function) (e p : State) → IsRight f → IsEntry (depth (ops f)) e
+    (f : FramedFunction) (e p : State) → IsRight f → IsEntry (depth (ops f)) e
     → RunsThrough e (items f.steps) p → InBody f.info.frame_register (ops f) f.rest e p p
 
 -- an instruction of the body other than a call, which leaves the frame's words, leads from one to
 -- another
 abbrev pub BodyContinues : Type 0
 BodyContinues =
-    (f : Function) (e p s t : State) (a : ℕ) (x : FetchedInstr) (done left : List FetchedInstr)
+    (f : FramedFunction) (e p s t : State) (a : ℕ) (x : FetchedInstr)
+    (done left : List FetchedInstr)
     → f.rest ≡ done ++ (x ∷ left) → role_of f.info.frame_register x.plain x.instr ≡ Other
     → may_write_all f.info.frame_register (ops f) (written x.instr) ≡ true
     → is_a_call x.instr ≡ false

@@ -21,7 +21,7 @@ use Rattle.frame_rules.specs.Codes.{pushed, are_allowed}
 use Rattle.frame_rules.specs.Prologue.{bytes, PrologueStep, items, codes_onto}
 use Rattle.frame_rules.specs.Body.{written, may_write_all}
 use Rattle.frame_rules.specs.States.{is_other}
-use Rattle.frame_rules.specs.Rules.{Function}
+use Rattle.frame_rules.specs.Rules.{FramedFunction}
 
 -- a register saved by a mov, so far above the base
 pub record Saved : Type 0 where
@@ -29,7 +29,7 @@ pub record Saved : Type 0 where
   pub offset : ℕ
 
 -- what a frame has; lists are from the last one that the prologue handles to the first
-pub record Plan : Type 0 where
+pub record FramePlan : Type 0 where
   pub pushes : List ℕ
   pub size : ℕ  -- of the allocation, 0 for none
   pub frame : ℕ  -- the frame register, 0 for none, and its distance from the base
@@ -50,13 +50,13 @@ allocation_then true n xs = Allocate n ∷ xs
 allocation_then false n xs = xs
 
 -- the operations of the codes
-abbrev pub operations_of : Plan → List UnwindOperation
+abbrev pub operations_of : FramePlan → List UnwindOperation
 operations_of p =
     saves_then p.saves (frame_then (not (p.frame == 0)) (allocation_then (not (p.size == 0)) p.size
     (pushed p.pushes)))
 
 -- a plan that fits
-pub record IsPlan (p : Plan) : Type 0 where
+pub record IsPlan (p : FramePlan) : Type 0 where
   pub size : p.size < 2 ^ 31
   pub distance : p.distance < 2 ^ 16
   pub probe : is_signed W32 W64 p.probe ≡ true
@@ -80,7 +80,7 @@ allocating probe n false =
     instrs.Move W32 (places.Register Rax) (operands.Immediate n) ∷ instrs.Call (Relative probe)
     ∷ instrs.Arithmetic Sub W64 (places.Register Rsp) (operands.Register Rax) ∷ []
 
-abbrev pub instructions_of : Plan → UnwindOperation → List Instr
+abbrev pub instructions_of : FramePlan → UnwindOperation → List Instr
 instructions_of p (Push r) = instrs.Push (register r) ∷ []
 instructions_of p (Allocate n) = allocating p.probe n (nat_le n PAGE)
 instructions_of p SetFrame = instrs.LoadAddress W64 (register p.frame) (stack_place p.distance) ∷ []
@@ -102,20 +102,21 @@ abbrev pub turned : List UnwindOperation → List UnwindOperation → List Unwin
 turned done [] = done
 turned done (x ∷ xs) = turned (x ∷ done) xs
 
-abbrev pub step_of : (Instr → FetchedInstr) → Plan → ℕ → UnwindOperation → PrologueStep
+abbrev pub step_of : (Instr → FetchedInstr) → FramePlan → ℕ → UnwindOperation → PrologueStep
 step_of spell p at x =
     let is = spelled_by spell (instructions_of p x) in record
     { code = record { offset = at + bytes is; operation = x }; items = is }
 
-abbrev pub steps_of : (Instr → FetchedInstr) → Plan → ℕ → List UnwindOperation → List PrologueStep
+abbrev pub steps_of : (Instr → FetchedInstr) → FramePlan → ℕ → List UnwindOperation
+    → List PrologueStep
 steps_of spell p at [] = []
 steps_of spell p at (x ∷ xs) =
     step_of spell p at x ∷ steps_of spell p (at + bytes (spelled_by spell (instructions_of p x))) xs
 
-abbrev pub prologue : (Instr → FetchedInstr) → Plan → List PrologueStep
+abbrev pub prologue : (Instr → FetchedInstr) → FramePlan → List PrologueStep
 prologue spell p = steps_of spell p 0 (turned [] (operations_of p))
 
-abbrev pub unwind_of : (Instr → FetchedInstr) → Plan → Info
+abbrev pub unwind_of : (Instr → FetchedInstr) → FramePlan → Info
 unwind_of spell p =
     record {
       bytes = [];
@@ -142,7 +143,7 @@ abbrev pub loads_then : List Saved → List Instr → List Instr
 loads_then [] is = is
 loads_then (s ∷ ss) is = load_of s ∷ loads_then ss is
 
-abbrev pub opening_by : Plan → Bool → Instr
+abbrev pub opening_by : FramePlan → Bool → Instr
 opening_by p true = instrs.Arithmetic Add W64 (places.Register Rsp) (operands.Immediate p.size)
 opening_by p false =
     instrs.LoadAddress W64 Rsp (record {
@@ -151,7 +152,7 @@ opening_by p false =
       displacement = (p.size + (2 ^ 64 - p.distance)) % 2 ^ 64;
     })
 
-abbrev pub opening_then : Plan → Bool → List Instr → List Instr
+abbrev pub opening_then : FramePlan → Bool → List Instr → List Instr
 opening_then p true is = is
 opening_then p false is = opening_by p (p.frame == 0) ∷ is
 
@@ -159,7 +160,7 @@ abbrev pub pops_then : List ℕ → List Instr → List Instr
 pops_then [] is = is
 pops_then (r ∷ rs) is = instrs.Pop (register r) ∷ pops_then rs is
 
-abbrev pub epilogue : Plan → List Instr
+abbrev pub epilogue : FramePlan → List Instr
 epilogue p =
     loads_then p.saves (opening_then p (p.size == 0) (pops_then p.pushes (instrs.Return ∷ [])))
 
@@ -167,28 +168,28 @@ epilogue p =
 
 -- an instruction that keeps RSP and the frame register, writes no nonvolatile register that isn't
 -- saved, and begins no trailing part of an epilogue
-abbrev pub is_inner : Plan → FetchedInstr → Bool
+abbrev pub is_inner : FramePlan → FetchedInstr → Bool
 is_inner p x =
     is_other (role_of p.frame x.plain x.instr) && may_write_all p.frame (operations_of p)
     (written x.instr)
 
-abbrev pub are_inner : Plan → List FetchedInstr → Bool
+abbrev pub are_inner : FramePlan → List FetchedInstr → Bool
 are_inner p [] = true
 are_inner p (x ∷ xs) = is_inner p x && are_inner p xs
 
 -- parts of a body, an epilogue after each; after the last there may be more of the body
-abbrev pub with_epilogues : (Instr → FetchedInstr) → Plan → List (List FetchedInstr)
+abbrev pub with_epilogues : (Instr → FetchedInstr) → FramePlan → List (List FetchedInstr)
     → List FetchedInstr → List FetchedInstr
 with_epilogues spell p [] last = last
 with_epilogues spell p (xs ∷ xss) last =
     xs ++ (spelled_by spell (epilogue p) ++ with_epilogues spell p xss last)
 
-abbrev pub all_inner : Plan → List (List FetchedInstr) → Bool
+abbrev pub all_inner : FramePlan → List (List FetchedInstr) → Bool
 all_inner p [] = true
 all_inner p (xs ∷ xss) = are_inner p xs && all_inner p xss
 
-abbrev pub function_of : (Instr → FetchedInstr) → Plan → List (List FetchedInstr)
-    → List FetchedInstr → Function
+abbrev pub function_of : (Instr → FetchedInstr) → FramePlan → List (List FetchedInstr)
+    → List FetchedInstr → FramedFunction
 function_of spell p parts last =
     record {
       info = unwind_of spell p;
@@ -198,5 +199,5 @@ function_of spell p parts last =
 
 -- ---- the size of a frame, its return address counted
 
-abbrev pub frame_size : Plan → ℕ
+abbrev pub frame_size : FramePlan → ℕ
 frame_size p = 8 * length p.pushes + p.size + 8

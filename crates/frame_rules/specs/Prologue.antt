@@ -96,10 +96,10 @@ pub record IsPrologueStep (f offset at : ℕ) (s : PrologueStep) : Type 0 where
   pub ends : s.code.offset ≡ at + bytes s.items
 
 -- steps, each at the end of the one before it
-abbrev pub AreSteps : ℕ → ℕ → ℕ → List PrologueStep → Type 0
-AreSteps f offset at [] = Unit {0}
-AreSteps f offset at (s ∷ ss) =
-    IsPrologueStep f offset at s × AreSteps f offset (at + bytes s.items) ss
+abbrev pub ArePrologueSteps : ℕ → ℕ → ℕ → List PrologueStep → Type 0
+ArePrologueSteps f offset at [] = Unit {0}
+ArePrologueSteps f offset at (s ∷ ss) =
+    IsPrologueStep f offset at s × ArePrologueSteps f offset (at + bytes s.items) ss
 
 -- a prologue without calls
 abbrev pub is_single : List FetchedInstr → Bool

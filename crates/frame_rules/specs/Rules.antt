@@ -10,27 +10,27 @@ use Rattle.virtual_unwind.specs.declared.tail.Role.TheVariants.{Other}
 use Rattle.virtual_unwind.specs.Tail.{FetchedInstr, role_of}
 use Rattle.virtual_unwind.specs.CallerOf.{CallerFrame, sets_frame}
 use Rattle.frame_rules.specs.Codes.{are_allowed, is_ordered}
-use Rattle.frame_rules.specs.Prologue.{bytes, PrologueStep, items, codes_onto, AreSteps}
+use Rattle.frame_rules.specs.Prologue.{bytes, PrologueStep, items, codes_onto, ArePrologueSteps}
 use Rattle.frame_rules.specs.Body.{Mode, Body, following, is_body}
 use Rattle.frame_rules.specs.States.{RunsThrough, InBody, all_leave}
 
 -- a function: its unwind info, the steps of its prologue, and the instructions after it
-pub record Function : Type 0 where
+pub record FramedFunction : Type 0 where
   pub info : Info
   pub steps : List PrologueStep
   pub rest : List FetchedInstr
 
-abbrev pub ops : Function → List UnwindOperation
+abbrev pub ops : FramedFunction → List UnwindOperation
 ops f = operations f.info.codes
 
-abbrev pub size : Function → ℕ
+abbrev pub size : FramedFunction → ℕ
 size f = bytes (items f.steps) + bytes f.rest
 
-pub record IsRight (f : Function) : Type 0 where
+pub record IsRight (f : FramedFunction) : Type 0 where
   pub offset : f.info.frame_offset < 2 ^ 16
   pub codes : f.info.codes ≡ codes_onto [] f.steps
   pub prologue_size : f.info.prologue_size ≡ bytes (items f.steps)
-  pub steps : AreSteps f.info.frame_register f.info.frame_offset 0 f.steps
+  pub steps : ArePrologueSteps f.info.frame_register f.info.frame_offset 0 f.steps
   pub ordered : is_ordered (ops f) ≡ true
   pub allowed : are_allowed f.info.frame_register (ops f) ≡ true
   pub frame : f.info.frame_register ≢ 0 → sets_frame (ops f) ≡ true
@@ -38,14 +38,14 @@ pub record IsRight (f : Function) : Type 0 where
       ≡ true
 
 -- the mode at a place
-abbrev pub mode_following : Function → List FetchedInstr → Mode → Mode → Type 0
+abbrev pub mode_following : FramedFunction → List FetchedInstr → Mode → Mode → Type 0
 mode_following f xs from to =
     following f.info.frame_register f.info.frame_offset (ops f) xs from ≡ Some to
 
 -- ---- the states, e at the first byte, so far from it
 
 -- on the way through the prologue
-pub record InPrologue (f : Function) (e s : State) (distance : ℕ) : Type 0 where
+pub record InPrologue (f : FramedFunction) (e s : State) (distance : ℕ) : Type 0 where
   pub done : List FetchedInstr
   pub left : List FetchedInstr
   pub parts : items f.steps ≡ done ++ left
@@ -54,7 +54,7 @@ pub record InPrologue (f : Function) (e s : State) (distance : ℕ) : Type 0 whe
   pub runs : RunsThrough e done s
 
 -- in the body, at an instruction that belongs to no epilogue
-pub record IsBody (f : Function) (e s : State) (distance : ℕ) : Type 0 where
+pub record IsBody (f : FramedFunction) (e s : State) (distance : ℕ) : Type 0 where
   pub following : State  -- the prologue
   pub runs : RunsThrough e (items f.steps) following
   pub done : List FetchedInstr
@@ -69,7 +69,7 @@ pub record IsBody (f : Function) (e s : State) (distance : ℕ) : Type 0 where
 
 -- reached from a state of the body by the loads of saved registers and the epilogue's instructions
 -- before it
-pub record IsLeaving (f : Function) (e s : State) (distance : ℕ) : Type 0 where
+pub record IsLeaving (f : FramedFunction) (e s : State) (distance : ℕ) : Type 0 where
   pub following : State  -- the prologue
   pub runs : RunsThrough e (items f.steps) following
   pub from : State
@@ -86,7 +86,7 @@ pub record IsLeaving (f : Function) (e s : State) (distance : ℕ) : Type 0 wher
   pub runs_on : RunsThrough from run s
   pub continues : left ≢ []
 
-abbrev pub IsInFunction : Function → State → State → ℕ → Type 0
+abbrev pub IsInFunction : FramedFunction → State → State → ℕ → Type 0
 IsInFunction f e s distance =
     InPrologue f e s distance ⊎ (IsBody f e s distance ⊎ IsLeaving f e s distance)
 

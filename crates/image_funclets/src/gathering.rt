@@ -1,7 +1,7 @@
 //! The funclets of an image, gathered from the rows of its function table.
 
 ghost use Rattle.std.specs.Prelude.{◌≡◌, ◌-◌, ◌<◌, ◌==◌, ◌^◌, length, IfOk, OnOk};
-ghost use Rattle.eh_tables.specs.Tables.{IsWhole, entries_of};
+ghost use Rattle.eh_tables.specs.Tables.{TablesAreWhole, entries_of};
 ghost use Rattle.host_model.specs.Funclets as spec;
 ghost use Rattle.image_funclets.specs.Listed.{AreAscending, funclets_of};
 
@@ -56,7 +56,7 @@ fn add_rows(gathered: &mut BTreeMap<u32, bool>, rows: Scopes) -> Result<(), Allo
 /// The kinds of an image's funclets by their addresses.
 #[tactic(auto, using(crate::proofs::Entries::entry_steps, crate::proofs::Ascending::ascending))]
 fn gather(alloc: Global, tables: &Tables) -> Result<BTreeMap<u32, bool>, AllocError>
-    requires { IsWhole tables.now }
+    requires { TablesAreWhole tables.now }
     ensures { IfOk result (λ m. funclets_of m.entries ≡ spec.funclets (entries_of tables.now)) }
 {
     let mut gathered = BTreeMap::new(alloc);
@@ -89,7 +89,7 @@ fn list(alloc: Global, gathered: &BTreeMap<u32, bool>) -> Result<Vec<Funclet>, A
 
 /// The funclets of an image whose function table was read whole.
 pub fn funclets_in(alloc: Global, tables: &Tables) -> Result<Vec<Funclet>, AllocError>
-    requires { IsWhole tables.now }
+    requires { TablesAreWhole tables.now }
     ensures items { IfOk result (λ v. v.items ≡ spec.funclets (entries_of tables.now)) }
     ensures few { IfOk result (λ v. length v.items < 2 ^ 32 - 1) }
 {

@@ -20,7 +20,7 @@ use Rattle.template_code.specs.Calls.{parameters_code}
 use Rattle.x64_templates.specs.Straight.{machine}
 use Rattle.x64_templates.proofs.PlacedCode.{same_number}
 use Rattle.linked_stack.specs.WalkLaws.{context_below}
-use Rattle.linked_stack.specs.ImagePlan.{Plan}
+use Rattle.linked_stack.specs.ImagePlan.{ImagePlan}
 use Rattle.linked_stack.specs.Linked.{home_end, HoldsWords}
 use Rattle.linked_stack.specs.Records.{On}
 use Rattle.linked_stack.specs.States.{IsSane}
@@ -49,7 +49,7 @@ use Rattle.image_runs.proofs.Entering as entering
 use Rattle.image_runs.proofs.Entries as entries
 use Rattle.template_code.specs.declared.layout.TheConstants.{LARGEST_FRAME}
 
-module _ (t : Functions) (fs : List Funclet) (program : LinearProgram) (p : Plan) (q : Sites) (image : IsProgramImage t fs program p q) (s : State) (source : Memory) (f : ℕ) (fn : LinearFunction) (top : ℕ) (given : ℕ → ℕ) (h : IsCalled t fs program p q s source f fn top given)
+module _ (t : Functions) (fs : List Funclet) (program : LinearProgram) (p : ImagePlan) (q : Sites) (image : IsProgramImage t fs program p q) (s : State) (source : Memory) (f : ℕ) (fn : LinearFunction) (top : ℕ) (given : ℕ → ℕ) (h : IsCalled t fs program p q s source f fn top given)
     (some : 0 < length fn.body.code) (sane : IsSane s) (last : top + 40 ≡ STACK_END) (returns_to : word s.memory top ≡ Ok 0) (arguments : List ℕ) (counted : length arguments ≡ fn.parameters) (same : (i v : ℕ) → slice_get arguments i ≡ Some v → given i ≡ v) where
   abbrev layout : Layout
   layout = p.layout (FunctionBody f)

@@ -13,7 +13,7 @@ use Rattle.linear_code.specs.Program.{LinearProgram, LinearFunction}
 use Rattle.linear_machine.specs.Frames.{Waits, Configuration, Seen, Running, Finished, Next, pick, last_temporaries}
 use Rattle.linear_machine.specs.Instructions.{begin_function, waiting, act}
 use Rattle.linear_machine.specs.Run.{instruction_at}
-use Rattle.linked_stack.specs.ImagePlan.{Plan}
+use Rattle.linked_stack.specs.ImagePlan.{ImagePlan}
 use Rattle.whole_runs.specs.Matched.{Moves, Fails, IsMatched}
 use Rattle.ir_typed.proofs.Same.{alike_is_same}
 use Rattle.unset_locals.specs.Laws.{called_with}
@@ -51,7 +51,7 @@ last_is (y ∷ z ∷ xss) xs = last_is (z ∷ xss) xs
 held_arguments : (ts : List ℕ) (first count : ℕ) → length ts ≡ first + count → last_temporaries ts first count ≡ Some (drop first ts)
 held_arguments ts first count e = ap (λ (b : Bool). if b then Some (drop first ts) else None) (eq-eqb (length ts) (first + count) e)
 
-module _ (t : Functions) (fs : List Funclet) (program : LinearProgram) (p : Plan) (q : Sites) (c d : Configuration) (twins : AreTwins program c d) (s : State) (f first count : ℕ)
+module _ (t : Functions) (fs : List Funclet) (program : LinearProgram) (p : ImagePlan) (q : Sites) (c d : Configuration) (twins : AreTwins program c d) (s : State) (f first count : ℕ)
     (at : instruction_at program d ≡ Some (instructions.Call f first count)) (held : length d.frame.temporaries ≡ first + count) where
   abbrev i : Instruction
   i = instructions.Call f first count

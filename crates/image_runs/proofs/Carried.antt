@@ -10,7 +10,7 @@ use Rattle.linear_code.specs.declared.instruction.Instruction.{Instruction}
 use Rattle.linear_code.specs.Program.{LinearProgram}
 use Rattle.linear_machine.specs.Frames.{Configuration, Finished, Next}
 use Rattle.linear_machine.specs.Instructions.{act}
-use Rattle.linked_stack.specs.ImagePlan.{Plan}
+use Rattle.linked_stack.specs.ImagePlan.{ImagePlan}
 use Rattle.whole_runs.specs.Matched.{Moves, Exits, Dies, Fails, IsMatched}
 use Rattle.unset_locals.specs.Marks.{Marks}
 use Rattle.unset_locals.specs.Alike.{AreAlike}
@@ -48,7 +48,7 @@ module _ (t : Functions) (fs : List Funclet) (program : LinearProgram) (X Y : St
 
 -- ---- from a twin
 
-module _ (t : Functions) (fs : List Funclet) (program : LinearProgram) (p : Plan) (q : Sites) (c d : Configuration) (twins : AreTwins program c d) (s : State) (i : Instruction) (go : GoAsTwins program i c d) where
+module _ (t : Functions) (fs : List Funclet) (program : LinearProgram) (p : ImagePlan) (q : Sites) (c d : Configuration) (twins : AreTwins program c d) (s : State) (i : Instruction) (go : GoAsTwins program i c d) where
   same_turns : turns_left d ≡ turns_left c
   same_turns = same_left twins.marks c d twins.alike
 

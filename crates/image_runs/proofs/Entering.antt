@@ -19,13 +19,13 @@ use Rattle.template_code.specs.Bytes.{sizes, spelled}
 use Rattle.template_code.specs.Calls.{stack_parameter, parameters_code}
 use Rattle.x64_templates.specs.Straight.{MachineView, machine}
 use Rattle.x64_templates.specs.CallStates.{sp_of, HasBelow}
-use Rattle.x64_templates.specs.EntryStates.{with_arguments, InRegisters, OnStack, IsFunction, body_in_memory}
+use Rattle.x64_templates.specs.EntryStates.{with_arguments, InRegisters, OnStack, IsFunctionFrame, body_in_memory}
 use Rattle.x64_templates.specs.Frames.{InTemporaries, InLocals, IsBytes, Agrees}
 use Rattle.x64_templates.specs.Runs.{HasCode, Enters, ReachesBody}
 use Rattle.x64_templates.proofs.PlacedCode.{bytes_kept, enters_then}
 use Rattle.x64_templates.proofs.Entries.{pushed_agrees, pushed_bytes}
 use Rattle.x64_templates.proofs.Entering.{fresh_holds, parameters_run}
-use Rattle.linked_stack.specs.ImagePlan.{Plan}
+use Rattle.linked_stack.specs.ImagePlan.{ImagePlan}
 use Rattle.body_states.specs.Sites.{Sites, arguments_code}
 use Rattle.body_states.proofs.FrameMaking.{making_steps}
 use Rattle.body_states.specs.Programs.{IsMachineMemory, IsProgramImage}
@@ -40,7 +40,7 @@ use Rattle.template_code.specs.declared.layout.TheConstants.{LARGEST_FRAME}
 
 -- a state at a function's first byte: its arguments are in registers, the return address is at RSP,
 -- and above that is room for a home space
-pub record IsCalled (t : Functions) (fs : List Funclet) (program : LinearProgram) (p : Plan) (q : Sites) (s : State) (source : Memory) (f : ℕ) (fn : LinearFunction) (top : ℕ) (arguments : ℕ → ℕ) : Type 0 where
+pub record IsCalled (t : Functions) (fs : List Funclet) (program : LinearProgram) (p : ImagePlan) (q : Sites) (s : State) (source : Memory) (f : ℕ) (fn : LinearFunction) (top : ℕ) (arguments : ℕ → ℕ) : Type 0 where
   pub function : slice_get program.functions f ≡ Some fn
   pub rip : s.cpu.rip ≡ q.function f
   pub stack : register s.cpu Rsp ≡ top
@@ -53,7 +53,7 @@ pub record IsCalled (t : Functions) (fs : List Funclet) (program : LinearProgram
   pub small : (i : ℕ) → arguments i < 2 ^ 64
   pub memory : IsMachineMemory t fs program p q s.memory source
 
-module _ (t : Functions) (fs : List Funclet) (program : LinearProgram) (p : Plan) (q : Sites) (image : IsProgramImage t fs program p q) (s : State) (source : Memory) (f : ℕ) (fn : LinearFunction) (top : ℕ) (arguments : ℕ → ℕ) (h : IsCalled t fs program p q s source f fn top arguments) where
+module _ (t : Functions) (fs : List Funclet) (program : LinearProgram) (p : ImagePlan) (q : Sites) (image : IsProgramImage t fs program p q) (s : State) (source : Memory) (f : ℕ) (fn : LinearFunction) (top : ℕ) (arguments : ℕ → ℕ) (h : IsCalled t fs program p q s source f fn top arguments) where
   abbrev pub layout : Layout
   layout = p.layout (FunctionBody f)
 
@@ -102,7 +102,7 @@ module _ (t : Functions) (fs : List Funclet) (program : LinearProgram) (p : Plan
 
   -- ---- once the frame is made, the parameters
 
-  module _ (sp to n : ℕ) (made : Made view target to s.cpu.flags top sp arguments n) (y : Layout) (own : IsOwn program.globals y o sp) (whole : IsFunction (own_frame program.globals y o sp)) (same_locals : y.locals ≡ layout.locals) (short : y.frame + 8 ≤ LARGEST_FRAME)
+  module _ (sp to n : ℕ) (made : Made view target to s.cpu.flags top sp arguments n) (y : Layout) (own : IsOwn program.globals y o sp) (whole : IsFunctionFrame (own_frame program.globals y o sp)) (same_locals : y.locals ≡ layout.locals) (short : y.frame + 8 ≤ LARGEST_FRAME)
       (place : sp + layout.frame ≡ top) (code : HasCode s.memory to (parameters_code y 0 count)) (ends : to + sizes (parameters_code y 0 count) ≡ p.address (FunctionBody f) 0)
       (outside : (a : ℕ) → Outside a → InTemporaries y (counts_of o) sp a ⊎ InLocals y (counts_of o) sp a → ⊥)
       (counted_turns : n + length (parameters_code y 0 count) ≡ making_steps (p.leaf (FunctionBody f)) layout.frame + length (arguments_code program p (FunctionBody f))) where

@@ -16,7 +16,7 @@ use Rattle.template_code.specs.Calls.{enter_code, parameters_code}
 use Rattle.template_code.specs.Probing.{enter_large}
 use Rattle.x64_templates.specs.Straight.{MachineView}
 use Rattle.x64_templates.specs.Runs.{HasCode}
-use Rattle.linked_stack.specs.ImagePlan.{Plan}
+use Rattle.linked_stack.specs.ImagePlan.{ImagePlan}
 use Rattle.body_states.specs.Sites.{Sites, making}
 use Rattle.body_states.proofs.FrameMaking.{making_steps}
 use Rattle.body_states.specs.Layouts.{IsFunctionLayout, IsLeafLayout, IsLayoutIf}
@@ -29,7 +29,7 @@ use Rattle.turn_steps.proofs.Prologues.{Made, no_frame, small_frame, large_frame
 use Rattle.image_runs.proofs.Entering as entering
 use Rattle.image_runs.proofs.Entering.{IsCalled}
 
-module _ (t : Functions) (fs : List Funclet) (program : LinearProgram) (p : Plan) (q : Sites) (image : IsProgramImage t fs program p q) (s : State) (source : Memory) (f : ℕ) (fn : LinearFunction) (top : ℕ) (arguments : ℕ → ℕ) (h : IsCalled t fs program p q s source f fn top arguments) where
+module _ (t : Functions) (fs : List Funclet) (program : LinearProgram) (p : ImagePlan) (q : Sites) (image : IsProgramImage t fs program p q) (s : State) (source : Memory) (f : ℕ) (fn : LinearFunction) (top : ℕ) (arguments : ℕ → ℕ) (h : IsCalled t fs program p q s source f fn top arguments) where
   abbrev layout : Layout
   layout = p.layout (FunctionBody f)
 

@@ -13,17 +13,17 @@ use Rattle.template_code.specs.Bytes.{sizes}
 use Rattle.template_code.specs.Template.{template}
 use Rattle.template_code.proofs.Sizes.{template_sizes}
 use Rattle.x64_templates.specs.Quiet.{IsReturn}
-use Rattle.linked_stack.specs.ImagePlan.{Plan, InCode}
+use Rattle.linked_stack.specs.ImagePlan.{ImagePlan, InCode}
 use Rattle.body_states.specs.Sites.{Sites, links_of}
 use Rattle.body_states.specs.Programs.{IsProgramImage}
 use Rattle.body_states.specs.Bodies.{Begins}
 use Rattle.body_states.proofs.Inside.{template_some, first_in_code}
 use Rattle.body_steps.proofs.Running.{get_or_is}
 use Rattle.turn_steps.proofs.Places.{is_some}
-use Rattle.image_runs.specs.Within.{IsWithin}
+use Rattle.image_runs.specs.Within.{IsWithinInstruction}
 use Rattle.image_runs.specs.WalkLaws.{BeginningsAreWithin}
 
-module _ (t : Functions) (fs : List Funclet) (program : LinearProgram) (p : Plan) (q : Sites) (image : IsProgramImage t fs program p q) (s : State) (c : Configuration) (i : Instruction)
+module _ (t : Functions) (fs : List Funclet) (program : LinearProgram) (p : ImagePlan) (q : Sites) (image : IsProgramImage t fs program p q) (s : State) (c : Configuration) (i : Instruction)
     (b : Begins t fs program p q s c) (e : instruction_at program c ≡ Some i) (goes : IsReturn i → ⊥) where
   there : slice_get b.body.slots.code.code c.frame.next ≡ Some i
   there = sym (ap (λ o. instruction_in o c.frame.next) b.body.slots.body) ∙ e
@@ -34,7 +34,7 @@ module _ (t : Functions) (fs : List Funclet) (program : LinearProgram) (p : Plan
       let k = template_some (p.layout c.frame.body) i in
       omega arith
 
-  within : IsWithin t fs program p q s s c
+  within : IsWithinInstruction t fs program p q s s c
   within =
       let x = is_some (template (links_of p q c.frame.body) (p.layout c.frame.body) (p.address c.frame.body c.frame.next) i) some in
       let here = b.rip in

@@ -13,7 +13,7 @@ use Rattle.program_link.proofs.Bounds.{bounds_least}
 use Rattle.program_tables.proofs.Table.{is}
 use Rattle.program_shape.proofs.Shape.{as_long}
 use Rattle.image_states.specs.Plans.{functions_of, funclets_of, plan_of, sites_of}
-use Rattle.image_states.specs.Compiled.{IsCompiled}
+use Rattle.image_states.specs.Compiled.{HasWholeImage}
 use Rattle.image_states.proofs.Images.{images_are_programs}
 use Rattle.image_states.proofs.Data.{stack_writes, stack_zero}
 use Rattle.image_states.proofs.Starting.{images_start}
@@ -33,7 +33,7 @@ zeros byte (suc n) a lt h =
     let here : byte a ≡ 0 = h a (omega arith) (omega arith) in
     omega arith
 
-module _ (program : LinearProgram) (c : IsCompiled program) where
+module _ (program : LinearProgram) (c : HasWholeImage program) where
   abbrev p : Program
   p = linked program
 

@@ -16,7 +16,7 @@ use Rattle.linear_code.specs.Program.{LinearProgram, LinearFunction}
 use Rattle.linear_machine.specs.Frames.{FunctionBody, body_of, function_body}
 use Rattle.linear_machine.specs.Run.{main_arguments, start}
 use Rattle.x64_templates.specs.EntryStates.{InRegisters}
-use Rattle.linked_stack.specs.ImagePlan.{Plan}
+use Rattle.linked_stack.specs.ImagePlan.{ImagePlan}
 use Rattle.ir_typed.specs.Ready.{CanContinue}
 use Rattle.linked_stack.specs.States.{IsSane}
 use Rattle.body_states.specs.Sites.{Sites}
@@ -75,7 +75,7 @@ first_small entry arg =
     (small_more 0 (first_stack ∷ zeros) (omega arith)
     (small_more first_stack zeros (omega arith) (small_zeros 11)))))
 
-module _ (t : Functions) (fs : List Funclet) (program : LinearProgram) (p : Plan) (q : Sites) (image : IsProgramImage t fs program p q) (made : IsWellMade program p) (arg : ℤ) (main : LinearFunction) (s : State) (is_main : slice_get program.functions program.main ≡ Some main)
+module _ (t : Functions) (fs : List Funclet) (program : LinearProgram) (p : ImagePlan) (q : Sites) (image : IsProgramImage t fs program p q) (made : IsWellMade program p) (arg : ℤ) (main : LinearFunction) (s : State) (is_main : slice_get program.functions program.main ≡ Some main)
     (goes : CanContinue program (start program arg main)) (h : IsFirst t fs program p q arg s) where
   abbrev source : Memory
   source = first_memory program.globals

@@ -7,7 +7,7 @@ use Rattle.c_checked.specs.Sound as sound
 use Rattle.seh_ir.specs.Lowered.{lowered}
 use Rattle.program_shape.specs.Rows.{named, regions}
 use Rattle.lowered_shape.proofs.Numbers.{sum_of, sum_from_one, sums_agree, counts, functions_count}
-use Rattle.image_states.specs.Compiled.{IsIn}
+use Rattle.image_states.specs.Compiled.{IsMember}
 
 abbrev is : ℕ → ℕ → ℕ
 is j k = cond (j == k) 1 0
@@ -30,15 +30,15 @@ counted j n (k ∷ ks) up some le lt =
     ]
 
 -- what counts is there
-there : (j : ℕ) (xs : List ℕ) → 1 ≤ sum_of (is j) xs → IsIn j xs
+there : (j : ℕ) (xs : List ℕ) → 1 ≤ sum_of (is j) xs → IsMember j xs
 there j [] le = absurd (omega arith)
 there j (x ∷ xs) le = by (j == x) refl (there j xs)
   where
-    by : (b : Bool) → (j == x) ≡ b → (1 ≤ sum_of (is j) xs → IsIn j xs) → IsIn j (x ∷ xs)
+    by : (b : Bool) → (j == x) ≡ b → (1 ≤ sum_of (is j) xs → IsMember j xs) → IsMember j (x ∷ xs)
     by true q later = inl (eqb-true j x q)
     by false q later = let none : is j x ≡ 0 = ap (λ (b : Bool). cond b 1 0) q in inr (later (omega arith))
 
-pub all_named : (program : Program) → IsSound program → (k : ℕ) → k < length (lowered program).funclets → IsIn k (named (regions (lowered program)))
+pub all_named : (program : Program) → IsSound program → (k : ℕ) → k < length (lowered program).funclets → IsMember k (named (regions (lowered program)))
 all_named program ok k lt =
     let n = functions_count 0 program.functions in
     let some = counted k 1 (sound.all_funclets program.functions) (counts program ok) (omega arith) (omega arith) (omega arith) in

@@ -27,7 +27,7 @@ use Rattle.template_code.proofs.Sizes.{sizes_append, template_sizes}
 use Rattle.x64_templates.specs.Runs.{HasCode}
 use Rattle.x64_templates.proofs.PlacedCode.{outside_page, bytes_split, spells, reads}
 use Rattle.x64_templates.proofs.Computes.{code_split}
-use Rattle.linked_stack.specs.ImagePlan.{Plan, InCode}
+use Rattle.linked_stack.specs.ImagePlan.{ImagePlan, InCode}
 use Rattle.linked_stack.specs.ListLaws.{KeepsStack}
 use Rattle.body_states.specs.Sites.{Sites, links_of}
 use Rattle.body_states.specs.Programs.{HasProgram, IsResumed, IsProgramImage}
@@ -35,7 +35,7 @@ use Rattle.body_states.proofs.Inside.{address_next}
 use Rattle.body_steps.proofs.Running.{get_or_is}
 use Rattle.turn_steps.proofs.Places.{template_is_at}
 use Rattle.image_runs.specs.Quiet.{is_free, is_free_place, is_quiet}
-use Rattle.image_runs.specs.Within.{IsWithin, IsQuietHere}
+use Rattle.image_runs.specs.Within.{IsWithinInstruction, IsQuietHere}
 use Rattle.image_runs.specs.WalkLaws.{QuietStepsStayWithin}
 use Rattle.image_runs.proofs.Quiet.{leaves}
 
@@ -98,8 +98,8 @@ stepped u i rest q h spelling =
     let rip : (u.cpu.rip + length (chosen i)) % 2 ^ 64 ≡ u.cpu.rip + length (chosen i) = omega arith in
     rw (outside_page u.cpu.rip low, read, rip) refl
 
-module _ (t : Functions) (fs : List Funclet) (program : LinearProgram) (p : Plan) (q : Sites) (image : IsProgramImage t fs program p q) (s u v : State) (c : Configuration)
-    (w : IsWithin t fs program p q s u c) (quiet : IsQuietHere t fs program p q s u c w) (e : step u ≡ Ok v) where
+module _ (t : Functions) (fs : List Funclet) (program : LinearProgram) (p : ImagePlan) (q : Sites) (image : IsProgramImage t fs program p q) (s u v : State) (c : Configuration)
+    (w : IsWithinInstruction t fs program p q s u c) (quiet : IsQuietHere t fs program p q s u c w) (e : step u ≡ Ok v) where
   abbrev r : IsResumed t fs program p q c.frame.body w.code c.frame.next u.cpu.rip
   r = w.resumed
 
@@ -134,7 +134,7 @@ module _ (t : Functions) (fs : List Funclet) (program : LinearProgram) (p : Plan
       let some = quiet.some in
       record { low = omega arith; high = omega (arith, sizes_append r.done (r.item ∷ r.left)) }
 
-  still_within : IsWithin t fs program p q s v c
+  still_within : IsWithinInstruction t fs program p q s v c
   still_within =
       let to = goes_to in
       let here = r.here in

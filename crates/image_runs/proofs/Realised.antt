@@ -2,7 +2,7 @@
 use Rattle.std.proofs.Common.{ℕ, ◌<◌, ◌≤◌, List, length, ap, subst, arith}
 use Rattle.std.specs.List.{AllByRecursion}
 use Rattle.std.specs.Prelude.{pos}
-use Rattle.pe_write.specs.Program.{parts_of, image_of, IsProgram}
+use Rattle.pe_write.specs.Program.{parts_of, image_of, CanBeImage}
 use Rattle.pe_write.proofs.Back.{written_length}
 use Rattle.pe_write.proofs.Programs.{size_is, can_be_written}
 use Rattle.c_checked.specs.Program.{Program}
@@ -14,22 +14,22 @@ use Rattle.image_states.specs.StartLaws.{HasBytes}
 use Rattle.image_states.proofs.Starting.{images_load}
 use Rattle.image_runs.specs.Sound.{IsLinkable}
 use Rattle.image_runs.proofs.Compiled.{lowered_is_compiled}
-use Rattle.image_runs.specs.Realises.{IsWritten, CompiledRealise, CompiledShowNothingMore}
+use Rattle.image_runs.specs.Realises.{IsImageOf, CompiledRealise, CompiledShowNothingMore}
 use Rattle.image_runs.proofs.RunImages.{linked_images_show_all, linked_images_show_no_more}
 use Rattle.host_layout.specs.declared.limit.TheConstants.{MOST_IMAGE}
 
 -- the file is no longer than the image
-short : (program : Program) → IsLinkable program → (bytes : List ℕ) → IsWritten bytes program → length bytes ≤ MOST_IMAGE
+short : (program : Program) → IsLinkable program → (bytes : List ℕ) → IsImageOf bytes program → length bytes ≤ MOST_IMAGE
 short program l bytes w =
     let p = linked (lowered program) in
-    let q : IsProgram p = is (lowered program) l.fits in
+    let q : CanBeImage p = is (lowered program) l.fits in
     let long = written_length (parts_of p) (can_be_written p q) in
     let size = size_is p q in
     let same = ap (λ (xs : List ℕ). length xs) w.written in
     let small = images_are_small (lowered program) l.fits in
     omega arith
 
-pub octets : (program : Program) (bytes : List ℕ) → IsWritten bytes program → HasBytes (lowered program)
+pub octets : (program : Program) (bytes : List ℕ) → IsImageOf bytes program → HasBytes (lowered program)
 octets program bytes w = subst (λ (xs : List ℕ). AllByRecursion (λ b. b < 256) xs) w.written w.octets
 
 pub compiled_realise : CompiledRealise

@@ -40,7 +40,7 @@ use Rattle.body_states.specs.Programs.{HasProgram, IsFramed, frame_with}
 use Rattle.body_states.proofs.Inside.{template_some}
 use Rattle.turn_steps.proofs.Places.{IsSome}
 use Rattle.image_states.specs.Plans.{functions_of, funclets_of, is_leaf, or_none, routine_of, plan_of, sites_of}
-use Rattle.image_states.specs.Compiled.{IsCompiled}
+use Rattle.image_states.specs.Compiled.{HasWholeImage}
 use Rattle.image_states.proofs.Addresses.{place, here}
 use Rattle.image_states.proofs.Entering.{code_same}
 use Rattle.image_states.proofs.Framed.{executable_of, leaf_of}
@@ -96,7 +96,7 @@ framed_of : (o : Option Frame) → is_leaf o ≡ false → (f : Frame) × (o ≡
 framed_of (Some f) e = (f, refl)
 framed_of None e = absurd (false≢true (sym e))
 
-module _ (p : LinearProgram) (c : IsCompiled p) (m : Memory) (name : BodyName) (b : LinearBody) (is : body_of p name ≡ Some b) (k : Context) (label back : ℕ)
+module _ (p : LinearProgram) (c : HasWholeImage p) (m : Memory) (name : BodyName) (b : LinearBody) (is : body_of p name ≡ Some b) (k : Context) (label back : ℕ)
     (kept : length k.kept ≡ 9) where
   abbrev x : Placed
   x = routine_of p name
@@ -138,7 +138,7 @@ linked_returns_wait p c = record {
       leaf_there p c m name b is k label back kept (leaf_of (routine_of p name).routine.frame leaf) r.here room returns (within p c name b is label r.from r.there);
 }
   where
-    within : (p : LinearProgram) (c : IsCompiled p) (name : BodyName) (b : LinearBody) → body_of p name ≡ Some b → (label : ℕ) (from : Slot) → slice_get b.code label ≡ Some (instructions.Return from) → template_at (routine_of p name) label < end_of (routine_of p name)
+    within : (p : LinearProgram) (c : HasWholeImage p) (name : BodyName) (b : LinearBody) → body_of p name ≡ Some b → (label : ℕ) (from : Slot) → slice_get b.code label ≡ Some (instructions.Return from) → template_at (routine_of p name) label < end_of (routine_of p name)
     within p c name b is label from there =
         let x = routine_of p name in
         let t = template_there (links p x) x.routine.layout (x.begin + entry_size x.routine) x.routine.body.code label (instructions.Return from) (ap (λ (d : LinearBody). slice_get d.code label) (place p c name b is).body ∙ there) in

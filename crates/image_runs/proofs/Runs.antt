@@ -8,9 +8,9 @@ use Rattle.c_checked.specs.Program.{Program}
 use Rattle.c_checked.specs.Sound.{IsSound}
 use Rattle.linear_code.specs.Program.{LinearFunction}
 use Rattle.linear_machine.specs.Run.{start}
-use Rattle.linked_stack.specs.ImagePlan.{Plan}
+use Rattle.linked_stack.specs.ImagePlan.{ImagePlan}
 use Rattle.seh_ir.specs.Lowered.{lowered}
-use Rattle.whole_runs.specs.Laws.{Begins}
+use Rattle.whole_runs.specs.Laws.{RunBegins}
 use Rattle.whole_runs.proofs.Steps.{follows}
 use Rattle.unset_locals.specs.Reads.{ReadsNoUnset}
 use Rattle.unset_locals.specs.Laws.{started_with}
@@ -25,10 +25,10 @@ use Rattle.image_runs.specs.Shown.{ShowsTwin}
 use Rattle.image_runs.specs.RunLaws.{ImagesShowAll, ImagesShowNoMore}
 use Rattle.image_runs.proofs.Simulated.{twins_simulate}
 
-module _ (t : Functions) (fs : List Funclet) (program : Program) (p : Plan) (q : Sites) (sound : IsSound program) (reads : ReadsNoUnset (lowered program))
+module _ (t : Functions) (fs : List Funclet) (program : Program) (p : ImagePlan) (q : Sites) (sound : IsSound program) (reads : ReadsNoUnset (lowered program))
     (image : IsSoundImage t fs (lowered program) p q) (arg : ℤ) (main : LinearFunction) (s : State)
     (is_main : slice_get (lowered program).functions (lowered program).main ≡ Some main) (b : MainBegins t fs (lowered program) p q arg main s) where
-  pub begins : (n : ℕ) → Begins t fs (lowered program) pace turns_left arg b.turns s n
+  pub begins : (n : ℕ) → RunBegins t fs (lowered program) pace turns_left arg b.turns s n
   begins n = record {
     main = main;
     is_main = is_main;

@@ -32,7 +32,7 @@ use Rattle.ir_typed.proofs.Ready.{continues}
 use Rattle.unset_locals.specs.Reads.{ReadsNoUnset}
 use Rattle.linked_stack.specs.WalkLaws.{context_below}
 use Rattle.linked_stack.specs.PlainWalks.{state}
-use Rattle.linked_stack.specs.ImagePlan.{Plan}
+use Rattle.linked_stack.specs.ImagePlan.{ImagePlan}
 use Rattle.whole_runs.specs.Shadow.{caller_at, WalkGives}
 use Rattle.whole_runs.specs.Shadowed.{first_shadow, WalkGivesShadow}
 use Rattle.whole_runs.proofs.Shadows.{at_end}
@@ -50,7 +50,7 @@ use Rattle.pace_bounds.proofs.Pace.{pace_is_bounded}
 use Rattle.image_states.specs.Plans.{functions_of, funclets_of, plan_of, sites_of}
 use Rattle.image_runs.specs.Sound.{IsLinkable}
 use Rattle.image_runs.specs.Starts.{first_stack, IsFirst}
-use Rattle.image_runs.specs.Realises.{IsWritten}
+use Rattle.image_runs.specs.Realises.{IsImageOf}
 use Rattle.image_runs.specs.Shadows.{WalksTheShadow, ImagesWalkTheShadow, CompiledWalkTheShadow, AcceptedWalkTheShadow}
 use Rattle.image_runs.proofs.FirstStarting.{first_states_start}
 use Rattle.image_runs.proofs.Compiled.{lowered_is_compiled}
@@ -66,7 +66,7 @@ images_walk_the_shadow t fs program p q sound reads image arg main s is_main b w
 
 -- ---- at the first byte of `main`
 
-module _ (t : Functions) (fs : List Funclet) (program : LinearProgram) (p : Plan) (q : Sites) (image : IsProgramImage t fs program p q) (arg : ℤ) (main : LinearFunction) (s : State) (is_main : slice_get program.functions program.main ≡ Some main)
+module _ (t : Functions) (fs : List Funclet) (program : LinearProgram) (p : ImagePlan) (q : Sites) (image : IsProgramImage t fs program p q) (arg : ℤ) (main : LinearFunction) (s : State) (is_main : slice_get program.functions program.main ≡ Some main)
     (goes : CanContinue program (code.start program arg main)) (h : IsFirst t fs program p q arg s) where
   there : body_of program (FunctionBody program.main) ≡ Some main.body
   there = ap function_body is_main
@@ -92,7 +92,7 @@ module _ (t : Functions) (fs : List Funclet) (program : LinearProgram) (p : Plan
 
 -- ---- the run of a linked image
 
-module _ (program : Program) (l : IsLinkable program) (reads : ReadsNoUnset (lowered program)) (bytes : List ℕ) (w : IsWritten bytes program) (arg : ℤ) (m n : ℕ)
+module _ (program : Program) (l : IsLinkable program) (reads : ReadsNoUnset (lowered program)) (bytes : List ℕ) (w : IsImageOf bytes program) (arg : ℤ) (m n : ℕ)
     (paces : (m + 1) * pace_of program ≤ n) (calm : Calm program arg n ≡ true) (none : (machine bytes arg m).end ≡ None) where
   abbrev linear : LinearProgram
   linear = lowered program

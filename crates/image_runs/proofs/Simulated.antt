@@ -13,7 +13,7 @@ use Rattle.linear_code.specs.Program.{LinearProgram}
 use Rattle.linear_machine.specs.Frames.{BodyName, FunctionBody, FuncletBody, Frame, Configuration, body_of}
 use Rattle.linear_machine.specs.Instructions.{act}
 use Rattle.linear_machine.specs.Run.{instruction_in, instruction_at, exec}
-use Rattle.linked_stack.specs.ImagePlan.{Plan}
+use Rattle.linked_stack.specs.ImagePlan.{ImagePlan}
 use Rattle.seh_ir.specs.Lowered.{lowered}
 use Rattle.whole_runs.specs.Ends.{HasRule}
 use Rattle.whole_runs.specs.Matched.{Moves, IsMatched, StepIsMatched}
@@ -51,7 +51,7 @@ same_instruction : (i j : Instruction) → Some i ≡ Some j → i ≡ j
 same_instruction i j e = cc
 
 -- a step within one body
-plainly : (t : Functions) (fs : List Funclet) (program : LinearProgram) (p : Plan) (q : Sites) → IsSoundImage t fs program p q
+plainly : (t : Functions) (fs : List Funclet) (program : LinearProgram) (p : ImagePlan) (q : Sites) → IsSoundImage t fs program p q
     → (s : State) (d : Configuration) (i : Instruction) → Begins t fs program p q s d → IsKnown program d → instruction_at program d ≡ Some i
     → HasRule (act program i (exec program zero) d) → IsWithinBody program d i → StepMatches t fs program p q s d i
 plainly t fs program p q image s d i b known at rule is_plain =
@@ -59,19 +59,19 @@ plainly t fs program p q image s d i b known at rule is_plain =
     (within_body t fs program p q image.image image.made s d i b known at is_plain rule))
 
 -- from the beginning of an instruction to that of the next one
-moved : (t : Functions) (fs : List Funclet) (program : LinearProgram) (p : Plan) (q : Sites) (s : State) (d : Configuration) (i : Instruction)
+moved : (t : Functions) (fs : List Funclet) (program : LinearProgram) (p : ImagePlan) (q : Sites) (s : State) (d : Configuration) (i : Instruction)
     → Moves t fs program pace turns_left (Begins t fs program p q) s d i → StepMatches t fs program p q s d i
 moved t fs program p q s d i v = inl (moves_as t fs program (Begins t fs program p q) (Represents t fs program p q) (λ u x h. inl h) s d i v)
 
 -- a filter reads a field of its exception
-informed : (t : Functions) (fs : List Funclet) (program : LinearProgram) (p : Plan) (q : Sites) → IsSoundImage t fs program p q
+informed : (t : Functions) (fs : List Funclet) (program : LinearProgram) (p : ImagePlan) (q : Sites) → IsSoundImage t fs program p q
     → (s : State) (d : Configuration) (to : Slot) (field : Field) → Begins t fs program p q s d → IsKnown program d → instruction_at program d ≡ Some (instructions.Information to field)
     → StepMatches t fs program p q s d (instructions.Information to field)
 informed t fs program p q image s d to field b known at =
     moved t fs program p q s d (instructions.Information to field) (information_is_matched t fs program p q image.image image.made image.informs s d to field b known at)
 
 -- a call of a service
-called_built_in : (t : Functions) (fs : List Funclet) (program : LinearProgram) (p : Plan) (q : Sites) → IsSoundImage t fs program p q
+called_built_in : (t : Functions) (fs : List Funclet) (program : LinearProgram) (p : ImagePlan) (q : Sites) → IsSoundImage t fs program p q
     → (s : State) (d : Configuration) (f : BuiltIn) (first : ℕ) → Begins t fs program p q s d → IsKnown program d → instruction_at program d ≡ Some (instructions.CallBuiltIn f first)
     → HasRule (act program (instructions.CallBuiltIn f first) (exec program zero) d) → KnownNext program d (instructions.CallBuiltIn f first) → StepMatches t fs program p q s d (instructions.CallBuiltIn f first)
 called_built_in t fs program p q image s d Put first b known at rule next =
@@ -81,7 +81,7 @@ called_built_in t fs program p q image s d Protect first b known at rule next =
 called_built_in t fs program p q image s d RaiseException first b known at rule next = raises_are_matched t fs program p q image.image image.made image.flags s d first b known at rule next
 
 -- a return, of a function or of a funclet
-returned : (t : Functions) (fs : List Funclet) (program : LinearProgram) (p : Plan) (q : Sites) → IsSoundImage t fs program p q
+returned : (t : Functions) (fs : List Funclet) (program : LinearProgram) (p : ImagePlan) (q : Sites) → IsSoundImage t fs program p q
     → (s : State) (d : Configuration) (from : Slot) → Begins t fs program p q s d → IsKnown program d → instruction_at program d ≡ Some (instructions.Return from)
     → HasRule (act program (instructions.Return from) (exec program zero) d) → KnownNext program d (instructions.Return from) → StepMatches t fs program p q s d (instructions.Return from)
 returned t fs program p q image s d from b known at rule next = by d.frame.body refl
@@ -93,14 +93,14 @@ returned t fs program p q image s d from b known at rule next = by d.frame.body 
     by (FuncletBody k) e = funclet_returns_are_matched t fs program p q image.image image.made image.flags (bodies_continue t fs program p q image.image image.made) s d k from b known e at rule next
 
 -- a body calls its `__finally` block
-called_block : (t : Functions) (fs : List Funclet) (program : LinearProgram) (p : Plan) (q : Sites) → IsSoundImage t fs program p q
+called_block : (t : Functions) (fs : List Funclet) (program : LinearProgram) (p : ImagePlan) (q : Sites) → IsSoundImage t fs program p q
     → (s : State) (d : Configuration) (k : ℕ) → Begins t fs program p q s d → IsKnown program d → instruction_at program d ≡ Some (instructions.CallFinally k)
     → KnownNext program d (instructions.CallFinally k) → StepMatches t fs program p q s d (instructions.CallFinally k)
 called_block t fs program p q image s d k b known at next =
     matched_as t fs program (Begins t fs program p q) (Represents t fs program p q) (λ u x h. inl h) s d (instructions.CallFinally k)
     (block_calls_are_matched t fs program p q image.image image.made image.flags image.separators s d k b known at next)
 
-module _ (program : Program) (sound : IsSound program) (reads : ReadsNoUnset (lowered program)) (t : Functions) (fs : List Funclet) (p : Plan) (q : Sites)
+module _ (program : Program) (sound : IsSound program) (reads : ReadsNoUnset (lowered program)) (t : Functions) (fs : List Funclet) (p : ImagePlan) (q : Sites)
     (image : IsSoundImage t fs (lowered program) p q) where
   abbrev linear : LinearProgram
   linear = lowered program

@@ -11,7 +11,7 @@ use Rattle.linear_code.specs.Program.{LinearProgram}
 use Rattle.linear_machine.specs.Frames.{Item, Waits, Searches, Unwinds}
 use Rattle.linked_stack.specs.Stack.{StackItem, Framed, Leaf, Searching, Unwinding, IsStack, after_frame, after_leaf}
 use Rattle.linked_stack.proofs.Visiting.{set_head}
-use Rattle.linked_stack.specs.ImagePlan.{Plan}
+use Rattle.linked_stack.specs.ImagePlan.{ImagePlan}
 use Rattle.linked_stack.specs.Linked.{Activation, activations_below, temporaries_end, BodyWaits, ReturnsTo, Linked}
 use Rattle.body_states.specs.Sites.{Sites}
 use Rattle.body_states.specs.Programs.{IsProgramImage}
@@ -25,7 +25,7 @@ set_rest : (kept : List ℕ) (v : ℕ) → drop 1 (slice_set kept 0 v) ≡ drop 
 set_rest [] v = refl
 set_rest (k ∷ ks) v = refl
 
-module _ (t : Functions) (fs : List Funclet) (program : LinearProgram) (p : Plan) where
+module _ (t : Functions) (fs : List Funclet) (program : LinearProgram) (p : ImagePlan) where
   -- as many items on both sides
   pub as_many : (m : Memory) (c : Context) (is : List StackItem) (items : List Item) (acts : List Activation) → Linked t fs program p m c is items acts → length is ≡ length items
   as_many m c [] [] acts l = refl

@@ -21,7 +21,7 @@ use Rattle.template_code.specs.Template.{template}
 use Rattle.template_code.proofs.Sizes.{template_sizes}
 use Rattle.x64_templates.specs.Quiet.{IsReturn}
 use Rattle.linked_stack.specs.WalkLaws.{context_below}
-use Rattle.linked_stack.specs.ImagePlan.{Plan}
+use Rattle.linked_stack.specs.ImagePlan.{ImagePlan}
 use Rattle.linked_stack.specs.Linked.{Activation, activations_below, locals_of}
 use Rattle.linked_stack.proofs.Ends.{in_stack}
 use Rattle.body_states.specs.Sites.{Sites, links_of}
@@ -51,7 +51,7 @@ return_or (instructions.LocalUnwind label) = inl (λ h. h)
 return_or instructions.Separator = inl (λ h. h)
 return_or (instructions.Return from) = inr (from, refl)
 
-module _ (t : Functions) (fs : List Funclet) (program : LinearProgram) (p : Plan) (q : Sites) (image : IsProgramImage t fs program p q) where
+module _ (t : Functions) (fs : List Funclet) (program : LinearProgram) (p : ImagePlan) (q : Sites) (image : IsProgramImage t fs program p q) where
   pub record IsTop (s : State) (c : Configuration) : Type 0 where
     pub acts : List Activation
     pub store : c.store.activations ≡ locals_of acts

@@ -20,14 +20,14 @@ use Rattle.linear_code.specs.Program.{LinearProgram, LinearBody}
 use Rattle.linear_machine.specs.Frames.{Frame, body_of, Item, Waits, Configuration}
 use Rattle.linear_machine.specs.Regions.{holds, regions_of}
 use Rattle.linked_stack.specs.Stack.{StackFrame, StackItem, Framed, Leaf, FrameIsAt, IsStack}
-use Rattle.linked_stack.specs.ImagePlan.{Plan, InCode}
+use Rattle.linked_stack.specs.ImagePlan.{ImagePlan, InCode}
 use Rattle.linked_stack.specs.Linked.{Activation, HasSpace, below_end, BodyWaits, Linked}
 use Rattle.linked_stack.specs.ListLaws as linked
 use Rattle.linked_stack.proofs.ListKeeping.{kept_by_other_memories}
 use Rattle.body_states.specs.Sites.{Sites}
 use Rattle.body_states.specs.Programs.{HasProgram, IsResumed, IsProgramImage}
 use Rattle.body_states.proofs.Resumed.{frame_size}
-use Rattle.image_runs.specs.Within.{IsWithin}
+use Rattle.image_runs.specs.Within.{IsWithinInstruction}
 use Rattle.image_runs.specs.Live.{WalkGives}
 use Rattle.image_runs.specs.WalkLaws.{WalksGiveTheFramesWithin}
 use Rattle.image_runs.proofs.WalkLive.{as_many, are_frames}
@@ -38,7 +38,7 @@ same_regions : (rs : List Region) (label : ℕ) → AllByRecursion (λ (r : Regi
 same_regions [] label = tt
 same_regions (r ∷ rs) label = (refl, same_regions rs label)
 
-module _ (t : Functions) (fs : List Funclet) (program : LinearProgram) (p : Plan) (q : Sites) (image : IsProgramImage t fs program p q) where
+module _ (t : Functions) (fs : List Funclet) (program : LinearProgram) (p : ImagePlan) (q : Sites) (image : IsProgramImage t fs program p q) where
   -- a frame's depth is bounded, so it is in the stack
   in_range : (sp depth : ℕ) → HasSpace sp below_end depth → STACK_START ≤ sp
   in_range sp depth h = let a = h.space in let b = h.shallow in omega arith
@@ -99,7 +99,7 @@ module _ (t : Functions) (fs : List Funclet) (program : LinearProgram) (p : Plan
     }
     there_too is s l = absurd l
 
-  within : (s u : State) (c : Configuration) → IsTop t fs program p q image s c → IsWithin t fs program p q s u c → WalkGives t fs program p u c
+  within : (s u : State) (c : Configuration) → IsTop t fs program p q image s c → IsWithinInstruction t fs program p q s u c → WalkGives t fs program p u c
   within s u c h w =
       let from = context_of s.cpu in
       let items = Waits c.frame ∷ c.below in

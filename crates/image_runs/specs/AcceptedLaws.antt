@@ -11,7 +11,7 @@ use Rattle.pace_bounds.specs.Laws.{pace_in, program_of}
 use Rattle.unset_locals.specs.Reads.{ReadsNoUnset}
 use Rattle.whole_runs.specs.Laws.{ShowsNoMore}
 use Rattle.program_link.specs.Fits.{FitsProgram}
-use Rattle.image_runs.specs.Realises.{Realises, IsWritten}
+use Rattle.image_runs.specs.Realises.{Realises, IsImageOf}
 
 -- linear code of an accepted text reads no local that isn't set
 abbrev pub AcceptedReadsNoUnset : Type 0
@@ -24,7 +24,7 @@ abbrev pub AcceptedRealise : Type 0
 AcceptedRealise =
     (text : List ℕ) (xs : List ExternalDeclaration) (bytes : List ℕ) → Within text xs
     → Accepted text xs → FitsProgram (lowered (program_of text xs))
-    → IsWritten bytes (program_of text xs) → Realises bytes (program_of text xs)
+    → IsImageOf bytes (program_of text xs) → Realises bytes (program_of text xs)
 
 -- in m turns it shows no more than the text shows within (m + 1) (8 L + 256) steps, where these are
 -- calm, for a text of at most L nodes, and ends only as it ends
@@ -32,7 +32,7 @@ abbrev pub AcceptedShowNothingMore : Type 0
 AcceptedShowNothingMore =
     (text : List ℕ) (xs : List ExternalDeclaration) (bytes : List ℕ) → Within text xs
     → Accepted text xs → FitsProgram (lowered (program_of text xs))
-    → IsWritten bytes (program_of text xs) → (most : ℕ) → nodes_of xs ≤ most
+    → IsImageOf bytes (program_of text xs) → (most : ℕ) → nodes_of xs ≤ most
     → (arg m n : ℕ) → arg < 2 ^ 63 → (m + 1) * pace_in most ≤ n
     → Calm (program_of text xs) (pos arg) n ≡ true
     → ShowsNoMore (meaning (program_of text xs) (pos arg) n) (machine bytes (pos arg) m)

@@ -8,21 +8,21 @@ use Rattle.program_link.specs.Linked.{linked}
 use Rattle.ir_typed.specs.Ready.{CanContinue}
 use Rattle.body_steps.specs.Known.{IsWellMade}
 use Rattle.image_states.specs.Plans.{functions_of, funclets_of, plan_of, sites_of}
-use Rattle.image_states.specs.Compiled.{IsCompiled}
+use Rattle.image_states.specs.Compiled.{HasWholeImage}
 use Rattle.image_states.specs.StartLaws.{HasBytes}
 use Rattle.image_runs.specs.Starts.{IsFirst, MainBegins}
 
 -- `main` is called there
 abbrev pub FirstStatesStart : Type 0
 FirstStatesStart =
-    (program : LinearProgram) → IsCompiled program → HasBytes program → (arg : ℤ)
+    (program : LinearProgram) → HasWholeImage program → HasBytes program → (arg : ℤ)
     → IsFirst (functions_of program) (funclets_of program) program (plan_of program)
     (sites_of program) arg (start (image_of (linked program)) arg)
 
 -- and begins in a few turns
 abbrev pub MainsBegin : Type 0
 MainsBegin =
-    (program : LinearProgram) → IsCompiled program → HasBytes program
+    (program : LinearProgram) → HasWholeImage program → HasBytes program
     → IsWellMade program (plan_of program)
     → (arg : ℤ) (main : LinearFunction) → slice_get program.functions program.main ≡ Some main
     → CanContinue program (linear.start program arg main)

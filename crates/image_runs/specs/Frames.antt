@@ -13,7 +13,7 @@ use Rattle.program_link.specs.Text.{thunk_at, check_stack_at}
 use Rattle.program_tables.specs.Placed.{Placed, end_of, site_of, placed}
 use Rattle.program_frames.specs.InMemory.{image_base, HasText}
 use Rattle.program_frames.specs.Functions.{function_of, leaf, thunk_of, probe}
-use Rattle.program_frames.specs.Laws.{FindsCaller, IsIn}
+use Rattle.program_frames.specs.Laws.{FindsCaller, IsInRange}
 
 -- from each state of a routine the walk finds its caller, as it was at the routine's first byte (in
 -- state e): in a function or funclet with a frame, prologue and epilogues included; in a leaf
@@ -28,15 +28,15 @@ pub record FindsCallers (p : LinearProgram) : Type 0 where
   pub leaves :
       (index : ℕ) (x : Placed) (e s : State)
       → slice_get (placed p) index ≡ Some x → x.routine.frame ≡ None
-      → IsIn e s (leaf p x) x.begin (end_of x) → FindsCaller p e s
+      → IsInRange e s (leaf p x) x.begin (end_of x) → FindsCaller p e s
   pub thunks :
       (service : ImportedService) (e s : State)
-      → IsIn e s (thunk_of p service)
+      → IsInRange e s (thunk_of p service)
       (thunk_at (site_of p).text service) (thunk_at (site_of p).text service + 6)
       → FindsCaller p e s
   pub probes :
       (e s : State)
-      → IsIn e s probe (check_stack_at (site_of p).text) (check_stack_at (site_of p).text + 21)
+      → IsInRange e s probe (check_stack_at (site_of p).text) (check_stack_at (site_of p).text + 21)
       → FindsCaller p e s
 
 -- so it is of every checked program whose linear code is within the limits of linking

@@ -2,13 +2,13 @@
 use Rattle.c_checked.specs.Program.{Program}
 use Rattle.seh_ir.specs.Lowered.{lowered}
 use Rattle.image_states.specs.Plans.{functions_of, funclets_of, plan_of, sites_of}
-use Rattle.image_states.specs.Compiled.{IsCompiled}
+use Rattle.image_states.specs.Compiled.{HasWholeImage}
 use Rattle.image_runs.specs.Sound.{IsLinkable, IsSoundImage}
 
 -- regions are ranges and name each funclet once; the function of a funclet has a frame with the
 -- locals that the funclet works on
 abbrev pub LoweredIsCompiled : Type 0
-LoweredIsCompiled = (program : Program) → IsLinkable program → IsCompiled (lowered program)
+LoweredIsCompiled = (program : Program) → IsLinkable program → HasWholeImage (lowered program)
 
 -- the image of a program that can be linked is sound
 abbrev pub LoweredHasImage : Type 0

@@ -16,12 +16,12 @@ use Rattle.linear_machine.specs.Frames as linear
 use Rattle.linear_machine.specs.Frames.{body_of, Item, Waits, Searches, Unwinds, Configuration}
 use Rattle.linear_machine.specs.Run.{instruction_in}
 use Rattle.linked_stack.specs.PlainWalks.{state}
-use Rattle.linked_stack.specs.ImagePlan.{Plan}
+use Rattle.linked_stack.specs.ImagePlan.{ImagePlan}
 use Rattle.linked_stack.specs.Linked.{Activation, locals_of, activations_below, return_of, BodyWaits}
 use Rattle.body_states.specs.Bodies.{slots_end, last_temporary}
 use Rattle.whole_runs.specs.Walked.{LiveFrame, walked}
 
-module _ (t : Functions) (fs : List Funclet) (program : LinearProgram) (p : Plan) where
+module _ (t : Functions) (fs : List Funclet) (program : LinearProgram) (p : ImagePlan) where
   -- where a body returns to, by what is below it: the first one to 0, a called one past its call, a
   -- filter or a block that the dispatcher called to the host's return address for it
   abbrev pub back_to : List Item → Option ℕ

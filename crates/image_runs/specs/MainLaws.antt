@@ -5,7 +5,7 @@ use Rattle.virtual_unwind.specs.CallerOf.{Functions}
 use Rattle.host_model.specs.declared.funclet.Funclet.{Funclet}
 use Rattle.linear_code.specs.Program.{LinearProgram, LinearFunction}
 use Rattle.linear_machine.specs.Run.{start}
-use Rattle.linked_stack.specs.ImagePlan.{Plan}
+use Rattle.linked_stack.specs.ImagePlan.{ImagePlan}
 use Rattle.ir_typed.specs.Ready.{CanContinue}
 use Rattle.body_states.specs.Sites.{Sites}
 use Rattle.body_states.specs.Programs.{IsProgramImage}
@@ -15,7 +15,7 @@ use Rattle.image_runs.specs.Starts.{IsFirst, MainBegins}
 -- where linear code begins at an instruction, the machine comes there
 abbrev pub MainIsBegun : Type 0
 MainIsBegun =
-    (t : Functions) (fs : List Funclet) (program : LinearProgram) (p : Plan) (q : Sites)
+    (t : Functions) (fs : List Funclet) (program : LinearProgram) (p : ImagePlan) (q : Sites)
     → IsProgramImage t fs program p q → IsWellMade program p
     → (arg : ℤ) (main : LinearFunction) (s : State)
     → slice_get program.functions program.main ≡ Some main

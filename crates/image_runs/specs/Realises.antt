@@ -41,7 +41,7 @@ ShowsNothingMore bytes program =
     → ShowsNoMore (meaning program (pos arg) n) (machine bytes (pos arg) m)
 
 -- the bytes of the image that a program is linked to
-pub record IsWritten (bytes : List ℕ) (program : Program) : Type 0 where
+pub record IsImageOf (bytes : List ℕ) (program : Program) : Type 0 where
   pub octets : AllByRecursion (λ b. b < 256) bytes
   pub written : bytes ≡ written (parts_of (linked (lowered program)))
   pub read : IsImage bytes (image_of (linked (lowered program)))
@@ -50,10 +50,10 @@ pub record IsWritten (bytes : List ℕ) (program : Program) : Type 0 where
 abbrev pub CompiledRealise : Type 0
 CompiledRealise =
     (program : Program) → IsLinkable program → ReadsNoUnset (lowered program) → (bytes : List ℕ)
-    → IsWritten bytes program → Realises bytes program
+    → IsImageOf bytes program → Realises bytes program
 
 -- a written image shows nothing more
 abbrev pub CompiledShowNothingMore : Type 0
 CompiledShowNothingMore =
     (program : Program) → IsLinkable program → ReadsNoUnset (lowered program) → (bytes : List ℕ)
-    → IsWritten bytes program → ShowsNothingMore bytes program
+    → IsImageOf bytes program → ShowsNothingMore bytes program

@@ -12,7 +12,7 @@ use Rattle.linear_code.specs.declared.instruction.Instruction.{Instruction}
 use Rattle.linear_code.specs.Program.{LinearFunction}
 use Rattle.linear_machine.specs.Frames.{Configuration}
 use Rattle.linear_machine.specs.Run.{instruction_at}
-use Rattle.linked_stack.specs.ImagePlan.{Plan}
+use Rattle.linked_stack.specs.ImagePlan.{ImagePlan}
 use Rattle.seh_ir.specs.Lowered.{lowered}
 use Rattle.ir_linked.specs.Pace.{pace_of}
 use Rattle.unset_locals.specs.Reads.{ReadsNoUnset}
@@ -41,7 +41,7 @@ TwinsAreKnown =
 -- the machine keeps showing a twin
 abbrev pub TwinsSimulate : Type 0
 TwinsSimulate =
-    (t : Functions) (fs : List Funclet) (program : Program) (p : Plan) (q : Sites)
+    (t : Functions) (fs : List Funclet) (program : Program) (p : ImagePlan) (q : Sites)
     → IsSound program → ReadsNoUnset (lowered program) → IsSoundImage t fs (lowered program) p q
     → Simulates t fs (lowered program) pace turns_left (λ n. ShowsTwin t fs (lowered program) p q)
 
@@ -49,7 +49,7 @@ TwinsSimulate =
 -- ends
 abbrev pub ImagesShowAll : Type 0
 ImagesShowAll =
-    (t : Functions) (fs : List Funclet) (program : Program) (p : Plan) (q : Sites)
+    (t : Functions) (fs : List Funclet) (program : Program) (p : ImagePlan) (q : Sites)
     → IsSound program → ReadsNoUnset (lowered program) → IsSoundImage t fs (lowered program) p q
     → (arg : ℤ) (main : LinearFunction) (s : State)
     → slice_get (lowered program).functions (lowered program).main ≡ Some main
@@ -60,7 +60,7 @@ ImagesShowAll =
 -- they end
 abbrev pub ImagesShowNoMore : Type 0
 ImagesShowNoMore =
-    (t : Functions) (fs : List Funclet) (program : Program) (p : Plan) (q : Sites)
+    (t : Functions) (fs : List Funclet) (program : Program) (p : ImagePlan) (q : Sites)
     → IsSound program → ReadsNoUnset (lowered program) → IsSoundImage t fs (lowered program) p q
     → (arg : ℤ) (main : LinearFunction) (s : State)
     → slice_get (lowered program).functions (lowered program).main ≡ Some main

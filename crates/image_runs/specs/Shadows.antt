@@ -20,7 +20,7 @@ use Rattle.linear_code.specs.Program.{LinearFunction}
 use Rattle.seh_ir.specs.Lowered.{lowered}
 use Rattle.ir_linked.specs.Pace.{pace_of}
 use Rattle.unset_locals.specs.Reads.{ReadsNoUnset}
-use Rattle.linked_stack.specs.ImagePlan.{Plan}
+use Rattle.linked_stack.specs.ImagePlan.{ImagePlan}
 use Rattle.whole_runs.specs.Shadow.{WalkGives}
 use Rattle.whole_runs.specs.Shadowed.{first_shadow, WalkGivesShadow}
 use Rattle.body_states.specs.Sites.{Sites}
@@ -28,7 +28,7 @@ use Rattle.program_link.specs.Fits.{FitsProgram}
 use Rattle.pace_bounds.specs.Laws.{pace_in, program_of}
 use Rattle.image_runs.specs.Sound.{IsLinkable, IsSoundImage}
 use Rattle.image_runs.specs.Starts.{MainBegins}
-use Rattle.image_runs.specs.Realises.{IsWritten}
+use Rattle.image_runs.specs.Realises.{IsImageOf}
 
 -- the bytes are an image; after m turns of its run the walk gives exactly the shadow, entry by
 -- entry, and then RIP 0
@@ -44,7 +44,7 @@ pub record WalksTheShadow (bytes : List ℕ) (arg : ℤ) (m : ℕ) : Type 0 wher
 -- calm
 abbrev pub ImagesWalkTheShadow : Type 0
 ImagesWalkTheShadow =
-    (t : Functions) (fs : List Funclet) (program : Program) (p : Plan) (q : Sites)
+    (t : Functions) (fs : List Funclet) (program : Program) (p : ImagePlan) (q : Sites)
     → IsSound program → ReadsNoUnset (lowered program) → IsSoundImage t fs (lowered program) p q
     → (arg : ℤ) (main : LinearFunction) (s : State)
     → slice_get (lowered program).functions (lowered program).main ≡ Some main
@@ -57,7 +57,7 @@ ImagesWalkTheShadow =
 abbrev pub CompiledWalkTheShadow : Type 0
 CompiledWalkTheShadow =
     (program : Program) → IsLinkable program → ReadsNoUnset (lowered program) → (bytes : List ℕ)
-    → IsWritten bytes program
+    → IsImageOf bytes program
     → (arg m n : ℕ) → arg < 2 ^ 63 → (m + 1) * pace_of program ≤ n → Calm program (pos arg) n ≡ true
     → (machine bytes (pos arg) m).end ≡ None → WalksTheShadow bytes (pos arg) m
 
@@ -67,7 +67,7 @@ abbrev pub AcceptedWalkTheShadow : Type 0
 AcceptedWalkTheShadow =
     (text : List ℕ) (xs : List ExternalDeclaration) (bytes : List ℕ) → Within text xs
     → Accepted text xs → FitsProgram (lowered (program_of text xs))
-    → IsWritten bytes (program_of text xs) → (most : ℕ) → nodes_of xs ≤ most
+    → IsImageOf bytes (program_of text xs) → (most : ℕ) → nodes_of xs ≤ most
     → (arg m n : ℕ) → arg < 2 ^ 63 → (m + 1) * pace_in most ≤ n
     → Calm (program_of text xs) (pos arg) n ≡ true
     → (machine bytes (pos arg) m).end ≡ None → WalksTheShadow bytes (pos arg) m

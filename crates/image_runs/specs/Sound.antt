@@ -7,7 +7,7 @@ use Rattle.virtual_unwind.specs.CallerOf.{Functions}
 use Rattle.host_model.specs.declared.funclet.Funclet.{Funclet}
 use Rattle.linear_code.specs.Program.{LinearBody, LinearProgram}
 use Rattle.linear_machine.specs.Frames.{BodyName, body_of}
-use Rattle.linked_stack.specs.ImagePlan.{Plan}
+use Rattle.linked_stack.specs.ImagePlan.{ImagePlan}
 use Rattle.seh_ir.specs.Lowered.{lowered}
 use Rattle.ir_bounds.specs.Nesting.{AreShallow}
 use Rattle.ir_places.specs.Alike.{HasSameRegions}
@@ -27,7 +27,8 @@ pub record IsLinkable (program : Program) : Type 0 where
   pub fits : FitsProgram (lowered program)
 
 -- what never changes while a program's image runs
-pub record IsSoundImage (t : Functions) (fs : List Funclet) (program : LinearProgram) (p : Plan)
+pub record IsSoundImage (t : Functions) (fs : List Funclet) (program : LinearProgram)
+    (p : ImagePlan)
     (q : Sites) : Type 0 where
   pub image : IsProgramImage t fs program p q
   pub made : IsWellMade program p

@@ -8,7 +8,7 @@ use Rattle.host_model.specs.declared.funclet.Funclet.{Funclet}
 use Rattle.host_model.specs.Loading.{first_cpu}
 use Rattle.c_model.specs.Source.{first_memory}
 use Rattle.linear_code.specs.Program.{LinearProgram, LinearFunction}
-use Rattle.linked_stack.specs.ImagePlan.{Plan}
+use Rattle.linked_stack.specs.ImagePlan.{ImagePlan}
 use Rattle.whole_runs.specs.Comes.{Comes}
 use Rattle.compiled_runs.specs.Laws.{most_before_main}
 use Rattle.ir_typed.specs.Small.{AreSmall}
@@ -21,7 +21,8 @@ use Rattle.body_states.specs.Bodies.{Begins}
 abbrev pub first_stack : ℕ
 first_stack = FIRST_STACK
 
-module _ (t : Functions) (fs : List Funclet) (program : LinearProgram) (p : Plan) (q : Sites) where
+module _ (t : Functions) (fs : List Funclet) (program : LinearProgram) (p : ImagePlan)
+    (q : Sites) where
   -- RIP is at `main`, RCX is the argument of the run, and the return address is 0; memory agrees
   -- with what the program begins with
   pub record IsFirst (arg : ℤ) (s : State) : Type 0 where

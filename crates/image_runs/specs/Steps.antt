@@ -6,14 +6,14 @@ use Rattle.host_model.specs.declared.funclet.Funclet.{Funclet}
 use Rattle.linear_code.specs.declared.instruction.Instruction.{Instruction}
 use Rattle.linear_code.specs.Program.{LinearProgram}
 use Rattle.linear_machine.specs.Frames.{Configuration}
-use Rattle.linked_stack.specs.ImagePlan.{Plan}
+use Rattle.linked_stack.specs.ImagePlan.{ImagePlan}
 use Rattle.whole_runs.specs.Matched.{IsMatched}
 use Rattle.body_states.specs.Sites.{Sites}
 use Rattle.body_states.specs.Bodies.{turns_left}
 use Rattle.body_steps.specs.Laws.{pace}
 use Rattle.turn_steps.specs.Outcomes.{Represents}
 
-abbrev pub StepMatches : Functions → List Funclet → LinearProgram → Plan → Sites → State
+abbrev pub StepMatches : Functions → List Funclet → LinearProgram → ImagePlan → Sites → State
     → Configuration → Instruction → Type 0
 StepMatches t fs program p q s c i =
     IsMatched t fs program pace turns_left (Represents t fs program p q) s c i

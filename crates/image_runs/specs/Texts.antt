@@ -12,7 +12,7 @@ use Rattle.seh_ir.specs.Lowered.{lowered}
 use Rattle.pace_bounds.specs.Laws.{pace_in, program_of}
 use Rattle.program_link.specs.Fits.{FitsProgram}
 use Rattle.image_states.specs.StartLaws.{HasBytes}
-use Rattle.image_runs.specs.Realises.{IsWritten}
+use Rattle.image_runs.specs.Realises.{IsImageOf}
 use Rattle.image_runs.specs.Passing.{IsRunning}
 use Rattle.image_runs.specs.Walks.{PassesTheFrames, IsOfProgram}
 
@@ -30,7 +30,7 @@ abbrev pub AcceptedEndAsPrograms : Type 0
 AcceptedEndAsPrograms =
     (text : List ℕ) (xs : List ExternalDeclaration) (bytes : List ℕ) → Within text xs
     → Accepted text xs → FitsProgram (lowered (program_of text xs))
-    → IsWritten bytes (program_of text xs) → (most : ℕ) → nodes_of xs ≤ most
+    → IsImageOf bytes (program_of text xs) → (most : ℕ) → nodes_of xs ≤ most
     → (arg m n : ℕ) → arg < 2 ^ 63 → (m + 1) * pace_in most ≤ n
     → Calm (program_of text xs) (pos arg) n ≡ true
     → (e : RunEnd) → (machine bytes (pos arg) m).end ≡ Some e → IsOfProgram e

@@ -8,22 +8,22 @@ use Rattle.linear_code.specs.Program.{LinearProgram}
 use Rattle.linear_machine.specs.Frames.{Configuration}
 use Rattle.linear_machine.specs.Run.{instruction_at}
 use Rattle.x64_templates.specs.Quiet.{IsReturn}
-use Rattle.linked_stack.specs.ImagePlan.{Plan}
+use Rattle.linked_stack.specs.ImagePlan.{ImagePlan}
 use Rattle.body_states.specs.Sites.{Sites}
 use Rattle.body_states.specs.Programs.{IsProgramImage}
 use Rattle.body_states.specs.Bodies.{Begins}
 use Rattle.body_steps.specs.Known.{IsKnown}
 use Rattle.turn_steps.specs.Outcomes.{Represents}
 use Rattle.image_states.specs.Plans.{functions_of, funclets_of, plan_of, sites_of}
-use Rattle.image_states.specs.Compiled.{IsCompiled}
+use Rattle.image_states.specs.Compiled.{HasWholeImage}
 use Rattle.image_runs.specs.Returns.{ReturnsWait}
 use Rattle.image_runs.specs.Live.{WalkGives}
-use Rattle.image_runs.specs.Within.{IsWithin, IsQuietHere}
+use Rattle.image_runs.specs.Within.{IsWithinInstruction, IsQuietHere}
 
 -- in every state that represents a configuration the walk gives the frames that are live there
 abbrev pub WalksGiveTheFrames : Type 0
 WalksGiveTheFrames =
-    (t : Functions) (fs : List Funclet) (program : LinearProgram) (p : Plan) (q : Sites)
+    (t : Functions) (fs : List Funclet) (program : LinearProgram) (p : ImagePlan) (q : Sites)
     → IsProgramImage t fs program p q → ReturnsWait t fs program p q
     → (s : State) (c : Configuration) → Represents t fs program p q s c → IsKnown program c
     → WalkGives t fs program p s c
@@ -31,34 +31,34 @@ WalksGiveTheFrames =
 -- and in the midst of its instruction, as long as the stack from RSP up is as it was
 abbrev pub WalksGiveTheFramesWithin : Type 0
 WalksGiveTheFramesWithin =
-    (t : Functions) (fs : List Funclet) (program : LinearProgram) (p : Plan) (q : Sites)
+    (t : Functions) (fs : List Funclet) (program : LinearProgram) (p : ImagePlan) (q : Sites)
     → IsProgramImage t fs program p q → ReturnsWait t fs program p q
     → (s u : State) (c : Configuration) → Represents t fs program p q s c → IsKnown program c
-    → IsWithin t fs program p q s u c
+    → IsWithinInstruction t fs program p q s u c
     → WalkGives t fs program p u c
 
 -- an instruction that is no return begins so
 abbrev pub BeginningsAreWithin : Type 0
 BeginningsAreWithin =
-    (t : Functions) (fs : List Funclet) (program : LinearProgram) (p : Plan) (q : Sites)
+    (t : Functions) (fs : List Funclet) (program : LinearProgram) (p : ImagePlan) (q : Sites)
     → IsProgramImage t fs program p q
     → (s : State) (c : Configuration) (i : Instruction) → Begins t fs program p q s c
     → instruction_at program c ≡ Some i → (IsReturn i → ⊥)
-    → IsWithin t fs program p q s s c
+    → IsWithinInstruction t fs program p q s s c
 
 -- it is so after each machine instruction that writes no memory, up to the last one of the
 -- instruction
 abbrev pub QuietStepsStayWithin : Type 0
 QuietStepsStayWithin =
-    (t : Functions) (fs : List Funclet) (program : LinearProgram) (p : Plan) (q : Sites)
+    (t : Functions) (fs : List Funclet) (program : LinearProgram) (p : ImagePlan) (q : Sites)
     → IsProgramImage t fs program p q
-    → (s u v : State) (c : Configuration) (w : IsWithin t fs program p q s u c)
+    → (s u v : State) (c : Configuration) (w : IsWithinInstruction t fs program p q s u c)
     → IsQuietHere t fs program p q s u c w → step u ≡ Ok v
-    → IsWithin t fs program p q s v c
+    → IsWithinInstruction t fs program p q s v c
 
 -- of an image that is linked, a body that is about to return is as at any other instruction
 abbrev pub LinkedReturnsWait : Type 0
 LinkedReturnsWait =
-    (program : LinearProgram) → IsCompiled program
+    (program : LinearProgram) → HasWholeImage program
     → ReturnsWait (functions_of program) (funclets_of program) program (plan_of program)
     (sites_of program)

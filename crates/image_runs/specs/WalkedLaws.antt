@@ -10,7 +10,7 @@ use Rattle.ir_linked.specs.Pace.{pace_of}
 use Rattle.unset_locals.specs.Reads.{ReadsNoUnset}
 use Rattle.image_states.specs.StartLaws.{HasBytes}
 use Rattle.image_runs.specs.Sound.{IsLinkable}
-use Rattle.image_runs.specs.Realises.{IsWritten}
+use Rattle.image_runs.specs.Realises.{IsImageOf}
 use Rattle.image_runs.specs.Passing.{IsRunning}
 use Rattle.image_runs.specs.Walks.{PassesTheFrames, IsOfProgram}
 
@@ -27,6 +27,6 @@ RunsPassTheFrames =
 abbrev pub RunsEndAsPrograms : Type 0
 RunsEndAsPrograms =
     (program : Program) → IsLinkable program → ReadsNoUnset (lowered program) → (bytes : List ℕ)
-    → IsWritten bytes program
+    → IsImageOf bytes program
     → (arg m n : ℕ) → arg < 2 ^ 63 → (m + 1) * pace_of program ≤ n → Calm program (pos arg) n ≡ true
     → (e : RunEnd) → (machine bytes (pos arg) m).end ≡ Some e → IsOfProgram e

@@ -14,7 +14,7 @@ use Rattle.linear_machine.specs.Run.{start}
 use Rattle.whole_runs.specs.Comes.{Comes}
 use Rattle.compiled_runs.specs.Laws.{most_before_main}
 use Rattle.seh_ir.specs.Lowered.{lowered}
-use Rattle.linked_stack.specs.ImagePlan.{Plan}
+use Rattle.linked_stack.specs.ImagePlan.{ImagePlan}
 use Rattle.unset_locals.specs.Twins.{AreTwins}
 use Rattle.body_states.specs.Bodies.{turns_left}
 use Rattle.body_steps.specs.Laws.{pace}
@@ -25,7 +25,7 @@ use Rattle.image_runs.specs.Passing.{Passes}
 
 -- the walk gives the frames that are live in a configuration; a local that no instruction has set
 -- may hold another number than linear code has there
-pub record ShowsFrames (t : Functions) (fs : List Funclet) (program : LinearProgram) (p : Plan)
+pub record ShowsFrames (t : Functions) (fs : List Funclet) (program : LinearProgram) (p : ImagePlan)
     (s : State) (c : Configuration) : Type 0 where
   pub twin : Configuration
   pub twins : AreTwins program c twin

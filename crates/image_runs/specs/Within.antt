@@ -10,7 +10,7 @@ use Rattle.host_model.specs.declared.funclet.Funclet.{Funclet}
 use Rattle.linear_code.specs.Program.{LinearProgram, LinearBody}
 use Rattle.linear_machine.specs.Frames.{body_of, Configuration}
 use Rattle.template_code.specs.Bytes.{size}
-use Rattle.linked_stack.specs.ImagePlan.{Plan, InCode}
+use Rattle.linked_stack.specs.ImagePlan.{ImagePlan, InCode}
 use Rattle.linked_stack.specs.ListLaws.{KeepsStack}
 use Rattle.body_states.specs.Sites.{Sites}
 use Rattle.body_states.specs.Programs.{HasProgram, IsResumed}
@@ -19,7 +19,8 @@ use Rattle.image_runs.specs.Quiet.{is_quiet}
 -- RIP is at a machine instruction of the instruction that a configuration is at, which is no
 -- return; RSP and the nonvolatile registers, the stack from RSP up, and all code are as they were
 -- where it began
-pub record IsWithin (t : Functions) (fs : List Funclet) (program : LinearProgram) (p : Plan)
+pub record IsWithinInstruction (t : Functions) (fs : List Funclet) (program : LinearProgram)
+    (p : ImagePlan)
     (q : Sites) (s u : State) (c : Configuration) : Type 0 where
   pub code : LinearBody
   pub body : body_of program c.frame.body ≡ Some code
@@ -32,9 +33,9 @@ pub record IsWithin (t : Functions) (fs : List Funclet) (program : LinearProgram
 
 -- a machine instruction that writes no memory, and no register but RAX, RCX and RDX; another one of
 -- the instruction comes after it
-pub record IsQuietHere (t : Functions) (fs : List Funclet) (program : LinearProgram) (p : Plan)
+pub record IsQuietHere (t : Functions) (fs : List Funclet) (program : LinearProgram) (p : ImagePlan)
     (q : Sites) (s u : State) (c : Configuration)
-    (w : IsWithin t fs program p q s u c) : Type 0 where
+    (w : IsWithinInstruction t fs program p q s u c) : Type 0 where
   pub quiet : is_quiet w.resumed.item ≡ true
   pub spelling : is_encodable w.resumed.item ≡ true
   pub next : Instr

@@ -35,7 +35,7 @@ use Rattle.program_shape.proofs.Placing.{bounds_rise}
 use Rattle.program_shape.proofs.Shape.{no_funclet, as_long, begin_is, funclet_is, funclet_size}
 use Rattle.body_states.specs.Programs.{IsInImage}
 use Rattle.image_states.specs.Plans.{functions_of, funclets_of, routine_of, address_of, plan_of, sites_of}
-use Rattle.image_states.specs.Compiled.{IsCompiled}
+use Rattle.image_states.specs.Compiled.{HasWholeImage}
 use Rattle.image_states.proofs.Places.{IsBody, is_body}
 
 -- ---- what no access of the source reaches
@@ -90,7 +90,7 @@ check_stack_size : sizes check_stack ≡ 21
 unfolding size modrm
 check_stack_size = refl
 
-module _ (program : LinearProgram) (c : IsCompiled program) where
+module _ (program : LinearProgram) (c : HasWholeImage program) where
   abbrev fits : FitsProgram program
   fits = c.fits
 
@@ -113,7 +113,7 @@ module _ (program : LinearProgram) (c : IsCompiled program) where
 
 -- ---- a body
 
-module _ (program : LinearProgram) (c : IsCompiled program) (name : BodyName) (b : LinearBody) (is : body_of program name ≡ Some b) where
+module _ (program : LinearProgram) (c : HasWholeImage program) (name : BodyName) (b : LinearBody) (is : body_of program name ≡ Some b) where
   abbrev x : Placed
   x = routine_of program name
 
@@ -144,7 +144,7 @@ module _ (program : LinearProgram) (c : IsCompiled program) (name : BodyName) (b
   body_inside = let h = here in let before = h.here in in_image program c x.begin (end_of x) (omega arith) (routine_end program x c.fits here)
 
 -- a funclet has code before its body
-entry_some : (program : LinearProgram) (c : IsCompiled program) (name : BodyName) (b : LinearBody) (is : body_of program name ≡ Some b) (fl : LinearFunclet) → (routine_of program name).routine ≡ funclet program fl → 0 < entry_size (routine_of program name).routine
+entry_some : (program : LinearProgram) (c : HasWholeImage program) (name : BodyName) (b : LinearBody) (is : body_of program name ≡ Some b) (fl : LinearFunclet) → (routine_of program name).routine ≡ funclet program fl → 0 < entry_size (routine_of program name).routine
 entry_some program c name b is fl e =
     let h = here program c name b is in
     let x = routine_of program name in
@@ -157,7 +157,7 @@ entry_some program c name b is fl e =
 
 -- ---- funclets begin elsewhere
 
-module _ (program : LinearProgram) (c : IsCompiled program) where
+module _ (program : LinearProgram) (c : HasWholeImage program) where
   -- a funclet begins within the text
   pub funclet_end : (k : ℕ) → k < length program.funclets → funclet_begin program k < first program.globals + total (routines program)
   funclet_end k lt =

@@ -49,7 +49,7 @@ use Rattle.body_states.specs.Sites.{begin_of, making_size, give_back, code_of}
 use Rattle.body_states.specs.Programs.{HasProgram}
 use Rattle.body_states.specs.Callers.{FindsReturn}
 use Rattle.image_states.specs.Plans.{functions_of, funclets_of, routine_of, plan_of, sites_of}
-use Rattle.image_states.specs.Compiled.{IsCompiled}
+use Rattle.image_states.specs.Compiled.{HasWholeImage}
 use Rattle.image_states.proofs.Addresses.{place, here}
 use Rattle.image_states.proofs.Entering.{frame_same, code_same}
 use Rattle.image_states.proofs.Framed.{executable_of}
@@ -73,7 +73,7 @@ near_at P (j ∷ is) (suc number) i all e = near_at P is number i all.1 e
 
 -- ---- the routine of a body
 
-module _ (program : LinearProgram) (c : IsCompiled program) (name : BodyName) (b : LinearBody) (is : body_of program name ≡ Some b) (m : Memory) where
+module _ (program : LinearProgram) (c : HasWholeImage program) (name : BodyName) (b : LinearBody) (is : body_of program name ≡ Some b) (m : Memory) where
   abbrev x : Placed
   x = routine_of program name
 

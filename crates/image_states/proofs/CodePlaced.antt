@@ -19,7 +19,7 @@ use Rattle.pe_write.specs.ImportTables as importing
 use Rattle.pe_write.specs.Program.{Program, image_of, sections_of, imports_of, sizes_of, rdata_at, end_at}
 use Rattle.pe_write.proofs.Programs.{listed}
 use Rattle.host_model.specs.Loading.{section_of, mode_in, stored_byte, with_slots, mapped}
-use Rattle.host_model.specs.Slots.{AreApart}
+use Rattle.host_model.specs.Slots.{SlotsAreApart}
 use Rattle.host_model.proofs.Slots.{slots_read}
 use Rattle.frame_rules.specs.Bytes.{IsExecutableAt}
 use Rattle.c_operations.specs.declared.built_in.BuiltIn.{BuiltIn}
@@ -46,7 +46,7 @@ use Rattle.program_frames.proofs.Loaded.{images_have_text, texts_are_fixed}
 use Rattle.body_states.specs.Sites.{begin_of, code_of}
 use Rattle.body_states.specs.Programs.{service_of, HasService, HasProgram}
 use Rattle.image_states.specs.Plans.{functions_of, funclets_of, routine_of, plan_of, sites_of}
-use Rattle.image_states.specs.Compiled.{IsCompiled}
+use Rattle.image_states.specs.Compiled.{HasWholeImage}
 use Rattle.image_states.proofs.Addresses.{InImage, in_image, reserved, place, here}
 use Rattle.image_states.proofs.Entering.{code_same}
 use Rattle.image_states.proofs.Data.{tables_there}
@@ -73,7 +73,7 @@ check_stack_size : sizes check_stack ≡ 21
 unfolding size modrm
 check_stack_size = refl
 
-module _ (program : LinearProgram) (c : IsCompiled program) where
+module _ (program : LinearProgram) (c : HasWholeImage program) where
   abbrev p : Program
   p = linked program
 
@@ -192,14 +192,14 @@ module _ (program : LinearProgram) (c : IsCompiled program) where
   abbrev i4 : Import
   i4 = named imports.Put (r + 88 + 8 + 8 + 8 + 8)
 
-  reads : (before : List Import) (i : Import) (later : List Import) (service : Service) → before ++ (i ∷ later) ≡ imports_of p → image_base + i.slot + 8 ≤ 2 ^ 64 → service_named i.name ≡ Some service → AllByRecursion (λ (j : Import). AreApart (image_base + i.slot) (image_base + j.slot)) later
+  reads : (before : List Import) (i : Import) (later : List Import) (service : Service) → before ++ (i ∷ later) ≡ imports_of p → image_base + i.slot + 8 ≤ 2 ^ 64 → service_named i.name ≡ Some service → AllByRecursion (λ (j : Import). SlotsAreApart (image_base + i.slot) (image_base + j.slot)) later
       → number_at m.byte 8 (image_base + i.slot) ≡ address_of service
   unfolding mapped
   reads before i later service same fits name apart =
       ap (λ (is : List Import). number_at (with_slots image_base (stored_byte (image_of p)) is) 8 (image_base + i.slot)) (listed p (is program c.fits) ∙ sym same)
       ∙ slots_read image_base (stored_byte (image_of p)) before i later service fits name apart
 
-  apart_after : (x y : ℕ) → x + 8 ≤ y → y + 8 ≤ 2 ^ 48 → AreApart (image_base + x) (image_base + y)
+  apart_after : (x y : ℕ) → x + 8 ≤ y → y + 8 ≤ 2 ^ 48 → SlotsAreApart (image_base + x) (image_base + y)
   apart_after x y le small = record { apart = inl (omega arith); fits = omega arith }
 
   raise_reads : number_at m.byte 8 (image_base + (r + 88)) ≡ address_of services.RaiseException

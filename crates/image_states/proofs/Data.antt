@@ -14,7 +14,7 @@ use Rattle.pe_image.specs.Image.{Section, Image}
 use Rattle.pe_image.specs.Imports.{Import}
 use Rattle.pe_image.specs.Imports as importing
 use Rattle.pe_write.specs.ImportTables.{services, imported, import_tables}
-use Rattle.pe_write.specs.Program.{Program, IsProgram, image_of, sections_of, imports_of, parts_of, sizes_of, text_at, rdata_at, xdata_at, pdata_at, end_at, data_section, text_section, rdata_section, xdata_section, pdata_section}
+use Rattle.pe_write.specs.Program.{Program, CanBeImage, image_of, sections_of, imports_of, parts_of, sizes_of, text_at, rdata_at, xdata_at, pdata_at, end_at, data_section, text_section, rdata_section, xdata_section, pdata_section}
 use Rattle.pe_image.specs.Numbers.{zeros}
 use Rattle.pe_write.specs.Written.{raw_size, raw_data, written, dos_header, file_header, standard_fields, windows_fields, directories, table_of}
 use Rattle.pe_write.proofs.Programs.{listed}
@@ -28,7 +28,7 @@ use Rattle.x64_templates.specs.Frames.{Agrees}
 use Rattle.program_link.specs.Linked.{text_begin, data_size, linked}
 use Rattle.program_tables.proofs.Table.{is, text_is, image_small}
 use Rattle.program_frames.specs.InMemory.{image_base}
-use Rattle.image_states.specs.Compiled.{IsCompiled}
+use Rattle.image_states.specs.Compiled.{HasWholeImage}
 use Rattle.image_states.specs.StartLaws.{HasBytes}
 use Rattle.image_states.proofs.Sections.{covered, below, above, here, past, of_section, AllBytes, bytes_front, bytes_back, stored_small, slots_small, slots_past, get_zeros, IsApart}
 use Rattle.host_layout.specs.declared.limit.TheConstants.{MOST_IMAGE}
@@ -69,7 +69,7 @@ or_none : (a b : Bool) → (a || b) ≡ false → (a ≡ false) × (b ≡ false)
 or_none true b e = absurd (false≢true (sym e))
 or_none false b e = (refl, e)
 
-module _ (program : LinearProgram) (c : IsCompiled program) where
+module _ (program : LinearProgram) (c : HasWholeImage program) where
   abbrev pub p : Program
   p = linked program
 

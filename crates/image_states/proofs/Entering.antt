@@ -41,7 +41,7 @@ use Rattle.program_frames.proofs.CodeInMemory.{IsThere}
 use Rattle.program_frames.proofs.Layouts.{size_of, IsSized, sized}
 use Rattle.body_states.specs.Sites.{links_of, begin_of, making, frame_code, base_in, parent_base, keep_base, keep_argument, function_arguments, funclet_arguments, arguments_code, entry_code, code_of}
 use Rattle.image_states.specs.Plans.{is_leaf, routine_of, address_of, plan_of, sites_of}
-use Rattle.image_states.specs.Compiled.{IsCompiled}
+use Rattle.image_states.specs.Compiled.{HasWholeImage}
 use Rattle.image_states.proofs.Places.{IsBody, is_function, is_funclet}
 use Rattle.image_states.proofs.Addresses.{place, here}
 use Rattle.image_states.proofs.Shifts.{AreMoved, call_moved, code_moved}
@@ -75,7 +75,7 @@ kind_same : (y : Layout) (k : FuncletKind) (parent : Option ℕ) (slot : ℕ) �
 kind_same y Filter parent slot e = (λ i. base_same parent slot i ++ keep_argument y Filter) ∙ ap (λ (o : Option ℕ). link_entries.keep_base parent (texts.base_of y o) ++ keep_argument y Filter) (sym e)
 kind_same y (Finally flag) parent slot e = (λ i. base_same parent slot i ++ keep_argument y (Finally flag)) ∙ ap (λ (o : Option ℕ). link_entries.keep_base parent (texts.base_of y o) ++ keep_argument y (Finally flag)) (sym e)
 
-module _ (program : LinearProgram) (c : IsCompiled program) where
+module _ (program : LinearProgram) (c : HasWholeImage program) where
   parent_is : (parent : Option ℕ) → HasParent program parent → parent_base (plan_of program) parent ≡ kept_by program parent
   parent_is None h = refl
   parent_is (Some k) h =
@@ -119,7 +119,7 @@ label_is y at (i ∷ body) (suc l) end e = let r = label_is y (at + template_siz
 
 -- ---- all of it
 
-module _ (program : LinearProgram) (c : IsCompiled program) (name : BodyName) (b : LinearBody) (is : body_of program name ≡ Some b) where
+module _ (program : LinearProgram) (c : HasWholeImage program) (name : BodyName) (b : LinearBody) (is : body_of program name ≡ Some b) where
   abbrev x : Placed
   x = routine_of program name
 

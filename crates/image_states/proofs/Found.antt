@@ -39,7 +39,7 @@ use Rattle.body_states.specs.Sites.{begin_of, making_size, give_back}
 use Rattle.body_states.specs.Programs.{FindsCallers, FindsCallersOutside}
 use Rattle.body_states.specs.Callers.{FindsReturn}
 use Rattle.image_states.specs.Plans.{functions_of, funclets_of, is_leaf, routine_of, address_of, plan_of, sites_of}
-use Rattle.image_states.specs.Compiled.{IsCompiled}
+use Rattle.image_states.specs.Compiled.{HasWholeImage}
 use Rattle.image_states.proofs.Addresses.{place, label_rises, label_inside}
 use Rattle.image_states.proofs.Entering.{arguments_same}
 use Rattle.image_states.proofs.Framed.{framed_of}
@@ -61,7 +61,7 @@ beyond s rva info at (r ∷ rs) le =
     past_entry s rva (record { routine = r; begin = at; info = info }) r.frame (tables.entries_of s (placed_from s next (at + routine_size r) rs)) (omega arith)
     ∙ beyond s rva next (at + routine_size r) rs (omega arith)
 
-module _ (program : LinearProgram) (c : IsCompiled program) (m : Memory) where
+module _ (program : LinearProgram) (c : HasWholeImage program) (m : Memory) where
   abbrev table : Functions
   table = functions_of program
 
@@ -94,7 +94,7 @@ module _ (program : LinearProgram) (c : IsCompiled program) (m : Memory) where
 
 -- ---- all of it
 
-module _ (program : LinearProgram) (c : IsCompiled program) where
+module _ (program : LinearProgram) (c : HasWholeImage program) where
   thunk_low : (f : BuiltIn) → thunk_of (thunks_at (site_of program).text) f < first program.globals
   thunk_low Put = omega arith
   thunk_low Protect = omega arith

@@ -34,7 +34,7 @@ use Rattle.program_frames.proofs.Waiting.{frame_is_at, leaves_are_at}
 use Rattle.body_states.specs.Programs.{frame_with, HasProgram, IsResumed, IsFramed, FramesAreWaiting, HasAllocation, LeavesAreWaiting}
 use Rattle.body_states.specs.Sites.{links_of, begin_of, code_of}
 use Rattle.image_states.specs.Plans.{functions_of, funclets_of, is_leaf, or_none, routine_of, address_of, plan_of, sites_of}
-use Rattle.image_states.specs.Compiled.{IsCompiled}
+use Rattle.image_states.specs.Compiled.{HasWholeImage}
 use Rattle.image_states.proofs.Places.{IsBody}
 use Rattle.image_states.proofs.Addresses.{place, here, label_inside}
 use Rattle.image_states.proofs.Entering.{moved, code_same}
@@ -69,7 +69,7 @@ near_at P [] number i all e = absurd (none_some e)
 near_at P (j ∷ is) zero i all e = subst P (some_same e) all.0
 near_at P (j ∷ is) (suc number) i all e = near_at P is number i all.1 e
 
-module _ (program : LinearProgram) (c : IsCompiled program) where
+module _ (program : LinearProgram) (c : HasWholeImage program) where
   -- where a body waits is in its routine
   in_body : (name : BodyName) (b : LinearBody) (is : body_of program name ≡ Some b) (label rip : ℕ) → (r : IsResumed (functions_of program) (funclets_of program) program (plan_of program) (sites_of program) name b label rip)
       → IsInBody program (routine_of program name) (template_at (routine_of program name) label + sizes r.done)

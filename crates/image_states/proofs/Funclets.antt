@@ -17,7 +17,7 @@ use Rattle.linear_code.specs.declared.program.FuncletKind.{FuncletKind}
 use Rattle.linear_code.specs.declared.program.FuncletKind.TheVariants.{Filter, Finally}
 use Rattle.linear_code.specs.Program.{LinearBody, LinearFunction, LinearFunclet, LinearProgram}
 use Rattle.linear_machine.specs.Frames.{BodyName, FunctionBody, FuncletBody, function_body, funclet_body, body_of}
-use Rattle.ir_typed.specs.Bodies.{IsFilter, IsFinally, IsKindOf, IsRegionOf}
+use Rattle.ir_typed.specs.Bodies.{IsFilterKind, IsFinallyKind, IsKindOf, IsRegionOf}
 use Rattle.program_link.specs.Fits.{function_bodies, funclet_bodies}
 use Rattle.program_link.specs.Linked.{first, total}
 use Rattle.program_tables.specs.Entries.{entries}
@@ -30,7 +30,7 @@ use Rattle.program_shape.proofs.Shape.{rises, tables_have_shape, begin_is, as_lo
 use Rattle.body_states.specs.Programs.{FuncletsBegin}
 use Rattle.body_states.specs.Programs as states
 use Rattle.image_states.specs.Plans.{functions_of, funclets_of, plan_of, sites_of}
-use Rattle.image_states.specs.Compiled.{IsIn, IsCompiled}
+use Rattle.image_states.specs.Compiled.{IsMember, HasWholeImage}
 use Rattle.image_states.proofs.Inserting.{Mask, with_one, sub, same_sub, insert, all, arrives, arrives_at_none}
 use Rattle.image_states.proofs.Addresses.{funclet_end}
 
@@ -48,7 +48,7 @@ mask_keeps : (ks : List ℕ) (m : Mask) (j : ℕ) → m j ≡ true → mask_with
 mask_keeps [] m j e = e
 mask_keeps (k ∷ ks) m j e = mask_keeps ks (with_one k m) j (or_right (j == k) (m j) e)
 
-mask_has : (ks : List ℕ) (m : Mask) (j : ℕ) → IsIn j ks → mask_with ks m j ≡ true
+mask_has : (ks : List ℕ) (m : Mask) (j : ℕ) → IsMember j ks → mask_with ks m j ≡ true
 mask_has [] m j h = absurd h
 mask_has (k ∷ ks) m j (inl e) = mask_keeps ks (with_one k m) j (ap (λ (b : Bool). b || m j) (eq-eqb j k e))
 mask_has (k ∷ ks) m j (inr h) = mask_has ks (with_one k m) j h
@@ -73,11 +73,11 @@ abbrev pub kind_if : Option LinearFunclet → Bool
 kind_if None = false
 kind_if (Some f) = is_finally f.kind
 
-finally_true : (k : FuncletKind) → IsFinally k → is_finally k ≡ true
+finally_true : (k : FuncletKind) → IsFinallyKind k → is_finally k ≡ true
 finally_true Filter h = absurd h
 finally_true (Finally flag) h = refl
 
-filter_false : (k : FuncletKind) → IsFilter k → is_finally k ≡ false
+filter_false : (k : FuncletKind) → IsFilterKind k → is_finally k ≡ false
 filter_false Filter h = refl
 filter_false (Finally flag) h = absurd h
 
@@ -106,7 +106,7 @@ module _ (program : LinearProgram) where
   fit_both [] b h k = k
   fit_both (r ∷ a) b h k = (h.0, fit_both a b h.1 k)
 
-module _ (program : LinearProgram) (c : IsCompiled program) where
+module _ (program : LinearProgram) (c : HasWholeImage program) where
   functions_fit : (fs : List LinearFunction) (index : ℕ) → ((j : ℕ) (f : LinearFunction) → slice_get fs j ≡ Some f → slice_get program.functions (index + j) ≡ Some f) → AllFit program (regions_in (function_bodies fs))
   functions_fit [] index h = tt
   functions_fit (f ∷ fs) index h =

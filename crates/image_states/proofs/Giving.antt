@@ -48,7 +48,7 @@ use Rattle.program_shape.proofs.Placing.{IsBare, routines_bare}
 use Rattle.program_shape.proofs.Shape.{entries_are_flagged}
 use Rattle.linked_stack.specs.ImagePlan.{InCode, by_parent, parent_body, IsFunclet, IsFinallyRow, JumpsTo, IsFilterRow, IsAlwaysRow, IsOfKind, IsRegion, AreRegions, AllFinally, AllExcept, IsFlagged, IsEntryOf, IsGiven, Gives}
 use Rattle.image_states.specs.Plans.{functions_of, funclets_of, is_leaf, or_none, routine_of, address_of, plan_of}
-use Rattle.image_states.specs.Compiled.{IsCompiled}
+use Rattle.image_states.specs.Compiled.{HasWholeImage}
 use Rattle.image_states.proofs.Places.{IsBody}
 use Rattle.image_states.proofs.Addresses.{offset_mono, past, place, here, label_rises, label_inside, not_first, funclet_end, begin_least}
 use Rattle.image_states.proofs.Entering.{label_is}
@@ -71,7 +71,7 @@ or_second false b e = e
 or_both : (a b c d : Bool) → a ≡ c → b ≡ d → (a || b) ≡ (c || d)
 or_both a b c d e f = λ i. e i || f i
 
-module _ (program : LinearProgram) (c : IsCompiled program) (name : BodyName) (b : LinearBody) (is : body_of program name ≡ Some b) where
+module _ (program : LinearProgram) (c : HasWholeImage program) (name : BodyName) (b : LinearBody) (is : body_of program name ≡ Some b) where
   abbrev x : Placed
   x = routine_of program name
 
@@ -338,5 +338,5 @@ module _ (program : LinearProgram) (c : IsCompiled program) (name : BodyName) (b
   pub given : IsGiven (functions_of program) (funclets_of program) program (plan_of program) name b ((plan_of program).leaf name)
   given = given_by ((plan_of program).leaf name) refl
 
-pub gives : (program : LinearProgram) (c : IsCompiled program) → Gives (functions_of program) (funclets_of program) program (plan_of program)
+pub gives : (program : LinearProgram) (c : HasWholeImage program) → Gives (functions_of program) (funclets_of program) program (plan_of program)
 gives program c name b is = given program c name b is

@@ -14,7 +14,7 @@ use Rattle.program_frames.specs.InMemory.{image_base}
 use Rattle.body_states.specs.Sites.{begin_of, entry_code}
 use Rattle.body_states.specs.Programs.{HasAddresses}
 use Rattle.image_states.specs.Plans.{functions_of, funclets_of, routine_of, address_of, plan_of, sites_of}
-use Rattle.image_states.specs.Compiled.{IsCompiled}
+use Rattle.image_states.specs.Compiled.{HasWholeImage}
 use Rattle.image_states.specs.StateLaws.{ImagesArePrograms}
 use Rattle.image_states.proofs.Addresses.{InImage, check_stack_inside, place, here, label_rises, body_inside, not_first}
 use Rattle.image_states.proofs.Slots.{laid_out}
@@ -25,7 +25,7 @@ use Rattle.image_states.proofs.Giving.{gives}
 use Rattle.image_states.proofs.Resuming.{resumptions}
 use Rattle.image_states.proofs.Found.{callers, callers_outside}
 
-module _ (program : LinearProgram) (c : IsCompiled program) (name : BodyName) (b : LinearBody) (is : body_of program name ≡ Some b) where
+module _ (program : LinearProgram) (c : HasWholeImage program) (name : BodyName) (b : LinearBody) (is : body_of program name ≡ Some b) where
   abbrev x : Placed
   x = routine_of program name
 

@@ -21,7 +21,7 @@ use Rattle.program_shape.specs.Rows.{funclet_begin}
 use Rattle.program_shape.proofs.Placing.{bounds_rise}
 use Rattle.program_shape.proofs.Shape.{as_long, begin_is}
 use Rattle.image_states.specs.Plans.{is_leaf, routine_of, plan_of}
-use Rattle.image_states.specs.Compiled.{IsCompiled}
+use Rattle.image_states.specs.Compiled.{HasWholeImage}
 use Rattle.image_states.specs.StateLaws.{LeavesCallNothing, FunctionsApart}
 use Rattle.image_states.proofs.Places.{is_function, is_funclet}
 use Rattle.image_states.proofs.Addresses.{place, label_below}
@@ -59,7 +59,7 @@ leaf_then false fn e = absurd (false≢true e)
 
 -- ---- leaf functions
 
-module _ (program : LinearProgram) (c : IsCompiled program) where
+module _ (program : LinearProgram) (c : HasWholeImage program) where
   abbrev Silent : LinearBody → Type 0
   Silent b = (label : ℕ) (i : Instruction) → slice_get b.code label ≡ Some i → is_call i ≡ false
 
@@ -84,7 +84,7 @@ leaves_call_nothing program c name b label i is leaf there = calls program c nam
 
 -- ---- functions and funclets
 
-module _ (program : LinearProgram) (c : IsCompiled program) where
+module _ (program : LinearProgram) (c : HasWholeImage program) where
   below : (f : ℕ) (o : Option LinearFunction) (b : LinearBody) → slice_get program.functions f ≡ o → function_body o ≡ Some b → f < length program.functions
   below f None b e h = absurd (none_some h)
   below f (Some fn) b e h = slice_get_within program.functions f fn e

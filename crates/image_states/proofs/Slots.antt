@@ -6,7 +6,7 @@ use Rattle.std.proofs.lemmas.Option.{slice_get_within, get_or_from_slice_get, sl
 use Rattle.linear_code.specs.Program.{LinearBody, LinearFunction, LinearFunclet, LinearProgram}
 use Rattle.linear_machine.specs.Frames.{BodyName, FunctionBody, FuncletBody, function_body, funclet_body, body_of}
 use Rattle.template_code.specs.declared.layout.Layout.{Layout}
-use Rattle.linked_stack.specs.ImagePlan.{Plan}
+use Rattle.linked_stack.specs.ImagePlan.{ImagePlan}
 use Rattle.program_link.specs.Fits.{FitsBody, FitsFunction, FitsFunclet, FitsProgram}
 use Rattle.program_link.specs.Routines.{RoutineView, has_call, leaf_if, function_frame, funclet_frame, funclet, nothing}
 use Rattle.program_link.specs.Routines as link
@@ -14,7 +14,7 @@ use Rattle.x64_code.proofs.Nearby.{all_at}
 use Rattle.program_tables.proofs.Lookups.{some_same, none_some}
 use Rattle.body_states.specs.Layouts.{IsFunctionLayout, IsLeafLayout, IsFuncletLayout, IsLayoutIf, IsFuncletPlan, IsLaidOut, AreLaidOut}
 use Rattle.image_states.specs.Plans.{is_leaf, routine_of, plan_of}
-use Rattle.image_states.specs.Compiled.{IsFuncletSized, IsCompiled}
+use Rattle.image_states.specs.Compiled.{IsFuncletSized, HasWholeImage}
 use Rattle.image_states.proofs.Places.{IsFunction, is_function, IsFunclet, is_funclet}
 
 -- ---- functions
@@ -24,7 +24,7 @@ leaf_few b other leaf e holds =
     let p = and_parts other (link.is_leaf b) (e ∙ holds) in
     leb-true (b.locals + b.temporaries) 4 (and_parts (nat_le (b.locals + b.temporaries) 4) ((length b.regions == 0) && not (has_call b.code)) p.1).0
 
-module _ (program : LinearProgram) (p : Plan) where
+module _ (program : LinearProgram) (p : ImagePlan) where
   function_by : (leaf : Bool) (fn : LinearFunction) → FitsBody fn.body → (leaf ≡ true → fn.body.locals + fn.body.temporaries ≤ 4) → IsLayoutIf program p (leaf_if leaf fn).layout fn.body (is_leaf (leaf_if leaf fn).frame)
   function_by true fn fits few = record { none = refl; frame = refl; locals = refl; temporaries = refl; few = few refl }
   function_by false fn fits few =
@@ -51,7 +51,7 @@ funclet_by program fl fn y e same few =
 
 -- ---- all bodies
 
-module _ (program : LinearProgram) (c : IsCompiled program) where
+module _ (program : LinearProgram) (c : HasWholeImage program) where
   function_laid : (f : ℕ) (o : Option LinearFunction) (b : LinearBody) → slice_get program.functions f ≡ o → function_body o ≡ Some b → IsLaidOut program (plan_of program) (FunctionBody f) b
   function_laid f None b e h = absurd (none_some h)
   function_laid f (Some fn) b e h =

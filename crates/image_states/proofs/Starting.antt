@@ -14,7 +14,7 @@ use Rattle.host_model.specs.Loading.{section_of, reason_unless, first_of, of_tab
 use Rattle.linear_code.specs.Program.{LinearProgram}
 use Rattle.program_link.specs.Linked.{linked}
 use Rattle.program_tables.proofs.Table.{is, tables_are_read}
-use Rattle.image_states.specs.Compiled.{IsCompiled}
+use Rattle.image_states.specs.Compiled.{HasWholeImage}
 use Rattle.image_states.specs.StartLaws.{ImagesStart, ImagesLoad}
 use Rattle.image_states.proofs.Sections.{covered, above, here, past}
 use Rattle.image_states.proofs.Data.{globals, text, tables, infos, functions, agrees, stack_writes, arena_alone, data_alone}
@@ -28,7 +28,7 @@ images_start program c bytes = record { data_alone = data_alone program c bytes;
 none_of : (t p i e : Option LoadErr) → t ≡ None → p ≡ None → i ≡ None → e ≡ None → first_of (t ∷ p ∷ i ∷ e ∷ []) ≡ None
 none_of t p i e h1 h2 h3 h4 = rw (h1, h2, h3, h4) refl
 
-module _ (program : LinearProgram) (c : IsCompiled program) where
+module _ (program : LinearProgram) (c : HasWholeImage program) where
   abbrev p : Program
   p = linked program
 

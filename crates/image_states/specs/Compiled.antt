@@ -11,9 +11,9 @@ use Rattle.program_tables.specs.Ranges.{HasRegions}
 use Rattle.program_shape.specs.Rows.{named, regions, NamesFunclets}
 use Rattle.host_layout.specs.declared.limit.TheConstants.{MOST_IMAGE}
 
-abbrev pub IsIn : ℕ → List ℕ → Type 0
-IsIn k [] = ⊥
-IsIn k (x ∷ xs) = (k ≡ x) ⊎ IsIn k xs
+abbrev pub IsMember : ℕ → List ℕ → Type 0
+IsMember k [] = ⊥
+IsMember k (x ∷ xs) = (k ≡ x) ⊎ IsMember k xs
 
 -- a funclet's function has a frame, which has the locals that the funclet works on; its own is
 -- below a page
@@ -26,12 +26,12 @@ pub record IsFuncletSized (program : LinearProgram) (f : LinearFunclet) : Type 0
 
 -- it can be linked, into an image within its limit; its regions are ranges, which name each
 -- funclet once
-pub record IsCompiled (program : LinearProgram) : Type 0 where
+pub record HasWholeImage (program : LinearProgram) : Type 0 where
   pub fits : FitsProgram program
   pub small : end_at (sizes_of (linked program)) ≤ MOST_IMAGE
   pub ranges : HasRegions program
   pub names : NamesFunclets program
-  pub all_named : (k : ℕ) → k < length program.funclets → IsIn k (named (regions program))
+  pub all_named : (k : ℕ) → k < length program.funclets → IsMember k (named (regions program))
   pub whole : IsWhole program
   pub funclets : (k : ℕ) (f : LinearFunclet) → slice_get program.funclets k ≡ Some f
       → IsFuncletSized program f

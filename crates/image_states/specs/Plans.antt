@@ -37,7 +37,7 @@ use Rattle.program_tables.specs.Placed.{Placed, site_of, placed}
 use Rattle.program_tables.specs.Entries as tables
 use Rattle.program_frames.specs.InMemory.{image_base, template_at}
 use Rattle.program_shape.specs.Rows.{funclet_begin}
-use Rattle.linked_stack.specs.ImagePlan.{Plan}
+use Rattle.linked_stack.specs.ImagePlan.{ImagePlan}
 use Rattle.body_states.specs.Sites.{Sites}
 use Rattle.body_states.specs.Programs.{view_of}
 
@@ -141,7 +141,7 @@ resumes program resumption b saved =
 -- ---- the plan
 
 -- where the parts of a program's image are
-abbrev pub plan_of : LinearProgram → Plan
+abbrev pub plan_of : LinearProgram → ImagePlan
 plan_of program = record {
   address = address_of program;
   funclet = λ k. image_base + funclet_begin program k;

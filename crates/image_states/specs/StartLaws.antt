@@ -9,7 +9,7 @@ use Rattle.linear_code.specs.Program.{LinearProgram}
 use Rattle.body_states.specs.Programs.{IsMachineMemory}
 use Rattle.program_link.specs.Linked.{linked}
 use Rattle.image_states.specs.Plans.{functions_of, funclets_of, plan_of, sites_of}
-use Rattle.image_states.specs.Compiled.{IsCompiled}
+use Rattle.image_states.specs.Compiled.{HasWholeImage}
 
 -- what is written is a list of bytes
 abbrev pub HasBytes : LinearProgram → Type 0
@@ -19,11 +19,12 @@ HasBytes program = AllByRecursion (λ b. b < 256) (written (parts_of (linked pro
 -- reach
 abbrev pub ImagesStart : Type 0
 ImagesStart =
-    (program : LinearProgram) → IsCompiled program → HasBytes program
+    (program : LinearProgram) → HasWholeImage program → HasBytes program
     → IsMachineMemory (functions_of program) (funclets_of program) program (plan_of program)
     (sites_of program) (mapped (image_of (linked program))) (first_memory program.globals)
 
 -- the image of a compiled program is loaded
 abbrev pub ImagesLoad : Type 0
 ImagesLoad =
-    (program : LinearProgram) → IsCompiled program → load_refusal (image_of (linked program)) ≡ None
+    (program : LinearProgram) → HasWholeImage program
+    → load_refusal (image_of (linked program)) ≡ None

@@ -6,19 +6,19 @@ use Rattle.linear_machine.specs.Frames.{BodyName, FunctionBody, body_of}
 use Rattle.ir_typed.specs.Apart.{is_call}
 use Rattle.body_states.specs.Programs.{IsProgramImage}
 use Rattle.image_states.specs.Plans.{functions_of, funclets_of, plan_of, sites_of}
-use Rattle.image_states.specs.Compiled.{IsCompiled}
+use Rattle.image_states.specs.Compiled.{HasWholeImage}
 
 -- its tables, addresses and frames
 abbrev pub ImagesArePrograms : Type 0
 ImagesArePrograms =
-    (program : LinearProgram) → IsCompiled program
+    (program : LinearProgram) → HasWholeImage program
     → IsProgramImage (functions_of program) (funclets_of program) program (plan_of program)
     (sites_of program)
 
 -- a leaf function calls nothing (Microsoft x64 ABI, "Leaf functions")
 abbrev pub LeavesCallNothing : Type 0
 LeavesCallNothing =
-    (program : LinearProgram) → IsCompiled program
+    (program : LinearProgram) → HasWholeImage program
     → (name : BodyName) (b : LinearBody) (label : ℕ) (i : Instruction)
     → body_of program name ≡ Some b → (plan_of program).leaf name ≡ true
     → slice_get b.code label ≡ Some i → is_call i ≡ false
@@ -26,7 +26,7 @@ LeavesCallNothing =
 -- a function that has code begins elsewhere than a funclet
 abbrev pub FunctionsApart : Type 0
 FunctionsApart =
-    (program : LinearProgram) → IsCompiled program
+    (program : LinearProgram) → HasWholeImage program
     → (f k : ℕ) (b : LinearBody)
     → body_of program (FunctionBody f) ≡ Some b → 0 < length b.code → k < length program.funclets
     → (sites_of program).function f ≢ (plan_of program).funclet k

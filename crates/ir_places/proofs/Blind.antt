@@ -32,7 +32,7 @@ use Rattle.seh_ir.specs.Lowered.{own_locals, all_locals, scope_of, lowered_funct
 use Rattle.ir_linked.proofs.SoundExpressions.{both_left, both_right, Knows, expression_fits}
 use Rattle.ir_bounds.proofs.PlainExpressions.{all_append}
 use Rattle.ir_typed.proofs.Stacked.{same_it, all_at}
-use Rattle.ir_places.specs.Blind.{IsBlind, IsFilter}
+use Rattle.ir_places.specs.Blind.{IsBlind, IsFilterBody}
 use Rattle.ir_places.specs.Laws.{LoweredInformsFilters}
 use Rattle.ir_places.proofs.BlindExpressions.{AllBlind, append, IsOutside, expression_blind}
 
@@ -231,21 +231,21 @@ module _ (program : Program) where
       subst (λ (x : LinearBody). AllBlind x.code) (same_it f.body b g) (all_at (λ (f : LinearFunction). AllBlind f.body.code) (lowered program).functions k f (functions_blind program.functions ok) e)
 
   in_funclet_of : (f : LinearFunclet) (k : ℕ) (b : LinearBody) (label : ℕ) (to : Slot) (field : Field) → IsFine f → slice_get (lowered program).funclets k ≡ Some f → f.body ≡ b
-      → slice_get b.code label ≡ Some (instructions.Information to field) → IsFilter (lowered program) (FuncletBody k)
+      → slice_get b.code label ≡ Some (instructions.Information to field) → IsFilterBody (lowered program) (FuncletBody k)
   in_funclet_of f k b label to field h e same at = by f.kind refl
     where
-      by : (kind : FuncletKind) → f.kind ≡ kind → IsFilter (lowered program) (FuncletBody k)
+      by : (kind : FuncletKind) → f.kind ≡ kind → IsFilterBody (lowered program) (FuncletBody k)
       by kinds.Filter q = record { number = k; is = refl; funclet = f; there = e; kind = q }
       by (kinds.Finally flag) q = absurd (reads b.code label to field (subst (λ (x : LinearBody). AllBlind x.code) same (subst (λ (z : FuncletKind). IsBlindUnless z f.body.code) q h)) at)
 
   in_funclet_if : (o : Option LinearFunclet) (k : ℕ) (b : LinearBody) (label : ℕ) (to : Slot) (field : Field) → functions_sound program.functions program.functions ≡ true → slice_get (lowered program).funclets k ≡ o → funclet_body o ≡ Some b
-      → slice_get b.code label ≡ Some (instructions.Information to field) → IsFilter (lowered program) (FuncletBody k)
+      → slice_get b.code label ≡ Some (instructions.Information to field) → IsFilterBody (lowered program) (FuncletBody k)
   in_funclet_if None k b label to field ok e g at = absurd (cc)
   in_funclet_if (Some f) k b label to field ok e g at =
       in_funclet_of f k b label to field (all_at IsFine (lowered program).funclets k f (fine 0 program.functions ok) e) e (same_it f.body b g) at
 
   in_body : functions_sound program.functions program.functions ≡ true → (name : BodyName) (b : LinearBody) (label : ℕ) (to : Slot) (field : Field) → body_of (lowered program) name ≡ Some b
-      → slice_get b.code label ≡ Some (instructions.Information to field) → IsFilter (lowered program) name
+      → slice_get b.code label ≡ Some (instructions.Information to field) → IsFilterBody (lowered program) name
   in_body ok (FunctionBody k) b label to field e at = absurd (reads b.code label to field (in_function (slice_get (lowered program).functions k) k b ok refl e) at)
   in_body ok (FuncletBody k) b label to field e at = in_funclet_if (slice_get (lowered program).funclets k) k b label to field ok refl e at
 

@@ -12,7 +12,7 @@ IsBlind (instructions.Information to field) = ⊥
 IsBlind i = Unit {0}
 
 -- a body is a filter
-pub record IsFilter (program : LinearProgram) (name : BodyName) : Type 0 where
+pub record IsFilterBody (program : LinearProgram) (name : BodyName) : Type 0 where
   pub number : ℕ
   pub is : name ≡ FuncletBody number
   pub funclet : LinearFunclet

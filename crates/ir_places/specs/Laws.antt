@@ -12,7 +12,7 @@ use Rattle.seh_ir.specs.Lowered.{lowered}
 use Rattle.ir_places.specs.Followed.{IsFollowed}
 use Rattle.ir_places.specs.Alike.{HasSameRegions}
 use Rattle.ir_places.specs.Inside.{StaysInside}
-use Rattle.ir_places.specs.Blind.{IsFilter}
+use Rattle.ir_places.specs.Blind.{IsFilterBody}
 
 abbrev pub LoweredIsFollowed : Type 0
 LoweredIsFollowed =
@@ -43,4 +43,4 @@ LoweredInformsFilters =
     → (name : BodyName) (b : LinearBody) (label : ℕ) (to : Slot) (field : Field)
     → body_of (lowered program) name ≡ Some b
     → slice_get b.code label ≡ Some (instructions.Information to field)
-    → IsFilter (lowered program) name
+    → IsFilterBody (lowered program) name

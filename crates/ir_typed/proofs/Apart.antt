@@ -26,7 +26,7 @@ use Rattle.seh_ir.specs.Lowered.{scope_of, lowered_function}
 use Rattle.ir_expressions.proofs.Codes.{expression_length}
 use Rattle.seh_ir.proofs.StatementCodes.{discarded_length, returned_length, condition_length, declared_length, all_declared_length, statement_length, statements_length}
 use Rattle.ir_linked.proofs.Regions.{held, own_out, own_in, left_only, right_only, held_append, outside, all_outside}
-use Rattle.ir_typed.specs.Apart.{is_call, IsApart}
+use Rattle.ir_typed.specs.Apart.{is_call, ReturnsStayInRegions}
 use Rattle.ir_typed.specs.Laws.{LoweredIsApart}
 use Rattle.ir_typed.proofs.EveryBody.{every_body}
 use Rattle.ir_typed.proofs.Stacked.{same_it}
@@ -260,7 +260,7 @@ module _ (around : ℕ → List Region) where
 abbrev around_in : List Region → ℕ → List Region
 around_in regions label = held label regions
 
-whole_apart : (b : LinearBody) → EndsPlain b.code → Separate (around_in b.regions) 0 b.code → IsApart b
+whole_apart : (b : LinearBody) → EndsPlain b.code → Separate (around_in b.regions) 0 b.code → ReturnsStayInRegions b
 whole_apart b p h = record {
   within = λ label i e c. call_within b.code label i p e c;
   regions = λ label i e c. let s : 0 + label ≡ label = omega arith in ap (λ k. held (k + 1) b.regions) (sym s) ∙ separate_at (around_in b.regions) b.code 0 label i h e c ∙ ap (λ k. held k b.regions) s;
@@ -269,12 +269,12 @@ whole_apart b p h = record {
 whole_cover : (regions : List Region) (hi : ℕ) → Cover (around_in regions) [] 0 hi regions
 whole_cover regions hi q lo h = sym (append-nil (held q regions))
 
-filter_apart : (owner : Owner) (names : Names) (e : Expression) → IsApart (filter_funclet owner names e).body
+filter_apart : (owner : Owner) (names : Names) (e : Expression) → ReturnsStayInRegions (filter_funclet owner names e).body
 filter_apart owner names e =
     whole_apart (filter_funclet owner names e).body (ends_after (expression_code names e 0 0) (instructions.Return (Temporary 0)) [] refl)
     (used (around_in []) [] names e 0 (instructions.Return (Temporary 0) ∷ []) (λ q lo hi. refl) ((λ x. no_call x), tt))
 
-block_apart : (owner : Owner) (names : Names) (last : Statements) → IsApart (finally_funclet owner names last).body
+block_apart : (owner : Owner) (names : Names) (last : Statements) → ReturnsStayInRegions (finally_funclet owner names last).body
 block_apart owner names last =
     let regions = statements_regions last 0 in
     let code = statements_code (finally_scope names) last 0 in
@@ -282,7 +282,7 @@ block_apart owner names last =
     whole_apart (finally_funclet owner names last).body (ends_after code (instructions.Return (Local names.free)) [] refl)
     (joined (around_in regions) 0 (statements_size last) code (instructions.Return (Local names.free) ∷ []) (omega arith) (statements_apart (around_in regions) last (finally_scope names) [] 0 (whole_cover regions (0 + statements_size last))) ((λ x. no_call x), tt))
 
-function_apart : (f : Function) → IsApart (lowered_function f).body
+function_apart : (f : Function) → ReturnsStayInRegions (lowered_function f).body
 function_apart f =
     let regions = statements_regions f.body 0 in
     let code = statements_code (scope_of f) f.body 0 in
@@ -291,4 +291,4 @@ function_apart f =
     (joined (around_in regions) 0 (statements_size f.body) code (constant 0 0 ∷ instructions.Return (Temporary 0) ∷ []) (omega arith) (statements_apart (around_in regions) f.body (scope_of f) [] 0 (whole_cover regions (0 + statements_size f.body))) ((λ x. no_call x), ((λ x. no_call x), tt)))
 
 pub lowered_is_apart : LoweredIsApart
-lowered_is_apart = every_body IsApart filter_apart block_apart function_apart
+lowered_is_apart = every_body ReturnsStayInRegions filter_apart block_apart function_apart

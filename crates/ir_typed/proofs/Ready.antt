@@ -22,7 +22,7 @@ use Rattle.seh_ir.specs.Lowered.{lowered}
 use Rattle.ir_linked.specs.Pace.{pace_of}
 use Rattle.ir_linked.proofs.Lowered.{lowered_shows_no_more}
 use Rattle.ir_typed.specs.Turns.{IsReached}
-use Rattle.ir_typed.specs.Ready.{IsHeld, IsNext, IsRead, held, IsReady}
+use Rattle.ir_typed.specs.Ready.{IsHeld, IsNextSlot, IsRead, held, IsReady}
 use Rattle.ir_typed.specs.Laws.{ReachedContinues}
 use Rattle.ir_typed.proofs.Turns.{there, come}
 
@@ -45,7 +45,7 @@ pub some_temporaries : (c : Configuration) (o : Option (List ℕ)) (d : Configur
 some_temporaries c None d e = absurd (cc)
 some_temporaries c (Some ts) d e = (ts, refl)
 
-written_next : (c : Configuration) (to : Slot) (v : ℕ) (d : Configuration) → write c to v ≡ Some d → IsNext (held c) to
+written_next : (c : Configuration) (to : Slot) (v : ℕ) (d : Configuration) → write c to v ≡ Some d → IsNextSlot (held c) to
 written_next c (Local x) v d e = tt
 written_next c (Temporary i) v d e =
     let f = some_temporaries c (with_temporary c.frame.temporaries i v) d e in
@@ -59,7 +59,7 @@ abbrev Goes : Seen → Type 0
 Goes s = (es : List Event) → s ≡ Stuck es → ⊥
 
 module _ (program : LinearProgram) (next : Next) (c : Configuration) where
-  result_next : (to : Slot) (v : ℕ) (d : Configuration) → Goes (written d to v next) → IsNext (held d) to
+  result_next : (to : Slot) (v : ℕ) (d : Configuration) → Goes (written d to v next) → IsNextSlot (held d) to
   result_next to v d h = let w = there d.events (write d to v) (λ c. next (forth c)) h in written_next d to v w.it w.is
 
   operands_read : (b : Bool) (first second : Slot) (go : ℕ → ℕ → Seen) → Goes (with_some c.events (operand b c first) (λ x. with_some c.events (operand b c second) (go x)))

@@ -18,7 +18,7 @@ use Rattle.ir_bounds.specs.Nesting.{AreShallow}
 use Rattle.ir_bounds.specs.Slots.{IsAmong, IsPlain, IsSmallBody, IsSmallFunction, IsSmallFunclet}
 use Rattle.ir_bounds.proofs.Small.{lowered_is_small}
 use Rattle.ir_typed.specs.Depths.{with_written, with_tested, after, depths}
-use Rattle.ir_typed.specs.Room.{counts_of, PassesWell, HasRoom}
+use Rattle.ir_typed.specs.Room.{counts_of, PassesWell, BodyHasRoom}
 use Rattle.ir_typed.specs.Laws.{LoweredHasRoom}
 use Rattle.ir_typed.proofs.EveryBody.{every_body}
 use Rattle.ir_typed.proofs.Stacked.{same_it, all_at}
@@ -95,7 +95,7 @@ all_passes n m (i ∷ is) h le = (passes n m i h.0 (omega arith), all_passes n m
 
 -- ---- bodies
 
-roomy : (b : LinearBody) → IsCounted b → IsSmallBody b → HasRoom b
+roomy : (b : LinearBody) → IsCounted b → IsSmallBody b → BodyHasRoom b
 roomy b c s =
     let t = c.temporaries in
     let p = c.passed in

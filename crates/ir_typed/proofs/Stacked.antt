@@ -36,7 +36,7 @@ use Rattle.linear_machine.specs.Run.{instruction_in, instruction_at, start}
 use Rattle.ir_linked.proofs.SoundExpressions.{both_left}
 use Rattle.ir_bounds.proofs.PlainExpressions.{all_append}
 use Rattle.ir_typed.specs.Turns.{IsTurn, IsReached}
-use Rattle.ir_typed.specs.Bodies.{IsFinally, IsFuncletOf, IsLanding, IsKindOf, IsRegionOf, IsInstructionOf, AreBodies}
+use Rattle.ir_typed.specs.Bodies.{IsFinallyKind, IsFuncletOf, IsLanding, IsKindOf, IsRegionOf, IsInstructionOf, AreBodies}
 use Rattle.ir_typed.specs.Waiting.{MayWait, Handles, IsHandler, LandsAt, IsTarget, IsAbove, IsRaisedIn, AreLeft, AreHandlers, AreWaiting, LandsWell, IsStacked}
 use Rattle.ir_typed.proofs.Ready.{last_are}
 use Rattle.ir_typed.proofs.Moves.{Turn, Halts, Moves, pick_turn, some_turn, deeper_turn, kept, kept_by_all}
@@ -182,7 +182,7 @@ module _ (program : LinearProgram) (bodies : AreBodies program) where
   arrive_turn None t c l w = Moves _ (record { above = w.1; below = w.2; landed = none_lands c.frame.body t.label c.frame.landed w.0.landed }) (λ next. refl)
   arrive_turn (Some code) t c l w = Moves _ (record { above = w.1; below = w.2; landed = l }) (λ next. refl)
 
-  block_turn : (k : ℕ) (t : Target) (rest : List Region) (c : Configuration) → IsFuncletOf program c.frame.body IsFinally k → Regions c.frame.body rest → Items (Waits c.frame ∷ c.below) → IsTarget program t (Waits c.frame ∷ c.below)
+  block_turn : (k : ℕ) (t : Target) (rest : List Region) (c : Configuration) → IsFuncletOf program c.frame.body IsFinallyKind k → Regions c.frame.body rest → Items (Waits c.frame ∷ c.below) → IsTarget program t (Waits c.frame ∷ c.below)
       → Turn Ok (λ next. run_finally program k true t.held (Unwinds rest t ∷ Waits c.frame ∷ c.below) next c)
   block_turn k t rest c f r w p =
       some_turn Ok c.events (flag_of (slice_get program.funclets k)) _ (λ flag e.

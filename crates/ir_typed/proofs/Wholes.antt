@@ -38,7 +38,7 @@ use Rattle.ir_linked.proofs.Numbers.{count_front, count_back, counted, filter_co
 use Rattle.ir_linked.proofs.Segments.{IsSegmentAt, front, back, whole_is_at}
 use Rattle.ir_linked.proofs.SoundExpressions.{both_left, both_right, Knows, expression_fits}
 use Rattle.ir_bounds.proofs.PlainExpressions.{all_append}
-use Rattle.ir_typed.specs.Bodies.{IsFinally, parent_of, function_of, owner_of, IsFuncletOf, IsLanding, IsKindOf, IsRegionOf, IsCallee, IsInstructionOf, IsBodyOf}
+use Rattle.ir_typed.specs.Bodies.{IsFinallyKind, parent_of, function_of, owner_of, IsFuncletOf, IsLanding, IsKindOf, IsRegionOf, IsCallee, IsInstructionOf, IsBodyOf}
 use Rattle.ir_typed.proofs.Calls.{AllCall, append, expression_calls}
 use Rattle.ir_typed.proofs.Stacked.{same_it}
 
@@ -286,7 +286,7 @@ module _ (program : Program) (linear : LinearProgram) (callee : (f count : ℕ) 
           let code = statements_code (finally_scope names) last 0 in
           let ends = instructions.Return (Local names.free) ∷ [] in
           let whole = whole_is_at funclet.body.code in
-          let is : IsFuncletOf linear name IsFinally (k' - 1) = record { funclet = funclet; there = there'; parent = o.parent; owner = o.function; fits = tt } in
+          let is : IsFuncletOf linear name IsFinallyKind (k' - 1) = record { funclet = funclet; there = there'; parent = o.parent; owner = o.function; fits = tt } in
           let x = all_are_at body name b there (record i { body = true }) k inner owner o at j (both_left _ _ ok) (front b.code at guarded _ h) (front linear.funclets j fb (funclet ∷ fl) f) (count_front (j + 1) (funclets body) (k' ∷ funclets last) n) in
           let y = all_are_at last (FuncletBody (k' - 1)) funclet.body home (in_finally i) (in_last i k) (finally_scope names) (in_funclet (k' - 1) owner) (record { parent = refl; function = ap function_of there' }) 0 (j + length fb + 1) (both_right _ _ ok)
           (front funclet.body.code 0 code ends whole) f1.1 (both_right _ _ n1) in

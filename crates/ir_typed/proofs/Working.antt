@@ -31,7 +31,7 @@ use Rattle.linear_machine.specs.Searching.{target_of, accept, consult, search, r
 use Rattle.linear_machine.specs.Instructions.{is_constant, operand, written, computed, tested, waiting, begin_function, count_of, built_in, return, end_finally, end_funclet, end_body, not_landed, act}
 use Rattle.linear_machine.specs.Run.{instruction_at, start, main_arguments}
 use Rattle.ir_typed.specs.Turns.{IsTurn, IsReached}
-use Rattle.ir_typed.specs.Bodies.{IsFilter, IsFinally, function_of, owner_of, IsFuncletOf, IsKindOf, IsWhole}
+use Rattle.ir_typed.specs.Bodies.{IsFilterKind, IsFinallyKind, function_of, owner_of, IsFuncletOf, IsKindOf, IsWhole}
 use Rattle.ir_typed.specs.Waiting.{MayWait, Handles, IsHandler, AreHandlers, AreWaiting, IsStacked}
 use Rattle.ir_typed.specs.Activations.{with_own, owners_of, WorksOn, AreWorking, IsActivationOf, AreActivations, HasActivations}
 use Rattle.ir_typed.proofs.Ready.{last_are}
@@ -124,9 +124,9 @@ module _ (program : LinearProgram) where
   own_more (FunctionBody j) owners i k e = get_front owners (j ∷ []) i k e
   own_more (FuncletBody j) owners i k e = e
 
-  filter_of : (name : BodyName) (end : ℕ) (r : RegionKind) (filter : Option ℕ) (target k : ℕ) → filter ≡ Some k → IsKindOf program name end r → Handles program r filter target → IsFuncletOf program name IsFilter k
+  filter_of : (name : BodyName) (end : ℕ) (r : RegionKind) (filter : Option ℕ) (target k : ℕ) → filter ≡ Some k → IsKindOf program name end r → Handles program r filter target → IsFuncletOf program name IsFilterKind k
   filter_of name end (kinds.Finally j) filter target k e p h = absurd h
-  filter_of name end (kinds.Filter j l) filter target k e p h = subst (IsFuncletOf program name IsFilter) (same_it j k (sym h.0 ∙ e)) p.0
+  filter_of name end (kinds.Filter j l) filter target k e p h = subst (IsFuncletOf program name IsFilterKind) (same_it j k (sym h.0 ∙ e)) p.0
   filter_of name end (kinds.Always l) filter target k e p h = absurd (differ (sym h.0 ∙ e))
     where
       differ : None ≡ Some k → ⊥
@@ -137,7 +137,7 @@ module _ (program : LinearProgram) where
       → (function : ℕ) × (owner_of program (FuncletBody k) ≡ Some function) × (slice_get (owners_of items) h.activation ≡ Some function)
   filter_owned h k [] e p w = absurd p
   filter_owned h k (Waits f ∷ below) e (inl p) w =
-      let q = owned f below IsFilter k w (filter_of f.body p.region.end p.region.kind h.filter h.target k e p.is_there.kind p.handles) in
+      let q = owned f below IsFilterKind k w (filter_of f.body p.region.end p.region.kind h.filter h.target k e p.is_there.kind p.handles) in
       (q.0, q.1, ap (slice_get (owners_of (Waits f ∷ below))) p.activation ∙ q.2)
   filter_owned h k (Waits f ∷ below) e (inr p) w =
       let q = filter_owned h k below e p w.1 in (q.0, q.1, own_more f.body (owners_of below) h.activation q.0 q.2)
@@ -157,10 +157,10 @@ module _ (program : LinearProgram) (whole : IsWhole program) where
   arrive_turn None t c o = goes (at_label t.label c) o
   arrive_turn (Some code) t c o = goes _ o
 
-  block_turn : (k held : ℕ) (abnormal : Bool) (items : List Item) (c : Configuration) → IsFuncletOf program c.frame.body IsFinally k → AreWorking program items → owners_of items ≡ owners_of (Waits c.frame ∷ c.below) → at_rest c
+  block_turn : (k held : ℕ) (abnormal : Bool) (items : List Item) (c : Configuration) → IsFuncletOf program c.frame.body IsFinallyKind k → AreWorking program items → owners_of items ≡ owners_of (Waits c.frame ∷ c.below) → at_rest c
       → Turn (Ok program) (λ next. run_finally program k abnormal held items next c)
   block_turn k held abnormal items c f w e o =
-      let q = owned program c.frame c.below IsFinally k o.0 f in
+      let q = owned program c.frame c.below IsFinallyKind k o.0 f in
       some_turn (Ok program) c.events (flag_of (slice_get program.funclets k)) _ (λ flag g.
       deeper_turn (Ok program) 2 held c.store c.events _ (goes _ (
         ((q.0, q.1, ap (λ ks. slice_get ks c.frame.activation) e ∙ q.2), w),

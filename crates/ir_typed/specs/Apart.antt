@@ -15,12 +15,13 @@ is_call (instructions.CallFinally k) = true
 is_call (instructions.LocalUnwind label) = true
 is_call i = false
 
-pub record IsApart (b : LinearBody) : Type 0 where
+pub record ReturnsStayInRegions (b : LinearBody) : Type 0 where
   pub within : (label : ℕ) (i : Instruction) → slice_get b.code label ≡ Some i → is_call i ≡ true
       → label + 1 < length b.code
   pub regions : (label : ℕ) (i : Instruction) → slice_get b.code label ≡ Some i → is_call i ≡ true
       → filter (holds (label + 1)) b.regions ≡ filter (holds label) b.regions
 
 -- all bodies
-abbrev pub AreApart : LinearProgram → Type 0
-AreApart program = (name : BodyName) (b : LinearBody) → body_of program name ≡ Some b → IsApart b
+abbrev pub AllReturnsStayInRegions : LinearProgram → Type 0
+AllReturnsStayInRegions program = (name : BodyName) (b : LinearBody)
+    → body_of program name ≡ Some b → ReturnsStayInRegions b

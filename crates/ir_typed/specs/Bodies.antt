@@ -16,13 +16,13 @@ use Rattle.linear_code.specs.Program.{LinearProgram, LinearBody, LinearFunction,
 use Rattle.linear_machine.specs.Frames.{BodyName, FunctionBody, FuncletBody, body_of}
 use Rattle.linear_machine.specs.Run.{instruction_in}
 
-abbrev pub IsFilter : FuncletKind → Type 0
-IsFilter funclets.Filter = Unit {0}
-IsFilter (funclets.Finally flag) = ⊥
+abbrev pub IsFilterKind : FuncletKind → Type 0
+IsFilterKind funclets.Filter = Unit {0}
+IsFilterKind (funclets.Finally flag) = ⊥
 
-abbrev pub IsFinally : FuncletKind → Type 0
-IsFinally funclets.Filter = ⊥
-IsFinally (funclets.Finally flag) = Unit {0}
+abbrev pub IsFinallyKind : FuncletKind → Type 0
+IsFinallyKind funclets.Filter = ⊥
+IsFinallyKind (funclets.Finally flag) = Unit {0}
 
 -- the body that has the region of a funclet
 abbrev pub parent_of : ℕ → Option ℕ → BodyName
@@ -63,9 +63,9 @@ module _ (program : LinearProgram) where
 
   -- its funclet is one of the body, and its block begins where it ends
   abbrev pub IsKindOf : BodyName → ℕ → RegionKind → Type 0
-  IsKindOf name end (kinds.Finally k) = IsFuncletOf name IsFinally k
+  IsKindOf name end (kinds.Finally k) = IsFuncletOf name IsFinallyKind k
   IsKindOf name end (kinds.Filter k target) =
-      IsFuncletOf name IsFilter k × IsLanding name target × (target ≡ end)
+      IsFuncletOf name IsFilterKind k × IsLanding name target × (target ≡ end)
   IsKindOf name end (kinds.Always target) = IsLanding name target × (target ≡ end)
 
   pub record IsRegionOf (name : BodyName) (r : Region) : Type 0 where
@@ -83,7 +83,7 @@ module _ (program : LinearProgram) where
   abbrev pub IsInstructionOf : BodyName → Instruction → Type 0
   IsInstructionOf name (instructions.Compute to o first second) = ReadsWell o first second
   IsInstructionOf name (instructions.Call f first count) = IsCallee f count
-  IsInstructionOf name (instructions.CallFinally k) = IsFuncletOf name IsFinally k
+  IsInstructionOf name (instructions.CallFinally k) = IsFuncletOf name IsFinallyKind k
   IsInstructionOf name other = Unit {0}
 
   pub record IsBodyOf (name : BodyName) (b : LinearBody) : Type 0 where

@@ -13,7 +13,7 @@ use Rattle.ir_typed.specs.Activations.{HasActivations}
 use Rattle.ir_typed.specs.Small.{HasSmallNumbers}
 use Rattle.ir_typed.specs.Depths.{HasDepths}
 use Rattle.ir_typed.specs.Room.{HaveRoom}
-use Rattle.ir_typed.specs.Apart.{AreApart}
+use Rattle.ir_typed.specs.Apart.{AllReturnsStayInRegions}
 
 -- the funclets that bodies name are theirs, each call has as many arguments as its function takes,
 -- and what may fault reads temporaries alone
@@ -29,7 +29,7 @@ LoweredHasRoom =
 
 -- a call and the instruction after it are inside the same regions
 abbrev pub LoweredIsApart : Type 0
-LoweredIsApart = (program : Program) → AreApart (lowered program)
+LoweredIsApart = (program : Program) → AllReturnsStayInRegions (lowered program)
 
 -- it is at an instruction, and what that needs is there
 abbrev pub ReachedContinues : Type 0

@@ -15,9 +15,9 @@ abbrev pub IsHeld : ℕ → Slot → Type 0
 IsHeld n (Local x) = Unit {0}
 IsHeld n (Temporary i) = i < n
 
-abbrev pub IsNext : ℕ → Slot → Type 0
-IsNext n (Local x) = Unit {0}
-IsNext n (Temporary i) = i ≤ n
+abbrev pub IsNextSlot : ℕ → Slot → Type 0
+IsNextSlot n (Local x) = Unit {0}
+IsNextSlot n (Temporary i) = i ≤ n
 
 abbrev pub IsRead : Bool → ℕ → Slot → Type 0
 IsRead true n slot = Unit {0}
@@ -43,14 +43,14 @@ module _ (program : LinearProgram) where
   abbrev pub IsReady : Configuration → Instruction → Type 0
   IsReady c (instructions.Compute to o first second) =
       IsRead (is_constant o) (held c) first × IsRead (is_constant o) (held c) second
-  IsReady c (instructions.Information to field) = IsNext (held c) to
+  IsReady c (instructions.Information to field) = IsNextSlot (held c) to
   IsReady c (instructions.Jump label) = Unit {0}
   IsReady c (instructions.JumpIfZero slot label) = IsHeld (held c) slot
   IsReady c (instructions.Call f first count) = (held c ≡ first + count) × HasFunction f
   IsReady c (instructions.CallBuiltIn f first) = held c ≡ first + count_of f
   IsReady c (instructions.CallFinally k) = HasBlock k
   IsReady c (instructions.LocalUnwind label) = Unit {0}
-  IsReady c (instructions.Landing to) = HasLanded c.frame.landed × IsNext (held c) to
+  IsReady c (instructions.Landing to) = HasLanded c.frame.landed × IsNextSlot (held c) to
   IsReady c instructions.Separator = Unit {0}
   IsReady c (instructions.Return from) = IsHeld (held c) from
 

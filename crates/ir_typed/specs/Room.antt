@@ -19,11 +19,12 @@ PassesWell passed (instructions.Call f first count) =
     (count ≤ MOST_PARAMETERS) × (count ≤ 4 + passed)
 PassesWell passed other = Unit {0}
 
-pub record HasRoom (b : LinearBody) : Type 0 where
+pub record BodyHasRoom (b : LinearBody) : Type 0 where
   pub slots : AllByRecursion (HasSlots (counts_of b)) b.code
   pub depths : (label : ℕ) → depth_at b.code label ≤ b.temporaries
   pub calls : AllByRecursion (PassesWell b.passed) b.code
 
 -- all bodies
 abbrev pub HaveRoom : LinearProgram → Type 0
-HaveRoom program = (name : BodyName) (b : LinearBody) → body_of program name ≡ Some b → HasRoom b
+HaveRoom program = (name : BodyName) (b : LinearBody) → body_of program name ≡ Some b
+    → BodyHasRoom b

@@ -13,7 +13,7 @@ use Rattle.linear_code.specs.declared.program.RegionKind.TheVariants as kinds
 use Rattle.linear_code.specs.Program.{LinearProgram}
 use Rattle.linear_machine.specs.Frames.{FunctionBody, FuncletBody, BodyName, body_of, Frame, Handler, Target, Resumption, AfterCall, SameOperation, Item, Waits, Searches, Unwinds, Configuration}
 use Rattle.linear_machine.specs.Run.{instruction_in}
-use Rattle.ir_typed.specs.Bodies.{IsFinally, IsFuncletOf, IsLanding, IsRegionOf}
+use Rattle.ir_typed.specs.Bodies.{IsFinallyKind, IsFuncletOf, IsLanding, IsRegionOf}
 
 module _ (program : LinearProgram) where
   -- the instruction that a body is at, or waits in
@@ -85,7 +85,7 @@ module _ (program : LinearProgram) where
 
   -- a `__finally` block runs for a body that has its region
   pub record IsBlockOf (k works_on : ℕ) (w : Frame) : Type 0 where
-    pub funclet : IsFuncletOf program w.body IsFinally k
+    pub funclet : IsFuncletOf program w.body IsFinallyKind k
     pub activation : works_on ≡ w.activation
 
   abbrev pub IsCalledBy : ℕ → List Item → Type 0

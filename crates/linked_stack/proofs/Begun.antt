@@ -15,7 +15,7 @@ use Rattle.seh_records.specs.declared.dispatch.Kind.{Kind}
 use Rattle.seh_records.specs.declared.dispatch.Kind.TheVariants.{Search, ExceptionUnwind, LocalUnwind}
 use Rattle.seh_records.specs.declared.dispatch.DispatchRecord.{DispatchRecord}
 use Rattle.seh_records.specs.Record.{placed, misplaced, place_below}
-use Rattle.seh_records.specs.Laws.{Fits, AllSmall}
+use Rattle.seh_records.specs.Laws.{RecordFits, AllSmall}
 use Rattle.seh_records.specs.declared.layout.TheConstants.{RECORD_SIZE}
 use Rattle.seh_walk.specs.Walk.{is_search}
 use Rattle.host_model.specs.declared.funclet.Funclet.{Funclet}
@@ -27,10 +27,10 @@ use Rattle.linear_code.specs.Program.{LinearProgram}
 use Rattle.linear_machine.specs.Frames.{Frame, Item, Waits}
 use Rattle.linear_machine.specs.Regions.{handlers}
 use Rattle.linked_stack.specs.Stack.{StackItem, Framed, Leaf, Searching, Unwinding}
-use Rattle.linked_stack.specs.ImagePlan.{Plan}
+use Rattle.linked_stack.specs.ImagePlan.{ImagePlan}
 use Rattle.linked_stack.specs.Linked.{Activation, HasSpace, below_end, record_room, Onward, Linked}
 use Rattle.linked_stack.proofs.ListKeeping.{misplaced_same}
-use Rattle.linked_stack.specs.Records.{On, HasRoom}
+use Rattle.linked_stack.specs.Records.{On, RecordHasRoom}
 use Rattle.linked_stack.proofs.Items.{record_leaves_the_list}
 use Rattle.linked_stack.proofs.Contexts.{wide_of}
 use Rattle.linked_stack.proofs.SearchSearched.{at_first_row}
@@ -77,7 +77,7 @@ kind_is_search Search e = refl
 kind_is_search ExceptionUnwind e = absurd cc
 kind_is_search LocalUnwind e = absurd cc
 
-fits_new : (s : State) (kind : Kind) (code : Code) (flags : ℕ) (access : Option (Bool × ℕ)) (saved : Cpu) → IsSane (record { cpu = saved; memory = s.memory }) → code.0 < 2 ^ 32 → flags < 2 → AllSmall (parameters access) → Fits (new_record kind code flags access saved)
+fits_new : (s : State) (kind : Kind) (code : Code) (flags : ℕ) (access : Option (Bool × ℕ)) (saved : Cpu) → IsSane (record { cpu = saved; memory = s.memory }) → code.0 < 2 ^ 32 → flags < 2 → AllSmall (parameters access) → RecordFits (new_record kind code flags access saved)
 fits_new s kind code flags access saved sane a b c = record {
   frame = none_small;
   row = none_small;
@@ -96,7 +96,7 @@ fits_new s kind code flags access saved sane a b c = record {
   kept_small = (wide_of saved sane.count sane.small).each;
 }
 
-fits_targeted : (r : DispatchRecord) (frame address : ℕ) → Fits r → frame < 2 ^ 64 → address < 2 ^ 64 → Fits (record r { target_frame = frame; target = address })
+fits_targeted : (r : DispatchRecord) (frame address : ℕ) → RecordFits r → frame < 2 ^ 64 → address < 2 ^ 64 → RecordFits (record r { target_frame = frame; target = address })
 fits_targeted r frame address f a b = record {
   frame = f.frame;
   row = f.row;
@@ -115,7 +115,7 @@ fits_targeted r frame address f a b = record {
   kept_small = f.kept_small;
 }
 
-fits_accepting : (r : DispatchRecord) (frame address : ℕ) → Fits r → frame < 2 ^ 64 → address < 2 ^ 64 → Fits (accepting r frame address)
+fits_accepting : (r : DispatchRecord) (frame address : ℕ) → RecordFits r → frame < 2 ^ 64 → address < 2 ^ 64 → RecordFits (accepting r frame address)
 fits_accepting r frame address f a b = record {
   frame = none_small;
   row = none_small;
@@ -134,7 +134,7 @@ fits_accepting r frame address f a b = record {
   kept_small = (wide_of r.saved f.registers f.registers_small).each;
 }
 
-fits_again : (r : DispatchRecord) → Fits r → Fits (again r)
+fits_again : (r : DispatchRecord) → RecordFits r → RecordFits (again r)
 fits_again r f = record {
   frame = none_small;
   row = none_small;
@@ -153,13 +153,13 @@ fits_again r f = record {
   kept_small = (wide_of r.saved f.registers f.registers_small).each;
 }
 
-placed_room : (m : Memory) (at : ℕ) (r : DispatchRecord) (above : ℕ) → HasRoom m at r above → HasRoom (placed m at r) at r above
+placed_room : (m : Memory) (at : ℕ) (r : DispatchRecord) (above : ℕ) → RecordHasRoom m at r above → RecordHasRoom (placed m at r) at r above
 placed_room m at r above room = record { fits = room.fits; below = room.below; small = room.small; room = misplaced_placed m at r ∙ room.room }
 
 with_record_below : (sp at depth : ℕ) → HasSpace sp below_end depth → sp ≤ at + record_room → HasSpace at (below_end + record_room) depth
 with_record_below sp at depth h near = record { space = (let s = h.space in omega arith); shallow = h.shallow }
 
-module _ (t : Functions) (fs : List Funclet) (program : LinearProgram) (p : Plan) where
+module _ (t : Functions) (fs : List Funclet) (program : LinearProgram) (p : ImagePlan) where
   -- from the innermost frame on
   onward_here : (m : Memory) (c : Context) (is : List StackItem) (b : Frame) (below : List Item) (acts : List Activation) → Linked t fs program p m c is (Waits b ∷ below) acts → Onward t fs program p c 0 (handlers program (Waits b ∷ below) None) c is (Waits b ∷ below)
   onward_here m c [] b below acts h = absurd h
@@ -179,7 +179,7 @@ module _ (t : Functions) (fs : List Funclet) (program : LinearProgram) (p : Plan
   near_of : (s : State) (saved : Cpu) (is : List StackItem) (items : List Item) (acts : List Activation) → AsksHost t fs program p s saved is items acts → rsp (context_of saved) ≤ place_of saved + record_room
   near_of s saved is items acts a = let n = a.sane_saved.count in place_near (rsp (context_of saved)) a.low (a.sane_saved.small 4 (omega arith))
 
-  room_of : (s : State) (saved : Cpu) (is : List StackItem) (items : List Item) (acts : List Activation) (r : DispatchRecord) → AsksHost t fs program p s saved is items acts → Fits r → HasRoom s.memory (place_of saved) r (rsp (context_of saved))
+  room_of : (s : State) (saved : Cpu) (is : List StackItem) (items : List Item) (acts : List Activation) (r : DispatchRecord) → AsksHost t fs program p s saved is items acts → RecordFits r → RecordHasRoom s.memory (place_of saved) r (rsp (context_of saved))
   room_of s saved is items acts r a fits =
       let n = a.sane_saved.count in
       let small : rsp (context_of saved) < 2 ^ 64 = a.sane_saved.small 4 (omega arith) in
@@ -195,8 +195,8 @@ pub raise_searches : RaiseSearches
 raise_searches t fs program p s code flags access saved is acts exception c a e =
     let at = place_of saved in
     let r : DispatchRecord = new_record Search code flags access saved in
-    let fits : Fits r = fits_new s Search code flags access saved a.sane_saved e.code_small e.one_flag e.access_small in
-    let room : HasRoom s.memory at r (rsp (context_of saved)) = room_of t fs program p s saved is (Waits c.frame ∷ c.below) acts r a fits in
+    let fits : RecordFits r = fits_new s Search code flags access saved a.sane_saved e.code_small e.one_flag e.access_small in
+    let room : RecordHasRoom s.memory at r (rsp (context_of saved)) = room_of t fs program p s saved is (Waits c.frame ∷ c.below) acts r a fits in
     record {
       turns =
           ap (λ (o : Option ℕ). with_event (events.Raise code (flags == 1) access) (if_placed s at r (λ u. searches_on t u at r) o)) a.room
@@ -217,8 +217,8 @@ pub local_unwind_unwinds : LocalUnwindUnwinds
 local_unwind_unwinds t fs program p s frame address saved is acts depth label f below source shown a frame_small address_small aimed =
     let at = place_of saved in
     let r : DispatchRecord = to_target saved frame address in
-    let fits : Fits r = fits_targeted (new_record LocalUnwind (record { 0 = 0 }) 0 None saved) frame address (fits_new s LocalUnwind (record { 0 = 0 }) 0 None saved a.sane_saved (let e : 0 < 2 ^ 32 = omega arith in e) (let e : 0 < 2 = omega arith in e) (λ j l. zeros_small 15 j)) frame_small address_small in
-    let room : HasRoom s.memory at r (rsp (context_of saved)) = room_of t fs program p s saved is (Waits f ∷ below) acts r a fits in
+    let fits : RecordFits r = fits_targeted (new_record LocalUnwind (record { 0 = 0 }) 0 None saved) frame address (fits_new s LocalUnwind (record { 0 = 0 }) 0 None saved a.sane_saved (let e : 0 < 2 ^ 32 = omega arith in e) (let e : 0 < 2 = omega arith in e) (λ j l. zeros_small 15 j)) frame_small address_small in
+    let room : RecordHasRoom s.memory at r (rsp (context_of saved)) = room_of t fs program p s saved is (Waits f ∷ below) acts r a fits in
     record {
       turns = ap (λ (o : Option ℕ). if_placed s at r (λ u. unwinds_on t u at r) o) a.room;
       unwinding = record {
@@ -238,7 +238,7 @@ pub acceptance_unwinds : AcceptanceUnwinds
 acceptance_unwinds t fs program p s at r frame address is acts exception found h c source a frame_small address_small aimed =
     let new : DispatchRecord = accepting r frame address in
     let above = rsp (context_of r.saved) in
-    let room : HasRoom s.memory at new above = record { fits = fits_accepting r frame address a.room.fits frame_small address_small; below = a.room.below; small = a.room.small; room = a.room.room } in
+    let room : RecordHasRoom s.memory at new above = record { fits = fits_accepting r frame address a.room.fits frame_small address_small; below = a.room.below; small = a.room.small; room = a.room.room } in
     record {
       turns = ap (λ (o : Option ℕ). if_placed s at new (λ u. unwinds_on t u at new) o) a.room.room;
       unwinding = record {
@@ -262,9 +262,9 @@ answers_continue t fs program p s r is acts exception resumption asked rest c h 
     let waits = h.on.is_there.linked.0 in
     let outer : On t fs program p s.memory (context_of r.saved) is (Waits c.frame ∷ c.below) acts = record { is_there = record { stack = h.on.is_there.stack.1; linked = h.on.is_there.linked.1 }; data_alone = h.on.data_alone } in
     let kind : r.kind ≡ Search = kind_is_search r.kind is_there.kind in
-    let room : HasRoom s.memory at r above = record { fits = waits.own.fits; below = is_there.above; small = is_there.small; room = waits.own.room } in
+    let room : RecordHasRoom s.memory at r above = record { fits = waits.own.fits; below = is_there.above; small = is_there.small; room = waits.own.room } in
     let new : DispatchRecord = again r in
-    let new_room : HasRoom s.memory at new above = record { fits = fits_again r waits.own.fits; below = is_there.above; small = is_there.small; room = waits.own.room } in
+    let new_room : RecordHasRoom s.memory at new above = record { fits = fits_again r waits.own.fits; below = is_there.above; small = is_there.small; room = waits.own.room } in
     record {
       next = record { gives = h.gives; sane = h.sane; on = outer; kind = kind; room = room; carries = waits.carries; onward = waits.onward; near = waits.near };
       address = waits.address;

@@ -8,7 +8,7 @@ use Rattle.x64_machine.specs.Contexts.{context_of}
 use Rattle.virtual_unwind.specs.Contexts.{rsp}
 use Rattle.virtual_unwind.specs.CallerOf.{Functions}
 use Rattle.seh_records.specs.declared.dispatch.DispatchRecord.{DispatchRecord}
-use Rattle.seh_records.specs.Laws.{Fits, AllSmall}
+use Rattle.seh_records.specs.Laws.{RecordFits, AllSmall}
 use Rattle.linked_stack.specs.Stack.{StackFrame, FrameIsAt, LeafIsAt, after_frame, after_leaf}
 use Rattle.linked_stack.specs.Searching.{IsWide}
 
@@ -41,8 +41,8 @@ wide_of c n h = record { count = refl; each = at }
     at (suc (suc (suc (suc (suc (suc (suc (suc zero)))))))) l = h 15 (omega arith)
     at (suc (suc (suc (suc (suc (suc (suc (suc (suc j))))))))) l = absurd (omega arith)
 
-pub wide_saved : (r : DispatchRecord) → Fits r → IsWide (context_of r.saved).kept
+pub wide_saved : (r : DispatchRecord) → RecordFits r → IsWide (context_of r.saved).kept
 wide_saved r f = wide_of r.saved f.registers f.registers_small
 
-pub wide_walk : (r : DispatchRecord) → Fits r → IsWide r.walk.kept
+pub wide_walk : (r : DispatchRecord) → RecordFits r → IsWide r.walk.kept
 wide_walk r f = record { count = f.kept; each = f.kept_small }

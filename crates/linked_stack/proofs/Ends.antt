@@ -12,7 +12,7 @@ use Rattle.linear_code.specs.Program.{LinearProgram}
 use Rattle.linear_machine.specs.Frames.{BodyName, FunctionBody, FuncletBody, Item, Waits, Searches, Unwinds}
 use Rattle.linked_stack.specs.Stack.{StackItem, Framed, Leaf, Searching, Unwinding, IsStack, after_frame, after_leaf}
 use Rattle.linked_stack.proofs.WalkKeeping.{rises}
-use Rattle.linked_stack.specs.ImagePlan.{Plan}
+use Rattle.linked_stack.specs.ImagePlan.{ImagePlan}
 use Rattle.linked_stack.specs.Linked.{Activation, activations_below, HoldsWords, temporaries_end, HasActivation, Linked}
 
 -- ---- slots
@@ -29,7 +29,7 @@ end_within m y sp size k acts (FuncletBody j) h = omega arith
 
 -- ---- the list
 
-module _ (t : Functions) (fs : List Funclet) (program : LinearProgram) (p : Plan) where
+module _ (t : Functions) (fs : List Funclet) (program : LinearProgram) (p : ImagePlan) where
   pub in_stack : (m : Memory) (c : Context) (is : List StackItem) (items : List Item) (acts : List Activation) → IsStack t m c is → Linked t fs program p m c is items acts → rsp c ≤ STACK_END
   in_stack m c [] [] acts s h = h.1
   in_stack m c (Framed f ∷ is) (Waits b ∷ below) acts s h = let e = rises t m c (Framed f) s.0 in let l = in_stack m (after_frame c f) is below (activations_below b.body acts) s.1 h.2 in omega arith

@@ -14,7 +14,7 @@ use Rattle.virtual_unwind.specs.Undone.{word}
 use Rattle.virtual_unwind.specs.CallerOf.{Functions}
 use Rattle.seh_records.specs.declared.dispatch.DispatchRecord.{DispatchRecord}
 use Rattle.seh_records.specs.Record.{placed, return_address_at}
-use Rattle.seh_records.specs.Laws.{Fits, AllSmall}
+use Rattle.seh_records.specs.Laws.{RecordFits, AllSmall}
 use Rattle.host_model.specs.declared.funclet.Funclet.{Funclet}
 use Rattle.host_model.specs.Dispatch.{entered, in_hand}
 use Rattle.linear_code.specs.Program.{LinearProgram}
@@ -22,10 +22,10 @@ use Rattle.linear_machine.specs.Frames.{BodyName, Item}
 use Rattle.linked_stack.specs.Stack.{StackItem, Framed, Leaf, Searching, Unwinding, IsStack, after_frame, after_leaf}
 use Rattle.linked_stack.specs.WalkLaws.{context_below}
 use Rattle.linked_stack.proofs.Visiting.{set_head}
-use Rattle.linked_stack.specs.ImagePlan.{Plan, IsFunclet}
+use Rattle.linked_stack.specs.ImagePlan.{ImagePlan, IsFunclet}
 use Rattle.linked_stack.specs.Linked.{Activation, Reaches}
 use Rattle.linked_stack.proofs.ListKeeping.{reaches_above}
-use Rattle.linked_stack.specs.Records.{IsData, On, HasRoom, laid}
+use Rattle.linked_stack.specs.Records.{IsData, On, RecordHasRoom, laid}
 use Rattle.linked_stack.proofs.Laying.{IsPlace, place_of, bytes, laid_is, keeps_above, word_laid}
 use Rattle.linked_stack.specs.Searching.{CanBeKept}
 use Rattle.linked_stack.specs.States.{IsSane, Arrives}
@@ -81,7 +81,7 @@ module _ (s : State) (at back handler first frame : ℕ) (sane : IsSane s) (hand
 
 -- ---- a record with a frame in hand
 
-pub fits_in_hand : (r : DispatchRecord) (frame row : ℕ) (walk : Context) → Fits r → CanBeKept frame row walk → Fits (in_hand r frame row walk)
+pub fits_in_hand : (r : DispatchRecord) (frame row : ℕ) (walk : Context) → RecordFits r → CanBeKept frame row walk → RecordFits (in_hand r frame row walk)
 fits_in_hand r frame row walk f k =
     record {
       frame = k.frame_small;
@@ -119,13 +119,13 @@ few_items t m c (Leaf back ∷ is) s lt =
 few_items t m c (Searching r ∷ is) s lt = let a = s.0.above in let b = s.0.small in let e = few_items t m (context_of r.saved) is s.1 b in omega arith
 few_items t m c (Unwinding r ∷ is) s lt = let a = s.0.above in let b = s.0.small in let e = few_items t m r.walk is s.1 b in omega arith
 
-module _ (t : Functions) (fs : List Funclet) (program : LinearProgram) (p : Plan) where
+module _ (t : Functions) (fs : List Funclet) (program : LinearProgram) (p : ImagePlan) where
   abbrev pub with_record : State → ℕ → DispatchRecord → State
   with_record s at r = record { cpu = s.cpu; memory = placed s.memory at r }
 
   -- a funclet begins, with its record and its return address laid
   unfoldable pub arrives : (s : State) (at : ℕ) (r : DispatchRecord) (back first frame above k activation : ℕ) (name : BodyName) (is : List StackItem) (items : List Item) (acts : List Activation)
-      → IsSane s → IsData s.memory → HasRoom s.memory at r above → above ≤ frame → frame < 2 ^ 64 → back < 2 ^ 64 → first < 2 ^ 64 → IsFunclet t fs program p name k
+      → IsSane s → IsData s.memory → RecordHasRoom s.memory at r above → above ≤ frame → frame < 2 ^ 64 → back < 2 ^ 64 → first < 2 ^ 64 → IsFunclet t fs program p name k
       → Reaches t fs program p s.memory name frame activation acts → ((others : List ℕ) → On t fs program p (laid s.memory at r back) (context_below back at others) is items acts)
       → Arrives t fs program p (entered (with_record s at r) at back (p.funclet k) first frame) k activation first items acts
   arrives s at r back first frame above k activation name is items acts sane d room le frame_small back_small first_small funclet reach on =

@@ -6,9 +6,9 @@ use Rattle.virtual_unwind.specs.CallerOf.{Functions}
 use Rattle.seh_walk.specs.Asked.{AskedRecord, holds, holding, rows_from, is_end, is_searched, is_unwound, asked_by, searched, unwound, until, until_if, first_with_jump_target, first_finally}
 use Rattle.host_model.specs.declared.funclet.Funclet.{Funclet}
 use Rattle.linear_code.specs.Program.{LinearProgram}
-use Rattle.linked_stack.specs.ImagePlan.{Plan, AllFinally, AllExcept, IsFlagged}
+use Rattle.linked_stack.specs.ImagePlan.{ImagePlan, AllFinally, AllExcept, IsFlagged}
 
-module _ (t : Functions) (fs : List Funclet) (program : LinearProgram) (p : Plan) where
+module _ (t : Functions) (fs : List Funclet) (program : LinearProgram) (p : ImagePlan) where
   finally_dropped : (row : ℕ) (xs : List ScopeRecord) → AllFinally t fs program p xs → AllFinally t fs program p (drop row xs)
   finally_dropped zero xs h = h
   finally_dropped (suc row) [] h = tt

@@ -13,15 +13,15 @@ use Rattle.linear_code.specs.Program.{LinearProgram}
 use Rattle.linear_machine.specs.Frames.{Item, Searches, Unwinds}
 use Rattle.linked_stack.specs.Stack.{StackItem, Searching, Unwinding}
 use Rattle.linked_stack.specs.WalkLaws.{context_below}
-use Rattle.linked_stack.specs.ImagePlan.{Plan}
+use Rattle.linked_stack.specs.ImagePlan.{ImagePlan}
 use Rattle.linked_stack.specs.Linked.{Activation}
 use Rattle.linked_stack.specs.ListLaws.{IsLinkedStack}
 use Rattle.linked_stack.proofs.ListKeeping.{misplaced_same, kept_by_stores_below}
-use Rattle.linked_stack.specs.Records.{On, HasRoom}
+use Rattle.linked_stack.specs.Records.{On, RecordHasRoom}
 use Rattle.linked_stack.specs.RecordLaws.{RecordLeavesTheList, SearchIsOneMore, UnwindingIsOneMore}
 use Rattle.linked_stack.proofs.Laying.{bytes, laid_is, keeps_above, data_laid, record_laid, pointers_laid, placed_keeps_above, data_placed}
 
-module _ (t : Functions) (fs : List Funclet) (program : LinearProgram) (p : Plan) (m : Memory) (at : ℕ) (r : DispatchRecord) (back : ℕ) (c : Context) (is : List StackItem) (items : List Item) (acts : List Activation) (on : On t fs program p m c is items acts) (room : HasRoom m at r (rsp c)) (small : back < 2 ^ 64) where
+module _ (t : Functions) (fs : List Funclet) (program : LinearProgram) (p : ImagePlan) (m : Memory) (at : ℕ) (r : DispatchRecord) (back : ℕ) (c : Context) (is : List StackItem) (items : List Item) (acts : List Activation) (on : On t fs program p m c is items acts) (room : RecordHasRoom m at r (rsp c)) (small : back < 2 ^ 64) where
   -- what was above is there still
   pub others_are_at : IsLinkedStack t fs program p (with_bytes m (bytes m at r back (rsp c) on.data_alone room small)) c is items acts
   others_are_at =

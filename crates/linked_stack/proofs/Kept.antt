@@ -19,7 +19,7 @@ use Rattle.linear_code.specs.Program.{LinearProgram}
 use Rattle.linear_machine.specs.Frames.{BodyName, FunctionBody, FuncletBody, Frame, Item, Waits, Searches, Unwinds}
 use Rattle.linked_stack.specs.Stack.{StackFrame, StackItem, Framed, Leaf, Searching, Unwinding, FrameIsAt, LeafIsAt, RecordIsAt, IsStack, after_frame, after_leaf}
 use Rattle.linked_stack.proofs.Visiting.{set_head}
-use Rattle.linked_stack.specs.ImagePlan.{Plan}
+use Rattle.linked_stack.specs.ImagePlan.{ImagePlan}
 use Rattle.linked_stack.specs.Linked.{Activation, activations_below, HoldsWords, home_end, temporaries_end, HasActivation, HasPointers, BodyWaits, FrameWaits, LeafWaits, IsOwnRecord, Linked}
 use Rattle.linked_stack.specs.ListLaws.{IsLinkedStack}
 use Rattle.linked_stack.proofs.Ends.{words_fit, end_within, in_stack}
@@ -55,7 +55,7 @@ module _ (m m' : Memory) (top : ℕ) where
       let room = h.room in
       record { slot = h.slot; base = h.base; some = h.some; room = h.room; kept = r.words (sp + h.slot) h.base (omega arith) (omega arith) h.kept; activation = h.activation }
 
-  module _ (t : Functions) (fs : List Funclet) (program : LinearProgram) (p : Plan) where
+  module _ (t : Functions) (fs : List Funclet) (program : LinearProgram) (p : ImagePlan) where
     pub pointers_kept : (y : Layout) (sp size : ℕ) (below : List Item) → ReadsSame m m' sp top → sp + size ≤ top → HasPointers t fs program p m y sp size below → HasPointers t fs program p m' y sp size below
     pointers_kept y sp size [] r fits h = tt
     pointers_kept y sp size (Waits w ∷ below) r fits h = tt
@@ -144,7 +144,7 @@ module _ (m m' : Memory) (top : ℕ) where
 
 -- ---- the whole list
 
-module _ (m m' : Memory) (t : Functions) (fs : List Funclet) (program : LinearProgram) (p : Plan) where
+module _ (m m' : Memory) (t : Functions) (fs : List Funclet) (program : LinearProgram) (p : ImagePlan) where
   pub list_kept : (c : Context) (is : List StackItem) (items : List Item) (acts : List Activation) → ReadsSame m m' (rsp c) STACK_END → IsStack t m c is → Linked t fs program p m c is items acts → IsLinkedStack t fs program p m' c is items acts
   list_kept c [] [] acts r s h = record { stack = s; linked = h }
   list_kept c (Framed f ∷ is) (Waits b ∷ below) acts r s h =

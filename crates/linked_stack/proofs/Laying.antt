@@ -19,7 +19,7 @@ use Rattle.seh_records.specs.declared.layout.TheConstants.{RECORD_SIZE, PLACED_S
 use Rattle.linked_stack.proofs.Unchanged.{word_kept}
 use Rattle.linked_stack.proofs.Pointers.{placed_points}
 use Rattle.linked_stack.specs.ListLaws.{KeepsAbove}
-use Rattle.linked_stack.specs.Records.{IsData, HasRoom, IsUntouched, laid}
+use Rattle.linked_stack.specs.Records.{IsData, RecordHasRoom, IsUntouched, laid}
 use Rattle.linked_stack.specs.RecordLaws.{LaidRecordLeavesOthers, ReturnAddressIsLaid}
 
 -- where a record may be placed
@@ -70,7 +70,7 @@ placed_bytes m at r h x = here (nat_le ((at + 32) % 2 ^ 64) x && nat_lt x ((at +
     here true = omega arith
     here false = h x
 
-module _ (m : Memory) (at : ℕ) (r : DispatchRecord) (back above : ℕ) (data_alone : IsData m) (room : HasRoom m at r above) (back_small : back < 2 ^ 64) where
+module _ (m : Memory) (at : ℕ) (r : DispatchRecord) (back above : ℕ) (data_alone : IsData m) (room : RecordHasRoom m at r above) (back_small : back < 2 ^ 64) where
   top : at + RECORD_SIZE < 2 ^ 64
   top = let b = room.below in let s = room.small in omega arith
 

@@ -17,7 +17,7 @@ use Rattle.host_model.specs.declared.funclet.Funclet.{Funclet}
 use Rattle.linear_code.specs.Program.{LinearProgram}
 use Rattle.linear_machine.specs.Frames.{BodyName, FunctionBody, FuncletBody}
 use Rattle.linked_stack.proofs.Unchanged.{SameCode, tail_at_same, refused_same, word_kept, word_same}
-use Rattle.linked_stack.specs.ImagePlan.{Plan}
+use Rattle.linked_stack.specs.ImagePlan.{ImagePlan}
 use Rattle.linked_stack.specs.Linked.{Activation, Leads, Reaches}
 use Rattle.linked_stack.specs.ListLaws.{KeepsAbove, KeptByStoresBelow, KeptByOtherMemories}
 use Rattle.linked_stack.proofs.Kept.{ReadsSame, list_kept}
@@ -42,7 +42,7 @@ reads_above m byte low a = record {
 pub kept_by_stores_below : KeptByStoresBelow
 kept_by_stores_below t fs program p m byte c is items acts a s = list_kept m (with_bytes m byte) t fs program p c is items acts (reads_above m byte (rsp c) a) s.stack s.linked
 
-module _ (t : Functions) (fs : List Funclet) (program : LinearProgram) (p : Plan) where
+module _ (t : Functions) (fs : List Funclet) (program : LinearProgram) (p : ImagePlan) where
   pub reaches_above : (m : Memory) (byte : ℕ → ℕ) (low : ℕ) (name : BodyName) (frame k : ℕ) (acts : List Activation) → KeepsAbove m byte low → low ≤ frame → Reaches t fs program p m name frame k acts → Reaches t fs program p (with_bytes m byte) name frame k acts
   reaches_above m byte low name frame k acts a le h = record { base = h.base; leads = leads name h.leads; activation = h.activation }
     where

@@ -14,12 +14,12 @@ use Rattle.linear_code.specs.declared.program.RegionKind.TheVariants as kinds
 use Rattle.linear_code.specs.Program.{LinearProgram}
 use Rattle.linear_machine.specs.Frames.{BodyName}
 use Rattle.linear_machine.specs.Regions.{holds, handlers_of, handlers_in}
-use Rattle.linked_stack.specs.ImagePlan.{Plan, InCode, IsHandlerRow, IsOfKind, AreRegions}
+use Rattle.linked_stack.specs.ImagePlan.{ImagePlan, InCode, IsHandlerRow, IsOfKind, AreRegions}
 use Rattle.linked_stack.specs.Frames.{NoHandler, FirstHandler}
 use Rattle.linked_stack.specs.ListLaws.{SearchFindsTheHandlers}
 use Rattle.linked_stack.proofs.Places.{row_before_dropped, regions_dropped, dropped_again, all_dropped}
 
-module _ (t : Functions) (fs : List Funclet) (program : LinearProgram) (p : Plan) (name : BodyName) (next label rip : ℕ) (inside : InCode p name label rip) where
+module _ (t : Functions) (fs : List Funclet) (program : LinearProgram) (p : ImagePlan) (name : BodyName) (next label rip : ℕ) (inside : InCode p name label rip) where
   abbrev rva : ℕ
   rva = distance t.base rip
 

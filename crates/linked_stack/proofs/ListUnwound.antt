@@ -17,12 +17,12 @@ use Rattle.linear_code.specs.Program.{LinearProgram}
 use Rattle.linear_machine.specs.Frames.{Target, Waits, Unwinds, Store, Configuration, Seen, Next, pick}
 use Rattle.linear_machine.specs.Regions.{holds, leads_to, stops}
 use Rattle.linear_machine.specs.Unwinding.{arrive, left_store, run_finally, leave_region, unwind_body}
-use Rattle.linked_stack.specs.ImagePlan.{Plan, InCode, IsFinallyRow, IsOfKind, AreRegions, target_rva}
+use Rattle.linked_stack.specs.ImagePlan.{ImagePlan, InCode, IsFinallyRow, IsOfKind, AreRegions, target_rva}
 use Rattle.linked_stack.specs.Frames.{NoBlock, Arrives, FirstBlock}
 use Rattle.linked_stack.specs.ListLaws.{UnwindingRunsTheBlocks, UnwindingStopsAtTheTarget}
 use Rattle.linked_stack.proofs.Places.{row_before_dropped, regions_dropped, dropped_again, all_dropped}
 
-module _ (t : Functions) (fs : List Funclet) (program : LinearProgram) (p : Plan) (target : Target) (c : Configuration) (label rip : ℕ) (inside : InCode p c.frame.body label rip) where
+module _ (t : Functions) (fs : List Funclet) (program : LinearProgram) (p : ImagePlan) (target : Target) (c : Configuration) (label rip : ℕ) (inside : InCode p c.frame.body label rip) where
   abbrev rva : ℕ
   rva = distance t.base rip
 

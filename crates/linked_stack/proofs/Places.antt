@@ -10,7 +10,7 @@ use Rattle.host_model.specs.Dispatch.{row_before}
 use Rattle.linear_code.specs.declared.program.Region.{Region}
 use Rattle.linear_code.specs.Program.{LinearProgram}
 use Rattle.linear_machine.specs.Frames.{BodyName}
-use Rattle.linked_stack.specs.ImagePlan.{Plan, AreRegions}
+use Rattle.linked_stack.specs.ImagePlan.{ImagePlan, AreRegions}
 
 pub row_before_dropped : (row off : ℕ) (xs : List ScopeRecord) (q : ScopeRecord) → row_before (drop row xs) (suc off) ≡ Some q → row_before xs (suc (row + off)) ≡ Some q
 row_before_dropped row off [] q e = ap (λ (ys : List ScopeRecord). row_before ys (suc off)) (sym (drop-nil row)) ∙ e
@@ -22,7 +22,7 @@ row_before_short [] k q e = absurd cc
 row_before_short (x ∷ xs) zero q e = omega arith
 row_before_short (x ∷ xs) (suc k) q e = let h = row_before_short xs k q e in omega arith
 
-module _ (t : Functions) (fs : List Funclet) (program : LinearProgram) (p : Plan) (name : BodyName) where
+module _ (t : Functions) (fs : List Funclet) (program : LinearProgram) (p : ImagePlan) (name : BodyName) where
   pub regions_dropped : (row : ℕ) (xs : List ScopeRecord) (rs : List Region) → AreRegions t fs program p name xs rs → AreRegions t fs program p name (drop row xs) (drop row rs)
   regions_dropped zero xs rs h = h
   regions_dropped (suc row) [] [] h = tt

@@ -12,13 +12,13 @@ use Rattle.seh_records.proofs.Runs.{none_within}
 use Rattle.seh_records.proofs.Placed.{placed_is_fetched, placing_leaves_others}
 use Rattle.seh_records.specs.declared.layout.TheConstants.{RECORD_SIZE}
 use Rattle.seh_walk.specs.Walk.{is_search, filter_return, finally_return}
-use Rattle.linked_stack.specs.Stack.{StackItem, IsStack, Owned, IsWithin, RecordIsAt}
+use Rattle.linked_stack.specs.Stack.{StackItem, IsStack, Owned, IsBetween, RecordIsAt}
 use Rattle.linked_stack.specs.WalkLaws.{CanBePlaced, RecordIsOneMore, context_below}
 use Rattle.linked_stack.proofs.Pointers.{placed_points}
 use Rattle.linked_stack.proofs.WalkKeeping.{kept_by_other_stores, nothing_below_is_owned}
 
 -- an executable byte isn't one of the record's
-not_executable : (m : Memory) (at x : ℕ) → ((y : ℕ) → IsWithin y (at + 32) (at + RECORD_SIZE) → (m.protection y).execute ≡ false) → (m.protection x).execute ≡ true → (x < at + 32) ⊎ (at + RECORD_SIZE ≤ x)
+not_executable : (m : Memory) (at x : ℕ) → ((y : ℕ) → IsBetween y (at + 32) (at + RECORD_SIZE) → (m.protection y).execute ≡ false) → (m.protection x).execute ≡ true → (x < at + 32) ⊎ (at + RECORD_SIZE ≤ x)
 not_executable m at x h e = low (cases_lt x (at + 32)) (cases_lt x (at + RECORD_SIZE))
   where
     low : (x < at + 32) ⊎ (at + 32 ≤ x) → (x < at + RECORD_SIZE) ⊎ (at + RECORD_SIZE ≤ x) → (x < at + 32) ⊎ (at + RECORD_SIZE ≤ x)

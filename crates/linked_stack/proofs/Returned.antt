@@ -20,17 +20,17 @@ use Rattle.linear_machine.specs.Frames.{Handler, Resumption, Configuration, Next
 use Rattle.linear_machine.specs.Searching.{search, accept, raise, resumed}
 use Rattle.c_model.specs.Raises.{noncontinuable}
 use Rattle.linked_stack.specs.Stack.{StackItem}
-use Rattle.linked_stack.specs.ImagePlan.{Plan}
+use Rattle.linked_stack.specs.ImagePlan.{ImagePlan}
 use Rattle.linked_stack.specs.Linked.{Activation}
 use Rattle.linked_stack.specs.Steps.{SearchIsAnswered, AnswersAs}
-use Rattle.linked_stack.specs.Returns.{filter_turn, with_answer, answered, linear_answer, AsksTheNext, AskedTakesOver, IsContinued, IsRaisedAnew, FilterReturns}
+use Rattle.linked_stack.specs.Returns.{filter_turn, with_answer, answered, linear_answer, AsksTheNext, AskedTakesOver, ContinuesException, IsRaisedAnew, FilterReturns}
 use Rattle.linked_stack.proofs.Begun.{answers_continue}
 
 -- an answer is that of its low bits
 signed_low : (x : ℕ) → signed W32 x ≡ signed W32 (low W32 x)
 signed_low x = ap (λ n. if nat_lt n (half W32) then pos n else pos n -ℤ pos (limit W32)) (let e : x % 2 ^ 32 ≡ x % 2 ^ 32 % 2 ^ 32 = omega arith in e)
 
-module _ (t : Functions) (fs : List Funclet) (program : LinearProgram) (p : Plan) (s : State) (r : DispatchRecord) (is : List StackItem) (acts : List Activation) (exception : Exception) (resumption : Resumption) (asked : Handler) (rest : List Handler) (c : Configuration) (h : SearchIsAnswered t fs program p s r is acts exception resumption asked rest c) where
+module _ (t : Functions) (fs : List Funclet) (program : LinearProgram) (p : ImagePlan) (s : State) (r : DispatchRecord) (is : List StackItem) (acts : List Activation) (exception : Exception) (resumption : Resumption) (asked : Handler) (rest : List Handler) (c : Configuration) (h : SearchIsAnswered t fs program p s r is acts exception resumption asked rest c) where
   abbrev at : ℕ
   at = rsp (context_of s.cpu)
 
@@ -90,7 +90,7 @@ module _ (t : Functions) (fs : List Funclet) (program : LinearProgram) (p : Plan
       ∙ ap (λ x. with_answer s (by_sign t s at r x)) f
       ∙ ap (λ x. with_answer s (continued t s at r x)) (h.on.is_there.linked.0.carries.flag ∙ ap not g)
 
-  is_continued : nat_eq v 0 ≡ false → nat_le (2 ^ 31) v ≡ true → exception.flag ≡ false → IsContinued t fs program p s r is acts exception resumption asked rest c
+  is_continued : nat_eq v 0 ≡ false → nat_le (2 ^ 31) v ≡ true → exception.flag ≡ false → ContinuesException t fs program p s r is acts exception resumption asked rest c
   unfolding pick
   is_continued e f g = record {
     turns = below_zero e f false g;
@@ -111,7 +111,7 @@ module _ (t : Functions) (fs : List Funclet) (program : LinearProgram) (p : Plan
   Outcome =
       AsksTheNext t program s r exception resumption asked rest c
       ⊎ (AskedTakesOver t fs program p s r is exception resumption asked rest c
-      ⊎ (IsContinued t fs program p s r is acts exception resumption asked rest c
+      ⊎ (ContinuesException t fs program p s r is acts exception resumption asked rest c
       ⊎ IsRaisedAnew t program s r exception resumption asked rest c))
 
   by_flag : nat_eq v 0 ≡ false → nat_le (2 ^ 31) v ≡ true → (d : Bool) → exception.flag ≡ d → Outcome

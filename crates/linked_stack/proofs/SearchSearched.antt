@@ -23,7 +23,7 @@ use Rattle.linked_stack.specs.Stack.{StackFrame, StackItem, Framed, Leaf, Search
 use Rattle.linked_stack.specs.PlainWalks.{state, asked_row, chosen_or, plain_search}
 use Rattle.linked_stack.proofs.WalkKeeping.{rises}
 use Rattle.linked_stack.proofs.Listing.{search_is_of_the_list}
-use Rattle.linked_stack.specs.ImagePlan.{Plan, AreRegions, IsFlagged, IsEntryOf, IsGiven, IsHandlerRow, Gives}
+use Rattle.linked_stack.specs.ImagePlan.{ImagePlan, AreRegions, IsFlagged, IsEntryOf, IsGiven, IsHandlerRow, Gives}
 use Rattle.linked_stack.specs.Linked.{Activation, IsActivation, activations_below, HasActivation, Reaches, FrameWaits, LeafWaits, regions_from, IsAtRow, Onward, Aimed, Linked}
 use Rattle.linked_stack.specs.Frames.{NoHandler, FirstHandler}
 use Rattle.linked_stack.specs.ListLaws.{IsInstruction, left_from}
@@ -39,13 +39,13 @@ activation_below (FunctionBody f) [] k base distance h = absurd h
 activation_below (FunctionBody f) (a ∷ outer) k base distance h = inr h
 activation_below (FuncletBody j) acts k base distance h = h
 
-pub at_first_row : (t : Functions) (fs : List Funclet) (program : LinearProgram) (p : Plan) (items : List Item) → IsAtRow t fs program p 0 items None
+pub at_first_row : (t : Functions) (fs : List Funclet) (program : LinearProgram) (p : ImagePlan) (items : List Item) → IsAtRow t fs program p 0 items None
 at_first_row t fs program p [] = tt
 at_first_row t fs program p (Waits b ∷ below) = refl
 at_first_row t fs program p (Searches exception resumption asked rest ∷ below) = tt
 at_first_row t fs program p (Unwinds rest target ∷ below) = tt
 
-module _ (t : Functions) (fs : List Funclet) (program : LinearProgram) (p : Plan) where
+module _ (t : Functions) (fs : List Funclet) (program : LinearProgram) (p : ImagePlan) where
   -- a frame leads its funclets to its activation
   pub body_reaches : (m : Memory) (name : BodyName) (sp size k : ℕ) (acts : List Activation) → sp + size + 8 < 2 ^ 64 → HasActivation m (p.layout name) sp size k acts name → Reaches t fs program p m name sp k acts
   body_reaches m (FunctionBody f) sp size k [] lt h = absurd h
@@ -95,7 +95,7 @@ module _ (t : Functions) (fs : List Funclet) (program : LinearProgram) (p : Plan
     searched_outer s s' [] e x = e ∙ x
     searched_outer s s' (h ∷ rest) e x = finds_outer s s' h.filter h rest e x
 
-module _ (t : Functions) (fs : List Funclet) (program : LinearProgram) (p : Plan) (g : Gives t fs program p) where
+module _ (t : Functions) (fs : List Funclet) (program : LinearProgram) (p : ImagePlan) (g : Gives t fs program p) where
   -- a waiting body's frame has the records of its body
   pub entry_of_body : (m : Memory) (c : Context) (f : StackFrame) (b : Frame) (below : List Item) (acts : List Activation) (body : FrameWaits t fs program p m c f b below acts) → IsEntryOf t fs program p b.body body.waits.code
   entry_of_body m c f b below acts body = subst (λ x. IsGiven t fs program p b.body body.waits.code x) body.framed (g b.body body.waits.code body.waits.body)

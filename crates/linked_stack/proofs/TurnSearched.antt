@@ -10,7 +10,7 @@ use Rattle.virtual_unwind.specs.Contexts.{rsp}
 use Rattle.virtual_unwind.specs.CallerOf.{Functions}
 use Rattle.seh_records.specs.declared.dispatch.DispatchRecord.{DispatchRecord}
 use Rattle.seh_records.specs.Record.{return_address_at}
-use Rattle.seh_records.specs.Laws.{Fits}
+use Rattle.seh_records.specs.Laws.{RecordFits}
 use Rattle.seh_walk.specs.Walk.{is_search, filter_return, walk_in, steps}
 use Rattle.seh_search.specs.declared.search_result.SearchResult.{SearchResult}
 use Rattle.seh_search.specs.Search.{search}
@@ -23,10 +23,10 @@ use Rattle.linear_code.specs.Program.{LinearProgram}
 use Rattle.linear_machine.specs.Frames.{Handler, Resumption, Item, Waits, Searches, Configuration}
 use Rattle.linear_machine.specs.Searching.{consult}
 use Rattle.linked_stack.specs.Stack.{StackItem, Searching}
-use Rattle.linked_stack.specs.ImagePlan.{Plan}
+use Rattle.linked_stack.specs.ImagePlan.{ImagePlan}
 use Rattle.linked_stack.specs.Linked.{Activation}
 use Rattle.linked_stack.proofs.Ends.{in_stack}
-use Rattle.linked_stack.specs.Records.{HasRoom}
+use Rattle.linked_stack.specs.Records.{RecordHasRoom}
 use Rattle.linked_stack.proofs.Laying.{IsPlace, place_of, laid_record_leaves_others}
 use Rattle.linked_stack.proofs.Items.{search_is_one_more}
 use Rattle.linked_stack.specs.Searching.{Asks, Accepts, FindsHandler, SearchedAs}
@@ -37,7 +37,7 @@ use Rattle.linked_stack.specs.Searches.{FilterBegins, TakesOver, NobodyTakesOver
 use Rattle.linked_stack.specs.TurnLaws.{IsSearching, SearchTurns}
 use Rattle.linked_stack.proofs.Entered.{with_record, fits_in_hand, few_items, entered_stack, entered_first, arrives}
 
-module _ (t : Functions) (fs : List Funclet) (program : LinearProgram) (p : Plan) (s : State) (at : ℕ) (r : DispatchRecord) (is : List StackItem) (acts : List Activation)
+module _ (t : Functions) (fs : List Funclet) (program : LinearProgram) (p : ImagePlan) (s : State) (at : ℕ) (r : DispatchRecord) (is : List StackItem) (acts : List Activation)
     (exception : Exception) (resumption : Resumption) (found : List Handler) (c : Configuration) (h : IsSearching t fs program p s at r is acts exception found c) (resumes : p.resumes resumption c.frame r.saved ≡ true) where
   abbrev items : List Item
   items = Waits c.frame ∷ c.below
@@ -46,7 +46,7 @@ module _ (t : Functions) (fs : List Funclet) (program : LinearProgram) (p : Plan
   turn_of x = arrived t fs (after_search t s at r x)
 
   -- RCX is the address of the EXCEPTION_POINTERS in the record above the filter's return address
-  pointers_above : (hand : DispatchRecord) → HasRoom s.memory at hand (rsp (context_of r.saved)) → (frame k : ℕ) → p.funclet k < 2 ^ 64 → frame < 2 ^ 64
+  pointers_above : (hand : DispatchRecord) → RecordHasRoom s.memory at hand (rsp (context_of r.saved)) → (frame k : ℕ) → p.funclet k < 2 ^ 64 → frame < 2 ^ 64
       → let cpu : Cpu = (entered (with_record t fs program p s at hand) at filter_return (p.funclet k) ((at + 80) % 2 ^ 64) frame).cpu in register cpu Rcx ≡ register cpu Rsp + 88
   pointers_above hand room frame k handler_small frame_small =
       let old : State = with_record t fs program p s at hand in
@@ -67,8 +67,8 @@ module _ (t : Functions) (fs : List Funclet) (program : LinearProgram) (p : Plan
   filter_begins x k f rest e a =
       let above = rsp (context_of r.saved) in
       let hand : DispatchRecord = in_hand r a.frame a.next a.to in
-      let hand_fits : Fits hand = fits_in_hand r a.frame a.next a.to h.room.fits a.kept in
-      let room : HasRoom s.memory at hand above = record { fits = hand_fits; below = h.room.below; small = h.room.small; room = h.room.room } in
+      let hand_fits : RecordFits hand = fits_in_hand r a.frame a.next a.to h.room.fits a.kept in
+      let room : RecordHasRoom s.memory at hand above = record { fits = hand_fits; below = h.room.below; small = h.room.small; room = h.room.room } in
       let kind : is_search hand.kind ≡ true = ap is_search h.kind in
       let new : State = entered (with_record t fs program p s at hand) at filter_return (p.funclet k) ((at + 80) % 2 ^ 64) a.frame in
       let le = a.above in

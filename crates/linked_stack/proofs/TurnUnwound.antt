@@ -11,7 +11,7 @@ use Rattle.x64_machine.specs.Effect.{State}
 use Rattle.virtual_unwind.specs.Contexts.{rsp}
 use Rattle.virtual_unwind.specs.CallerOf.{Functions, distance}
 use Rattle.seh_records.specs.declared.dispatch.DispatchRecord.{DispatchRecord}
-use Rattle.seh_records.specs.Laws.{Fits, AllSmall}
+use Rattle.seh_records.specs.Laws.{RecordFits, AllSmall}
 use Rattle.seh_walk.specs.Walk.{finally_return, walk_in, steps}
 use Rattle.seh_unwind.specs.declared.unwind_result.UnwindResult.{UnwindResult}
 use Rattle.seh_unwind.specs.Unwind.{unwind}
@@ -23,10 +23,10 @@ use Rattle.linear_code.specs.Program.{LinearProgram}
 use Rattle.linear_machine.specs.Frames.{Waits, Unwinds, Seen, Next}
 use Rattle.linear_machine.specs.Unwinding as linear
 use Rattle.linked_stack.specs.Stack.{StackItem, Unwinding}
-use Rattle.linked_stack.specs.ImagePlan.{Plan}
+use Rattle.linked_stack.specs.ImagePlan.{ImagePlan}
 use Rattle.linked_stack.specs.Linked.{HasSpace, below_end, record_room, HasPurpose}
 use Rattle.linked_stack.proofs.Ends.{in_stack}
-use Rattle.linked_stack.specs.Records.{HasRoom}
+use Rattle.linked_stack.specs.Records.{RecordHasRoom}
 use Rattle.linked_stack.proofs.Laying.{laid_record_leaves_others}
 use Rattle.linked_stack.proofs.Items.{unwinding_is_one_more}
 use Rattle.linked_stack.specs.Searching.{IsWide}
@@ -39,7 +39,7 @@ use Rattle.linked_stack.specs.TurnLaws.{IsUnwinding, UnwindTurns}
 use Rattle.linked_stack.proofs.Entered.{with_record, fits_in_hand, few_items, entered_first, entered_frame, arrives}
 use Rattle.linked_stack.proofs.Begun.{none_small}
 
-module _ (t : Functions) (fs : List Funclet) (program : LinearProgram) (p : Plan) (s : State) (at : ℕ) (r : DispatchRecord) (is : List StackItem) (w : Unwound) (h : IsUnwinding t fs program p s at r is w) where
+module _ (t : Functions) (fs : List Funclet) (program : LinearProgram) (p : ImagePlan) (s : State) (at : ℕ) (r : DispatchRecord) (is : List StackItem) (w : Unwound) (h : IsUnwinding t fs program p s at r is w) where
   abbrev turn_of : UnwindResult → Turn
   turn_of x = arrived t fs (after_unwind s at r x)
 
@@ -55,12 +55,12 @@ module _ (t : Functions) (fs : List Funclet) (program : LinearProgram) (p : Plan
   block_begins x e a =
       let above = rsp r.walk in
       let hand : DispatchRecord = in_hand r (rsp a.to) a.row a.to in
-      let hand_fits : Fits hand = fits_in_hand r (rsp a.to) a.row a.to h.room.fits a.kept in
+      let hand_fits : RecordFits hand = fits_in_hand r (rsp a.to) a.row a.to h.room.fits a.kept in
       let le : rsp r.walk ≤ rsp a.to = a.above in
       let frame_small = a.kept.frame_small in
       let low_enough = h.room.below in
-      let room : HasRoom s.memory at hand above = record { fits = hand_fits; below = h.room.below; small = h.room.small; room = h.room.room } in
-      let room_to : HasRoom s.memory at hand (rsp a.to) = record { fits = hand_fits; below = omega arith; small = a.kept.frame_small; room = h.room.room } in
+      let room : RecordHasRoom s.memory at hand above = record { fits = hand_fits; below = h.room.below; small = h.room.small; room = h.room.room } in
+      let room_to : RecordHasRoom s.memory at hand (rsp a.to) = record { fits = hand_fits; below = omega arith; small = a.kept.frame_small; room = h.room.room } in
       let new : State = entered (with_record t fs program p s at hand) at finally_return (p.funclet a.block) 1 (rsp a.to) in
       let first = entered_first (with_record t fs program p s at hand) at finally_return (p.funclet a.block) 1 (rsp a.to) (record { rip_small = h.sane.rip_small; count = h.sane.count; small = h.sane.small }) a.funclet.small (omega arith) frame_small in
       record {

@@ -27,7 +27,7 @@ use Rattle.linked_stack.specs.Stack.{StackFrame, StackItem, Framed, Leaf, Search
 use Rattle.linked_stack.specs.PlainWalks.{state, decided_or, plain_unwind}
 use Rattle.linked_stack.proofs.WalkKeeping.{rises}
 use Rattle.linked_stack.proofs.Listing.{unwinding_is_of_the_list}
-use Rattle.linked_stack.specs.ImagePlan.{Plan, Gives}
+use Rattle.linked_stack.specs.ImagePlan.{ImagePlan, Gives}
 use Rattle.linked_stack.specs.Linked.{Activation, locals_of, activations_below, HasActivation, FrameWaits, LeafWaits, IsAbove, regions_from, IsAtRow, Aimed, AimedHere, Linked}
 use Rattle.linked_stack.specs.Frames.{NoBlock, Arrives, FirstBlock}
 use Rattle.linked_stack.specs.ListLaws.{left_from}
@@ -51,7 +51,7 @@ left_activations m source y sp size k (a ∷ outer) (FunctionBody f) h =
     ap (λ (xs : List (List ℕ)). let s : Store = record { memory = source; activations = xs } in s) (take_at (locals_of outer) (a.values ∷ []) k (locals_length outer ∙ sym h.activation.number))
 left_activations m source y sp size k acts (FuncletBody j) h = refl
 
-module _ (t : Functions) (fs : List Funclet) (program : LinearProgram) (p : Plan) where
+module _ (t : Functions) (fs : List Funclet) (program : LinearProgram) (p : ImagePlan) where
   -- ---- the target lies ahead
 
   pub aimed_above : (m : Memory) (depth label frame address : ℕ) (c : Context) (is : List StackItem) (items : List Item) → IsStack t m c is → Aimed t fs program p depth label frame address c is items → rsp c ≤ frame
@@ -173,7 +173,7 @@ past_is : (name : BodyName) (target : Target) (held : ℕ) → target_past name 
 past_is (FunctionBody f) target held = refl
 past_is (FuncletBody k) target held = refl
 
-module _ (t : Functions) (fs : List Funclet) (program : LinearProgram) (p : Plan) (g : Gives t fs program p) (m : Memory) (target : Target) (frame address depth : ℕ) (source : Memory) (events : List Event) where
+module _ (t : Functions) (fs : List Funclet) (program : LinearProgram) (p : ImagePlan) (g : Gives t fs program p) (m : Memory) (target : Target) (frame address depth : ℕ) (source : Memory) (events : List Event) where
   abbrev to_target : ℕ → Target
   to_target held = record target { held = held }
 

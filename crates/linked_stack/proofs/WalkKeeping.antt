@@ -9,17 +9,17 @@ use Rattle.seh_records.specs.declared.dispatch.DispatchRecord.{DispatchRecord}
 use Rattle.seh_records.proofs.Unmoved.{fetched_by_its_bytes}
 use Rattle.seh_records.specs.declared.layout.TheConstants.{RECORD_SIZE}
 use Rattle.seh_walk.specs.Walk.{filter_return, finally_return}
-use Rattle.linked_stack.specs.Stack.{StackItem, Framed, Leaf, Searching, Unwinding, RecordIsAt, ItemIsAt, IsStack, OwnedBy, IsWithin, after_frame, context_after, context_at}
+use Rattle.linked_stack.specs.Stack.{StackItem, Framed, Leaf, Searching, Unwinding, RecordIsAt, ItemIsAt, IsStack, OwnedBy, IsBetween, after_frame, context_after, context_at}
 use Rattle.linked_stack.specs.WalkLaws.{KeptByOtherStores, NothingBelowIsOwned, SlotsAreFree}
 use Rattle.linked_stack.proofs.Visiting.{set_head}
 use Rattle.linked_stack.proofs.Unchanged.{tail_at_same, word_same}
 
 -- ---- stores elsewhere
 
-within : (a from to : ℕ) → from ≤ a → a < to → IsWithin a from to
+within : (a from to : ℕ) → from ≤ a → a < to → IsBetween a from to
 within a from to low high = record { low = low; high = high }
 
-record_same : (m : Memory) (byte : ℕ → ℕ) (c : Context) (r : DispatchRecord) (at : ℕ) (is : Bool) (next : Context) → ((a : ℕ) → IsWithin a (rsp c + 32) (rsp c + RECORD_SIZE) → byte a ≡ m.byte a) → RecordIsAt m c r at is next → RecordIsAt (with_bytes m byte) c r at is next
+record_same : (m : Memory) (byte : ℕ → ℕ) (c : Context) (r : DispatchRecord) (at : ℕ) (is : Bool) (next : Context) → ((a : ℕ) → IsBetween a (rsp c + 32) (rsp c + RECORD_SIZE) → byte a ≡ m.byte a) → RecordIsAt m c r at is next → RecordIsAt (with_bytes m byte) c r at is next
 record_same m byte c r at is next same s =
     let above = s.above in
     let small = s.small in

@@ -10,9 +10,9 @@ use Rattle.linear_code.specs.Program.{LinearProgram}
 use Rattle.linear_machine.specs.Frames.{BodyName, Target, Waits, Unwinds, Store, Configuration, Seen, Next}
 use Rattle.linear_machine.specs.Regions.{handlers_in}
 use Rattle.linear_machine.specs.Unwinding.{arrive, left_store, run_finally, unwind_body}
-use Rattle.linked_stack.specs.ImagePlan.{Plan, IsHandlerRow, IsFinallyRow}
+use Rattle.linked_stack.specs.ImagePlan.{ImagePlan, IsHandlerRow, IsFinallyRow}
 
-module _ (t : Functions) (fs : List Funclet) (program : LinearProgram) (p : Plan) where
+module _ (t : Functions) (fs : List Funclet) (program : LinearProgram) (p : ImagePlan) where
   -- ---- searching: the records that are asked, against the regions that hold an instruction
 
   pub record NoHandler (asked : List AskedRecord) (regions : List Region) : Type 0 where

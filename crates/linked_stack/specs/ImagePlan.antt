@@ -20,7 +20,7 @@ use Rattle.linear_machine.specs.Regions as regions
 use Rattle.linear_machine.specs.Regions.{leads_to}
 
 -- where the parts of an image are
-pub record Plan : Type 0 where
+pub record ImagePlan : Type 0 where
   -- where the code of an instruction begins, that of the last one up to the body's end
   pub address : BodyName → ℕ → ℕ
   pub funclet : ℕ → ℕ  -- the first byte of a funclet, by its number
@@ -32,7 +32,7 @@ pub record Plan : Type 0 where
   pub resumes : Resumption → Frame → Cpu → Bool
 
 -- an address within the code of an instruction
-pub record InCode (p : Plan) (name : BodyName) (label rip : ℕ) : Type 0 where
+pub record InCode (p : ImagePlan) (name : BodyName) (label rip : ℕ) : Type 0 where
   pub low : p.address name label ≤ rip
   pub high : rip < p.address name (label + 1)
 
@@ -46,7 +46,7 @@ abbrev pub parent_body : Option LinearFunclet → Option BodyName
 parent_body None = None
 parent_body (Some f) = Some (by_parent f.function f.parent)
 
-module _ (t : Functions) (fs : List Funclet) (program : LinearProgram) (p : Plan) where
+module _ (t : Functions) (fs : List Funclet) (program : LinearProgram) (p : ImagePlan) where
   -- ---- scope records and regions
 
   -- a target of a body, by the distance from the image's base

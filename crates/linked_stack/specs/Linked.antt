@@ -14,7 +14,7 @@ use Rattle.seh_records.specs.declared.dispatch.Kind.TheVariants.{ExceptionUnwind
 use Rattle.seh_records.specs.declared.dispatch.DispatchRecord.{DispatchRecord}
 use Rattle.seh_records.specs.declared.layout.TheConstants.{PLACED_SIZE}
 use Rattle.seh_records.specs.Record.{misplaced}
-use Rattle.seh_records.specs.Laws.{Fits}
+use Rattle.seh_records.specs.Laws.{RecordFits}
 use Rattle.host_model.specs.declared.funclet.Funclet.{Funclet}
 use Rattle.host_model.specs.Dispatch.{row_before, rows_of, parameters, count}
 use Rattle.template_code.specs.declared.layout.Layout.{Layout}
@@ -31,7 +31,7 @@ use Rattle.linear_machine.specs.Frames.{BodyName, FunctionBody, FuncletBody, bod
 use Rattle.linear_machine.specs.Run.{instruction_in}
 use Rattle.linear_machine.specs.Regions.{holds, regions_of, regions_at, regions_left, handlers_in, handlers}
 use Rattle.linked_stack.specs.Stack.{StackFrame, StackItem, Framed, Leaf, Searching, Unwinding, after_frame, after_leaf}
-use Rattle.linked_stack.specs.ImagePlan.{Plan, InCode}
+use Rattle.linked_stack.specs.ImagePlan.{ImagePlan, InCode}
 use Rattle.template_code.specs.declared.layout.TheConstants.{LARGEST_FRAME}
 
 -- ---- the source's activations
@@ -48,7 +48,8 @@ locals_of [] = []
 locals_of (a ∷ outer) = locals_of outer ++ a.values ∷ []
 
 -- activation number k has its base and its first local there
-pub record HasBase (k at first : ℕ) (a : Activation) (outer : List Activation) : Type 0 where
+pub record ActivationHasBase (k at first : ℕ) (a : Activation)
+    (outer : List Activation) : Type 0 where
   pub number : k ≡ length outer
   pub base : at ≡ a.base
   pub distance : first ≡ a.distance
@@ -57,7 +58,7 @@ pub record HasBase (k at first : ℕ) (a : Activation) (outer : List Activation)
 abbrev pub IsActivation : List Activation → ℕ → ℕ → ℕ → Type 0
 IsActivation [] k base distance = ⊥
 IsActivation (a ∷ outer) k base distance =
-    HasBase k base distance a outer ⊎ IsActivation outer k base distance
+    ActivationHasBase k base distance a outer ⊎ IsActivation outer k base distance
 
 -- the activations below a body: a function's own is the first
 abbrev pub below_function : List Activation → List Activation
@@ -108,11 +109,11 @@ temporaries_end y (FuncletBody k) size = size
 pub record HoldsLocals (m : Memory) (y : Layout) (sp size k : ℕ) (a : Activation)
     (outer : List Activation) : Type 0 where
   pub none : y.base ≡ None
-  pub activation : HasBase k sp y.locals a outer
+  pub activation : ActivationHasBase k sp y.locals a outer
   pub values : HoldsWords m (sp + y.locals) (sp + size) a.values
 
 -- a funclet's frame keeps the base
-pub record KeepsBase (m : Memory) (y : Layout) (sp size k : ℕ)
+pub record FrameKeepsBase (m : Memory) (y : Layout) (sp size k : ℕ)
     (acts : List Activation) : Type 0 where
   pub slot : ℕ
   pub base : ℕ
@@ -129,7 +130,7 @@ FirstHoldsLocals m y sp size k (a ∷ outer) = HoldsLocals m y sp size k a outer
 -- a function holds its own locals; a funclet keeps the base of its function's
 abbrev pub HasActivation : Memory → Layout → (sp size k : ℕ) → List Activation → BodyName → Type 0
 HasActivation m y sp size k acts (FunctionBody f) = FirstHoldsLocals m y sp size k acts
-HasActivation m y sp size k acts (FuncletBody j) = KeepsBase m y sp size k acts
+HasActivation m y sp size k acts (FuncletBody j) = FrameKeepsBase m y sp size k acts
 
 -- what the frame that a funclet is given leads to: a function's frame is the base, a funclet's
 -- keeps it
@@ -151,7 +152,7 @@ return_of y at (Some (instructions.Call f first count)) =
 return_of y at (Some (instructions.CallFinally k)) = Some (at + sizes finally_arguments + 5)
 return_of y at i = None
 
-module _ (t : Functions) (fs : List Funclet) (program : LinearProgram) (p : Plan) where
+module _ (t : Functions) (fs : List Funclet) (program : LinearProgram) (p : ImagePlan) where
   -- activation number k, by the frame of a body
   pub record Reaches (m : Memory) (name : BodyName) (frame k : ℕ)
       (acts : List Activation) : Type 0 where
@@ -321,7 +322,7 @@ module _ (t : Functions) (fs : List Funclet) (program : LinearProgram) (p : Plan
 
   -- it can be written again in place
   pub record IsOwnRecord (m : Memory) (at : ℕ) (r : DispatchRecord) : Type 0 where
-    pub fits : Fits r
+    pub fits : RecordFits r
     pub room : misplaced m at ≡ None
 
   -- where the exception is continued, the body that raised it continues from the saved state

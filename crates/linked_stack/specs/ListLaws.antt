@@ -14,7 +14,7 @@ use Rattle.linear_code.specs.Program.{LinearProgram}
 use Rattle.linear_machine.specs.Frames.{BodyName, Target, Item, Configuration}
 use Rattle.linear_machine.specs.Regions.{holds}
 use Rattle.linked_stack.specs.Stack.{StackItem, IsStack}
-use Rattle.linked_stack.specs.ImagePlan.{Plan, InCode, AreRegions, target_rva}
+use Rattle.linked_stack.specs.ImagePlan.{ImagePlan, InCode, AreRegions, target_rva}
 use Rattle.linked_stack.specs.Linked.{Activation, Linked}
 use Rattle.linked_stack.specs.Frames.{NoHandler, FirstHandler, NoBlock, Arrives, FirstBlock}
 
@@ -26,7 +26,8 @@ left_from label regions row = filter (holds label) (drop row regions)
 
 -- an instruction of a body, an address in the code of one that the same regions hold, and the
 -- body's records, which are its regions
-pub record IsInstruction (t : Functions) (fs : List Funclet) (program : LinearProgram) (p : Plan)
+pub record IsInstruction (t : Functions) (fs : List Funclet) (program : LinearProgram)
+    (p : ImagePlan)
     (name : BodyName) (next rip : ℕ) (scopes : List ScopeRecord)
     (regions : List Region) : Type 0 where
   pub label : ℕ
@@ -37,7 +38,7 @@ pub record IsInstruction (t : Functions) (fs : List Funclet) (program : LinearPr
 -- from any row on
 abbrev pub SearchFindsTheHandlers : Type 0
 SearchFindsTheHandlers =
-    (t : Functions) (fs : List Funclet) (program : LinearProgram) (p : Plan) (name : BodyName)
+    (t : Functions) (fs : List Funclet) (program : LinearProgram) (p : ImagePlan) (name : BodyName)
     (label rip row : ℕ) (scopes : List ScopeRecord) (regions : List Region)
     → IsInstruction t fs program p name label rip scopes regions
     → NoHandler t fs program p (rows_from (distance t.base rip) row scopes)
@@ -48,7 +49,7 @@ SearchFindsTheHandlers =
 -- in a frame that isn't the target's
 abbrev pub UnwindingRunsTheBlocks : Type 0
 UnwindingRunsTheBlocks =
-    (t : Functions) (fs : List Funclet) (program : LinearProgram) (p : Plan) (rip row : ℕ)
+    (t : Functions) (fs : List Funclet) (program : LinearProgram) (p : ImagePlan) (rip row : ℕ)
     (scopes : List ScopeRecord) (regions : List Region) (target : Target) (c : Configuration)
     → IsInstruction t fs program p c.frame.body c.frame.next rip scopes regions
     → target.depth ≢ length c.below
@@ -60,7 +61,7 @@ UnwindingRunsTheBlocks =
 -- in the target's frame, up to the first record that ends it
 abbrev pub UnwindingStopsAtTheTarget : Type 0
 UnwindingStopsAtTheTarget =
-    (t : Functions) (fs : List Funclet) (program : LinearProgram) (p : Plan) (rip row : ℕ)
+    (t : Functions) (fs : List Funclet) (program : LinearProgram) (p : ImagePlan) (rip row : ℕ)
     (scopes : List ScopeRecord) (regions : List Region) (target : Target) (c : Configuration)
     → IsInstruction t fs program p c.frame.body c.frame.next rip scopes regions
     → target.depth ≡ length c.below → p.lands c.frame.body target.label ≡ true
@@ -79,7 +80,8 @@ pub record KeepsAbove (m : Memory) (byte : ℕ → ℕ) (low : ℕ) : Type 0 whe
   pub above : (x : ℕ) → low ≤ x → byte x ≡ m.byte x
   pub code : (x : ℕ) → (m.protection x).execute ≡ true → byte x ≡ m.byte x
 
-pub record IsLinkedStack (t : Functions) (fs : List Funclet) (program : LinearProgram) (p : Plan)
+pub record IsLinkedStack (t : Functions) (fs : List Funclet) (program : LinearProgram)
+    (p : ImagePlan)
     (m : Memory) (c : Context) (is : List StackItem) (items : List Item)
     (acts : List Activation) : Type 0 where
   pub stack : IsStack t m c is
@@ -88,7 +90,7 @@ pub record IsLinkedStack (t : Functions) (fs : List Funclet) (program : LinearPr
 -- stores below the stack pointer leave it as it is
 abbrev pub KeptByStoresBelow : Type 0
 KeptByStoresBelow =
-    (t : Functions) (fs : List Funclet) (program : LinearProgram) (p : Plan) (m : Memory)
+    (t : Functions) (fs : List Funclet) (program : LinearProgram) (p : ImagePlan) (m : Memory)
     (byte : ℕ → ℕ) (c : Context) (is : List StackItem) (items : List Item) (acts : List Activation)
     → KeepsAbove m byte (rsp c) → IsLinkedStack t fs program p m c is items acts
     → IsLinkedStack t fs program p (with_bytes m byte) c is items acts
@@ -105,7 +107,7 @@ pub record KeepsStack (m m' : Memory) (low : ℕ) : Type 0 where
 -- a list from an address of the stack up is there too
 abbrev pub KeptByOtherMemories : Type 0
 KeptByOtherMemories =
-    (t : Functions) (fs : List Funclet) (program : LinearProgram) (p : Plan) (m m' : Memory)
+    (t : Functions) (fs : List Funclet) (program : LinearProgram) (p : ImagePlan) (m m' : Memory)
     (c : Context) (is : List StackItem) (items : List Item) (acts : List Activation)
     → KeepsStack m m' (rsp c) → STACK_START ≤ rsp c → IsLinkedStack t fs program p m c is items acts
     → IsLinkedStack t fs program p m' c is items acts

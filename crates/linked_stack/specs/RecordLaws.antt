@@ -17,28 +17,30 @@ use Rattle.linear_code.specs.Program.{LinearProgram}
 use Rattle.linear_machine.specs.Frames.{Handler, Target, Resumption, Item, Searches, Unwinds}
 use Rattle.linked_stack.specs.Stack.{StackItem, Searching, Unwinding}
 use Rattle.linked_stack.specs.WalkLaws.{context_below}
-use Rattle.linked_stack.specs.ImagePlan.{Plan}
+use Rattle.linked_stack.specs.ImagePlan.{ImagePlan}
 use Rattle.linked_stack.specs.Linked.{Activation, SearchWaits, UnwindingWaits}
-use Rattle.linked_stack.specs.Records.{IsData, On, HasRoom, IsUntouched, laid}
+use Rattle.linked_stack.specs.Records.{IsData, On, RecordHasRoom, IsUntouched, laid}
 
 -- a record below the list leaves it as it is
 abbrev pub RecordLeavesTheList : Type 0
 RecordLeavesTheList =
-    (t : Functions) (fs : List Funclet) (program : LinearProgram) (p : Plan) (m : Memory) (at : ℕ)
+    (t : Functions) (fs : List Funclet) (program : LinearProgram) (p : ImagePlan) (m : Memory)
+    (at : ℕ)
     (r : DispatchRecord) (c : Context) (is : List StackItem) (items : List Item)
     (acts : List Activation)
-    → On t fs program p m c is items acts → HasRoom m at r (rsp c)
+    → On t fs program p m c is items acts → RecordHasRoom m at r (rsp c)
     → On t fs program p (placed m at r) c is items acts
 
 -- a search that waits, at the return address of its filter
 abbrev pub SearchIsOneMore : Type 0
 SearchIsOneMore =
-    (t : Functions) (fs : List Funclet) (program : LinearProgram) (p : Plan) (m : Memory) (at : ℕ)
+    (t : Functions) (fs : List Funclet) (program : LinearProgram) (p : ImagePlan) (m : Memory)
+    (at : ℕ)
     (r : DispatchRecord) (is : List StackItem) (items : List Item) (acts : List Activation)
     (exception : Exception) (resumption : Resumption) (asked : Handler) (rest : List Handler)
     (others : List ℕ)
     → On t fs program p m (context_of r.saved) is items acts → is_search r.kind ≡ true
-    → HasRoom m at r (rsp (context_of r.saved))
+    → RecordHasRoom m at r (rsp (context_of r.saved))
     → SearchWaits t fs program p m (context_below filter_return at []) r exception resumption asked
     rest is items
     → On t fs program p (laid m at r filter_return) (context_below filter_return at others)
@@ -47,11 +49,12 @@ SearchIsOneMore =
 -- an unwinding that waits, at the return address of its `__finally` block
 abbrev pub UnwindingIsOneMore : Type 0
 UnwindingIsOneMore =
-    (t : Functions) (fs : List Funclet) (program : LinearProgram) (p : Plan) (m : Memory) (at : ℕ)
+    (t : Functions) (fs : List Funclet) (program : LinearProgram) (p : ImagePlan) (m : Memory)
+    (at : ℕ)
     (r : DispatchRecord) (is : List StackItem) (items : List Item) (acts : List Activation)
     (rest : List Region) (target : Target) (others : List ℕ)
     → On t fs program p m r.walk is items acts → is_search r.kind ≡ false
-    → HasRoom m at r (rsp r.walk)
+    → RecordHasRoom m at r (rsp r.walk)
     → UnwindingWaits t fs program p m
     (context_below finally_return at []) r rest target is items acts
     → On t fs program p (laid m at r finally_return) (context_below finally_return at others)
@@ -60,11 +63,13 @@ UnwindingIsOneMore =
 -- a record leaves all that lies above it
 abbrev pub LaidRecordLeavesOthers : Type 0
 LaidRecordLeavesOthers =
-    (m : Memory) (at : ℕ) (r : DispatchRecord) (back above : ℕ) → IsData m → HasRoom m at r above
+    (m : Memory) (at : ℕ) (r : DispatchRecord) (back above : ℕ) → IsData m
+    → RecordHasRoom m at r above
     → above ≤ STACK_END → back < 2 ^ 64 → IsUntouched m (laid m at r back)
 
 -- the return address of its funclet is read below it
 abbrev pub ReturnAddressIsLaid : Type 0
 ReturnAddressIsLaid =
-    (m : Memory) (at : ℕ) (r : DispatchRecord) (back above : ℕ) → IsData m → HasRoom m at r above
+    (m : Memory) (at : ℕ) (r : DispatchRecord) (back above : ℕ) → IsData m
+    → RecordHasRoom m at r above
     → back < 2 ^ 64 → word (laid m at r back) (return_address_at at) ≡ Ok back

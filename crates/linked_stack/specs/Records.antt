@@ -7,13 +7,13 @@ use Rattle.x64_machine.specs.declared.context.Context.{Context}
 use Rattle.virtual_unwind.specs.CallerOf.{Functions}
 use Rattle.seh_records.specs.declared.dispatch.DispatchRecord.{DispatchRecord}
 use Rattle.seh_records.specs.Record.{misplaced, placed, return_address_at}
-use Rattle.seh_records.specs.Laws.{AreBytes, Fits}
+use Rattle.seh_records.specs.Laws.{AreBytes, RecordFits}
 use Rattle.seh_records.specs.declared.layout.TheConstants.{RECORD_SIZE}
 use Rattle.host_model.specs.declared.funclet.Funclet.{Funclet}
 use Rattle.linear_code.specs.Program.{LinearProgram}
 use Rattle.linear_machine.specs.Frames.{Item}
 use Rattle.linked_stack.specs.Stack.{StackItem}
-use Rattle.linked_stack.specs.ImagePlan.{Plan}
+use Rattle.linked_stack.specs.ImagePlan.{ImagePlan}
 use Rattle.linked_stack.specs.Linked.{Activation}
 use Rattle.linked_stack.specs.ListLaws.{IsLinkedStack}
 
@@ -22,7 +22,8 @@ pub record IsData (m : Memory) : Type 0 where
   pub bytes : AreBytes m.byte
   pub no_code : (x : ℕ) → may_write m x ≡ true → (m.protection x).execute ≡ false
 
-pub record On (t : Functions) (fs : List Funclet) (program : LinearProgram) (p : Plan) (m : Memory)
+pub record On (t : Functions) (fs : List Funclet) (program : LinearProgram) (p : ImagePlan)
+    (m : Memory)
     (c : Context) (is : List StackItem) (items : List Item) (acts : List Activation) : Type 0 where
   pub is_there : IsLinkedStack t fs program p m c is items acts
   pub data_alone : IsData m
@@ -32,8 +33,8 @@ abbrev pub laid : Memory → ℕ → DispatchRecord → ℕ → Memory
 laid m at r back = after_store (placed m at r) (return_address_at at) W64 back
 
 -- there is room for both, below a stack pointer
-pub record HasRoom (m : Memory) (at : ℕ) (r : DispatchRecord) (above : ℕ) : Type 0 where
-  pub fits : Fits r
+pub record RecordHasRoom (m : Memory) (at : ℕ) (r : DispatchRecord) (above : ℕ) : Type 0 where
+  pub fits : RecordFits r
   pub below : at + RECORD_SIZE ≤ above
   pub small : above < 2 ^ 64
   pub room : misplaced m at ≡ None

@@ -19,7 +19,7 @@ use Rattle.linear_code.specs.Program.{LinearProgram}
 use Rattle.linear_machine.specs.Frames.{Handler, Resumption, Waits, Searches, Configuration, Seen, Next}
 use Rattle.linear_machine.specs.Searching.{search, accept, raise, resumed, answer}
 use Rattle.linked_stack.specs.Stack.{StackItem}
-use Rattle.linked_stack.specs.ImagePlan.{Plan}
+use Rattle.linked_stack.specs.ImagePlan.{ImagePlan}
 use Rattle.linked_stack.specs.Linked.{Activation, Aimed}
 use Rattle.linked_stack.specs.Records.{On}
 use Rattle.linked_stack.specs.States.{IsSane}
@@ -58,7 +58,8 @@ pub record AsksTheNext (t : Functions) (program : LinearProgram) (s : State) (r 
       ≡ search program next rest exception resumption (answered s c)
 
 -- above 0: the asked handler takes over, in its frame
-pub record AskedTakesOver (t : Functions) (fs : List Funclet) (program : LinearProgram) (p : Plan)
+pub record AskedTakesOver (t : Functions) (fs : List Funclet) (program : LinearProgram)
+    (p : ImagePlan)
     (s : State) (r : DispatchRecord) (is : List StackItem) (exception : Exception)
     (resumption : Resumption) (asked : Handler) (rest : List Handler)
     (c : Configuration) : Type 0 where
@@ -73,7 +74,8 @@ pub record AskedTakesOver (t : Functions) (fs : List Funclet) (program : LinearP
       (Waits c.frame ∷ c.below)
 
 -- below 0: the exception is continued, in the saved state, in which the body is that raised it
-pub record IsContinued (t : Functions) (fs : List Funclet) (program : LinearProgram) (p : Plan)
+pub record ContinuesException (t : Functions) (fs : List Funclet) (program : LinearProgram)
+    (p : ImagePlan)
     (s : State) (r : DispatchRecord) (is : List StackItem) (acts : List Activation)
     (exception : Exception) (resumption : Resumption) (asked : Handler) (rest : List Handler)
     (c : Configuration) : Type 0 where
@@ -94,11 +96,11 @@ pub record IsRaisedAnew (t : Functions) (program : LinearProgram) (s : State) (r
 
 abbrev pub FilterReturns : Type 0
 FilterReturns =
-    (t : Functions) (fs : List Funclet) (program : LinearProgram) (p : Plan) (s : State)
+    (t : Functions) (fs : List Funclet) (program : LinearProgram) (p : ImagePlan) (s : State)
     (r : DispatchRecord) (is : List StackItem) (acts : List Activation) (exception : Exception)
     (resumption : Resumption) (asked : Handler) (rest : List Handler) (c : Configuration)
     → SearchIsAnswered t fs program p s r is acts exception resumption asked rest c
     → AsksTheNext t program s r exception resumption asked rest c
     ⊎ (AskedTakesOver t fs program p s r is exception resumption asked rest c
-    ⊎ (IsContinued t fs program p s r is acts exception resumption asked rest c
+    ⊎ (ContinuesException t fs program p s r is acts exception resumption asked rest c
     ⊎ IsRaisedAnew t program s r exception resumption asked rest c))

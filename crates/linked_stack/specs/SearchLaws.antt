@@ -11,12 +11,13 @@ use Rattle.linear_machine.specs.Frames.{Handler, Item}
 use Rattle.linear_machine.specs.Regions.{handlers}
 use Rattle.linked_stack.specs.Stack.{StackItem, IsStack}
 use Rattle.linked_stack.specs.PlainWalks.{state}
-use Rattle.linked_stack.specs.ImagePlan.{Plan, Gives}
+use Rattle.linked_stack.specs.ImagePlan.{ImagePlan, Gives}
 use Rattle.linked_stack.specs.Linked.{Activation, IsAtRow, Onward, Linked}
 use Rattle.linked_stack.specs.Searching.{IsWide, SearchedAs}
 
 -- the list is in the stack from a context on
-pub record IsSearchedStack (t : Functions) (fs : List Funclet) (program : LinearProgram) (p : Plan)
+pub record IsSearchedStack (t : Functions) (fs : List Funclet) (program : LinearProgram)
+    (p : ImagePlan)
     (m : Memory) (c : Context) (is : List StackItem) (items : List Item)
     (acts : List Activation) : Type 0 where
   pub gives : Gives t fs program p
@@ -27,7 +28,7 @@ pub record IsSearchedStack (t : Functions) (fs : List Funclet) (program : Linear
 -- from a row of the first body on, or from its first one
 abbrev pub SearchIsTheLists : Type 0
 SearchIsTheLists =
-    (t : Functions) (fs : List Funclet) (program : LinearProgram) (p : Plan) (m : Memory)
+    (t : Functions) (fs : List Funclet) (program : LinearProgram) (p : ImagePlan) (m : Memory)
     (c : Context) (is : List StackItem) (items : List Item) (acts : List Activation) (row : ℕ)
     (left : Option (List Region)) (n : ℕ)
     → IsSearchedStack t fs program p m c is items acts → IsAtRow t fs program p row items left
@@ -38,7 +39,7 @@ SearchIsTheLists =
 -- from where it was suspended
 abbrev pub SearchContinues : Type 0
 SearchContinues =
-    (t : Functions) (fs : List Funclet) (program : LinearProgram) (p : Plan) (m : Memory)
+    (t : Functions) (fs : List Funclet) (program : LinearProgram) (p : ImagePlan) (m : Memory)
     (c : Context) (is : List StackItem) (items : List Item) (acts : List Activation) (to : Context)
     (row : ℕ) (found : List Handler) (n : ℕ)
     → IsSearchedStack t fs program p m c is items acts

@@ -19,12 +19,12 @@ use Rattle.linear_machine.specs.Frames.{Handler, Resumption, Waits, Searches, Co
 use Rattle.linear_machine.specs.Searching as linear
 use Rattle.linear_machine.specs.Searching.{begin_filter, accept}
 use Rattle.linked_stack.specs.Stack.{StackItem, Searching}
-use Rattle.linked_stack.specs.ImagePlan.{Plan}
+use Rattle.linked_stack.specs.ImagePlan.{ImagePlan}
 use Rattle.linked_stack.specs.Linked.{Activation, Aimed}
 use Rattle.linked_stack.specs.Records.{IsUntouched}
 use Rattle.linked_stack.specs.States.{Arrives}
 
-module _ (t : Functions) (fs : List Funclet) (program : LinearProgram) (p : Plan) where
+module _ (t : Functions) (fs : List Funclet) (program : LinearProgram) (p : ImagePlan) where
   -- the filter of the first handler begins, unless linear code is too deep; its EXCEPTION_POINTERS
   -- are in the record above its return address, with the state that was saved
   pub record FilterBegins (s : State) (at : ℕ) (r : DispatchRecord) (turn : Turn)

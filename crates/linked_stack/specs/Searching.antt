@@ -14,7 +14,7 @@ use Rattle.host_model.specs.Funclets.{arrivals}
 use Rattle.linear_code.specs.Program.{LinearProgram}
 use Rattle.linear_machine.specs.Frames.{BodyName, Handler, Item}
 use Rattle.linked_stack.specs.Stack.{StackItem}
-use Rattle.linked_stack.specs.ImagePlan.{Plan, IsFunclet}
+use Rattle.linked_stack.specs.ImagePlan.{ImagePlan, IsFunclet}
 use Rattle.linked_stack.specs.Linked.{Activation, Reaches, Onward, Aimed, JumpsBefore}
 
 -- a context that a record can keep: its registers are nine numbers of 64 bits
@@ -29,7 +29,7 @@ pub record CanBeKept (frame row : ℕ) (to : Context) : Type 0 where
   pub rip_small : to.rip < 2 ^ 64
   pub registers : IsWide to.kept
 
-module _ (t : Functions) (fs : List Funclet) (program : LinearProgram) (p : Plan) where
+module _ (t : Functions) (fs : List Funclet) (program : LinearProgram) (p : ImagePlan) where
   -- the filter of a handler is asked: with its frame in hand, and from the row after it on the
   -- others are asked
   pub record Asks (m : Memory) (acts : List Activation) (c : Context) (is : List StackItem)

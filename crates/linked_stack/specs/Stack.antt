@@ -117,7 +117,7 @@ IsStack t m c (i ∷ is) = ItemIsAt t m c i × IsStack t m (context_after c i) i
 -- ---- the bytes on which this rests
 
 -- an address of a range
-pub record IsWithin (a from to : ℕ) : Type 0 where
+pub record IsBetween (a from to : ℕ) : Type 0 where
   pub low : from ≤ a
   pub high : a < to
 
@@ -126,10 +126,10 @@ pub record IsWithin (a from to : ℕ) : Type 0 where
 -- of a suspended search and a suspended unwinding the record, but for the home space at its begin.
 -- The slots of a waiting body are its own too, and no walk reads them: `BodyWaits` in Linked.antt.
 abbrev pub OwnedBy : Context → StackItem → ℕ → Type 0
-OwnedBy c (Framed f) a = IsWithin a (rsp c + f.size) (rsp c + f.size + 8)
-OwnedBy c (Leaf back) a = IsWithin a (rsp c) (rsp c + 8)
-OwnedBy c (Searching r) a = IsWithin a (rsp c + 32) (rsp c + RECORD_SIZE)
-OwnedBy c (Unwinding r) a = IsWithin a (rsp c + 32) (rsp c + RECORD_SIZE)
+OwnedBy c (Framed f) a = IsBetween a (rsp c + f.size) (rsp c + f.size + 8)
+OwnedBy c (Leaf back) a = IsBetween a (rsp c) (rsp c + 8)
+OwnedBy c (Searching r) a = IsBetween a (rsp c + 32) (rsp c + RECORD_SIZE)
+OwnedBy c (Unwinding r) a = IsBetween a (rsp c + 32) (rsp c + RECORD_SIZE)
 
 abbrev pub Owned : Context → List StackItem → ℕ → Type 0
 Owned c [] a = ⊥

@@ -10,7 +10,7 @@ use Rattle.linear_code.specs.Program.{LinearProgram}
 use Rattle.linear_machine.specs.Frames.{BodyName, Item}
 use Rattle.linked_stack.specs.Stack.{StackItem}
 use Rattle.linked_stack.specs.WalkLaws.{context_below}
-use Rattle.linked_stack.specs.ImagePlan.{Plan, IsFunclet}
+use Rattle.linked_stack.specs.ImagePlan.{ImagePlan, IsFunclet}
 use Rattle.linked_stack.specs.Linked.{Activation, Reaches}
 use Rattle.linked_stack.specs.Records.{On}
 
@@ -22,7 +22,7 @@ pub record IsSane (s : State) : Type 0 where
 
 -- at the first byte of a funclet: RCX is its first argument, RDX leads to its activation, and below
 -- its return address is the list
-pub record Arrives (t : Functions) (fs : List Funclet) (program : LinearProgram) (p : Plan)
+pub record Arrives (t : Functions) (fs : List Funclet) (program : LinearProgram) (p : ImagePlan)
     (s : State) (k activation first : ℕ) (items : List Item) (acts : List Activation) : Type 0 where
   pub rip : s.cpu.rip ≡ p.funclet k
   pub name : BodyName

@@ -25,7 +25,7 @@ use Rattle.linear_machine.specs.Frames.{Frame, Handler, Target, Resumption, Item
 use Rattle.linear_machine.specs.Regions.{handlers}
 use Rattle.linear_machine.specs.Searching.{target_of}
 use Rattle.linked_stack.specs.Stack.{StackItem, Searching, Unwinding}
-use Rattle.linked_stack.specs.ImagePlan.{Plan, Gives}
+use Rattle.linked_stack.specs.ImagePlan.{ImagePlan, Gives}
 use Rattle.linked_stack.specs.Linked.{Activation, Aimed}
 use Rattle.linked_stack.specs.Records.{On}
 use Rattle.linked_stack.specs.States.{IsSane}
@@ -50,7 +50,7 @@ from_body target f below acts source shown =
 
 -- a body asks the dispatcher, which saves this state of it: there is room below for a record, whose
 -- place is a multiple of 16
-pub record AsksHost (t : Functions) (fs : List Funclet) (program : LinearProgram) (p : Plan)
+pub record AsksHost (t : Functions) (fs : List Funclet) (program : LinearProgram) (p : ImagePlan)
     (s : State) (saved : Cpu) (is : List StackItem) (items : List Item)
     (acts : List Activation) : Type 0 where
   pub gives : Gives t fs program p
@@ -73,7 +73,7 @@ pub record IsException (code : Code) (flags : ℕ) (access : Option (Bool × ℕ
   pub access_small : AllSmall (parameters access)
 
 -- the event, and a search from the innermost frame on
-pub record RaisesAs (t : Functions) (fs : List Funclet) (program : LinearProgram) (p : Plan)
+pub record RaisesAs (t : Functions) (fs : List Funclet) (program : LinearProgram) (p : ImagePlan)
     (s : State) (code : Code) (flags : ℕ) (access : Option (Bool × ℕ)) (saved : Cpu)
     (is : List StackItem) (acts : List Activation) (exception : Exception)
     (c : Configuration) : Type 0 where
@@ -88,7 +88,7 @@ pub record RaisesAs (t : Functions) (fs : List Funclet) (program : LinearProgram
 
 abbrev pub RaiseSearches : Type 0
 RaiseSearches =
-    (t : Functions) (fs : List Funclet) (program : LinearProgram) (p : Plan) (s : State)
+    (t : Functions) (fs : List Funclet) (program : LinearProgram) (p : ImagePlan) (s : State)
     (code : Code) (flags : ℕ) (access : Option (Bool × ℕ)) (saved : Cpu) (is : List StackItem)
     (acts : List Activation) (exception : Exception) (c : Configuration)
     → AsksHost t fs program p s saved is (Waits c.frame ∷ c.below) acts
@@ -97,7 +97,8 @@ RaiseSearches =
 
 -- ---- local unwinds
 
-pub record UnwindsLocallyAs (t : Functions) (fs : List Funclet) (program : LinearProgram) (p : Plan)
+pub record UnwindsLocallyAs (t : Functions) (fs : List Funclet) (program : LinearProgram)
+    (p : ImagePlan)
     (s : State) (frame address : ℕ) (saved : Cpu) (is : List StackItem) (w : Unwound) : Type 0 where
   pub turns : unwound_locally t s frame address saved
       ≡ unwinds_on t (placed_in s (place_of saved) (to_target saved frame address)) (place_of saved)
@@ -109,7 +110,7 @@ pub record UnwindsLocallyAs (t : Functions) (fs : List Funclet) (program : Linea
 -- to a label of a body of the list
 abbrev pub LocalUnwindUnwinds : Type 0
 LocalUnwindUnwinds =
-    (t : Functions) (fs : List Funclet) (program : LinearProgram) (p : Plan) (s : State)
+    (t : Functions) (fs : List Funclet) (program : LinearProgram) (p : ImagePlan) (s : State)
     (frame address : ℕ) (saved : Cpu) (is : List StackItem) (acts : List Activation)
     (depth label : ℕ) (f : Frame) (below : List Item) (source : Memory) (shown : List Event)
     → AsksHost t fs program p s saved is (Waits f ∷ below) acts → frame < 2 ^ 64 → address < 2 ^ 64
@@ -121,7 +122,8 @@ LocalUnwindUnwinds =
 -- ---- suspended searches
 
 -- at the return address of a filter
-pub record SearchIsAnswered (t : Functions) (fs : List Funclet) (program : LinearProgram) (p : Plan)
+pub record SearchIsAnswered (t : Functions) (fs : List Funclet) (program : LinearProgram)
+    (p : ImagePlan)
     (s : State) (r : DispatchRecord) (is : List StackItem) (acts : List Activation)
     (exception : Exception) (resumption : Resumption) (asked : Handler) (rest : List Handler)
     (c : Configuration) : Type 0 where
@@ -131,7 +133,7 @@ pub record SearchIsAnswered (t : Functions) (fs : List Funclet) (program : Linea
       (Searches exception resumption asked rest ∷ Waits c.frame ∷ c.below) acts
 
 -- a handler takes over: its record becomes that of an unwinding
-pub record AcceptsAs (t : Functions) (fs : List Funclet) (program : LinearProgram) (p : Plan)
+pub record AcceptsAs (t : Functions) (fs : List Funclet) (program : LinearProgram) (p : ImagePlan)
     (s : State) (at : ℕ) (r : DispatchRecord) (frame address : ℕ) (is : List StackItem)
     (w : Unwound) : Type 0 where
   pub turns : accepted t s at r frame address
@@ -141,7 +143,8 @@ pub record AcceptsAs (t : Functions) (fs : List Funclet) (program : LinearProgra
 
 abbrev pub AcceptanceUnwinds : Type 0
 AcceptanceUnwinds =
-    (t : Functions) (fs : List Funclet) (program : LinearProgram) (p : Plan) (s : State) (at : ℕ)
+    (t : Functions) (fs : List Funclet) (program : LinearProgram) (p : ImagePlan) (s : State)
+    (at : ℕ)
     (r : DispatchRecord) (frame address : ℕ) (is : List StackItem) (acts : List Activation)
     (exception : Exception) (found : List Handler) (h : Handler) (c : Configuration)
     (source : Memory)
@@ -153,7 +156,7 @@ AcceptanceUnwinds =
 
 -- 0 asks the handlers that are left; above 0 the asked one takes over; below 0 a noncontinuable
 -- exception is raised anew, from the innermost frame on
-pub record AnswersAs (t : Functions) (fs : List Funclet) (program : LinearProgram) (p : Plan)
+pub record AnswersAs (t : Functions) (fs : List Funclet) (program : LinearProgram) (p : ImagePlan)
     (s : State) (r : DispatchRecord) (is : List StackItem) (acts : List Activation)
     (exception : Exception) (asked : Handler) (rest : List Handler)
     (c : Configuration) : Type 0 where
@@ -175,7 +178,7 @@ pub record AnswersAs (t : Functions) (fs : List Funclet) (program : LinearProgra
 
 abbrev pub AnswersContinue : Type 0
 AnswersContinue =
-    (t : Functions) (fs : List Funclet) (program : LinearProgram) (p : Plan) (s : State)
+    (t : Functions) (fs : List Funclet) (program : LinearProgram) (p : ImagePlan) (s : State)
     (r : DispatchRecord) (is : List StackItem) (acts : List Activation) (exception : Exception)
     (resumption : Resumption) (asked : Handler) (rest : List Handler) (c : Configuration)
     → SearchIsAnswered t fs program p s r is acts exception resumption asked rest c
@@ -187,7 +190,7 @@ AnswersContinue =
 -- left
 abbrev pub FinallyReturnsUnwind : Type 0
 FinallyReturnsUnwind =
-    (t : Functions) (fs : List Funclet) (program : LinearProgram) (p : Plan) (s : State)
+    (t : Functions) (fs : List Funclet) (program : LinearProgram) (p : ImagePlan) (s : State)
     (r : DispatchRecord) (is : List StackItem) (acts : List Activation) (rest : List Region)
     (target : Target) (items : List Item) (source : Memory) (shown : List Event)
     → Gives t fs program p → IsSane s

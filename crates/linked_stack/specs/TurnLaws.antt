@@ -14,23 +14,23 @@ use Rattle.c_model.specs.State.{Exception}
 use Rattle.linear_code.specs.Program.{LinearProgram}
 use Rattle.linear_machine.specs.Frames.{Handler, Resumption, Waits, Configuration}
 use Rattle.linked_stack.specs.Stack.{StackItem}
-use Rattle.linked_stack.specs.ImagePlan.{Plan, Gives}
+use Rattle.linked_stack.specs.ImagePlan.{ImagePlan, Gives}
 use Rattle.linked_stack.specs.Linked.{Activation, HasSpace, below_end, record_room, IsAtRow, Onward, Aimed, HasException, HasPurpose}
-use Rattle.linked_stack.specs.Records.{On, HasRoom}
+use Rattle.linked_stack.specs.Records.{On, RecordHasRoom}
 use Rattle.linked_stack.specs.States.{IsSane}
 use Rattle.linked_stack.specs.Searches.{FilterBegins, TakesOver, NobodyTakesOver}
 use Rattle.linked_stack.specs.Unwinds.{Unwound, BlockBegins, LandsThere}
 
 -- a search's record represents the exception of a body that waits, and these handlers are still to
 -- be asked
-pub record IsSearching (t : Functions) (fs : List Funclet) (program : LinearProgram) (p : Plan)
+pub record IsSearching (t : Functions) (fs : List Funclet) (program : LinearProgram) (p : ImagePlan)
     (s : State) (at : ℕ) (r : DispatchRecord) (is : List StackItem) (acts : List Activation)
     (exception : Exception) (found : List Handler) (c : Configuration) : Type 0 where
   pub gives : Gives t fs program p
   pub sane : IsSane s
   pub on : On t fs program p s.memory (context_of r.saved) is (Waits c.frame ∷ c.below) acts
   pub kind : r.kind ≡ Search
-  pub room : HasRoom s.memory at r (rsp (context_of r.saved))
+  pub room : RecordHasRoom s.memory at r (rsp (context_of r.saved))
   pub carries : HasException t fs program p r exception
   pub onward : Onward t fs program p r.walk r.row found (context_of r.saved) is
       (Waits c.frame ∷ c.below)
@@ -39,7 +39,8 @@ pub record IsSearching (t : Functions) (fs : List Funclet) (program : LinearProg
 -- where the exception is continued, the body continues from the saved state
 abbrev pub SearchTurns : Type 0
 SearchTurns =
-    (t : Functions) (fs : List Funclet) (program : LinearProgram) (p : Plan) (s : State) (at : ℕ)
+    (t : Functions) (fs : List Funclet) (program : LinearProgram) (p : ImagePlan) (s : State)
+    (at : ℕ)
     (r : DispatchRecord) (is : List StackItem) (acts : List Activation)
     (exception : Exception) (resumption : Resumption) (found : List Handler) (c : Configuration)
     → IsSearching t fs program p s at r is acts exception found c
@@ -52,14 +53,14 @@ SearchTurns =
     resumption c)
 
 -- an unwinding's record represents a target of the list, from a row of its first body on
-pub record IsUnwinding (t : Functions) (fs : List Funclet) (program : LinearProgram) (p : Plan)
+pub record IsUnwinding (t : Functions) (fs : List Funclet) (program : LinearProgram) (p : ImagePlan)
     (s : State) (at : ℕ) (r : DispatchRecord) (is : List StackItem) (w : Unwound) : Type 0 where
   pub gives : Gives t fs program p
   pub sane : IsSane s
   pub on : On t fs program p s.memory r.walk is w.items w.acts
   pub kind : is_search r.kind ≡ false
   pub purpose : HasPurpose t fs program p w.target.code r
-  pub room : HasRoom s.memory at r (rsp r.walk)
+  pub room : RecordHasRoom s.memory at r (rsp r.walk)
   pub at_row : IsAtRow t fs program p r.row w.items w.left
   pub aimed : Aimed t fs program p w.target.depth w.target.label r.target_frame r.target r.walk is
       w.items
@@ -67,7 +68,8 @@ pub record IsUnwinding (t : Functions) (fs : List Funclet) (program : LinearProg
 
 abbrev pub UnwindTurns : Type 0
 UnwindTurns =
-    (t : Functions) (fs : List Funclet) (program : LinearProgram) (p : Plan) (s : State) (at : ℕ)
+    (t : Functions) (fs : List Funclet) (program : LinearProgram) (p : ImagePlan) (s : State)
+    (at : ℕ)
     (r : DispatchRecord) (is : List StackItem) (w : Unwound)
     → IsUnwinding t fs program p s at r is w
     → BlockBegins t fs program p s r (arrived t fs (unwinds_on t s at r)) w

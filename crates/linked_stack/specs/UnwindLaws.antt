@@ -13,7 +13,7 @@ use Rattle.linear_machine.specs.Frames.{Target, Item}
 use Rattle.linear_machine.specs.Unwinding as linear
 use Rattle.linked_stack.specs.Stack.{StackItem}
 use Rattle.linked_stack.specs.PlainWalks.{state}
-use Rattle.linked_stack.specs.ImagePlan.{Plan}
+use Rattle.linked_stack.specs.ImagePlan.{ImagePlan}
 use Rattle.linked_stack.specs.Linked.{Activation, IsAtRow, Aimed}
 use Rattle.linked_stack.specs.SearchLaws.{IsSearchedStack}
 use Rattle.linked_stack.specs.Unwinding.{store_of, UnwoundAs}
@@ -21,7 +21,7 @@ use Rattle.linked_stack.specs.Unwinding.{store_of, UnwoundAs}
 -- to a target in the list, from a row of the first body on or from its first one
 abbrev pub UnwindingIsTheLists : Type 0
 UnwindingIsTheLists =
-    (t : Functions) (fs : List Funclet) (program : LinearProgram) (p : Plan) (m : Memory)
+    (t : Functions) (fs : List Funclet) (program : LinearProgram) (p : ImagePlan) (m : Memory)
     (c : Context) (is : List StackItem) (items : List Item) (acts : List Activation) (row : ℕ)
     (left : Option (List Region))
     (target : Target) (frame address : ℕ) (source : Memory) (events : List Event) (n : ℕ)

@@ -16,7 +16,7 @@ use Rattle.linear_code.specs.Program.{LinearProgram}
 use Rattle.linear_machine.specs.Frames.{Frame, Target, Item, Waits, Unwinds, Store, Configuration, Seen, Next}
 use Rattle.linear_machine.specs.Unwinding.{arrive, run_finally}
 use Rattle.linked_stack.specs.Stack.{StackFrame, StackItem, Framed, IsStack}
-use Rattle.linked_stack.specs.ImagePlan.{Plan, IsFunclet}
+use Rattle.linked_stack.specs.ImagePlan.{ImagePlan, IsFunclet}
 use Rattle.linked_stack.specs.Linked.{Activation, locals_of, Reaches, IsAtRow, Aimed, Linked}
 use Rattle.linked_stack.specs.Searching.{IsWide, CanBeKept}
 
@@ -41,7 +41,7 @@ pub record Course : Type 0 where
   pub source : Memory
   pub events : List Event
 
-module _ (t : Functions) (fs : List Funclet) (program : LinearProgram) (p : Plan) where
+module _ (t : Functions) (fs : List Funclet) (program : LinearProgram) (p : ImagePlan) where
   -- a `__finally` block of a body runs: the body waits with the regions that are left, and the
   -- target lies ahead, with what is held for the activations that were left
   pub record RunsBlock (m : Memory) (course : Course) (u : UnwindResult)

@@ -23,7 +23,7 @@ use Rattle.linear_machine.specs.Frames.{Frame, Target, Item, Waits, Unwinds, Nex
 use Rattle.linear_machine.specs.Unwinding as linear
 use Rattle.linear_machine.specs.Unwinding.{arrive, run_finally}
 use Rattle.linked_stack.specs.Stack.{StackFrame, StackItem, Framed, Unwinding, IsStack}
-use Rattle.linked_stack.specs.ImagePlan.{Plan}
+use Rattle.linked_stack.specs.ImagePlan.{ImagePlan}
 use Rattle.linked_stack.specs.Linked.{Activation}
 use Rattle.linked_stack.specs.Records.{On, IsUntouched}
 use Rattle.linked_stack.specs.Unwinding.{store_of, on_top}
@@ -48,7 +48,7 @@ pub record Unwound : Type 0 where
   pub source : Memory
   pub shown : List Event
 
-module _ (t : Functions) (fs : List Funclet) (program : LinearProgram) (p : Plan) where
+module _ (t : Functions) (fs : List Funclet) (program : LinearProgram) (p : ImagePlan) where
   -- a `__finally` block of a body begins, unless linear code is too deep; each activation that was
   -- left is held by the target; the record in the stack has come to that body's frame, from which
   -- the list is there

@@ -7,13 +7,13 @@ use Rattle.virtual_unwind.specs.Contexts.{rsp}
 use Rattle.virtual_unwind.specs.CallerOf.{Functions}
 use Rattle.seh_records.specs.declared.dispatch.DispatchRecord.{DispatchRecord}
 use Rattle.seh_records.specs.Record.{placed}
-use Rattle.seh_records.specs.Laws.{Fits, AreBytes}
+use Rattle.seh_records.specs.Laws.{RecordFits, AreBytes}
 use Rattle.seh_records.specs.declared.layout.TheConstants.{RECORD_SIZE}
 use Rattle.seh_walk.specs.Walk as walk
 use Rattle.seh_walk.specs.Walk.{visited, saved_in, walk_in, is_search, filter_return, finally_return}
 use Rattle.seh_search.specs.Search.{search}
 use Rattle.seh_unwind.specs.Unwind.{unwind}
-use Rattle.linked_stack.specs.Stack.{StackFrame, StackItem, Framed, Leaf, Searching, Unwinding, ItemIsAt, IsStack, Owned, Agree, IsWithin, after_frame, after_leaf, caller_frame, caller_of_leaf, context_at}
+use Rattle.linked_stack.specs.Stack.{StackFrame, StackItem, Framed, Leaf, Searching, Unwinding, ItemIsAt, IsStack, Owned, Agree, IsBetween, after_frame, after_leaf, caller_frame, caller_of_leaf, context_at}
 use Rattle.linked_stack.specs.PlainWalks.{state, plain_search, plain_unwind}
 
 -- ---- what a walk comes to
@@ -72,7 +72,7 @@ SlotsAreFree =
     (t : Functions) (m : Memory) (c : Context) (inner : List StackItem) (f : StackFrame)
     (outer : List StackItem) (a : ℕ)
     → IsStack t m c (inner ++ (Framed f ∷ outer))
-    → IsWithin a (rsp (context_at c inner)) (rsp (context_at c inner) + f.size)
+    → IsBetween a (rsp (context_at c inner)) (rsp (context_at c inner) + f.size)
     → Owned c (inner ++ (Framed f ∷ outer)) a → ⊥
 
 -- ---- one item more
@@ -83,12 +83,12 @@ context_below address at others = record { rip = address; kept = at ∷ others }
 
 -- a record can be placed below a context
 pub record CanBePlaced (m : Memory) (at : ℕ) (r : DispatchRecord) (above : Context) : Type 0 where
-  pub fits : Fits r
+  pub fits : RecordFits r
   pub below : at + RECORD_SIZE ≤ rsp above
   pub small : rsp above < 2 ^ 64
   pub bytes : AreBytes m.byte
   pub readable : first_refused (may_read m) RECORD_SIZE at ≡ None
-  pub not_code : (x : ℕ) → IsWithin x (at + 32) (at + RECORD_SIZE)
+  pub not_code : (x : ℕ) → IsBetween x (at + 32) (at + RECORD_SIZE)
       → (m.protection x).execute ≡ false
 
 pub record RecordsAreItems (t : Functions) (m : Memory) (is : List StackItem) (r : DispatchRecord)

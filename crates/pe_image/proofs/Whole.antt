@@ -7,7 +7,7 @@ use Rattle.seh_num.specs.Answers.{◌>>=◌}
 use Rattle.pe_image.specs.Answer.{Refuses}
 use Rattle.pe_image.specs.Image.{Section, Image}
 use Rattle.pe_image.specs.Imports.{Import, imports, imports_in}
-use Rattle.pe_image.specs.Reading.{image_base, entry_point, image_size, directory, headers, section_count, sections_at, image_end, headers_from, sections_of, image_with, outline, reading, IsRefused}
+use Rattle.pe_image.specs.Reading.{image_base, entry_point, image_size, directory, headers, section_count, sections_at, image_end, headers_from, sections_of, image_with, outline, reading, ImageIsRefused}
 
 abbrev table : List ℕ → Result (List Section) ImageErr
 table bytes = sections_of bytes (image_end bytes) (headers_from bytes (section_count bytes) (sections_at bytes))
@@ -19,7 +19,7 @@ after_headers : (bytes : List ℕ) → headers bytes ≡ Ok tt → outline bytes
 unfolding outline
 after_headers bytes e = ap (λ (r : Result Unit ImageErr). r >>= λ _. finished bytes (table bytes)) e
 
-refused : (bytes : List ℕ) (e : ImageErr) → reading bytes ≡ Err e → IsRefused bytes e
+refused : (bytes : List ℕ) (e : ImageErr) → reading bytes ≡ Err e → ImageIsRefused bytes e
 refused bytes refusals.Memory h = tt
 refused bytes e h = h
 
@@ -27,7 +27,7 @@ by_outline : (bytes : List ℕ) (e : ImageErr) → outline bytes ≡ Err e → r
 unfolding reading
 by_outline bytes e h = ap (λ (r : Result Image ImageErr). r >>= λ image. imports image >>= λ _. Ok image) h
 
-pub by_headers : (bytes : List ℕ) (e : ImageErr) → headers bytes ≡ Err e → IsRefused bytes e
+pub by_headers : (bytes : List ℕ) (e : ImageErr) → headers bytes ≡ Err e → ImageIsRefused bytes e
 unfolding outline
 by_headers bytes e h = refused bytes e (by_outline bytes e (ap (λ (r : Result Unit ImageErr). r >>= λ _. finished bytes (table bytes)) h))
 
@@ -35,7 +35,7 @@ same_table : (bytes : List ℕ) (end count at : ℕ) → end ≡ image_end bytes
 same_table bytes end count at e1 e2 e3 = ap (λ n. sections_of bytes n (headers_from bytes count at)) e1 ∙ ap (λ n. sections_of bytes (image_end bytes) (headers_from bytes n at)) e2 ∙ ap (λ n. sections_of bytes (image_end bytes) (headers_from bytes (section_count bytes) n)) e3
 
 pub by_sections : (bytes : List ℕ) (e : ImageErr) (end count at : ℕ) → headers bytes ≡ Ok tt → end ≡ image_end bytes → count ≡ section_count bytes → at ≡ sections_at bytes
-    → Refuses e (sections_of bytes end (headers_from bytes count at)) → IsRefused bytes e
+    → Refuses e (sections_of bytes end (headers_from bytes count at)) → ImageIsRefused bytes e
 by_sections bytes refusals.Memory end count at ok e1 e2 e3 h = tt
 by_sections bytes e end count at ok e1 e2 e3 h = by_outline bytes e (after_headers bytes ok ∙ ap (finished bytes) (sym (same_table bytes end count at e1 e2 e3) ∙ h))
 
@@ -50,7 +50,7 @@ same_image bytes ss base entry size imports exceptions e1 e2 e3 e4 e5 = λ i. re
 
 -- ---- the imports
 
-pub by_imports : (bytes : List ℕ) (image : Image) (e : ImageErr) → outline bytes ≡ Ok image → Refuses e (imports image) → IsRefused bytes e
+pub by_imports : (bytes : List ℕ) (image : Image) (e : ImageErr) → outline bytes ≡ Ok image → Refuses e (imports image) → ImageIsRefused bytes e
 unfolding reading
 by_imports bytes image refusals.Memory ok h = tt
 by_imports bytes image e ok h =
@@ -67,7 +67,7 @@ module _ (bytes : List ℕ) (ss items : List Section) (dir : DataDirectory) (ok 
   same_imports : imports_in items dir ≡ imports (image_with bytes ss)
   same_imports = ap (λ (t : List Section). imports_in t dir) same ∙ ap (imports_in ss) at
 
-  pub imports_refused : (e : ImageErr) → Refuses e (imports_in items dir) → IsRefused bytes e
+  pub imports_refused : (e : ImageErr) → Refuses e (imports_in items dir) → ImageIsRefused bytes e
   imports_refused e h = by_imports bytes (image_with bytes ss) e ok (subst (λ (r : Result (List Import) ImageErr). Refuses e r) same_imports h)
 
   pub imports_read : (xs : List Import) → imports_in items dir ≡ Ok xs → reading bytes ≡ Ok (image_with bytes ss)

@@ -189,6 +189,6 @@ abbrev pub IsImage : List ℕ → Image → Type 0
 IsImage bytes image = reading bytes ≡ Ok image
 
 -- the bytes are refused so; a want of memory says nothing of them
-abbrev pub IsRefused : List ℕ → ImageErr → Type 0
-IsRefused bytes refusals.Memory = Unit {0}
-IsRefused bytes e = reading bytes ≡ Err e
+abbrev pub ImageIsRefused : List ℕ → ImageErr → Type 0
+ImageIsRefused bytes refusals.Memory = Unit {0}
+ImageIsRefused bytes e = reading bytes ≡ Err e

@@ -4,7 +4,7 @@ ghost use Rattle.std.specs.Prelude.{◌≡◌, ◌<◌, ◌^◌, option_map, IfO
 ghost use Rattle.pe_image.specs.Image.{AreAscending, stored};
 ghost use Rattle.pe_image.specs.Bound.{bound_name};
 ghost use Rattle.pe_image.specs.Imports.{imports, imports_of};
-ghost use Rattle.pe_image.specs.Reading.{IsImage, IsRefused};
+ghost use Rattle.pe_image.specs.Reading.{IsImage, ImageIsRefused};
 
 use crate::directory::DataDirectory;
 use crate::imports::{Import, bound_names, read_imports, stored};
@@ -66,7 +66,7 @@ impl<'a> ImageView<'a> {
     /// the lookup table, its name and its slot are each stored whole in one section.
     pub fn read(alloc: Global, bytes: &'a [u8]) -> Result<ImageView<'a>, ImageErr>
         ensures image { IfOk result (λ view. IsImage bytes.now view) }
-        ensures refusal { IfErr result (λ e. IsRefused bytes.now e) }
+        ensures refusal { IfErr result (λ e. ImageIsRefused bytes.now e) }
     {
         check_headers(bytes)?;
         let at = sections_at(bytes);

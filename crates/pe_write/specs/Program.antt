@@ -153,7 +153,7 @@ imports_of p = imported (slots_at (rdata_at (sizes_of p))) services
 
 -- `.data` takes whole pages, at least one, the program begins inside its code, and all addresses
 -- fit 32 bits
-pub record IsProgram (p : Program) : Type 0 where
+pub record CanBeImage (p : Program) : Type 0 where
   pub whole : p.data_size % PAGE ≡ 0
   pub some : PAGE ≤ p.data_size
   pub stored : length p.data_bytes ≤ p.data_size

@@ -43,7 +43,7 @@ pub struct Image {
 }
 
 impl Model for Image {
-    ghost use Rattle.pe_write.specs.Program.{Program, IsProgram};
+    ghost use Rattle.pe_write.specs.Program.{Program, CanBeImage};
 
     ghost Value = { Program };
 
@@ -56,7 +56,7 @@ impl Model for Image {
       pdata = p.pdata.items;
     } };
 
-    ghost invariant = { λ p. IsProgram (record {
+    ghost invariant = { λ p. CanBeImage (record {
       data_size = p.data_size;
       data_bytes = p.data_bytes.items;
       text = p.text.items;
@@ -79,7 +79,7 @@ impl Image {
         xdata: Vec<u8>,
         pdata: Vec<u8>,
     ) -> Image
-        requires { spec.IsProgram (record {
+        requires { spec.CanBeImage (record {
           data_size = data_size;
           data_bytes = data_bytes.items;
           text = text.items;
@@ -109,7 +109,7 @@ impl Image {
     /// The sizes of its sections, which say where they lie.
     pub fn sizes(&self) -> Sizes
         ensures value { result ≡ spec.sizes_of self.now }
-        ensures program { spec.IsProgram self.now }
+        ensures program { spec.CanBeImage self.now }
     {
         Sizes {
             data_size: self.data_size,

@@ -13,7 +13,7 @@ use Rattle.virtual_unwind.specs.CallerOf.{Functions, caller_in, caller_of, funct
 use Rattle.frame_rules.specs.Frame.{left_to}
 use Rattle.frame_rules.specs.Prologue.{bytes, items}
 use Rattle.frame_rules.specs.Body.{Body, following, is_body}
-use Rattle.frame_rules.specs.Rules.{Function, IsRight, ops, InPrologue, IsBody, IsLeaving, IsFound}
+use Rattle.frame_rules.specs.Rules.{FramedFunction, IsRight, ops, InPrologue, IsBody, IsLeaving, IsFound}
 use Rattle.frame_rules.specs.Rules as rules
 use Rattle.frame_rules.specs.States.{registers, return_address, IsEntry, InBody, HasItems}
 use Rattle.frame_rules.proofs.Callers.{entries_are_found, leaves_are_found}
@@ -36,7 +36,7 @@ use Rattle.program_tables.proofs.Lookups.{entries_are_held, leaves_are_held_by_n
 use Rattle.program_tables.proofs.Table.{table, table_entries, tables_are_read}
 use Rattle.program_frames.specs.InMemory.{image_base, HasText}
 use Rattle.program_frames.specs.Functions.{rest_of, function_of, leaf, thunk_of, probe}
-use Rattle.program_frames.specs.Laws.{IsFramed, FindsCaller, IsIn, FramesAreFound, LeavesAreFound, ThunksAreFound, ProbesAreFound}
+use Rattle.program_frames.specs.Laws.{IsFramed, FindsCaller, IsInRange, FramesAreFound, LeavesAreFound, ThunksAreFound, ProbesAreFound}
 use Rattle.program_frames.proofs.CodeInMemory.{there}
 use Rattle.program_frames.proofs.Layouts.{size_of}
 use Rattle.program_frames.proofs.Rest.{with_size}
@@ -61,7 +61,7 @@ before_end m at [] to h ne = absurd (ne refl)
 before_end m at (x ∷ xs) to h ne = let r = has_bytes m (at + x.size) xs to h.2 in let s = h.1 in omega arith
 
 -- a state of a function is before its end
-inside : (g : Function) (e s : State) (d at to : ℕ) (m : Memory) → IsRight g → HasItems m at (items g.steps ++ g.rest) to → rules.IsInFunction g e s d → at + d < to
+inside : (g : FramedFunction) (e s : State) (d at to : ℕ) (m : Memory) → IsRight g → HasItems m at (items g.steps ++ g.rest) to → rules.IsInFunction g e s d → at + d < to
 inside g e s d at to m ok has st = elim st [
   | inl h ↦
       let following' = following_items m at (items g.steps) g.rest to has in

@@ -9,7 +9,7 @@ use Rattle.x64_encode.specs.Chosen.{is_encodable}
 use Rattle.virtual_unwind.specs.Tail.{FetchedInstr, role_of}
 use Rattle.frame_rules.specs.Body.{Body, following, written, may_write_all}
 use Rattle.frame_rules.specs.States.{is_other}
-use Rattle.frame_rules.specs.Plan.{Plan, IsPlan, spelled_by, all_encodable, operations_of, is_inner, are_inner}
+use Rattle.frame_rules.specs.Plan.{FramePlan, IsPlan, spelled_by, all_encodable, operations_of, is_inner, are_inner}
 use Rattle.frame_rules.specs.Plan as rules
 use Rattle.frame_rules.specs.Bytes.{spell}
 use Rattle.frame_rules.proofs.Bodies.{following-append}
@@ -31,7 +31,7 @@ use Rattle.program_frames.proofs.Templates.{AreLinksNear, template_inner}
 
 -- ---- a plan with an allocation, or without
 
-abbrev pub with_size : ℕ → ℕ → Plan
+abbrev pub with_size : ℕ → ℕ → FramePlan
 with_size n probe = plan_of (record { kept = 0; temporaries = 0; locals = 0; size = n }) probe
 
 abbrev by_size : ℕ → ℕ → Bool → List Instr
@@ -43,12 +43,12 @@ same_epilogue (suc n) probe = sym (ap (by_size (suc n) probe) (ne_eqb (suc n) 0 
 
 -- ---- inner instructions
 
-inner_of : (p : Plan) (i : Instr) → p.frame ≡ 0 → Inner i → is_inner p (spell i) ≡ true
+inner_of : (p : FramePlan) (i : Instr) → p.frame ≡ 0 → Inner i → is_inner p (spell i) ≡ true
 inner_of p i e h =
     ap (λ (f : ℕ). is_other (role_of f (spell i).plain i) && may_write_all f (operations_of p) (written i)) e
     ∙ and_from _ _ (ap is_other (h.1 (spell i).plain)) (h.2 (operations_of p))
 
-pub all_inner : (p : Plan) (is : List Instr) → p.frame ≡ 0 → AllInner is → are_inner p (spelled_by spell is) ≡ true
+pub all_inner : (p : FramePlan) (is : List Instr) → p.frame ≡ 0 → AllInner is → are_inner p (spelled_by spell is) ≡ true
 all_inner p [] e h = refl
 all_inner p (i ∷ is) e h = and_from (is_inner p (spell i)) (are_inner p (spelled_by spell is)) (inner_of p i e h.0) (all_inner p is e h.1)
 
@@ -67,7 +67,7 @@ spelled_both (i ∷ a) b = ap (λ (xs : List FetchedInstr). spell i ∷ xs) (spe
 -- ---- bodies
 
 module _ (n probe : ℕ) (is_plan : IsPlan (with_size n probe)) where
-  abbrev p : Plan
+  abbrev p : FramePlan
   p = with_size n probe
 
   -- from the body to the body

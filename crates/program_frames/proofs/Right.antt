@@ -13,10 +13,10 @@ use Rattle.virtual_unwind.specs.Tail.{FetchedInstr}
 use Rattle.frame_rules.specs.Codes.{are_allowed}
 use Rattle.frame_rules.specs.Prologue.{bytes, items}
 use Rattle.frame_rules.specs.Body.{Body, following, is_body}
-use Rattle.frame_rules.specs.Plan.{Plan, IsPlan, spelled_by, all_encodable, allocation_then, operations_of, instructions_of, steps_of}
+use Rattle.frame_rules.specs.Plan.{FramePlan, IsPlan, spelled_by, all_encodable, allocation_then, operations_of, instructions_of, steps_of}
 use Rattle.frame_rules.specs.Plan as rules
 use Rattle.frame_rules.specs.States.{HasItems}
-use Rattle.frame_rules.specs.Rules.{Function, IsRight, ops}
+use Rattle.frame_rules.specs.Rules.{FramedFunction, IsRight, ops}
 use Rattle.frame_rules.specs.Bytes.{spell, IsExecutableAt, prologue_code}
 use Rattle.frame_rules.proofs.Bytes.{spells_all, items_are_at, plans_are_encodable}
 use Rattle.frame_rules.proofs.Emitting.{plans_are_right}
@@ -61,7 +61,7 @@ plan_near f next to size a b = record { size = size; distance = omega arith; pro
 pub one_code : (f : Frame) (probe : ℕ) → 0 < f.size → operations_of (plan_of f probe) ≡ Allocate f.size ∷ []
 one_code f probe some = ap (λ (none : Bool). allocation_then (not none) f.size []) (ne_eqb f.size 0 (λ z. (let q : f.size ≡ 0 = z in absurd (omega arith))))
 
-spelled_steps : (p : Plan) (at : ℕ) (xs : List UnwindOperation) → spelled_by spell (flat_map (instructions_of p) xs) ≡ items (steps_of spell p at xs)
+spelled_steps : (p : FramePlan) (at : ℕ) (xs : List UnwindOperation) → spelled_by spell (flat_map (instructions_of p) xs) ≡ items (steps_of spell p at xs)
 spelled_steps p at [] = refl
 spelled_steps p at (x ∷ xs) = spelled_both (instructions_of p x) (flat_map (instructions_of p) xs) ∙ ap (λ (ys : List FetchedInstr). spelled_by spell (instructions_of p x) ++ ys) (spelled_steps p (at + bytes (spelled_by spell (instructions_of p x))) xs)
 

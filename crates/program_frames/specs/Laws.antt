@@ -129,7 +129,7 @@ FramesAreFound =
 
 -- of what has no entry: RSP, the return address and the nonvolatile registers are those at its
 -- first byte
-pub record IsIn (e s : State) (rest : List FetchedInstr) (begin end : ℕ) : Type 0 where
+pub record IsInRange (e s : State) (rest : List FetchedInstr) (begin end : ℕ) : Type 0 where
   pub entry : IsEntry 0 e
   pub body : InBody 0 [] rest e e s
   pub rva : ℕ
@@ -142,14 +142,14 @@ abbrev pub LeavesAreFound : Type 0
 LeavesAreFound =
     (p : LinearProgram) (index : ℕ) (x : Placed) (e s : State) → FitsProgram p → HasRegions p
     → slice_get (placed p) index ≡ Some x → x.routine.frame ≡ None
-    → IsIn e s (leaf p x) x.begin (end_of x)
+    → IsInRange e s (leaf p x) x.begin (end_of x)
     → FindsCaller p e s
 
 -- the caller of a thunk is found
 abbrev pub ThunksAreFound : Type 0
 ThunksAreFound =
     (p : LinearProgram) (service : ImportedService) (e s : State) → FitsProgram p → HasRegions p
-    → IsIn e s (thunk_of p service) (thunk_at (site_of p).text service)
+    → IsInRange e s (thunk_of p service) (thunk_at (site_of p).text service)
     (thunk_at (site_of p).text service + 6)
     → FindsCaller p e s
 
@@ -157,5 +157,5 @@ ThunksAreFound =
 abbrev pub ProbesAreFound : Type 0
 ProbesAreFound =
     (p : LinearProgram) (e s : State) → FitsProgram p → HasRegions p
-    → IsIn e s probe (check_stack_at (site_of p).text) (check_stack_at (site_of p).text + 21)
+    → IsInRange e s probe (check_stack_at (site_of p).text) (check_stack_at (site_of p).text + 21)
     → FindsCaller p e s

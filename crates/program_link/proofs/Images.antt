@@ -5,7 +5,7 @@ use Rattle.std.specs.List.{AllByRecursion}
 use Rattle.std.proofs.lemmas.Bool.{eq-eqb}
 use Rattle.linear_code.specs.Program.{LinearBody, LinearFunction, LinearFunclet, LinearProgram}
 use Rattle.x64_code.proofs.Nearby.{code_in_room}
-use Rattle.pe_write.specs.Program.{IsProgram, rdata_at, xdata_at}
+use Rattle.pe_write.specs.Program.{CanBeImage, rdata_at, xdata_at}
 use Rattle.pe_write.specs.declared.sizes.Sizes.{Sizes}
 use Rattle.program_link.specs.declared.routine.Entry.TheVariants as entries
 use Rattle.program_link.specs.Routines.{RoutineView, is_leaf, framed, leaf_if, functions_from, funclet, routines}
@@ -49,7 +49,7 @@ tables_fit g rs functions main few near places = let t = total_small rs near in 
 pub rdata_fits : (g : List ℕ) (rs : List RoutineView) (functions main : ℕ) → length g ≤ MOST_GLOBALS → AllByRecursion IsRoutineNear rs → HasPlaces rs functions main → xdata_at (front_sizes g rs) < 2 ^ 31
 rdata_fits g rs functions main few near places = let t = total_small rs near in let r = places.room in omega arith
 
-pub is_program : (g : List ℕ) (rs : List RoutineView) (functions main : ℕ) → length g ≤ MOST_GLOBALS → AllByRecursion IsRoutineNear rs → HasPlaces rs functions main → (d : RoutineView) → IsProgram (image_of g rs functions main)
+pub is_program : (g : List ℕ) (rs : List RoutineView) (functions main : ℕ) → length g ≤ MOST_GLOBALS → AllByRecursion IsRoutineNear rs → HasPlaces rs functions main → (d : RoutineView) → CanBeImage (image_of g rs functions main)
 is_program g rs functions main few near places d =
     let s = site g rs functions in
     let t = total_small rs near in

@@ -71,7 +71,7 @@ fn image_with(
     entry: u32,
     tables: Tables,
 ) -> Result<Image, AllocError>
-    requires { images.IsProgram (record {
+    requires { images.CanBeImage (record {
       data_size = data_size;
       data_bytes = globals.now;
       text = code.items;

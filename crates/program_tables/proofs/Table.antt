@@ -5,7 +5,7 @@ use Rattle.std.specs.List.{AllByRecursion}
 use Rattle.std.proofs.lemmas.List.{map-append, length-map}
 use Rattle.pe_image.specs.Image.{Image, stored}
 use Rattle.eh_tables.specs.declared.range.RuntimeFunction.{RuntimeFunction}
-use Rattle.eh_tables.specs.ReadAgain.{IsStoredAt, IsRange, WrittenEntry, HasScopes, IsWritten, AreInOrder, as_read, ranges_of, info_written}
+use Rattle.eh_tables.specs.ReadAgain.{IsStoredAt, IsRuntimeFunction, WrittenEntry, HasScopes, IsEntryWritten, AreInOrder, as_read, ranges_of, info_written}
 use Rattle.eh_tables.specs.Handler.{is_c_handler}
 use Rattle.eh_tables.specs.Answer.{Table}
 use Rattle.eh_tables.specs.Tables.{Entry, Tables, directory, all_entries, or_none, tables}
@@ -16,7 +16,7 @@ use Rattle.eh_tables.proofs.TablesAgain.{reads_ranges}
 use Rattle.eh_tables.proofs.WholeAgain.{reads_table}
 use Rattle.host_layout.specs.declared.imported.ImportedService.TheVariants.{RaiseException, CSpecificHandler, LocalUnwind, Protect, Put}
 use Rattle.pe_write.specs.Program as images
-use Rattle.pe_write.specs.Program.{Program, IsProgram, sizes_of, text_at, rdata_at, xdata_at}
+use Rattle.pe_write.specs.Program.{Program, CanBeImage, sizes_of, text_at, rdata_at, xdata_at}
 use Rattle.pe_write.proofs.Programs.{listed}
 use Rattle.linear_code.specs.declared.program.Region.{Region}
 use Rattle.linear_code.specs.Program.{LinearFunction, LinearFunclet, LinearProgram}
@@ -39,7 +39,7 @@ use Rattle.program_link.proofs.Images.{is_program, tables_fit, rdata_fits, has_p
 use Rattle.program_link.proofs.Infos.{info_small}
 use Rattle.program_link.proofs.Nearness.{routines_near}
 use Rattle.program_tables.specs.Placed.{Placed, end_of, placed_from, site_of, infos_begin, placed}
-use Rattle.program_tables.specs.Ranges.{IsRange as IsRegionRange, HasRanges, HasRegions}
+use Rattle.program_tables.specs.Ranges.{IsRuntimeFunction as IsRegionRange, HasRanges, HasRegions}
 use Rattle.program_tables.specs.Entries.{scopes_of, has_rows, unwind_of, entry_if, entries_of, entries}
 use Rattle.program_tables.specs.Laws.{TablesAreRead}
 use Rattle.program_tables.proofs.Stored.{text_there, xdata_there, pdata_there}
@@ -98,11 +98,11 @@ in_order s info at last (r ∷ rs) near le =
     let next = info + length (info_bytes s at r) in
     order_if s (record { routine = r; begin = at; info = info }) r.frame (written_from s (placed_from s next (at + routine_size r) rs)) last le (λ f e. framed_room r f near.0 e) (in_order s next (at + routine_size r) (at + routine_size r) rs near.1 (omega arith))
 
-small_if : (s : SiteView) (x : Placed) (o : Option Frame) (ws : List WrittenEntry) → end_of x < 2 ^ 32 → x.info < 2 ^ 32 → AllByRecursion IsRange (ranges_of ws) → AllByRecursion IsRange (ranges_of (written_if s x o ++ ws))
+small_if : (s : SiteView) (x : Placed) (o : Option Frame) (ws : List WrittenEntry) → end_of x < 2 ^ 32 → x.info < 2 ^ 32 → AllByRecursion IsRuntimeFunction (ranges_of ws) → AllByRecursion IsRuntimeFunction (ranges_of (written_if s x o ++ ws))
 small_if s x None ws lt lt' more = more
 small_if s x (Some f) ws lt lt' more = (record { begin = omega arith; end = lt; info = lt' }, more)
 
-ranges_small : (s : SiteView) (info at : ℕ) (rs : List RoutineView) → at + total rs < 2 ^ 32 → info + infos_room rs < 2 ^ 32 → AllByRecursion IsRange (ranges_of (written_from s (placed_from s info at rs)))
+ranges_small : (s : SiteView) (info at : ℕ) (rs : List RoutineView) → at + total rs < 2 ^ 32 → info + infos_room rs < 2 ^ 32 → AllByRecursion IsRuntimeFunction (ranges_of (written_from s (placed_from s info at rs)))
 ranges_small s info at [] lt lt' = tt
 ranges_small s info at (r ∷ rs) lt lt' =
     let small = info_small s at r in
@@ -177,7 +177,7 @@ module _ (p : LinearProgram) (fits : FitsProgram p) where
   pub near : AllByRecursion IsRoutineNear rs
   near = routines_near p fits
 
-  pub is : IsProgram program
+  pub is : CanBeImage program
   is = is_program p.globals rs (length p.functions) p.main fits.globals near (has_places p fits) no_routine
 
   -- ---- its sizes
@@ -255,7 +255,7 @@ module _ (p : LinearProgram) (fits : FitsProgram p) where
 
   entry_is : (info at : ℕ) (r : RoutineView) (f : Frame) (front more : List ℕ) → IsRoutineNear r → HasRanges r.body → r.frame ≡ Some f → at + routine_size r ≤ first p.globals + total rs
       → program.xdata ≡ front ++ (info_bytes_of s (own_addresses at r).labels (own_addresses at r).end r f ++ more) → info ≡ xdata_at (sizes_of program) + length front → info % 4 ≡ 0
-      → IsWritten image (written_of s (record { routine = r; begin = at; info = info }) f)
+      → IsEntryWritten image (written_of s (record { routine = r; begin = at; info = info }) f)
   entry_is info at r f front more close ranges framed le e here four =
       let h = thunk_at s.text CSpecificHandler in
       let size = subst IsFrameNear framed close.frame in
@@ -275,19 +275,19 @@ module _ (p : LinearProgram) (fits : FitsProgram p) where
         count = omega arith;
       }
 
-  written_if_so : (x : Placed) (o : Option Frame) (ws : List WrittenEntry) → ((f : Frame) → o ≡ Some f → IsWritten image (written_of s x f)) → AllByRecursion (IsWritten image) ws → AllByRecursion (IsWritten image) (written_if s x o ++ ws)
+  written_if_so : (x : Placed) (o : Option Frame) (ws : List WrittenEntry) → ((f : Frame) → o ≡ Some f → IsEntryWritten image (written_of s x f)) → AllByRecursion (IsEntryWritten image) ws → AllByRecursion (IsEntryWritten image) (written_if s x o ++ ws)
   written_if_so x None ws own more = more
   written_if_so x (Some f) ws own more = (own f refl, more)
 
   all_written : (info at : ℕ) (qs : List RoutineView) (front : List ℕ) → AllByRecursion IsRoutineNear qs → AllByRecursion RoutineHasRanges qs → at + total qs ≤ first p.globals + total rs
       → program.xdata ≡ front ++ infos s at qs → info ≡ xdata_at (sizes_of program) + length front → info % 4 ≡ 0
-      → AllByRecursion (IsWritten image) (written_from s (placed_from s info at qs))
+      → AllByRecursion (IsEntryWritten image) (written_from s (placed_from s info at qs))
   all_written info at [] front close ranges le e here four = tt
   all_written info at (r ∷ qs) front close ranges le e here four =
       let bytes = info_bytes s at r in
       let more = infos s (at + routine_size r) qs in
       let aligned = info_aligned s at r in
-      let own : (f : Frame) → r.frame ≡ Some f → IsWritten image (written_of s (record { routine = r; begin = at; info = info }) f) = λ f same. entry_is info at r f front more close.0 ranges.0 same (omega arith) (e ∙ ap (λ t. front ++ (t ++ more)) (bytes_of s at r f same)) here four in
+      let own : (f : Frame) → r.frame ≡ Some f → IsEntryWritten image (written_of s (record { routine = r; begin = at; info = info }) f) = λ f same. entry_is info at r f front more close.0 ranges.0 same (omega arith) (e ∙ ap (λ t. front ++ (t ++ more)) (bytes_of s at r f same)) here four in
       written_if_so (record { routine = r; begin = at; info = info }) r.frame (written_from s (placed_from s (info + length bytes) (at + routine_size r) qs)) own
       (all_written (info + length bytes) (at + routine_size r) qs (front ++ bytes) close.1 ranges.1 (omega arith) (e ∙ sym (append_assoc front bytes more)) (omega (arith, length-append front bytes)) (omega arith))
 
@@ -309,7 +309,7 @@ module _ (p : LinearProgram) (fits : FitsProgram p) where
   same_ranges : ranges_of written ≡ ranges s (infos_begin p) (first p.globals) rs
   same_ranges = ranges_same s (infos_begin p) (first p.globals) rs
 
-  are_ranges : AllByRecursion IsRange (ranges_of written)
+  are_ranges : AllByRecursion IsRuntimeFunction (ranges_of written)
   are_ranges =
       let fit = tables_fit p.globals rs (length p.functions) p.main fits.globals near (has_places p fits) in
       let inside = end_inside in

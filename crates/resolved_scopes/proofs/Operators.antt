@@ -16,45 +16,45 @@ use Rattle.c_syntax.specs.declared.operator.Increment.{Increment}
 use Rattle.c_resolved.specs.Operators.{TypedNode, only_if, as_is, as_type, can_become, is_additive, right_operand, on_integers, sum, difference, arithmetic_of, comparison_of, binary_of, lvalue_of, with_lvalue, address, unary_of, cast_of, element_of, assigned, compound_assigned, incremented, branch_type, as_branch, chosen, conditional_of, comma_of, is_shift, working_type}
 use Rattle.c_resolved.specs.Types.{is_pointer, is_integer, is_void, is_sized_pointer, is_scalar}
 use Rattle.c_resolved.proofs.Operands.{and_true}
-use Rattle.scoped_programs.specs.Scoped.{Seen, expression_within, lvalue_within, node_within}
+use Rattle.scoped_programs.specs.Scoped.{SeenNames, expression_within, lvalue_within, node_within}
 
-abbrev pub IsWithin : Seen → TypedNode → Type 0
+abbrev pub IsWithin : SeenNames → TypedNode → Type 0
 IsWithin seen t = node_within seen t.node ≡ true
 
 -- nothing, or something that names no other locals than these
-abbrev pub WithinIf : Seen → Option TypedNode → Type 0
+abbrev pub WithinIf : SeenNames → Option TypedNode → Type 0
 WithinIf seen None = Unit {0}
 WithinIf seen (Some t) = IsWithin seen t
 
-within_if : (seen : Seen) (b : Bool) (x y : Option TypedNode) → WithinIf seen x → WithinIf seen y → WithinIf seen (if b then x else y)
+within_if : (seen : SeenNames) (b : Bool) (x y : Option TypedNode) → WithinIf seen x → WithinIf seen y → WithinIf seen (if b then x else y)
 within_if seen true x y h k = h
 within_if seen false x y h k = k
 
-within_only : (seen : Seen) (b : Bool) (t : TypedNode) → IsWithin seen t → WithinIf seen (only_if b t)
+within_only : (seen : SeenNames) (b : Bool) (t : TypedNode) → IsWithin seen t → WithinIf seen (only_if b t)
 within_only seen true t h = h
 within_only seen false t h = tt
 
-either_within : (seen : Seen) (b : Bool) (x y : Expression) → expression_within seen x ≡ true → expression_within seen y ≡ true → expression_within seen (if b then x else y) ≡ true
+either_within : (seen : SeenNames) (b : Bool) (x y : Expression) → expression_within seen x ≡ true → expression_within seen y ≡ true → expression_within seen (if b then x else y) ≡ true
 either_within seen true x y h k = h
 either_within seen false x y h k = k
 
-right_within : (seen : Seen) (o : Arithmetic) (t : CType) (b : TypedNode) → IsWithin seen b → expression_within seen (right_operand o t b) ≡ true
+right_within : (seen : SeenNames) (o : Arithmetic) (t : CType) (b : TypedNode) → IsWithin seen b → expression_within seen (right_operand o t b) ≡ true
 right_within seen o t b h = either_within seen (is_shift o) (as_is b) (as_type t b) h h
 
-branch_within : (seen : Seen) (t : CType) (a : TypedNode) → IsWithin seen a → expression_within seen (as_branch t a) ≡ true
+branch_within : (seen : SeenNames) (t : CType) (a : TypedNode) → IsWithin seen a → expression_within seen (as_branch t a) ≡ true
 branch_within seen t a h = either_within seen (is_void t) (as_is a) (as_type t a) h h
 
-place_within : (seen : Seen) (x : Node) (go : Lvalue → TypedNode) → node_within seen x ≡ true → ((p : Lvalue) → lvalue_within seen p ≡ true → IsWithin seen (go p)) → WithinIf seen (with_lvalue (lvalue_of x) go)
+place_within : (seen : SeenNames) (x : Node) (go : Lvalue → TypedNode) → node_within seen x ≡ true → ((p : Lvalue) → lvalue_within seen p ≡ true → IsWithin seen (go p)) → WithinIf seen (with_lvalue (lvalue_of x) go)
 place_within seen (nodes.Read p) go h k = k p h
 place_within seen other go h k = tt
 
-address_within : (seen : Seen) (t : CType) (x : Node) → node_within seen x ≡ true → WithinIf seen (address t (lvalue_of x))
+address_within : (seen : SeenNames) (t : CType) (x : Node) → node_within seen x ≡ true → WithinIf seen (address t (lvalue_of x))
 address_within seen t (nodes.Read p) h = h
 address_within seen t other h = tt
 
 -- ---- operators with two operands
 
-module _ (seen : Seen) (a b : TypedNode) (p : IsWithin seen a) (q : IsWithin seen b) where
+module _ (seen : SeenNames) (a b : TypedNode) (p : IsWithin seen a) (q : IsWithin seen b) where
   on_integers_within : (o : Arithmetic) → WithinIf seen (on_integers o a b)
   on_integers_within o = within_only seen (is_integer a.type && is_integer b.type) _ (and_true p (right_within seen o (working_type o a.type b.type) b q))
 
@@ -99,7 +99,7 @@ module _ (seen : Seen) (a b : TypedNode) (p : IsWithin seen a) (q : IsWithin see
 
 -- ---- operators with one operand
 
-module _ (seen : Seen) (a : TypedNode) (p : IsWithin seen a) where
+module _ (seen : SeenNames) (a : TypedNode) (p : IsWithin seen a) where
   pub incremented_within : (m : Fixity) (i : Increment) → WithinIf seen (incremented m i a)
   incremented_within m i =
       within_if seen (is_pointer a.type) _ _
@@ -119,7 +119,7 @@ module _ (seen : Seen) (a : TypedNode) (p : IsWithin seen a) where
 
 -- ---- the conditional operator
 
-module _ (seen : Seen) (c a b : TypedNode) (o : IsWithin seen c) (p : IsWithin seen a) (q : IsWithin seen b) where
+module _ (seen : SeenNames) (c a b : TypedNode) (o : IsWithin seen c) (p : IsWithin seen a) (q : IsWithin seen b) where
   chosen_within : (z : Option CType) → WithinIf seen (chosen c a b z)
   chosen_within None = tt
   chosen_within (Some z) = and_true (and_true o (branch_within seen z a p)) (branch_within seen z b q)

@@ -13,7 +13,7 @@ use Rattle.c_resolved.specs.Program.{file_of, empty_file, with_parameters, aroun
 use Rattle.c_resolved.specs.Scopes.{Scope}
 use Rattle.c_resolved.specs.Statements.{Numbering, resolve_statements}
 use Rattle.c_resolved.proofs.Operands.{and_true}
-use Rattle.scoped_programs.specs.Scoped.{Seen, first_seen, statements_within, functions_within}
+use Rattle.scoped_programs.specs.Scoped.{SeenNames, first_seen, statements_within, functions_within}
 use Rattle.resolved_scopes.specs.Laws.{ResolvedIsScoped}
 use Rattle.resolved_scopes.proofs.Names.{ScopeSeen, file_seen, parameters_seen}
 use Rattle.resolved_scopes.proofs.Statements.{all_resolve_within}
@@ -24,7 +24,7 @@ parameter_sizes ps = map (λ p. size_of p.of) ps
 abbrev begun : List Parameter → ℕ → Numbering
 begun ps number = record { sizes = parameter_sizes ps; number = number }
 
-body_within : (text : List ℕ) (file : Scope) → ((seen : Seen) → ScopeSeen seen file) → (t : CType) (ps : List Parameter) (body : Statements) (number : ℕ)
+body_within : (text : List ℕ) (file : Scope) → ((seen : SeenNames) → ScopeSeen seen file) → (t : CType) (ps : List Parameter) (body : Statements) (number : ℕ)
     → statements_within (first_seen (length (parameter_sizes ps))) (checked.statements (resolve_statements body (around text file t) (with_parameters text ps [] 0) (begun ps number)).done) ≡ true
 body_within text file known t ps body number =
     let total = length (parameter_sizes ps) in
@@ -32,7 +32,7 @@ body_within text file known t ps body number =
     let block = parameters_seen text total ps [] 0 (omega (arith, same)) tt in
     (all_resolve_within (first_seen total) body (around text file t) (with_parameters text ps [] 0) (begun ps number) block (known (first_seen total))).within
 
-all_within : (text : List ℕ) (file : Scope) → ((seen : Seen) → ScopeSeen seen file) → (xs : List ExternalDeclaration) (number : ℕ) → functions_within (functions_of text file xs number).done ≡ true
+all_within : (text : List ℕ) (file : Scope) → ((seen : SeenNames) → ScopeSeen seen file) → (xs : List ExternalDeclaration) (number : ℕ) → functions_within (functions_of text file xs number).done ≡ true
 all_within text file known [] number = refl
 all_within text file known (Globals base gs ∷ xs) number = all_within text file known xs number
 all_within text file known (Function t n ps body ∷ xs) number =

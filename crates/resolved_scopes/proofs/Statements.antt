@@ -8,17 +8,17 @@ use Rattle.c_resolved.specs.Expressions.{FaultAt, resolve_expression}
 use Rattle.c_resolved.specs.Scopes.{Scope}
 use Rattle.c_resolved.specs.Statements.{Near, Beyond, past_finally, with_number, Environment, Numbering, names_at, inside, any, condition, resolve_filter, resolve_for_initialiser, resolve_statement, resolve_statements}
 use Rattle.c_resolved.proofs.Operands.{and_true}
-use Rattle.scoped_programs.specs.Scoped.{Seen, after_all_declared, statement_within}
+use Rattle.scoped_programs.specs.Scoped.{SeenNames, after_all_declared, statement_within}
 use Rattle.resolved_scopes.proofs.Names.{ScopeSeen, scope_wider, seen_append, names_seen}
 use Rattle.resolved_scopes.proofs.Declarations.{any_within, condition_within, value_within, returned_within, resolved_filter_within, after_all, statement_grows, all_grow, ResolvesWithin, follow_within, only_within, declare_all_within, declared_grow, begins_within}
 
 -- one statement, which leaves the names of its block as they are
-one_within : (seen : Seen) (block : Scope) (s : checked.Statement) (counts : Numbering) (faults : List FaultAt) → ScopeSeen seen block → statement_within seen s ≡ true
+one_within : (seen : SeenNames) (block : Scope) (s : checked.Statement) (counts : Numbering) (faults : List FaultAt) → ScopeSeen seen block → statement_within seen s ≡ true
     → ResolvesWithin seen (record { done = s ∷ []; counts = counts; block = block; faults = faults })
 one_within seen block s counts faults h e = record { within = and_true e refl; block = scope_wider seen _ (statement_grows seen s) block h }
 
 mutual
-  pub resolves_within : (seen : Seen) (s : Statement) (a : Environment) (block : Scope) (n : Numbering) → ScopeSeen seen block → ScopeSeen seen a.outer → ResolvesWithin seen (resolve_statement s a block n)
+  pub resolves_within : (seen : SeenNames) (s : Statement) (a : Environment) (block : Scope) (n : Numbering) → ScopeSeen seen block → ScopeSeen seen a.outer → ResolvesWithin seen (resolve_statement s a block n)
   resolves_within seen (statements.Declare base ls) a block n h k = declare_all_within seen a base ls block n h k
   resolves_within seen (statements.Block ss) a block n h k =
       one_within seen block _ _ _ h (all_resolve_within seen ss (inside a block) [] n tt (seen_append seen block a.outer h k)).within
@@ -83,7 +83,7 @@ mutual
       let p = all_resolve_within seen last there [] (with_number m.counts (m.counts.number + 1)) tt outer in
       one_within seen block _ _ _ h (and_true r.within p.within)
 
-  pub all_resolve_within : (seen : Seen) (ss : Statements) (a : Environment) (block : Scope) (n : Numbering) → ScopeSeen seen block → ScopeSeen seen a.outer → ResolvesWithin seen (resolve_statements ss a block n)
+  pub all_resolve_within : (seen : SeenNames) (ss : Statements) (a : Environment) (block : Scope) (n : Numbering) → ScopeSeen seen block → ScopeSeen seen a.outer → ResolvesWithin seen (resolve_statements ss a block n)
   all_resolve_within seen statements.Empty a block n h k = record { within = refl; block = h }
   all_resolve_within seen (statements.Then s ss) a block n h k =
       let m = resolve_statement s a block n in

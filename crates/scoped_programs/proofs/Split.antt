@@ -2,7 +2,7 @@
 use Rattle.std.proofs.Common.{◌≡◌, ◌⊎◌, inl, inr, ℕ, refl, ◌<◌}
 use Rattle.std.proofs.lemmas.Bool.{eqb-true, eq-eqb, ltb-true}
 use Rattle.std.specs.Prelude.{Bool, true, false, ◌&&◌, ◌||◌, nat_eq}
-use Rattle.scoped_programs.specs.Scoped.{Seen, with_local, IsPart, first_seen}
+use Rattle.scoped_programs.specs.Scoped.{SeenNames, with_local, IsPart, first_seen}
 
 pub both_left : (a b : Bool) → (a && b) ≡ true → a ≡ true
 both_left true b h = refl
@@ -31,30 +31,30 @@ or_right true b h = refl
 or_right false b h = h
 
 -- a local that is seen is the one that was declared last, or was seen before
-pub seen_cases : (seen : Seen) (x y : ℕ) → with_local x seen y ≡ true → (y ≡ x) ⊎ (seen y ≡ true)
+pub seen_cases : (seen : SeenNames) (x y : ℕ) → with_local x seen y ≡ true → (y ≡ x) ⊎ (seen y ≡ true)
 seen_cases seen x y h = of (either (nat_eq y x) (seen y) h)
   where
     of : (nat_eq y x ≡ true) ⊎ (seen y ≡ true) → (y ≡ x) ⊎ (seen y ≡ true)
     of (inl e) = inl (eqb-true y x e)
     of (inr e) = inr e
 
-pub sees_own : (seen : Seen) (x : ℕ) → with_local x seen x ≡ true
+pub sees_own : (seen : SeenNames) (x : ℕ) → with_local x seen x ≡ true
 sees_own seen x = or_left (nat_eq x x) (seen x) (eq-eqb x x refl)
 
-pub sees_before : (seen : Seen) (x : ℕ) → IsPart seen (with_local x seen)
+pub sees_before : (seen : SeenNames) (x : ℕ) → IsPart seen (with_local x seen)
 sees_before seen x y h = or_right (nat_eq y x) (seen y) h
 
 -- a parameter
 pub is_parameter : (parameters x : ℕ) → first_seen parameters x ≡ true → x < parameters
 is_parameter parameters x h = ltb-true x parameters h
 
-pub itself : (a : Seen) → IsPart a a
+pub itself : (a : SeenNames) → IsPart a a
 itself a x h = h
 
-pub within : (a b c : Seen) → IsPart a b → IsPart b c → IsPart a c
+pub within : (a b c : SeenNames) → IsPart a b → IsPart b c → IsPart a c
 within a b c h k x e = k x (h x e)
 
-pub part_with : (a b : Seen) (x : ℕ) → IsPart a b → IsPart (with_local x a) (with_local x b)
+pub part_with : (a b : SeenNames) (x : ℕ) → IsPart a b → IsPart (with_local x a) (with_local x b)
 part_with a b x h y k = of (either (nat_eq y x) (a y) k)
   where
     of : (nat_eq y x ≡ true) ⊎ (a y ≡ true) → with_local x b y ≡ true

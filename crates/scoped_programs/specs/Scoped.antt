@@ -7,27 +7,27 @@ use Rattle.c_checked.specs.Statement.{Declared, Filter, Always, Funclet, Stateme
 use Rattle.c_checked.specs.Program.{Program, Function}
 
 -- the locals that are declared so far
-abbrev pub Seen : Type 0
-Seen = ℕ → Bool
+abbrev pub SeenNames : Type 0
+SeenNames = ℕ → Bool
 
-abbrev pub with_local : ℕ → Seen → Seen
+abbrev pub with_local : ℕ → SeenNames → SeenNames
 with_local x seen y = nat_eq y x || seen y
 
 -- each local of the one is in the other
-abbrev pub IsPart : Seen → Seen → Type 0
+abbrev pub IsPart : SeenNames → SeenNames → Type 0
 IsPart a b = (x : ℕ) → a x ≡ true → b x ≡ true
 
 -- a function's parameters are its first locals
-abbrev pub first_seen : ℕ → Seen
+abbrev pub first_seen : ℕ → SeenNames
 first_seen parameters x = nat_lt x parameters
 
 -- ---- expressions
 
 abbrev mutual
-  pub expression_within : Seen → Expression → Bool
+  pub expression_within : SeenNames → Expression → Bool
   expression_within seen (On n c) = node_within seen n
 
-  pub node_within : Seen → Node → Bool
+  pub node_within : SeenNames → Node → Bool
   node_within seen (nodes.Constant z n) = true
   node_within seen (nodes.Read p) = lvalue_within seen p
   node_within seen (nodes.AddressOf p) = lvalue_within seen p
@@ -51,49 +51,49 @@ abbrev mutual
   node_within seen (nodes.Information f) = true
   node_within seen nodes.AbnormalTermination = true
 
-  pub lvalue_within : Seen → Lvalue → Bool
+  pub lvalue_within : SeenNames → Lvalue → Bool
   lvalue_within seen (Local x) = seen x
   lvalue_within seen (Global access a) = true
   lvalue_within seen (Indirection access e) = expression_within seen e
   lvalue_within seen (Element access e i) = expression_within seen e && expression_within seen i
 
-  pub arguments_within : Seen → Arguments → Bool
+  pub arguments_within : SeenNames → Arguments → Bool
   arguments_within seen Done = true
   arguments_within seen (Next e es) = expression_within seen e && arguments_within seen es
 
-abbrev pub optional_within : Seen → Option Expression → Bool
+abbrev pub optional_within : SeenNames → Option Expression → Bool
 optional_within seen None = true
 optional_within seen (Some e) = expression_within seen e
 
 -- ---- declarations: a name is seen in its own initialiser
 
-abbrev pub after_declared : Seen → Declared → Seen
+abbrev pub after_declared : SeenNames → Declared → SeenNames
 after_declared seen d = with_local d.local seen
 
-abbrev pub declared_within : Seen → Declared → Bool
+abbrev pub declared_within : SeenNames → Declared → Bool
 declared_within seen d = optional_within (after_declared seen d) d.value
 
-abbrev pub after_all_declared : Seen → List Declared → Seen
+abbrev pub after_all_declared : SeenNames → List Declared → SeenNames
 after_all_declared seen [] = seen
 after_all_declared seen (d ∷ ds) = after_all_declared (after_declared seen d) ds
 
-abbrev pub all_declared_within : Seen → List Declared → Bool
+abbrev pub all_declared_within : SeenNames → List Declared → Bool
 all_declared_within seen [] = true
 all_declared_within seen (d ∷ ds) =
     declared_within seen d && all_declared_within (after_declared seen d) ds
 
 -- ---- statements: what one declares, those after it in its block see
 
-abbrev pub after_statement : Seen → Statement → Seen
+abbrev pub after_statement : SeenNames → Statement → SeenNames
 after_statement seen (Declare d) = after_declared seen d
 after_statement seen other = seen
 
-abbrev pub filter_within : Seen → Filter → Bool
+abbrev pub filter_within : SeenNames → Filter → Bool
 filter_within seen Always = true
 filter_within seen (Funclet k e) = expression_within seen e
 
 abbrev mutual
-  pub statement_within : Seen → Statement → Bool
+  pub statement_within : SeenNames → Statement → Bool
   statement_within seen (Declare d) = declared_within seen d
   statement_within seen (Block ss) = statements_within seen ss
   statement_within seen (Evaluate e) = optional_within seen e
@@ -114,7 +114,7 @@ abbrev mutual
   statement_within seen (TryFinally body k last) =
       statements_within seen body && statements_within seen last
 
-  pub statements_within : Seen → Statements → Bool
+  pub statements_within : SeenNames → Statements → Bool
   statements_within seen Empty = true
   statements_within seen (Then s ss) =
       statement_within seen s && statements_within (after_statement seen s) ss

@@ -13,7 +13,7 @@ use Rattle.c_resolved.proofs.Sound.{accepted_is_sound}
 use Rattle.c_syntax.specs.Program.{ExternalDeclaration}
 use Rattle.c_text.specs.Texts.{IsAccepted, IsCheckedAs}
 use Rattle.code_bounds.proofs.Fitting.{texts_fit}
-use Rattle.image_runs.specs.Realises.{IsWritten}
+use Rattle.image_runs.specs.Realises.{IsImageOf}
 use Rattle.linear_code.specs.Program.{LinearProgram}
 use Rattle.lowered_shape.proofs.Ranges.{lowered_has_regions}
 use Rattle.lowered_shape.proofs.Shaped.{lowered_is_shaped}
@@ -28,7 +28,7 @@ use Rattle.seh_ir.specs.Lowered.{lowered}
 
 -- ---- by linear code
 
-pub of_linear : (program : Program) (p : LinearProgram) (image : List ℕ) → p ≡ lowered program → AllByRecursion (λ b. b < 256) image → image ≡ written (parts_of (linked p)) → IsImage image (image_of (linked p)) → IsWritten image program
+pub of_linear : (program : Program) (p : LinearProgram) (image : List ℕ) → p ≡ lowered program → AllByRecursion (λ b. b < 256) image → image ≡ written (parts_of (linked p)) → IsImage image (image_of (linked p)) → IsImageOf image program
 of_linear program p image e octets bytes read = record {
   octets = octets;
   written = bytes ∙ ap (λ (q : LinearProgram). written (parts_of (linked q))) e;
@@ -51,10 +51,10 @@ accepted_fits text whole p short checked =
     subst (λ (r : Program). FitsProgram (lowered r)) (sym checked.resolved)
     (texts_fit text a.read.tokens whole a.read.lexed a.read.derives a.read.within a.rules short)
 
-pub of_checked : (text image : List ℕ) (whole : List ExternalDeclaration) (p : Program) → length text ≤ 1048576 → IsCheckedAs text whole p → IsWritten image p → IsCompiled text image
+pub of_checked : (text image : List ℕ) (whole : List ExternalDeclaration) (p : Program) → length text ≤ 1048576 → IsCheckedAs text whole p → IsImageOf image p → IsCompiled text image
 of_checked text image whole p short checked link =
     let a = checked.accepted in
-    let w : IsWritten image (resolve text whole).program = subst (λ (r : Program). IsWritten image r) checked.resolved link in
+    let w : IsImageOf image (resolve text whole).program = subst (λ (r : Program). IsImageOf image r) checked.resolved link in
     let fits = texts_fit text a.read.tokens whole a.read.lexed a.read.derives a.read.within a.rules short in
     let sound = accepted_is_sound text whole a.read.within a.rules in
     record {

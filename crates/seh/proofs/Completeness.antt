@@ -3,7 +3,7 @@ use Rattle.std.proofs.Common.{◌≡◌, ℕ, List, Option, Some, None, Result, 
 use Rattle.pe_image.specs.declared.refusal.ImageErr.{ImageErr}
 use Rattle.pe_image.specs.declared.refusal.ImageErr.TheVariants as images
 use Rattle.pe_image.specs.Image.{Image}
-use Rattle.pe_image.specs.Reading.{IsImage, IsRefused, reading}
+use Rattle.pe_image.specs.Reading.{IsImage, ImageIsRefused, reading}
 use Rattle.host_model.specs.declared.refusal.LoadErr.{LoadErr}
 use Rattle.host_model.specs.declared.refusal.LoadErr.TheVariants as loads
 use Rattle.host_model.specs.Loading.{load_refusal}
@@ -26,7 +26,7 @@ one_image r image other is also = let q : Ok image ≡ Ok other = sym is ∙ als
 -- an image is refused for want of memory alone
 image_refused :
     (bytes : List ℕ) (image : Image) (e : ImageErr)
-    → IsImage bytes image → IsRefused bytes e → e ≡ images.Memory
+    → IsImage bytes image → ImageIsRefused bytes e → e ≡ images.Memory
 image_refused bytes image images.Memory is refused = refl
 image_refused bytes image e is refused = absurd (not_refused (reading bytes) image e is refused)
 

@@ -41,5 +41,5 @@ module _ (options : RunOptions) (p : Program) (again : ℤ) (same : again ≡ op
   pub memory_same : (e : MeanErr) → e ≡ Memory → (text : List ℕ) (out out' : Stream) → IsProgramOf text p → texts.TookFront e out.bytes (texts.text options.trace options.turns shown) out'.bytes → TookMeaningFront options text out out'
   memory_same e is text out out' found h = front_same text out out' found (subst (λ x. texts.TookFront x out.bytes (texts.text options.trace options.turns shown) out'.bytes) is h)
 
-pub rose_of : (e : MeanErr) (n : ℕ) → e ≡ Write n → (f f' : ℕ) → texts.HasCause e f f' → Rose f f'
-rose_of e n is f f' h = subst (λ x. texts.HasCause x f f') is h
+pub rose_of : (e : MeanErr) (n : ℕ) → e ≡ Write n → (f f' : ℕ) → texts.MeaningHasCause e f f' → Rose f f'
+rose_of e n is f f' h = subst (λ x. texts.MeaningHasCause x f f') is h

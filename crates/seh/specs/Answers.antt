@@ -9,14 +9,14 @@ use Rattle.seh_io.specs.Reading.{LostAtMost}
 use Rattle.seh_io.specs.Text.{text}
 use Rattle.seh_io.specs.Writer.{TookPart}
 use Rattle.pe_image.specs.Image.{Image}
-use Rattle.pe_image.specs.Reading.{IsImage, IsRefused}
+use Rattle.pe_image.specs.Reading.{IsImage, ImageIsRefused}
 use Rattle.table_view.specs.View.{view}
 use Rattle.host_model.specs.declared.refusal.LoadErr.{LoadErr}
 use Rattle.host_model.specs.Loading.{load_refusal}
 use Rattle.host_model.specs.Machine.{machine}
 use Rattle.seh_host.specs.Turns.{end_within}
 use Rattle.seh_host.specs.Hosts.{IsLoadRefusal}
-use Rattle.c_text.specs.Texts.{IsRefused as IsRefusedText}
+use Rattle.c_text.specs.Texts.{TextIsRefused as IsRefusedText}
 use Rattle.command_line.specs.declared.command.RunOptions.{RunOptions}
 use Rattle.seh.specs.declared.outcome.Outcome.{Outcome}
 use Rattle.seh.specs.declared.outcome.Outcome.TheVariants.{Compiled, Ran, Viewed}
@@ -75,7 +75,8 @@ Judged = List ℕ → Stream → Stream → Result Outcome Refusal → Type 0
 abbrev pub IsRunAnswer : RunOptions → Judged
 IsRunAnswer options bytes out out' (Ok (Ran end)) =
     Loads bytes × (end ≡ end_by options bytes) × Grew out.bytes (text_by options bytes) out'.bytes
-IsRunAnswer options bytes out out' (Err (refusals.Image e)) = IsRefused bytes e × Quiet out out'
+IsRunAnswer options bytes out out' (Err (refusals.Image e)) = ImageIsRefused bytes e
+    × Quiet out out'
 IsRunAnswer options bytes out out' (Err (refusals.Load e)) = IsRefusedLoad bytes e × Quiet out out'
 IsRunAnswer options bytes out out' (Err refusals.WriteFault) =
     Loads bytes × Rose out.faults out'.faults
@@ -89,7 +90,7 @@ IsRunAnswer options bytes out out' answer = ⊥
 abbrev pub IsShowAnswer : Judged
 IsShowAnswer bytes out out' (Ok Viewed) =
     (image : Image) × IsImage bytes image × Grew out.bytes (view image) out'.bytes
-IsShowAnswer bytes out out' (Err (refusals.Image e)) = IsRefused bytes e × Quiet out out'
+IsShowAnswer bytes out out' (Err (refusals.Image e)) = ImageIsRefused bytes e × Quiet out out'
 IsShowAnswer bytes out out' (Err refusals.WriteFault) =
     (image : Image) × IsImage bytes image × Rose out.faults out'.faults
     × ((count : ℕ) × TookPart out.bytes (view image) out'.bytes count)

@@ -4,7 +4,7 @@ use Rattle.c_checked.specs.Program.{Program}
 use Rattle.c_model.specs.Meaning.{meaning, Calm}
 use Rattle.c_resolved.specs.Program.{resolve}
 use Rattle.c_syntax.specs.Program.{ExternalDeclaration}
-use Rattle.c_text.specs.Texts.{IsAccepted, IsRefused}
+use Rattle.c_text.specs.Texts.{IsAccepted, TextIsRefused}
 use Rattle.eh_tables.specs.Tables.{tables}
 use Rattle.host_model.specs.Machine.{machine}
 use Rattle.lowered_shape.specs.Laws.{IsShaped}
@@ -13,7 +13,7 @@ use Rattle.program_link.specs.Linked.{linked}
 use Rattle.program_tables.specs.Entries.{entries}
 use Rattle.seh_ir.specs.Lowered.{lowered}
 use Rattle.pace_bounds.specs.Laws.{pace_in}
-use Rattle.image_runs.specs.Realises.{Realises, IsWritten}
+use Rattle.image_runs.specs.Realises.{Realises, IsImageOf}
 use Rattle.image_runs.specs.Frames.{FindsCallers}
 use Rattle.image_runs.specs.Shadows.{WalksTheShadow}
 use Rattle.seh.specs.declared.refusal.Refusal.{Refusal}
@@ -50,7 +50,7 @@ pub record HasTable (program : Program) : Type 0 where
 pub record IsCompiled (text image : List ℕ) : Type 0 where
   pub whole : List ExternalDeclaration
   pub accepted : IsAccepted text whole
-  pub linked : IsWritten image (resolve text whole).program
+  pub linked : IsImageOf image (resolve text whole).program
   pub table : HasTable (resolve text whole).program
   pub realises : Realises image (resolve text whole).program
   pub no_more : ShowsNoMoreByLength text image (resolve text whole).program
@@ -61,6 +61,6 @@ pub record IsCompiled (text image : List ℕ) : Type 0 where
 
 -- why a text isn't compiled; want of memory says nothing
 abbrev pub IsTextRefusal : List ℕ → Refusal → Type 0
-IsTextRefusal text (refusals.Text e) = IsRefused text e
+IsTextRefusal text (refusals.Text e) = TextIsRefused text e
 IsTextRefusal text refusals.NoMemory = Unit {0}
 IsTextRefusal text r = ⊥

@@ -7,7 +7,7 @@ use Rattle.c_syntax.specs.Program.{ExternalDeclaration}
 use Rattle.c_checked.specs.Program.{Program}
 use Rattle.c_model.specs.Meaning as model
 use Rattle.c_model.specs.declared.ended.Ended.{Ended}
-use Rattle.c_text.specs.Texts.{IsCheckedAs, IsRefused}
+use Rattle.c_text.specs.Texts.{IsCheckedAs, TextIsRefused}
 use Rattle.c_interpret.specs.Texts as texts
 use Rattle.c_interpret.specs.declared.interpret.MeanErr.TheVariants.{Memory}
 use Rattle.command_line.specs.declared.command.RunOptions.{RunOptions}
@@ -43,7 +43,8 @@ IsMeaningAnswer options text out out' (Ok (Meant ended)) =
     (p : Program) × IsProgramOf text p
     × (ended ≡ texts.ended_within options.turns (shown_of options p).end)
     × Grew out.bytes (text_of options p) out'.bytes
-IsMeaningAnswer options text out out' (Err (refusals.Text e)) = IsRefused text e × Quiet out out'
+IsMeaningAnswer options text out out' (Err (refusals.Text e)) = TextIsRefused text e
+    × Quiet out out'
 IsMeaningAnswer options text out out' (Err refusals.WriteFault) =
     (p : Program) × IsProgramOf text p × Rose out.faults out'.faults
     × ((count : ℕ) × TookPart out.bytes (text_of options p) out'.bytes count)

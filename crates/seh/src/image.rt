@@ -4,7 +4,7 @@ ghost use Rattle.std.specs.Prelude.{◌≡◌, ◌≤◌, ◌<◌, ℕ, length, 
 ghost use Rattle.std.specs.List.{AllByRecursion};
 ghost use Rattle.c_checked.specs.Whole.{program};
 ghost use Rattle.program_link.specs.Fits.{FitsProgram};
-ghost use Rattle.image_runs.specs.Realises.{IsWritten};
+ghost use Rattle.image_runs.specs.Realises.{IsImageOf};
 ghost use Rattle.seh.specs.Images.{IsCompiled, IsTextRefusal};
 ghost use Rattle.seh_ir.specs.Lowered.{lowered};
 
@@ -28,7 +28,7 @@ fn bytes_are_octets(bytes: &[u8])
 /// The image that a checked program is linked to.
 fn linked_image(alloc: Global, checked: &Checked) -> Result<Vec<u8>, AllocError>
     requires { FitsProgram (lowered (program checked.now)) }
-    ensures { IfOk result (λ image. IsWritten image.items (program checked.now)) }
+    ensures { IfOk result (λ image. IsImageOf image.items (program checked.now)) }
 {
     let linear = lower(alloc, checked)?;
     let image = compile_program(alloc, &linear)?;

@@ -1,7 +1,7 @@
 //! One turn over any memory.
 
 ghost use Rattle.std.specs.Prelude.{◌≡◌, ◌-◌, ◌<◌, ◌^◌, length};
-ghost use Rattle.eh_tables.specs.Tables.{IsWhole};
+ghost use Rattle.eh_tables.specs.Tables.{TablesAreWhole};
 ghost use Rattle.virtual_unwind.specs.CallerOf.{functions_of};
 ghost use Rattle.x64_machine.specs.Effect.{state};
 ghost use Rattle.host_model.specs.Turns.{shown_in};
@@ -53,7 +53,7 @@ pub fn advance<S: AddressSpace, V: Events>(
     space: &mut S,
     to: &mut V,
 ) -> Option<RunEnd>
-    requires whole { IsWhole tables.now }
+    requires whole { TablesAreWhole tables.now }
     requires few { length funclets.now < 2 ^ 32 - 1 }
     requires ascending { AreAscending 0 funclets.now }
     ensures host { left cpu.new (S.memory space.new) result

@@ -1,7 +1,7 @@
 //! What filters answer, and where filters and `__finally` blocks return.
 
 ghost use Rattle.std.specs.Prelude.{◌≡◌, true};
-ghost use Rattle.eh_tables.specs.Tables.{IsWhole};
+ghost use Rattle.eh_tables.specs.Tables.{TablesAreWhole};
 ghost use Rattle.virtual_unwind.specs.CallerOf.{functions_of};
 ghost use Rattle.x64_machine.specs.Effect.{register, state};
 ghost use Rattle.x64_instr.specs.declared.register.Reg.TheVariants.{Rsp};
@@ -61,7 +61,7 @@ fn search_again<S: AddressSpace>(
     at: u64,
     dispatch: &DispatchRecord,
 ) -> Outcome
-    requires { IsWhole tables.now }
+    requires { TablesAreWhole tables.now }
     ensures { turn_of cpu.new (S.memory space.new) result ≡ spec.searched_again
         (functions_of tables.now) (state cpu.old (S.memory space.old)) at dispatch.now }
 {
@@ -76,7 +76,7 @@ fn search_again<S: AddressSpace>(
 
 /// The row of the filter that a record has asked: the one just before its next row.
 fn asked_row(tables: &Tables, dispatch: &DispatchRecord) -> Option<ScopeRecord>
-    requires { IsWhole tables.now }
+    requires { TablesAreWhole tables.now }
     ensures { result ≡ spec.asked_row (functions_of tables.now) dispatch.now }
 {
     if dispatch.row == 0 {
@@ -103,7 +103,7 @@ fn jump<S: AddressSpace>(
     at: u64,
     dispatch: &DispatchRecord,
 ) -> Outcome
-    requires { IsWhole tables.now }
+    requires { TablesAreWhole tables.now }
     ensures { turn_of cpu.new (S.memory space.new) result
         ≡ spec.jumping (functions_of tables.now) (state cpu.old (S.memory space.old))
         at dispatch.now (spec.asked_row (functions_of tables.now) dispatch.now) }
@@ -129,7 +129,7 @@ fn continue_execution<S: AddressSpace>(
     at: u64,
     dispatch: &DispatchRecord,
 ) -> Led
-    requires { IsWhole tables.now }
+    requires { TablesAreWhole tables.now }
     ensures { led_turn cpu.new (S.memory space.new) result ≡ spec.by_sign (functions_of tables.now)
         (state cpu.old (S.memory space.old)) at dispatch.now true }
 {
@@ -158,7 +158,7 @@ fn answer<S: AddressSpace>(
     dispatch: &DispatchRecord,
     value: u32,
 ) -> Led
-    requires { IsWhole tables.now }
+    requires { TablesAreWhole tables.now }
     ensures { led_turn cpu.new (S.memory space.new) result ≡ spec.answered (functions_of tables.now)
         (state cpu.old (S.memory space.old)) at dispatch.now value }
 {
@@ -174,7 +174,7 @@ fn answer<S: AddressSpace>(
 /// A filter's return, with its answer in EAX.
 #[tactic(auto, using(crate::proofs::Leading::leading))]
 pub fn filter_return<S: AddressSpace>(tables: &Tables, cpu: &mut Cpu, space: &mut S) -> Made
-    requires { IsWhole tables.now }
+    requires { TablesAreWhole tables.now }
     ensures { made_turn cpu.new (S.memory space.new) result
         ≡ spec.filter_returned (functions_of tables.now) (state cpu.old (S.memory space.old))
         (register cpu.old Rsp) (fetched (S.memory space.old) (register cpu.old Rsp)) }
@@ -200,7 +200,7 @@ pub fn filter_return<S: AddressSpace>(tables: &Tables, cpu: &mut Cpu, space: &mu
 
 /// The return of a `__finally` block: its unwinding continues.
 pub fn finally_return<S: AddressSpace>(tables: &Tables, cpu: &mut Cpu, space: &mut S) -> Outcome
-    requires { IsWhole tables.now }
+    requires { TablesAreWhole tables.now }
     ensures { turn_of cpu.new (S.memory space.new) result
         ≡ spec.finally_returned (functions_of tables.now) (state cpu.old (S.memory space.old))
         (register cpu.old Rsp) (fetched (S.memory space.old) (register cpu.old Rsp)) }

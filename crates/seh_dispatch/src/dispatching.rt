@@ -2,7 +2,7 @@
 //! machine's stack.
 
 ghost use Rattle.std.specs.Prelude.{◌≡◌, ◌%◌};
-ghost use Rattle.eh_tables.specs.Tables.{IsWhole};
+ghost use Rattle.eh_tables.specs.Tables.{TablesAreWhole};
 ghost use Rattle.virtual_unwind.specs.CallerOf.{functions_of};
 ghost use Rattle.x64_machine.specs.Effect.{state};
 ghost use Rattle.host_model.specs.Dispatch as spec;
@@ -135,7 +135,7 @@ pub fn unwind_on<S: AddressSpace>(
     at: u64,
     dispatch: &DispatchRecord,
 ) -> Outcome
-    requires { IsWhole tables.now }
+    requires { TablesAreWhole tables.now }
     ensures { turn_of cpu.new (S.memory space.new) result ≡ spec.unwinds_on
         (functions_of tables.now) (state cpu.old (S.memory space.old)) at dispatch.now }
 {
@@ -170,7 +170,7 @@ pub fn accept<S: AddressSpace>(
     frame: u64,
     target: u64,
 ) -> Outcome
-    requires { IsWhole tables.now }
+    requires { TablesAreWhole tables.now }
     ensures { turn_of cpu.new (S.memory space.new) result ≡ spec.accepted (functions_of tables.now)
         (state cpu.old (S.memory space.old)) at dispatch.now frame target }
 {
@@ -192,7 +192,7 @@ pub fn search_on<S: AddressSpace>(
     at: u64,
     dispatch: &DispatchRecord,
 ) -> Outcome
-    requires { IsWhole tables.now }
+    requires { TablesAreWhole tables.now }
     ensures { turn_of cpu.new (S.memory space.new) result ≡ spec.searches_on
         (functions_of tables.now) (state cpu.old (S.memory space.old)) at dispatch.now }
 {
@@ -275,7 +275,7 @@ pub fn raise<S: AddressSpace>(
     access: Option<(bool, u64)>,
     saved: &Cpu,
 ) -> Outcome
-    requires { IsWhole tables.now }
+    requires { TablesAreWhole tables.now }
     ensures { turn_of cpu.new (S.memory space.new) result ≡ spec.raising (functions_of tables.now)
         (state cpu.old (S.memory space.old)) code flags access saved.now }
 {
@@ -307,7 +307,7 @@ pub fn unwind_locally<S: AddressSpace>(
     target: u64,
     saved: &Cpu,
 ) -> Outcome
-    requires { IsWhole tables.now }
+    requires { TablesAreWhole tables.now }
     ensures { turn_of cpu.new (S.memory space.new) result ≡ spec.unwound_locally
         (functions_of tables.now) (state cpu.old (S.memory space.old)) frame target saved.now }
 {

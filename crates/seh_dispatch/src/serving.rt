@@ -3,7 +3,7 @@
 ghost use Rattle.std.specs.Prelude.{◌≡◌, ◌%◌, ◌^◌, Some, None};
 ghost use Rattle.seh_num.specs.declared.width.Width.TheVariants.{W64};
 ghost use Rattle.seh_num.specs.declared.end.Reason.TheVariants as reasons;
-ghost use Rattle.eh_tables.specs.Tables.{IsWhole};
+ghost use Rattle.eh_tables.specs.Tables.{TablesAreWhole};
 ghost use Rattle.flat_memory.specs.Memory.{loaded};
 ghost use Rattle.virtual_unwind.specs.CallerOf.{functions_of};
 ghost use Rattle.x64_instr.specs.declared.register.Reg.TheVariants.{Rcx, Rdx, Rsp};
@@ -103,7 +103,7 @@ fn raised<S: AddressSpace>(
     access: Option<(bool, u64)>,
     saved: &Cpu,
 ) -> Led
-    requires { IsWhole tables.now }
+    requires { TablesAreWhole tables.now }
     ensures { led_turn cpu.new (S.memory space.new) result ≡ dispatch.raised
         (functions_of tables.now) (state cpu.old (S.memory space.old)) code flags access saved.now }
 {
@@ -121,7 +121,7 @@ fn raised<S: AddressSpace>(
 /// Raises the exception of the code in ECX; bit 0 of EDX makes it noncontinuable.
 #[tactic(auto, using(crate::proofs::Returning::returning_steps, crate::proofs::Leading::leading))]
 fn raise_exception<S: AddressSpace>(tables: &Tables, cpu: &mut Cpu, space: &mut S) -> Led
-    requires { IsWhole tables.now }
+    requires { TablesAreWhole tables.now }
     ensures { led_turn cpu.new (S.memory space.new) result ≡ spec.served (functions_of tables.now)
         (state cpu.old (S.memory space.old)) (Some services.RaiseException) }
 {
@@ -138,7 +138,7 @@ fn raise_exception<S: AddressSpace>(tables: &Tables, cpu: &mut Cpu, space: &mut 
 /// Unwinds to the target in RDX of the frame in RCX.
 #[tactic(auto, using(crate::proofs::Returning::returning_steps))]
 fn local_unwind<S: AddressSpace>(tables: &Tables, cpu: &mut Cpu, space: &mut S) -> Outcome
-    requires { IsWhole tables.now }
+    requires { TablesAreWhole tables.now }
     ensures { turn_of cpu.new (S.memory space.new) result ≡ spec.served (functions_of tables.now)
         (state cpu.old (S.memory space.old)) (Some services.LocalUnwind) }
 {
@@ -160,7 +160,7 @@ fn serve<S: AddressSpace>(
     space: &mut S,
     service: Option<Service>,
 ) -> Made
-    requires { IsWhole tables.now }
+    requires { TablesAreWhole tables.now }
     ensures { made_turn cpu.new (S.memory space.new) result
         ≡ spec.served (functions_of tables.now) (state cpu.old (S.memory space.old)) service }
 {
@@ -184,7 +184,7 @@ fn serve<S: AddressSpace>(
 /// A turn, but for the event of the funclet at which it arrives.
 #[tactic(auto, using(crate::proofs::Leading::leading))]
 pub fn make<S: AddressSpace>(tables: &Tables, cpu: &mut Cpu, space: &mut S) -> Made
-    requires { IsWhole tables.now }
+    requires { TablesAreWhole tables.now }
     ensures { made_turn cpu.new (S.memory space.new) result ≡ spec.turned (functions_of tables.now)
         (state cpu.old (S.memory space.old)) (step (state cpu.old (S.memory space.old))) }
 {

@@ -1,5 +1,5 @@
 ghost use Rattle.std.specs.Prelude.{◌≡◌, ◌-◌, ◌<◌, ◌^◌, length};
-ghost use Rattle.eh_tables.specs.Tables.{IsWhole, entries_of};
+ghost use Rattle.eh_tables.specs.Tables.{TablesAreWhole, entries_of};
 ghost use Rattle.host_model.specs.Funclets as spec;
 
 use eh_tables::Tables;
@@ -17,7 +17,7 @@ pub struct Host<'image, 'bytes> {
     pub(crate) end: Option<RunEnd>,
     pub(crate) tables: Tables<'image, 'bytes>,
     pub(crate) funclets: Vec<Funclet>,
-    ghost whole: { IsWhole tables },
+    ghost whole: { TablesAreWhole tables },
     ghost few: { length funclets.items < 2 ^ 32 - 1 },
     ghost listed: { funclets.items ≡ spec.funclets (entries_of tables) },
 }

@@ -12,9 +12,9 @@ LostAtMost most left left' = (bytes : List ℕ) × (length bytes ≤ most) × Lo
 
 -- a fault is the source's own; what is too long holds more than the limit, and one byte more was
 -- read
-abbrev pub HasCause : ℕ → Option (List ℕ) → Option (List ℕ) → ℕ → ℕ → ReadErr → Type 0
-HasCause limit left left' faults faults' Fault = Rose faults faults'
-HasCause limit left left' faults faults' (TooLong most) =
+abbrev pub ReadHasCause : ℕ → Option (List ℕ) → Option (List ℕ) → ℕ → ℕ → ReadErr → Type 0
+ReadHasCause limit left left' faults faults' Fault = Rose faults faults'
+ReadHasCause limit left left' faults faults' (TooLong most) =
     (most ≡ limit) × ForSome left (λ all. limit < length all)
     × ((bytes : List ℕ) × (length bytes ≡ limit + 1) × Lost left bytes left')
-HasCause limit left left' faults faults' Memory = ⊤
+ReadHasCause limit left left' faults faults' Memory = ⊤

@@ -13,8 +13,8 @@ abbrev pub next_count : ℕ → ℕ
 next_count n = min (n + 1) last_count
 
 -- a count of n things is m
-abbrev pub Counts : ℕ → ℕ → Type 0
-Counts n m = min m last_count ≡ min n last_count
+abbrev pub HasCount : ℕ → ℕ → Type 0
+HasCount n m = min m last_count ≡ min n last_count
 
 -- a count of faults rose; one that is at its last value can't, and rose too
 abbrev pub Rose : ℕ → ℕ → Type 0

@@ -2,7 +2,7 @@
 use Rattle.std.specs.Prelude.{◌≡◌, ℕ, ◌+◌, ◌≤◌, Bool, true, false, List, [], ◌++◌, length, Option}
 use Rattle.seh_num.specs.declared.event.Event.{Event}
 use Rattle.seh_io.specs.declared.receiver.Lines.{Lines}
-use Rattle.seh_io.specs.Streams.{Rose, Grew, Counts}
+use Rattle.seh_io.specs.Streams.{Rose, Grew, HasCount}
 use Rattle.seh_io.specs.Text.{lines}
 
 -- whether a write has failed, how many bytes were taken in all, and what is known of its sink: the
@@ -32,7 +32,7 @@ pub record Wrote (old : Writer) (text : List ℕ) (new : Writer) : Type 0 where
   pub nothing : old.failed ≡ true → (part ≡ []) × (new.failed ≡ true)
   pub cause : old.failed ≡ false → new.failed ≡ true → Rose old.faults new.faults
   pub faults : old.faults ≤ new.faults
-  pub counted : Counts (old.count + length part) new.count
+  pub counted : HasCount (old.count + length part) new.count
 
 -- what became of a text that a `Lines` was given, over a sink with these ghost functions
 abbrev pub PutText : {X : Type 0} → (X → Option (List ℕ)) → (X → ℕ) → Lines X → List ℕ → Lines X
@@ -55,7 +55,7 @@ pub record TookPart (taken : Option (List ℕ)) (text : List ℕ) (taken' : Opti
   pub part : List ℕ
   pub begins : (rest : List ℕ) × (text ≡ part ++ rest)
   pub grew : Grew taken part taken'
-  pub counted : Counts (length part) count
+  pub counted : HasCount (length part) count
 
 -- a list that lacks no event has gained just these
 abbrev pub Kept : Bool → List Event → List Event → Bool → List Event → Type 0

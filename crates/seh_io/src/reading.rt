@@ -2,7 +2,7 @@
 
 ghost use Rattle.std.specs.Prelude.{◌≡◌, ◌+◌, ◌≤◌, Some, [], IfOk, OnOk, OnErr, IfErr, vec_len};
 ghost use Rattle.std.specs.Option.{ForSome};
-ghost use Rattle.seh_io.specs.Reading.{HasCause, LostAtMost};
+ghost use Rattle.seh_io.specs.Reading.{ReadHasCause, LostAtMost};
 
 use crate::source::Source;
 use std::alloc::Global;
@@ -32,7 +32,7 @@ pub fn read_all<S: Source>(alloc: Global, src: &mut S, limit: u64) -> Result<Vec
     ensures emptied { OnOk result (ForSome (S.left src.old) (λ _. S.left src.new ≡ Some [])) }
     ensures within { IfOk result (λ v. vec_len v ≤ limit) }
     ensures cause { IfErr result
-        (HasCause limit (S.left src.old) (S.left src.new) (S.faults src.old) (S.faults src.new)) }
+        (ReadHasCause limit (S.left src.old) (S.left src.new) (S.faults src.old) (S.faults src.new)) }
     ensures lost { OnErr result (LostAtMost (limit + 1) (S.left src.old) (S.left src.new)) }
     ensures faults { S.faults src.old ≤ S.faults src.new }
 {

@@ -8,7 +8,7 @@ use Rattle.seh_records.specs.declared.dispatch.Kind.{Kind}
 use Rattle.seh_records.specs.declared.dispatch.Kind.TheVariants.{Search, ExceptionUnwind, LocalUnwind}
 use Rattle.seh_records.specs.declared.dispatch.DispatchRecord.{DispatchRecord}
 use Rattle.seh_records.specs.Words.{words_at}
-use Rattle.seh_records.specs.Laws.{AreBytes, Fits, RecordIsFetched}
+use Rattle.seh_records.specs.Laws.{AreBytes, RecordFits, RecordIsFetched}
 use Rattle.seh_records.specs.Record.{words, head, front, back, mark, number_of, kind_of, fetched, if_readable, if_marked, of_kind, recorded, word, half, words_from, eflags, flags_of, bit}
 use Rattle.seh_records.specs.declared.layout.TheConstants.{RECORD_SIZE}
 
@@ -115,7 +115,7 @@ cut_registers a b c d e f g h = simp append_assoc
 cut_back : (a b c d e f g h : List ℕ) → ((((((a ++ b) ++ c) ++ d) ++ e) ++ f) ++ g) ++ h ≡ (((((a ++ b) ++ c) ++ d) ++ e) ++ f) ++ (g ++ h)
 cut_back a b c d e f g h = simp append_assoc
 
-module _ (m : Memory) (at : ℕ) (r : DispatchRecord) (top : at + RECORD_SIZE ≤ 2 ^ 64) (bytes : AreBytes m.byte) (fit : Fits r) (stand : words_from m at 32 192 ≡ words at r) where
+module _ (m : Memory) (at : ℕ) (r : DispatchRecord) (top : at + RECORD_SIZE ≤ 2 ^ 64) (bytes : AreBytes m.byte) (fit : RecordFits r) (stand : words_from m at 32 192 ≡ words at r) where
   zeros : List ℕ
   zeros = 0 ∷ []
 
@@ -237,7 +237,7 @@ record_fetched m at r top bytes fit is_there =
     fetched_back m at r (omega arith) bytes fit is_there.words is_there.readable
 
 -- there are 192 words
-pub count_words : (r : DispatchRecord) (at : ℕ) → Fits r → length (words at r) ≡ 192
+pub count_words : (r : DispatchRecord) (at : ℕ) → RecordFits r → length (words at r) ≡ 192
 unfolding words
 count_words r at fit =
     let p = fit.parameters in

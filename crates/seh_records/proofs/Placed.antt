@@ -11,7 +11,7 @@ use Rattle.seh_records.specs.declared.dispatch.Kind.TheVariants.{Search, Excepti
 use Rattle.seh_records.specs.declared.dispatch.DispatchRecord.{DispatchRecord}
 use Rattle.seh_records.specs.Words.{with_words, words_at}
 use Rattle.seh_records.specs.Record.{words, head, front, back, number_of, eflags, placed, fetched}
-use Rattle.seh_records.specs.Laws.{AllSmall, AreBytes, Readable, Fits, PlacedIsRecord, PlacedIsFetched, PlacedIsFetchedWhereNotRefused, PlacingLeavesOthers}
+use Rattle.seh_records.specs.Laws.{AllSmall, AreBytes, Readable, RecordFits, PlacedIsRecord, PlacedIsFetched, PlacedIsFetchedWhereNotRefused, PlacingLeavesOthers}
 use Rattle.seh_records.proofs.Block.{outside, one_block}
 use Rattle.seh_records.proofs.Places.{readable_bytes, below_top}
 use Rattle.seh_records.proofs.Fetched.{run_is, fetched_back, count_words, eflags_small}
@@ -103,7 +103,7 @@ kind_small Search = lit< tt
 kind_small ExceptionUnwind = lit< tt
 kind_small LocalUnwind = lit< tt
 
-words_small : (at : ℕ) (r : DispatchRecord) → Fits r → Small (words at r)
+words_small : (at : ℕ) (r : DispatchRecord) → RecordFits r → Small (words at r)
 unfolding words
 words_small at r fit =
     let z : 0 < 2 ^ 64 = lit< tt in
@@ -136,7 +136,7 @@ written : Memory → ℕ → DispatchRecord → Memory
 written m at r = with_bytes m (with_words m.byte ((at + 32) % 2 ^ 64) (words at r))
 
 -- which is how a record is placed
-placed_is_written : (m : Memory) (at : ℕ) (r : DispatchRecord) → Fits r → at + RECORD_SIZE ≤ 2 ^ 64 → written m at r ≡ placed m at r
+placed_is_written : (m : Memory) (at : ℕ) (r : DispatchRecord) → RecordFits r → at + RECORD_SIZE ≤ 2 ^ 64 → written m at r ≡ placed m at r
 unfolding written placed
 placed_is_written m at r fit top = ap (with_bytes m) (one_block m.byte (words at r) ((at + 32) % 2 ^ 64) 192 (sym (count_words r at fit)) (omega arith))
 
@@ -145,11 +145,11 @@ placed_readable : (m : Memory) (at : ℕ) (r : DispatchRecord) → Readable m at
 unfolding placed
 placed_readable m at r h = h
 
-placed_bytes : (m : Memory) (at : ℕ) (r : DispatchRecord) → Fits r → at + RECORD_SIZE ≤ 2 ^ 64 → AreBytes m.byte → AreBytes (placed m at r).byte
+placed_bytes : (m : Memory) (at : ℕ) (r : DispatchRecord) → RecordFits r → at + RECORD_SIZE ≤ 2 ^ 64 → AreBytes m.byte → AreBytes (placed m at r).byte
 unfolding written
 placed_bytes m at r fit top h = subst (λ (p : Memory). AreBytes p.byte) (placed_is_written m at r fit top) (with_words-small m.byte (words at r) ((at + 32) % 2 ^ 64) h)
 
-written_words : (m : Memory) (at : ℕ) (r : DispatchRecord) → Fits r → at + RECORD_SIZE ≤ 2 ^ 64 → words_at (written m at r).byte 192 ((at + 32) % 2 ^ 64) ≡ words at r
+written_words : (m : Memory) (at : ℕ) (r : DispatchRecord) → RecordFits r → at + RECORD_SIZE ≤ 2 ^ 64 → words_at (written m at r).byte 192 ((at + 32) % 2 ^ 64) ≡ words at r
 unfolding written
 written_words m at r fit top =
     let n = count_words r at fit in
@@ -157,7 +157,7 @@ written_words m at r fit top =
     ap (λ k. words_at (with_words m.byte a (words at r)) k a) (sym n)
     ∙ run_is (with_words m.byte a (words at r)) (words at r) a (omega arith) (λ j lt. word_back m.byte (words at r) a j (omega arith) lt ∙ (let s = (words_small at r fit).at j lt in let e : get_or (words at r) j 0 % 2 ^ 64 ≡ get_or (words at r) j 0 = omega arith in e))
 
-placed_words : (m : Memory) (at : ℕ) (r : DispatchRecord) → Fits r → at + RECORD_SIZE ≤ 2 ^ 64
+placed_words : (m : Memory) (at : ℕ) (r : DispatchRecord) → RecordFits r → at + RECORD_SIZE ≤ 2 ^ 64
     → words_at (placed m at r).byte 192 ((at + 32) % 2 ^ 64) ≡ words at r
 placed_words m at r fit top =
     ap (λ (p : Memory). words_at p.byte 192 ((at + 32) % 2 ^ 64)) (sym (placed_is_written m at r fit top))
@@ -188,7 +188,7 @@ placing_leaves_others m at r x top fit out =
     so (inr p) n = inr (omega arith)
 
 -- a record that is placed is fetched, also where it ends at the last address
-placed_back : (m : Memory) (at : ℕ) (r : DispatchRecord) → at + RECORD_SIZE ≤ 2 ^ 64 → AreBytes m.byte → Fits r
+placed_back : (m : Memory) (at : ℕ) (r : DispatchRecord) → at + RECORD_SIZE ≤ 2 ^ 64 → AreBytes m.byte → RecordFits r
     → Readable m at → fetched (placed m at r) at ≡ Some r
 placed_back m at r end bytes fit readable =
     fetched_back (placed m at r) at r end (placed_bytes m at r fit end bytes) fit

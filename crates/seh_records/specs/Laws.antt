@@ -17,7 +17,7 @@ abbrev pub AllSmall : List ℕ → Type 0
 AllSmall xs = (j : ℕ) → j < length xs → slice_index xs j < 2 ^ 64
 
 -- what the fields hold by their types
-pub record Fits (r : DispatchRecord) : Type 0 where
+pub record RecordFits (r : DispatchRecord) : Type 0 where
   pub frame : r.frame < 2 ^ 64
   pub row : r.row < 2 ^ 64
   pub target_frame : r.target_frame < 2 ^ 64
@@ -43,30 +43,31 @@ Readable m at = first_refused (may_read m) RECORD_SIZE at ≡ None
 -- a record that is placed is there
 abbrev pub PlacedIsRecord : Type 0
 PlacedIsRecord =
-    (m : Memory) (at : ℕ) (r : DispatchRecord) → at + RECORD_SIZE < 2 ^ 64 → at % 16 ≡ 0 → Fits r
+    (m : Memory) (at : ℕ) (r : DispatchRecord) → at + RECORD_SIZE < 2 ^ 64 → at % 16 ≡ 0
+    → RecordFits r
     → Readable m at → IsRecordAt (placed m at r) at r
 
 -- one that is there is fetched
 abbrev pub RecordIsFetched : Type 0
 RecordIsFetched =
     (m : Memory) (at : ℕ) (r : DispatchRecord) → at + RECORD_SIZE < 2 ^ 64 → AreBytes m.byte
-    → Fits r → IsRecordAt m at r → fetched m at ≡ Some r
+    → RecordFits r → IsRecordAt m at r → fetched m at ≡ Some r
 
 abbrev pub PlacedIsFetched : Type 0
 PlacedIsFetched =
     (m : Memory) (at : ℕ) (r : DispatchRecord) → at + RECORD_SIZE < 2 ^ 64 → AreBytes m.byte
-    → Fits r → Readable m at → fetched (placed m at r) at ≡ Some r
+    → RecordFits r → Readable m at → fetched (placed m at r) at ≡ Some r
 
 -- so where a place isn't refused, the record that is placed there is fetched again
 abbrev pub PlacedIsFetchedWhereNotRefused : Type 0
 PlacedIsFetchedWhereNotRefused =
-    (m : Memory) (at : ℕ) (r : DispatchRecord) → at < 2 ^ 64 → AreBytes m.byte → Fits r
+    (m : Memory) (at : ℕ) (r : DispatchRecord) → at < 2 ^ 64 → AreBytes m.byte → RecordFits r
     → misplaced m at ≡ None → fetched (placed m at r) at ≡ Some r
 
 -- placing changes no byte outside the record, and none of its home space
 abbrev pub PlacingLeavesOthers : Type 0
 PlacingLeavesOthers =
-    (m : Memory) (at : ℕ) (r : DispatchRecord) (x : ℕ) → at + RECORD_SIZE < 2 ^ 64 → Fits r
+    (m : Memory) (at : ℕ) (r : DispatchRecord) (x : ℕ) → at + RECORD_SIZE < 2 ^ 64 → RecordFits r
     → (x < at + MARK_AT) ⊎ (at + RECORD_SIZE ≤ x) → (placed m at r).byte x ≡ m.byte x
 
 -- fetching reads no byte but those past the home space

@@ -9,7 +9,7 @@ use Rattle.seh_records.specs.Laws.{AreBytes}
 use Rattle.seh_walk.specs.declared.walk.WalkState.{WalkState}
 use Rattle.seh_walk.specs.Asked.{AskedRecord, searched, first_with_jump_target}
 use Rattle.seh_walk.specs.Walk.{Visited, Over, Past, Frame, Broken, visited, continue_walk, steps}
-use Rattle.seh_walk.specs.Laws.{LeadsTo}
+use Rattle.seh_walk.specs.Laws.{ContinuesAt}
 use Rattle.seh_walk.proofs.Walking.{walks_rise, walks_stay_below}
 use Rattle.seh_search.specs.declared.search_result.SearchResult.{SearchResult}
 use Rattle.seh_search.specs.Search.{search, decided, by_row}
@@ -22,7 +22,7 @@ row_leads : (t : Functions) (frame : ℕ) (c : Context) (v u : WalkState) (o : O
 row_leads t frame c v u None e = same e
 row_leads t frame c v u (Some r) e = absurd cc
 
-leads : (t : Functions) (w : WalkState) (i : Visited) (u : WalkState) → decided t w i ≡ Ok u → LeadsTo i u
+leads : (t : Functions) (w : WalkState) (i : Visited) (u : WalkState) → decided t w i ≡ Ok u → ContinuesAt i u
 leads t w Over u e = cc
 leads t w (Past v) u e = same e
 leads t w (Broken y) u e = cc
@@ -34,7 +34,7 @@ enough zero k t m w bytes small p q = absurd (omega arith)
 enough (suc n) zero t m w bytes small p q = absurd (omega arith)
 enough (suc n) (suc k) t m w bytes small p q = go (λ u l b a c. enough n k t m u bytes b a c) (decided t w (visited t m w)) refl
   where
-    go : ((u : WalkState) → LeadsTo (visited t m w) u → rsp u.context < 2 ^ 64 → 2 ^ 64 ≤ n + rsp u.context → 2 ^ 64 ≤ k + rsp u.context → search n t m u ≡ search k t m u) → (r : Result WalkState SearchResult) → decided t w (visited t m w) ≡ r → continue_walk (search n t m) r ≡ continue_walk (search k t m) r
+    go : ((u : WalkState) → ContinuesAt (visited t m w) u → rsp u.context < 2 ^ 64 → 2 ^ 64 ≤ n + rsp u.context → 2 ^ 64 ≤ k + rsp u.context → search n t m u ≡ search k t m u) → (r : Result WalkState SearchResult) → decided t w (visited t m w) ≡ r → continue_walk (search n t m) r ≡ continue_walk (search k t m) r
     go more (Err s) e = refl
     go more (Ok u) e =
         let l = leads t w (visited t m w) u e in

@@ -1,7 +1,7 @@
 //! Searches.
 
 ghost use Rattle.std.specs.Prelude.{◌≡◌, ◌+◌, ◌^◌, ◌<◌};
-ghost use Rattle.eh_tables.specs.Tables.{IsWhole};
+ghost use Rattle.eh_tables.specs.Tables.{TablesAreWhole};
 ghost use Rattle.virtual_unwind.specs.CallerOf.{functions_of};
 ghost use Rattle.seh_walk.specs.Walk as walk;
 ghost use Rattle.seh_search.specs.Search as spec;
@@ -39,7 +39,7 @@ fn decide<S: AddressSpace>(
     space: &S,
     at: &WalkState,
 ) -> Result<WalkState, SearchResult>
-    requires { IsWhole tables.now }
+    requires { TablesAreWhole tables.now }
     ensures { result ≡ spec.decided (functions_of tables.now) at.now
         (walk.visited (functions_of tables.now) (S.memory space.now) at.now) }
 {
@@ -66,7 +66,7 @@ pub fn search<S: AddressSpace>(
     space: &S,
     dispatch: &DispatchRecord,
 ) -> SearchResult
-    requires { IsWhole tables.now }
+    requires { TablesAreWhole tables.now }
     ensures { result ≡ spec.search walk.steps (functions_of tables.now) (S.memory space.now)
         (walk.walk_in dispatch.now) }
 {

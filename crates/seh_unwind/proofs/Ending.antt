@@ -9,7 +9,7 @@ use Rattle.seh_records.specs.Laws.{AreBytes}
 use Rattle.seh_walk.specs.declared.walk.WalkState.{WalkState}
 use Rattle.seh_walk.specs.Asked.{AskedRecord, unwound, first_finally}
 use Rattle.seh_walk.specs.Walk.{Visited, Over, Past, Frame, Broken, visited, continue_walk, steps}
-use Rattle.seh_walk.specs.Laws.{LeadsTo}
+use Rattle.seh_walk.specs.Laws.{ContinuesAt}
 use Rattle.seh_walk.proofs.Walking.{walks_rise, walks_stay_below}
 use Rattle.seh_unwind.specs.declared.unwind_result.UnwindResult.{UnwindResult}
 use Rattle.seh_unwind.specs.Unwind.{unwind, decided, by_row, if_target, if_past}
@@ -30,7 +30,7 @@ past_leads : (t : Functions) (frame target : ℕ) (w : WalkState) (f : CallerFra
 past_leads t frame target w f v u true e = absurd cc
 past_leads t frame target w f v u false e = row_leads t f.frame w.context v u (eqb f.frame frame) (first_finally (unwound f.asked (distance t.base w.context.rip) w.row (eqb f.frame frame) (distance t.base target))) e
 
-leads : (t : Functions) (frame target : ℕ) (w : WalkState) (i : Visited) (u : WalkState) → decided t frame target w i ≡ Ok u → LeadsTo i u
+leads : (t : Functions) (frame target : ℕ) (w : WalkState) (i : Visited) (u : WalkState) → decided t frame target w i ≡ Ok u → ContinuesAt i u
 leads t frame target w Over u e = cc
 leads t frame target w (Past v) u e = same e
 leads t frame target w (Broken y) u e = cc
@@ -42,7 +42,7 @@ enough zero k t m frame target w bytes small p q = absurd (omega arith)
 enough (suc n) zero t m frame target w bytes small p q = absurd (omega arith)
 enough (suc n) (suc k) t m frame target w bytes small p q = go (λ u l b a c. enough n k t m frame target u bytes b a c) (decided t frame target w (visited t m w)) refl
   where
-    go : ((u : WalkState) → LeadsTo (visited t m w) u → rsp u.context < 2 ^ 64 → 2 ^ 64 ≤ n + rsp u.context → 2 ^ 64 ≤ k + rsp u.context → unwind n t m frame target u ≡ unwind k t m frame target u) → (r : Result WalkState UnwindResult) → decided t frame target w (visited t m w) ≡ r → continue_walk (unwind n t m frame target) r ≡ continue_walk (unwind k t m frame target) r
+    go : ((u : WalkState) → ContinuesAt (visited t m w) u → rsp u.context < 2 ^ 64 → 2 ^ 64 ≤ n + rsp u.context → 2 ^ 64 ≤ k + rsp u.context → unwind n t m frame target u ≡ unwind k t m frame target u) → (r : Result WalkState UnwindResult) → decided t frame target w (visited t m w) ≡ r → continue_walk (unwind n t m frame target) r ≡ continue_walk (unwind k t m frame target) r
     go more (Err s) e = refl
     go more (Ok u) e =
         let l = leads t frame target w (visited t m w) u e in

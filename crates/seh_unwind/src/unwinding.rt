@@ -1,7 +1,7 @@
 //! Unwindings.
 
 ghost use Rattle.std.specs.Prelude.{◌≡◌, ◌+◌, ◌^◌, ◌<◌};
-ghost use Rattle.eh_tables.specs.Tables.{IsWhole};
+ghost use Rattle.eh_tables.specs.Tables.{TablesAreWhole};
 ghost use Rattle.virtual_unwind.specs.CallerOf.{functions_of};
 ghost use Rattle.seh_walk.specs.Walk as walk;
 ghost use Rattle.seh_unwind.specs.Unwind as spec;
@@ -45,7 +45,7 @@ fn decide<S: AddressSpace>(
     target: u64,
     at: &WalkState,
 ) -> Result<WalkState, UnwindResult>
-    requires { IsWhole tables.now }
+    requires { TablesAreWhole tables.now }
     ensures { result ≡ spec.decided (functions_of tables.now) frame target at.now
         (walk.visited (functions_of tables.now) (S.memory space.now) at.now) }
 {
@@ -86,7 +86,7 @@ pub fn unwind<S: AddressSpace>(
     space: &S,
     dispatch: &DispatchRecord,
 ) -> UnwindResult
-    requires { IsWhole tables.now }
+    requires { TablesAreWhole tables.now }
     ensures { result ≡ spec.unwind walk.steps (functions_of tables.now) (S.memory space.now)
         dispatch.now.target_frame dispatch.now.target (walk.walk_in dispatch.now) }
 {

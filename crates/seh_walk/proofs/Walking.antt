@@ -17,19 +17,19 @@ use Rattle.seh_records.specs.Laws.{AreBytes}
 use Rattle.seh_records.specs.declared.layout.TheConstants.{RECORD_SIZE}
 use Rattle.seh_walk.specs.declared.walk.WalkState.{WalkState}
 use Rattle.seh_walk.specs.Walk.{Visited, visited, if_over, if_filter, if_finally, if_above, above, if_search, is_search, saved_in, walk_in, past_filter, past_finally, framed, filter_return, finally_return}
-use Rattle.seh_walk.specs.Laws.{LeadsTo, WalksRise, WalksStayBelow}
+use Rattle.seh_walk.specs.Laws.{ContinuesAt, WalksRise, WalksStayBelow}
 use Rattle.seh_walk.proofs.Bounded.{eight_small, IsSmallFound, caller_small}
 
 -- ---- what a step keeps, for any P of RSP before and after
 
 module _ (t : Functions) (m : Memory) (w : WalkState) (P : ℕ → Type 0) where
   abbrev Keeps : Visited → Type 0
-  Keeps i = (u : WalkState) → LeadsTo i u → P (rsp u.context)
+  Keeps i = (u : WalkState) → ContinuesAt i u → P (rsp u.context)
 
   above_keeps : (at : ℕ) (v : WalkState) → (at < rsp v.context → P (rsp v.context)) → Keeps (above at v)
   above_keeps at v h u l = go (ltb at (rsp v.context)) refl l
     where
-      go : (b : Bool) → ltb at (rsp v.context) ≡ b → LeadsTo (if_above at v b) u → P (rsp u.context)
+      go : (b : Bool) → ltb at (rsp v.context) ≡ b → ContinuesAt (if_above at v b) u → P (rsp u.context)
       go true e l = subst (λ (x : WalkState). P (rsp x.context)) l (h (ltb-true at (rsp v.context) e))
       go false e l = absurd l
 

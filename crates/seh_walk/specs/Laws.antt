@@ -8,20 +8,20 @@ use Rattle.seh_walk.specs.declared.walk.WalkState.{WalkState}
 use Rattle.seh_walk.specs.Walk.{Visited, Over, Past, Frame, Broken, visited}
 
 -- a walk can continue from there
-abbrev pub LeadsTo : Visited → WalkState → Type 0
-LeadsTo Over u = ⊥
-LeadsTo (Past v) u = v ≡ u
-LeadsTo (Frame f v) u = v ≡ u
-LeadsTo (Broken y) u = ⊥
+abbrev pub ContinuesAt : Visited → WalkState → Type 0
+ContinuesAt Over u = ⊥
+ContinuesAt (Past v) u = v ≡ u
+ContinuesAt (Frame f v) u = v ≡ u
+ContinuesAt (Broken y) u = ⊥
 
 -- RSP rises in each step
 abbrev pub WalksRise : Type 0
 WalksRise =
-    (t : Functions) (m : Memory) (w u : WalkState) → LeadsTo (visited t m w) u
+    (t : Functions) (m : Memory) (w u : WalkState) → ContinuesAt (visited t m w) u
     → rsp w.context < rsp u.context
 
 -- and stays an address, so that no walk has more steps than there are addresses
 abbrev pub WalksStayBelow : Type 0
 WalksStayBelow =
     (t : Functions) (m : Memory) (w u : WalkState) → AreBytes m.byte → rsp w.context < 2 ^ 64
-    → LeadsTo (visited t m w) u → rsp u.context < 2 ^ 64
+    → ContinuesAt (visited t m w) u → rsp u.context < 2 ^ 64

@@ -1,7 +1,7 @@
 //! The scope records that are asked at a frame.
 
 ghost use Rattle.std.specs.Prelude.{◌≡◌, ◌+◌, ◌^◌, ◌<◌, length, drop, IfSome, Option};
-ghost use Rattle.eh_tables.specs.Tables.{IsWhole};
+ghost use Rattle.eh_tables.specs.Tables.{TablesAreWhole};
 ghost use Rattle.virtual_unwind.specs.CallerOf.{functions_of, asked_in};
 ghost use Rattle.eh_tables.specs.Tables.{holding as entry_holding, entries_of};
 ghost use Rattle.seh_walk.specs.Asked as spec;
@@ -90,7 +90,7 @@ pub fn first_searched(
     rva: u64,
     from: u64,
 ) -> Option<(u64, ScopeRecord)>
-    requires { IsWhole tables.now }
+    requires { TablesAreWhole tables.now }
     ensures value { result ≡ spec.first_with_jump_target
         (spec.searched (asked_in in_body (entry_holding rva (entries_of tables.now))) rva from) }
     ensures small { IfSome result (λ x. x.0 + 1 < 2 ^ 64) }
@@ -122,7 +122,7 @@ pub fn first_unwound(
     is_last: bool,
     target: u64,
 ) -> Option<(u64, ScopeRecord)>
-    requires { IsWhole tables.now }
+    requires { TablesAreWhole tables.now }
     ensures value { result ≡ spec.first_finally (spec.unwound
         (asked_in in_body (entry_holding rva (entries_of tables.now))) rva from is_last target) }
     ensures small { IfSome result (λ x. x.0 + 1 < 2 ^ 64) }

@@ -1,7 +1,7 @@
 //! What a walk finds.
 
 ghost use Rattle.std.specs.Prelude.{◌≡◌};
-ghost use Rattle.eh_tables.specs.Tables.{IsWhole};
+ghost use Rattle.eh_tables.specs.Tables.{TablesAreWhole};
 ghost use Rattle.virtual_unwind.specs.CallerOf.{functions_of};
 ghost use Rattle.seh_records.specs.Record.{fetched, fetch_answer};
 ghost use Rattle.seh_walk.specs.Walk as spec;
@@ -124,7 +124,7 @@ fn framed(answer: Result<Caller, UnwindErr>) -> WalkItem
 /// What a walk finds at its state.
 #[tactic(auto, using(crate::proofs::SeenItems::items), unfolding(crate::specs::Walk::visited))]
 pub fn visit<S: AddressSpace>(tables: &Tables, space: &S, at: &WalkState) -> WalkItem
-    requires { IsWhole tables.now }
+    requires { TablesAreWhole tables.now }
     ensures { seen (functions_of tables.now) at.now result
         ≡ spec.visited (functions_of tables.now) (S.memory space.now) at.now }
 {

@@ -23,7 +23,7 @@ use Rattle.ir_typed.proofs.Moves.{Turn, Halts, Moves, pick_turn, some_turn, deep
 use Rattle.ir_typed.proofs.Stacked.{same_it, instruction_fits}
 use Rattle.unset_locals.specs.Marks.{Marks, outcome_of, local_given, local_in, local_written}
 use Rattle.unset_locals.proofs.Events.{adds_none}
-use Rattle.scoped_programs.specs.Scoped.{Seen, IsPart}
+use Rattle.scoped_programs.specs.Scoped.{SeenNames, IsPart}
 use Rattle.scoped_programs.proofs.Split.{seen_cases, is_parameter}
 use Rattle.set_locals.specs.Sets.{with_slot, IsLocalOf, locals_at, Leads, IsSetMap}
 use Rattle.set_locals.specs.Lives.{Marked, here, AreKept, AreCovered, IsRecorded, IsGiven, Before, Written, Passed, IsStep}
@@ -44,11 +44,11 @@ write_stays : (c : Configuration) (to : Slot) (v : ℕ) (d : Configuration) → 
 write_stays c (Local x) v d e = subst (Stays c) (same_it (record c { store = set_local c.store c.frame.activation x v }) d e) (record { body = refl; next = refl; activation = refl; below = refl })
 write_stays c (Temporary i) v d e = temporaries_stay c (with_temporary c.frame.temporaries i v) d e
 
-module _ (program : LinearProgram) (whole : IsWhole program) (sets : BodyName → ℕ → Seen) (recorded : IsSetMap program sets) (marks : Marks) (c : Configuration) (stacked : IsStacked program c) (now : IsRecorded program sets marks c) where
+module _ (program : LinearProgram) (whole : IsWhole program) (sets : BodyName → ℕ → SeenNames) (recorded : IsSetMap program sets) (marks : Marks) (c : Configuration) (stacked : IsStacked program c) (now : IsRecorded program sets marks c) where
   abbrev Ok : Instruction → Configuration → Type 0
   Ok i d = IsStep program sets marks i c d
 
-  abbrev Here : Seen
+  abbrev Here : SeenNames
   Here = here program sets c.frame
 
   -- to a place of the same body
@@ -157,7 +157,7 @@ module _ (program : LinearProgram) (whole : IsWhole program) (sets : BodyName �
   act_turn (instructions.Return from) at =
       some_turn (Ok (instructions.Return from)) c.events (read c from) _ (λ v e. goes.end_turn program sets recorded marks (instructions.Return from) c c.frame.body v c stacked.above stacked.below now.kept now.waiting (adds_none c.events))
 
-pub step_of : (program : LinearProgram) → IsWhole program → (sets : BodyName → ℕ → Seen) → IsSetMap program sets → (marks : Marks) (c d : Configuration) → IsStacked program c → IsRecorded program sets marks c → (t : IsTurn program c d)
+pub step_of : (program : LinearProgram) → IsWhole program → (sets : BodyName → ℕ → SeenNames) → IsSetMap program sets → (marks : Marks) (c d : Configuration) → IsStacked program c → IsRecorded program sets marks c → (t : IsTurn program c d)
     → IsStep program sets marks t.instruction c d
 step_of program whole sets recorded marks c d s h t =
     kept (IsStep program sets marks t.instruction c) (λ next. act program t.instruction next c) d (act_turn program whole sets recorded marks c s h t.instruction t.at) t.goes

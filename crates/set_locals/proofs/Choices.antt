@@ -16,7 +16,7 @@ use Rattle.seh_ir.specs.Statements.{returned_code, return_code, statement_code, 
 use Rattle.ir_expressions.proofs.Codes.{expression_length}
 use Rattle.seh_ir.proofs.StatementCodes.{returned_length, statement_length}
 use Rattle.ir_linked.proofs.Segments.{IsSegmentAt, front, back}
-use Rattle.scoped_programs.specs.Scoped.{Seen, IsPart, after_statement, expression_within, optional_within}
+use Rattle.scoped_programs.specs.Scoped.{SeenNames, IsPart, after_statement, expression_within, optional_within}
 use Rattle.scoped_programs.proofs.Split.{itself, within}
 use Rattle.set_locals.specs.Sets.{locals_at}
 use Rattle.set_locals.specs.Places.{statement_sets, statements_sets, set_in}
@@ -25,14 +25,14 @@ use Rattle.set_locals.proofs.Fine.{IsAround}
 use Rattle.set_locals.proofs.Shapes.{statement_long, statements_long, grows, statement_first, statements_first, begins}
 use Rattle.set_locals.proofs.Pieces.{WayIn, return_leads, value_leads, returned_leads, test_leads, from_here}
 
-module _ (linear : LinearProgram) (lists : BodyName → List Seen) (name : BodyName) (locals : ℕ) (room : locals_at linear name ≡ locals) (scope : Scope) (before seen : Seen) (around : IsAround locals scope.names before seen) where
-  abbrev sets : BodyName → ℕ → Seen
+module _ (linear : LinearProgram) (lists : BodyName → List SeenNames) (name : BodyName) (locals : ℕ) (room : locals_at linear name ≡ locals) (scope : Scope) (before seen : SeenNames) (around : IsAround locals scope.names before seen) where
+  abbrev sets : BodyName → ℕ → SeenNames
   sets n label = set_in (lists n) label
 
-  abbrev At : ℕ → List Seen → Type 0
+  abbrev At : ℕ → List SeenNames → Type 0
   At at ys = IsSegmentAt (lists name) at ys
 
-  abbrev IsRecordedAt : ℕ → Seen → Type 0
+  abbrev IsRecordedAt : ℕ → SeenNames → Type 0
   IsRecordedAt label recorded = IsPart (sets name label) recorded
 
   abbrev Lead : ℕ → List Instruction → Type 0

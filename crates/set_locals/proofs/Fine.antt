@@ -18,30 +18,30 @@ use Rattle.ir_expressions.specs.declared.scope.Names.{Names}
 use Rattle.ir_sizes.specs.Sizes.{address_count, locate_size, read_size, conversion_size, expression_size, arguments_size, node_size}
 use Rattle.ir_expressions.specs.Expressions.{conversion_code, unary_code, choice_code, code_code, abnormal_code, read_code, write_code, address_code, expression_code, locate_code, arguments_code, node_code}
 use Rattle.ir_bounds.proofs.PlainExpressions.{all_append}
-use Rattle.scoped_programs.specs.Scoped.{Seen, IsPart, expression_within, node_within, lvalue_within, arguments_within}
+use Rattle.scoped_programs.specs.Scoped.{SeenNames, IsPart, expression_within, node_within, lvalue_within, arguments_within}
 use Rattle.scoped_programs.proofs.Split.{both_left, both_right}
 use Rattle.set_locals.specs.Sets.{OperandsIn}
 use Rattle.set_locals.proofs.Straight.{Fine, AllFine, temporaries_in}
 
 -- where the code of an exception and the flag of a block are kept
-abbrev pub CodeIn : Seen → ExceptionSource → Type 0
+abbrev pub CodeIn : SeenNames → ExceptionSource → Type 0
 CodeIn seen NoException = Unit {0}
 CodeIn seen OfFilter = Unit {0}
 CodeIn seen (KeptIn x) = seen x ≡ true
 
-abbrev pub FlagIn : Seen → Option ℕ → Type 0
+abbrev pub FlagIn : SeenNames → Option ℕ → Type 0
 FlagIn seen None = Unit {0}
 FlagIn seen (Some x) = seen x ≡ true
 
 -- what is recorded around an expression: the locals that are seen and what its names are kept in, all
 -- of them locals of the body
-pub record IsAround (locals : ℕ) (names : Names) (before seen : Seen) : Type 0 where
+pub record IsAround (locals : ℕ) (names : Names) (before seen : SeenNames) : Type 0 where
   pub part : IsPart before seen
   pub below : (x : ℕ) → seen x ≡ true → x < locals
   pub code : CodeIn seen names.exception
   pub flag : FlagIn seen names.abnormal
 
-module _ (locals : ℕ) (names : Names) (before seen : Seen) (around : IsAround locals names before seen) (lo hi : ℕ) where
+module _ (locals : ℕ) (names : Names) (before seen : SeenNames) (around : IsAround locals names before seen) (lo hi : ℕ) where
   abbrev All : List Instruction → Type 0
   All code = AllFine locals lo hi seen code
 

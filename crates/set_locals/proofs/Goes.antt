@@ -29,7 +29,7 @@ use Rattle.ir_typed.specs.Waiting.{IsAt, IsAbove, IsCalledBy, IsRunFor, IsRaised
 use Rattle.ir_typed.proofs.Moves.{Turn, Halts, Moves, pick_turn, some_turn, deeper_turn}
 use Rattle.unset_locals.specs.Marks.{Marks, flag_set, begins_block}
 use Rattle.unset_locals.proofs.Events.{Adds, adds_one, block_events}
-use Rattle.scoped_programs.specs.Scoped.{Seen as SeenLocals, IsPart}
+use Rattle.scoped_programs.specs.Scoped.{SeenNames as SeenLocals, IsPart}
 use Rattle.scoped_programs.proofs.Split.{seen_cases}
 use Rattle.set_locals.specs.Sets.{with_flag, locals_at, FinallyBegins, Leads, Guards, IsSetMap}
 use Rattle.set_locals.specs.Lives.{Marked, here, IsHandler, IsTarget, AreRegions, AreHandlers, AreKept, IsCovered, AreCovered, IsGiven, Before, Flag, IsStep}

@@ -13,7 +13,7 @@ use Rattle.linear_machine.specs.Searching.{target_of}
 use Rattle.ir_bounds.proofs.PlainExpressions.{all_append}
 use Rattle.ir_typed.proofs.Stacked.{same_it, all_map}
 use Rattle.unset_locals.specs.Marks.{Marks}
-use Rattle.scoped_programs.specs.Scoped.{Seen, IsPart}
+use Rattle.scoped_programs.specs.Scoped.{SeenNames, IsPart}
 use Rattle.set_locals.specs.Sets.{Guards, IsSetMap}
 use Rattle.set_locals.specs.Lives.{Marked, here, IsHandler, IsTarget, AreRegions, AreLeft, AreHandlers, AreKept, AreCovered}
 
@@ -26,7 +26,7 @@ passed {X = X} P test (x ∷ xs) h = one (test x) refl (filter test xs) (passed 
     one true e ys k = (h.0 e, k)
     one false e ys k = k
 
-module _ (program : LinearProgram) (sets : BodyName → ℕ → Seen) (recorded : IsSetMap program sets) where
+module _ (program : LinearProgram) (sets : BodyName → ℕ → SeenNames) (recorded : IsSetMap program sets) where
   -- ---- regions
 
   regions_here : (f : Frame) → AreRegions program sets f (regions_at program f.body f.next)

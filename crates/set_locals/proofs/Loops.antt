@@ -18,7 +18,7 @@ use Rattle.seh_ir.specs.Statements.{discarded_code, condition_code, all_declared
 use Rattle.ir_expressions.proofs.Codes.{expression_length}
 use Rattle.seh_ir.proofs.StatementCodes.{discarded_length, condition_length, all_declared_length, statement_length}
 use Rattle.ir_linked.proofs.Segments.{IsSegmentAt, front, back}
-use Rattle.scoped_programs.specs.Scoped.{Seen, IsPart, after_all_declared, after_statement, expression_within, optional_within, all_declared_within}
+use Rattle.scoped_programs.specs.Scoped.{SeenNames, IsPart, after_all_declared, after_statement, expression_within, optional_within, all_declared_within}
 use Rattle.scoped_programs.proofs.Split.{within}
 use Rattle.set_locals.specs.Sets.{locals_at}
 use Rattle.set_locals.specs.Places.{statement_sets, all_declared_sets, set_in}
@@ -27,14 +27,14 @@ use Rattle.set_locals.proofs.Fine.{IsAround}
 use Rattle.set_locals.proofs.Shapes.{all_declared_long, statement_long, grows, all_grow, statement_first, begins}
 use Rattle.set_locals.proofs.Pieces.{value_leads, discarded_leads, test_leads, condition_leads, all_declared_leads, around_all_declared, from_here}
 
-module _ (linear : LinearProgram) (lists : BodyName → List Seen) (name : BodyName) (locals : ℕ) (room : locals_at linear name ≡ locals) (scope : Scope) (before seen : Seen) (around : IsAround locals scope.names before seen) where
-  abbrev sets : BodyName → ℕ → Seen
+module _ (linear : LinearProgram) (lists : BodyName → List SeenNames) (name : BodyName) (locals : ℕ) (room : locals_at linear name ≡ locals) (scope : Scope) (before seen : SeenNames) (around : IsAround locals scope.names before seen) where
+  abbrev sets : BodyName → ℕ → SeenNames
   sets n label = set_in (lists n) label
 
-  abbrev At : ℕ → List Seen → Type 0
+  abbrev At : ℕ → List SeenNames → Type 0
   At at ys = IsSegmentAt (lists name) at ys
 
-  abbrev IsRecordedAt : ℕ → Seen → Type 0
+  abbrev IsRecordedAt : ℕ → SeenNames → Type 0
   IsRecordedAt label recorded = IsPart (sets name label) recorded
 
   abbrev Lead : ℕ → List Instruction → Type 0
@@ -44,7 +44,7 @@ module _ (linear : LinearProgram) (lists : BodyName → List Seen) (name : BodyN
   free = scope.names.free
 
   -- where a loop's body ends, and where the loop does
-  pub record LoopParts (recorded : Seen) (s : Statement) (start : ℕ) (again out : ℕ) (code : List Instruction) (at : ℕ) : Type 0 where
+  pub record LoopParts (recorded : SeenNames) (s : Statement) (start : ℕ) (again out : ℕ) (code : List Instruction) (at : ℕ) : Type 0 where
     pub is_there : At start (statement_sets free recorded s)
     pub end : IsRecordedAt again (after_statement recorded s)
     pub next : IsRecordedAt again recorded

@@ -24,7 +24,7 @@ use Rattle.ir_expressions.proofs.Codes.{expression_length}
 use Rattle.seh_ir.proofs.StatementCodes.{discarded_length, declared_length}
 use Rattle.ir_linked.proofs.Segments.{IsSegmentAt, front, back}
 use Rattle.ir_bounds.proofs.PlainExpressions.{all_append}
-use Rattle.scoped_programs.specs.Scoped.{Seen, with_local, IsPart, expression_within, optional_within, after_declared, after_all_declared, declared_within, all_declared_within}
+use Rattle.scoped_programs.specs.Scoped.{SeenNames, with_local, IsPart, expression_within, optional_within, after_declared, after_all_declared, declared_within, all_declared_within}
 use Rattle.scoped_programs.proofs.Split.{both_left, both_right, seen_cases, sees_before, part_with, within}
 use Rattle.set_locals.specs.Sets.{locals_at, Leads}
 use Rattle.set_locals.specs.Places.{initialiser_size, declared_sets, all_declared_sets, set_in}
@@ -34,23 +34,23 @@ use Rattle.set_locals.proofs.Shapes.{declared_long, all_declared_long, replicate
 
 -- ---- what is recorded around a part, with one more local
 
-pub code_kept : (seen more : Seen) (s : ExceptionSource) → IsPart seen more → CodeIn seen s → CodeIn more s
+pub code_kept : (seen more : SeenNames) (s : ExceptionSource) → IsPart seen more → CodeIn seen s → CodeIn more s
 code_kept seen more NoException p h = tt
 code_kept seen more OfFilter p h = tt
 code_kept seen more (KeptIn x) p h = p x h
 
-pub flag_kept : (seen more : Seen) (o : Option ℕ) → IsPart seen more → FlagIn seen o → FlagIn more o
+pub flag_kept : (seen more : SeenNames) (o : Option ℕ) → IsPart seen more → FlagIn seen o → FlagIn more o
 flag_kept seen more None p h = tt
 flag_kept seen more (Some x) p h = p x h
 
-pub below_with : (locals x : ℕ) (seen : Seen) → ((y : ℕ) → seen y ≡ true → y < locals) → x < locals → (y : ℕ) → with_local x seen y ≡ true → y < locals
+pub below_with : (locals x : ℕ) (seen : SeenNames) → ((y : ℕ) → seen y ≡ true → y < locals) → x < locals → (y : ℕ) → with_local x seen y ≡ true → y < locals
 below_with locals x seen below lt y h = of (seen_cases seen x y h)
   where
     of : (y ≡ x) ⊎ (seen y ≡ true) → y < locals
     of (inl e) = subst (λ z. z < locals) (sym e) lt
     of (inr e) = below y e
 
-pub around_declared : (locals : ℕ) (names : Names) (before seen : Seen) (x : ℕ) → x < locals → IsAround locals names before seen → IsAround locals names (with_local x before) (with_local x seen)
+pub around_declared : (locals : ℕ) (names : Names) (before seen : SeenNames) (x : ℕ) → x < locals → IsAround locals names before seen → IsAround locals names (with_local x before) (with_local x seen)
 around_declared locals names before seen x lt a = record {
   part = part_with before seen x a.part;
   below = below_with locals x seen a.below lt;
@@ -61,45 +61,45 @@ around_declared locals names before seen x lt a = record {
 pub declared_small : (s : sound.Scope) (d : Declared) (locals : ℕ) → length s.sizes ≤ locals → declared_sound s d ≡ true → d.local < locals
 declared_small s d locals le ok = let lt = ltb-true d.local (length s.sizes) (both_left _ _ ok) in omega arith
 
-pub around_all_declared : (locals : ℕ) (names : Names) (s : sound.Scope) (ds : List Declared) (before seen : Seen) → length s.sizes ≤ locals → all_declared_sound s ds ≡ true → IsAround locals names before seen
+pub around_all_declared : (locals : ℕ) (names : Names) (s : sound.Scope) (ds : List Declared) (before seen : SeenNames) → length s.sizes ≤ locals → all_declared_sound s ds ≡ true → IsAround locals names before seen
     → IsAround locals names (after_all_declared before ds) (after_all_declared seen ds)
 around_all_declared locals names s [] before seen le ok a = a
 around_all_declared locals names s (d ∷ ds) before seen le ok a =
     around_all_declared locals names s ds (after_declared before d) (after_declared seen d) le (both_right _ _ ok) (around_declared locals names before seen d.local (declared_small s d locals le (both_left _ _ ok)) a)
 
-module _ (linear : LinearProgram) (lists : BodyName → List Seen) (name : BodyName) where
-  abbrev pub sets : BodyName → ℕ → Seen
+module _ (linear : LinearProgram) (lists : BodyName → List SeenNames) (name : BodyName) where
+  abbrev pub sets : BodyName → ℕ → SeenNames
   sets n label = set_in (lists n) label
 
-  abbrev pub At : ℕ → List Seen → Type 0
+  abbrev pub At : ℕ → List SeenNames → Type 0
   At at ys = IsSegmentAt (lists name) at ys
 
-  abbrev pub IsRecordedAt : ℕ → Seen → Type 0
+  abbrev pub IsRecordedAt : ℕ → SeenNames → Type 0
   IsRecordedAt label seen = IsPart (sets name label) seen
 
   abbrev pub Lead : ℕ → List Instruction → Type 0
   Lead at code = AllLead linear sets name at code
 
   -- where ways out lead to, no more is recorded
-  abbrev pub WayIn : Seen → Way → Type 0
+  abbrev pub WayIn : SeenNames → Way → Type 0
   WayIn seen Nowhere = Unit {0}
   WayIn seen (Jumps label) = IsRecordedAt label seen
   WayIn seen (Unwinds label) = IsRecordedAt label seen
 
-  abbrev pub LabelIn : Seen → Option ℕ → Type 0
+  abbrev pub LabelIn : SeenNames → Option ℕ → Type 0
   LabelIn seen None = Unit {0}
   LabelIn seen (Some label) = IsRecordedAt label seen
 
   -- ---- single instructions
 
-  pub from_here : (at label : ℕ) (seen : Seen) → sets name at ≡ seen → IsRecordedAt label seen → IsPart (sets name label) (sets name at)
+  pub from_here : (at label : ℕ) (seen : SeenNames) → sets name at ≡ seen → IsRecordedAt label seen → IsPart (sets name label) (sets name at)
   from_here at label seen e t = within (sets name label) seen (sets name at) t (is_same_back (sets name at) seen e)
 
   -- from one instruction to the next, and from that one to the one after the piece
   abbrev Onward : ℕ → Type 0
   Onward at = IsPart (sets name (at + 1)) (sets name at) × IsPart (sets name (at + 1 + 1)) (sets name (at + 1))
 
-  onward : (at : ℕ) (seen : Seen) → Even (sets name) seen at (at + 2) → Onward at
+  onward : (at : ℕ) (seen : SeenNames) → Even (sets name) seen at (at + 2) → Onward at
   onward at seen e = (from_here at (at + 1) seen (e.inside at (omega arith) (omega arith)) (is_same (sets name (at + 1)) seen second), from_here (at + 1) (at + 1 + 1) seen second (subst (λ n. IsRecordedAt n seen) same e.end))
     where
       second : sets name (at + 1) ≡ seen
@@ -108,26 +108,26 @@ module _ (linear : LinearProgram) (lists : BodyName → List Seen) (name : BodyN
       same : at + 2 ≡ at + 1 + 1
       same = omega arith
 
-  leads_there : (at label : ℕ) (seen : Seen) → IsRecordedAt label seen → Even (sets name) seen at (at + 2) → IsPart (sets name label) (sets name at)
+  leads_there : (at label : ℕ) (seen : SeenNames) → IsRecordedAt label seen → Even (sets name) seen at (at + 2) → IsPart (sets name label) (sets name at)
   leads_there at label seen h e = from_here at label seen (e.inside at (omega arith) (omega arith)) h
 
-  pub jump_leads : (w : Way) (at : ℕ) (seen : Seen) → WayIn seen w → Even (sets name) seen at (at + 2) → Lead at (jump_code w)
+  pub jump_leads : (w : Way) (at : ℕ) (seen : SeenNames) → WayIn seen w → Even (sets name) seen at (at + 2) → Lead at (jump_code w)
   jump_leads Nowhere at seen h e = let o = onward at seen e in (o.0, (o.1, tt))
   jump_leads (Jumps label) at seen h e = let o = onward at seen e in (leads_there at label seen h e, (o.1, tt))
   jump_leads (Unwinds label) at seen h e = let o = onward at seen e in (leads_there at label seen h e, (o.1, tt))
 
-  pub return_leads : (w : Way) (at : ℕ) (seen : Seen) → WayIn seen w → Even (sets name) seen at (at + 2) → Lead at (return_code w)
+  pub return_leads : (w : Way) (at : ℕ) (seen : SeenNames) → WayIn seen w → Even (sets name) seen at (at + 2) → Lead at (return_code w)
   return_leads Nowhere at seen h e = let o = onward at seen e in (o.0, (o.1, tt))
   return_leads (Jumps label) at seen h e = let o = onward at seen e in (tt, (o.1, tt))
   return_leads (Unwinds label) at seen h e = let o = onward at seen e in (leads_there at label seen h e, (o.1, tt))
 
-  pub leave_leads : (w : Option ℕ) (at : ℕ) (seen : Seen) → LabelIn seen w → Even (sets name) seen at (at + 1) → Lead at (leave_code w ∷ [])
+  pub leave_leads : (w : Option ℕ) (at : ℕ) (seen : SeenNames) → LabelIn seen w → Even (sets name) seen at (at + 1) → Lead at (leave_code w ∷ [])
   leave_leads None at seen h e = (from_here at (at + 1) seen (e.inside at (omega arith) (omega arith)) e.end, tt)
   leave_leads (Some label) at seen h e = (from_here at label seen (e.inside at (omega arith) (omega arith)) h, tt)
 
   -- ---- expressions
 
-  module _ (locals : ℕ) (room : locals_at linear name ≡ locals) (names : Names) (before seen : Seen) (around : IsAround locals names before seen) where
+  module _ (locals : ℕ) (room : locals_at linear name ≡ locals) (names : Names) (before seen : SeenNames) (around : IsAround locals names before seen) where
     abbrev AllOk : ℕ → ℕ → List Instruction → Type 0
     AllOk lo hi code = AllFine locals lo hi seen code
 
@@ -179,7 +179,7 @@ module _ (linear : LinearProgram) (lists : BodyName → List Seen) (name : BodyN
   -- ---- declarations
 
   module _ (locals : ℕ) (room : locals_at linear name ≡ locals) (names : Names) (s : sound.Scope) (fits : length s.sizes ≤ locals) where
-    pub declared_leads : (d : Declared) (before seen : Seen) (at : ℕ) → IsAround locals names before seen → declared_sound s d ≡ true → declared_within before d ≡ true → At at (declared_sets seen d) → IsRecordedAt (at + declared_size d) (after_declared seen d)
+    pub declared_leads : (d : Declared) (before seen : SeenNames) (at : ℕ) → IsAround locals names before seen → declared_sound s d ≡ true → declared_within before d ≡ true → At at (declared_sets seen d) → IsRecordedAt (at + declared_size d) (after_declared seen d)
         → Lead at (declared_code names d at)
     declared_leads d before seen at a ok w h end =
         let x = d.local in
@@ -191,11 +191,11 @@ module _ (linear : LinearProgram) (lists : BodyName → List Seen) (name : BodyN
         let end' : IsRecordedAt (at + 1 + n) (after_declared seen d) = subst (λ k. IsRecordedAt k (after_declared seen d)) same end in
         let first = head_recorded (lists name) at seen (replicate n (after_declared seen d)) h in
         let next : IsRecordedAt (at + 1) (after_declared seen d) = begins (lists name) (at + 1) (at + 1 + n) (replicate n (after_declared seen d)) (after_declared seen d) (after_declared seen d) h.1 (replicate_first n (after_declared seen d)) (omega arith) end' in (
-          (tt, subst (λ k. x < k) (sym room) lt, subst (λ (f : Seen). IsPart (sets name (at + 1)) (with_local x f)) (sym first) next),
+          (tt, subst (λ k. x < k) (sym room) lt, subst (λ (f : SeenNames). IsPart (sets name (at + 1)) (with_local x f)) (sym first) next),
           initialiser_leads locals room names (after_declared before d) (after_declared seen d) (around_declared locals names before seen x lt a) x d.value (at + 1) lt w (even_list (lists name) (after_declared seen d) n (at + 1) (at + 1 + n) refl h.1 end'),
         )
 
-    pub all_declared_leads : (ds : List Declared) (before seen : Seen) (at to : ℕ) → at + all_declared_size ds ≡ to → IsAround locals names before seen → all_declared_sound s ds ≡ true → all_declared_within before ds ≡ true → At at (all_declared_sets seen ds)
+    pub all_declared_leads : (ds : List Declared) (before seen : SeenNames) (at to : ℕ) → at + all_declared_size ds ≡ to → IsAround locals names before seen → all_declared_sound s ds ≡ true → all_declared_within before ds ≡ true → At at (all_declared_sets seen ds)
         → IsRecordedAt to (after_all_declared seen ds) → Lead at (all_declared_code names ds at)
     all_declared_leads [] before seen at to e a ok w h end = tt
     all_declared_leads (d ∷ ds) before seen at to e a ok w h end =

@@ -22,7 +22,7 @@ use Rattle.ir_linked.proofs.Numbers.{statements_count}
 use Rattle.ir_linked.proofs.Segments.{IsSegmentAt, front, back, whole_is_at}
 use Rattle.ir_typed.proofs.Stacked.{same_it}
 use Rattle.ir_typed.proofs.Lowered.{lowered_is_whole}
-use Rattle.scoped_programs.specs.Scoped.{Seen, IsPart, first_seen, function_within, functions_within, IsScoped}
+use Rattle.scoped_programs.specs.Scoped.{SeenNames, IsPart, first_seen, function_within, functions_within, IsScoped}
 use Rattle.scoped_programs.proofs.Split.{both_left, both_right, itself, is_parameter, within}
 use Rattle.set_locals.specs.Sets.{function_locals, IsSetBody, IsSetMap}
 use Rattle.set_locals.proofs.Recorded.{set_map_reads_no_unset}
@@ -41,16 +41,16 @@ module _ (program : Program) where
   abbrev linear : LinearProgram
   linear = lowered program
 
-  abbrev lists : BodyName → List Seen
+  abbrev lists : BodyName → List SeenNames
   lists = list_of program
 
-  abbrev funclet_lists : List (List Seen)
+  abbrev funclet_lists : List (List SeenNames)
   funclet_lists = all_funclet_sets program.functions
 
-  abbrev sets : BodyName → ℕ → Seen
+  abbrev sets : BodyName → ℕ → SeenNames
   sets = sets_of program
 
-  listed : (k : ℕ) (list : List Seen) → slice_get funclet_lists k ≡ Some list → lists (FuncletBody k) ≡ list
+  listed : (k : ℕ) (list : List SeenNames) → slice_get funclet_lists k ≡ Some list → lists (FuncletBody k) ≡ list
   listed k list e = get_is funclet_lists k list [] e
 
   -- the function of a number, and the funclet of one
@@ -61,7 +61,7 @@ module _ (program : Program) where
   abbrev Fine : ℕ → Type 0
   Fine k = IsFine linear lists funclet_lists listed k
 
-  abbrev Has : (j : ℕ) → List LinearFunclet → List (List Seen) → List ℕ → Type 0
+  abbrev Has : (j : ℕ) → List LinearFunclet → List (List SeenNames) → List ℕ → Type 0
   Has j fs ls ns = HasFunclets linear lists funclet_lists listed j fs ls ns
 
   abbrev inside : Function → Inside
@@ -85,7 +85,7 @@ module _ (program : Program) where
       let lc = statements_length scope fn.body 0 in
       let ls = length-append fn.parameters fn.locals in
       let same : size ≡ 0 + size = omega arith in
-      let whole : IsSegmentAt (lists name) 0 list = subst (λ (l : List Seen). IsSegmentAt l 0 list) (sym recorded) (whole_is_at list) in
+      let whole : IsSegmentAt (lists name) 0 list = subst (λ (l : List SeenNames). IsSegmentAt l 0 list) (sym recorded) (whole_is_at list) in
       let tail = back (lists name) 0 size ll (replicate 2 seen) (omega arith) whole in
       let here = head_recorded (lists name) size seen (seen ∷ []) tail in
       let here_exit = head_recorded (lists name) (size + 1) seen [] tail.1 in

@@ -20,7 +20,7 @@ use Rattle.unset_locals.specs.Alike.{AreActivationsAlike, AreAlike}
 use Rattle.unset_locals.specs.Reads.{IsSet, AreOperandsSet, ReadsSet, ComesMarked, start_marks, IsMarked, ReadsNoUnset}
 use Rattle.unset_locals.specs.Laws.{started_with}
 use Rattle.unset_locals.proofs.Alike.{steps_are_alike, starts_are_alike, marked_is_reached, marked_continues}
-use Rattle.scoped_programs.specs.Scoped.{Seen}
+use Rattle.scoped_programs.specs.Scoped.{SeenNames}
 use Rattle.scoped_programs.proofs.Split.{is_parameter}
 use Rattle.set_locals.specs.Sets.{function_locals, owner_locals, locals_at, ReadsIn, OperandsIn, Leads, IsSetMap}
 use Rattle.set_locals.specs.Lives.{Marked, AreCovered, IsRecorded, IsGiven, Before, Written, Flag, Passed, IsStep}
@@ -105,7 +105,7 @@ module _ (program : LinearProgram) where
   next_keeps : (i : Instruction) (c d : Configuration) (marks : Marks) (k x : ℕ) → k < length d.store.activations → Marked marks k x → Marked (next_marks program i c d marks) k x
   next_keeps i c d marks k x lt e = with_keeps (flag_by c d) (before_flag i c d marks) d.frame.activation k x (with_keeps (local_written program i c) (marks_left program i d marks) c.frame.activation k x (left_keeps i d marks k x lt e))
 
-  module _ (sets : BodyName → ℕ → Seen) where
+  module _ (sets : BodyName → ℕ → SeenNames) where
     given_marked : (marks : Marks) (i : Instruction) (c d : Configuration) (x : ℕ) → d.frame.activation < length d.store.activations → length (marks_of (next_marks program i c d marks) d.frame.activation) ≡ locals_at program d.frame.body
         → length marks ≡ length c.store.activations → IsGiven program sets marks i c d x → Marked (next_marks program i c d marks) d.frame.activation x
     given_marked marks i c d x lt long same (Before e) = next_keeps i c d marks d.frame.activation x lt e
@@ -155,17 +155,17 @@ module _ (program : LinearProgram) where
           kept = s.kept;
         }
 
-module _ (program : LinearProgram) (whole : IsWhole program) (sets : BodyName → ℕ → Seen) (recorded : IsSetMap program sets) where
+module _ (program : LinearProgram) (whole : IsWhole program) (sets : BodyName → ℕ → SeenNames) (recorded : IsSetMap program sets) where
   -- ---- what is read
 
-  slot_set : (marks : Marks) (k : ℕ) (seen : Seen) (slot : Slot) → ((x : ℕ) → seen x ≡ true → Marked marks k x) → ReadsIn seen slot → IsSet marks k slot
+  slot_set : (marks : Marks) (k : ℕ) (seen : SeenNames) (slot : Slot) → ((x : ℕ) → seen x ≡ true → Marked marks k x) → ReadsIn seen slot → IsSet marks k slot
   slot_set marks k seen (Local x) w r = w x r
   slot_set marks k seen (Temporary i) w r = tt
 
   reads_set : (marks : Marks) (c : Configuration) (i : Instruction) → IsRecorded program sets marks c → instruction_at program c ≡ Some i → ReadsSet marks c i
   reads_set marks c i w at = of i (goes.leads program sets recorded marks i c c.frame i at)
     where
-      seen : Seen
+      seen : SeenNames
       seen = sets c.frame.body c.frame.next
 
       both : (b : Bool) (first second : Slot) → OperandsIn b seen first second → AreOperandsSet b marks c.frame.activation first second

@@ -36,7 +36,7 @@ use Rattle.ir_linked.proofs.Segments.{IsSegmentAt, front, back, whole_is_at}
 use Rattle.ir_bounds.proofs.PlainExpressions.{all_append}
 use Rattle.ir_typed.specs.Bodies.{function_of, owner_of}
 use Rattle.ir_typed.proofs.Stacked.{same_it, all_map}
-use Rattle.scoped_programs.specs.Scoped.{Seen, with_local, IsPart, after_all_declared, after_statement, expression_within, filter_within, statement_within, statements_within}
+use Rattle.scoped_programs.specs.Scoped.{SeenNames, with_local, IsPart, after_all_declared, after_statement, expression_within, filter_within, statement_within, statements_within}
 use Rattle.scoped_programs.proofs.Split.{both_left, both_right, sees_own, sees_before, itself, within, part_with}
 use Rattle.set_locals.specs.Sets.{with_flag, function_locals, owner_locals, locals_at, FinallyBegins, Leads, Guards, IsSetBody}
 use Rattle.set_locals.specs.Places.{statement_sets, statements_sets, filter_sets, finally_sets, statement_funclet_sets, statements_funclet_sets, set_in}
@@ -49,11 +49,11 @@ use Rattle.set_locals.proofs.Loops as loops
 use Rattle.set_locals.proofs.Around.{around_finally, around_filter, around_after, way_more, label_more, unwound_in, above_body}
 use Rattle.set_locals.proofs.Tries.{except_parts, finally_parts}
 
-module _ (linear : LinearProgram) (lists : BodyName → List Seen) (funclet_lists : List (List Seen)) (listed : (k : ℕ) (list : List Seen) → slice_get funclet_lists k ≡ Some list → lists (FuncletBody k) ≡ list) where
-  abbrev pub sets : BodyName → ℕ → Seen
+module _ (linear : LinearProgram) (lists : BodyName → List SeenNames) (funclet_lists : List (List SeenNames)) (listed : (k : ℕ) (list : List SeenNames) → slice_get funclet_lists k ≡ Some list → lists (FuncletBody k) ≡ list) where
+  abbrev pub sets : BodyName → ℕ → SeenNames
   sets name label = set_in (lists name) label
 
-  abbrev pub IsRecordedAt : BodyName → ℕ → Seen → Type 0
+  abbrev pub IsRecordedAt : BodyName → ℕ → SeenNames → Type 0
   IsRecordedAt name label seen = IsPart (sets name label) seen
 
   abbrev pub Lead : BodyName → ℕ → List Instruction → Type 0
@@ -68,7 +68,7 @@ module _ (linear : LinearProgram) (lists : BodyName → List Seen) (funclet_list
   IsGuarded name r = (label : ℕ) → holds label r ≡ true → Guards linear sets name label r.kind
 
   -- whose body a part is in, and what is recorded around it
-  pub record IsPlace (name : BodyName) (owner : Owner) (scope : Scope) (before seen : Seen) : Type 0 where
+  pub record IsPlace (name : BodyName) (owner : Owner) (scope : Scope) (before seen : SeenNames) : Type 0 where
     pub owned : owner_of linear name ≡ Some owner.function
     pub room : function_locals (slice_get linear.functions owner.function) ≡ owner.locals
     pub around : IsAround owner.locals scope.names before seen
@@ -78,15 +78,15 @@ module _ (linear : LinearProgram) (lists : BodyName → List Seen) (funclet_list
     pub leave : LabelIn linear lists name seen scope.leave
 
   -- the funclets of a part, with their sets and numbers
-  pub record HasFunclets (j : ℕ) (fs : List LinearFunclet) (ls : List (List Seen)) (ns : List ℕ) : Type 0 where
+  pub record HasFunclets (j : ℕ) (fs : List LinearFunclet) (ls : List (List SeenNames)) (ns : List ℕ) : Type 0 where
     pub funclets : IsSegmentAt linear.funclets j fs
     pub recorded : IsSegmentAt funclet_lists j ls
     pub numbers : count_up (j + 1) ns ≡ true
 
-  pub has_front : (j : ℕ) (fs gs : List LinearFunclet) (ls ms : List (List Seen)) (ns os : List ℕ) → HasFunclets j (fs ++ gs) (ls ++ ms) (ns ++ os) → HasFunclets j fs ls ns
+  pub has_front : (j : ℕ) (fs gs : List LinearFunclet) (ls ms : List (List SeenNames)) (ns os : List ℕ) → HasFunclets j (fs ++ gs) (ls ++ ms) (ns ++ os) → HasFunclets j fs ls ns
   has_front j fs gs ls ms ns os h = record { funclets = front linear.funclets j fs gs h.funclets; recorded = front funclet_lists j ls ms h.recorded; numbers = count_front (j + 1) ns os h.numbers }
 
-  pub has_back : (j to : ℕ) (fs gs : List LinearFunclet) (ls ms : List (List Seen)) (ns os : List ℕ) → j + length ns ≡ to → length fs ≡ length ns → length ls ≡ length ns → HasFunclets j (fs ++ gs) (ls ++ ms) (ns ++ os) → HasFunclets to gs ms os
+  pub has_back : (j to : ℕ) (fs gs : List LinearFunclet) (ls ms : List (List SeenNames)) (ns os : List ℕ) → j + length ns ≡ to → length fs ≡ length ns → length ls ≡ length ns → HasFunclets j (fs ++ gs) (ls ++ ms) (ns ++ os) → HasFunclets to gs ms os
   has_back j to fs gs ls ms ns os e p q h = record {
     funclets = back linear.funclets j to fs gs (omega arith) h.funclets;
     recorded = back funclet_lists j to ls ms (omega arith) h.recorded;
@@ -104,11 +104,11 @@ module _ (linear : LinearProgram) (lists : BodyName → List Seen) (funclet_list
 
   -- ---- places
 
-  pub locals_are : (name : BodyName) (owner : Owner) (scope : Scope) (before seen : Seen) → IsPlace name owner scope before seen → locals_at linear name ≡ owner.locals
+  pub locals_are : (name : BodyName) (owner : Owner) (scope : Scope) (before seen : SeenNames) → IsPlace name owner scope before seen → locals_at linear name ≡ owner.locals
   locals_are name owner scope before seen p = ap (owner_locals linear) p.owned ∙ p.room
 
   -- after a declaration
-  pub more_place : (name : BodyName) (owner : Owner) (scope : Scope) (before seen before' seen' : Seen) → IsPart seen seen' → IsAround owner.locals scope.names before' seen' → IsPlace name owner scope before seen → IsPlace name owner scope before' seen'
+  pub more_place : (name : BodyName) (owner : Owner) (scope : Scope) (before seen before' seen' : SeenNames) → IsPart seen seen' → IsAround owner.locals scope.names before' seen' → IsPlace name owner scope before seen → IsPlace name owner scope before' seen'
   more_place name owner scope before seen before' seen' g a p = record {
     owned = p.owned;
     room = p.room;
@@ -119,13 +119,13 @@ module _ (linear : LinearProgram) (lists : BodyName → List Seen) (funclet_list
     leave = label_more linear lists name seen seen' scope.leave g p.leave;
   }
 
-  pub loop_place : (name : BodyName) (owner : Owner) (scope : Scope) (before seen : Seen) (end next : ℕ) → IsRecordedAt name end seen → IsRecordedAt name next seen → IsPlace name owner scope before seen → IsPlace name owner (in_loop end next scope) before seen
+  pub loop_place : (name : BodyName) (owner : Owner) (scope : Scope) (before seen : SeenNames) (end next : ℕ) → IsRecordedAt name end seen → IsRecordedAt name next seen → IsPlace name owner scope before seen → IsPlace name owner (in_loop end next scope) before seen
   loop_place name owner scope before seen end next e n p = record { owned = p.owned; room = p.room; around = p.around; exit = p.exit; loop_end = e; loop_next = n; leave = p.leave }
 
-  pub try_place : (name : BodyName) (owner : Owner) (scope : Scope) (before seen : Seen) (end : ℕ) → IsRecordedAt name end seen → IsPlace name owner scope before seen → IsPlace name owner (in_try end scope) before seen
+  pub try_place : (name : BodyName) (owner : Owner) (scope : Scope) (before seen : SeenNames) (end : ℕ) → IsRecordedAt name end seen → IsPlace name owner scope before seen → IsPlace name owner (in_try end scope) before seen
   try_place name owner scope before seen end e p = record { owned = p.owned; room = p.room; around = p.around; exit = p.exit; loop_end = p.loop_end; loop_next = p.loop_next; leave = e }
 
-  pub guarded_place : (name : BodyName) (owner : Owner) (scope : Scope) (before seen : Seen) (end : ℕ) → IsRecordedAt name end seen → IsPlace name owner scope before seen → IsPlace name owner (in_guarded end scope) before seen
+  pub guarded_place : (name : BodyName) (owner : Owner) (scope : Scope) (before seen : SeenNames) (end : ℕ) → IsRecordedAt name end seen → IsPlace name owner scope before seen → IsPlace name owner (in_guarded end scope) before seen
   guarded_place name owner scope before seen end e p = record {
     owned = p.owned;
     room = p.room;
@@ -136,7 +136,7 @@ module _ (linear : LinearProgram) (lists : BodyName → List Seen) (funclet_list
     leave = e;
   }
 
-  pub except_place : (name : BodyName) (owner : Owner) (scope : Scope) (before seen : Seen) → scope.names.free < owner.locals → IsPlace name owner scope before seen → IsPlace name owner (in_except scope) before (with_local scope.names.free seen)
+  pub except_place : (name : BodyName) (owner : Owner) (scope : Scope) (before seen : SeenNames) → scope.names.free < owner.locals → IsPlace name owner scope before seen → IsPlace name owner (in_except scope) before (with_local scope.names.free seen)
   except_place name owner scope before seen lt p =
       let free = scope.names.free in
       let more = with_local free seen in
@@ -165,11 +165,11 @@ module _ (linear : LinearProgram) (lists : BodyName → List Seen) (funclet_list
   -- ---- filters
 
   -- the first place of a filter, and its body
-  record FilterIsSetAt (k : ℕ) (seen : Seen) : Type 0 where
+  record FilterIsSetAt (k : ℕ) (seen : SeenNames) : Type 0 where
     first : sets (FuncletBody k) 0 ≡ seen
     fine : IsFine k
 
-  filter_alone : (owner : Owner) (names : Names) (e : Expression) (before seen : Seen) (k : ℕ) → function_locals (slice_get linear.functions owner.function) ≡ owner.locals → IsAround owner.locals names before seen → expression_within before e ≡ true
+  filter_alone : (owner : Owner) (names : Names) (e : Expression) (before seen : SeenNames) (k : ℕ) → function_locals (slice_get linear.functions owner.function) ≡ owner.locals → IsAround owner.locals names before seen → expression_within before e ≡ true
       → slice_get linear.funclets k ≡ Some (funclets_of.filter_funclet owner (filter_names names) e) → slice_get funclet_lists k ≡ Some (replicate (suc (expression_size e)) seen) → FilterIsSetAt k seen
   filter_alone owner names e before seen k room a w there recorded =
       let name = FuncletBody k in
@@ -180,10 +180,10 @@ module _ (linear : LinearProgram) (lists : BodyName → List Seen) (funclet_list
       let code = expression_code inner e 0 0 in
       let l = expression_length inner e 0 0 in
       let is : list ≡ lists name = sym (listed k list recorded) in
-      let is_there : IsSegmentAt (lists name) 0 list = subst (λ (ls : List Seen). IsSegmentAt ls 0 list) is (whole_is_at list) in
-      let long : length (lists name) ≡ suc n = ap (λ (ls : List Seen). length ls) (sym is) ∙ length-replicate (suc n) seen in
+      let is_there : IsSegmentAt (lists name) 0 list = subst (λ (ls : List SeenNames). IsSegmentAt ls 0 list) is (whole_is_at list) in
+      let long : length (lists name) ≡ suc n = ap (λ (ls : List SeenNames). length ls) (sym is) ∙ length-replicate (suc n) seen in
       let none = past_end (lists name) (suc n) (omega arith) in
-      let ended : IsRecordedAt name (suc n) seen = λ x h. absurd (differ (sym (ap (λ (s : Seen). s x) none) ∙ h)) in
+      let ended : IsRecordedAt name (suc n) seen = λ x h. absurd (differ (sym (ap (λ (s : SeenNames). s x) none) ∙ h)) in
       let even = even_list (lists name) seen (suc n) 0 (suc n) (omega arith) is_there ended in
       let owned : owner_of linear name ≡ Some owner.function = ap function_of there in
       let own = ap (owner_locals linear) owned ∙ room in
@@ -208,7 +208,7 @@ module _ (linear : LinearProgram) (lists : BodyName → List Seen) (funclet_list
   pub in_region : (begin end label : ℕ) (kind : RegionKind) → holds label (region begin end kind) ≡ true → (begin ≤ label) × (label < end)
   in_region begin end label kind h = (leb-true begin label (both_left _ _ h), ltb-true label end (both_right _ _ h))
 
-  pub filter_is_set : (name : BodyName) (owner : Owner) (scope : Scope) (before seen : Seen) → IsPlace name owner scope before seen → (f : Filter) (j at target : ℕ) → filter_within before f ≡ true
+  pub filter_is_set : (name : BodyName) (owner : Owner) (scope : Scope) (before seen : SeenNames) → IsPlace name owner scope before seen → (f : Filter) (j at target : ℕ) → filter_within before f ≡ true
       → HasFunclets j (filter_funclets owner (filter_names scope.names) f) (filter_sets seen f) (filter_funclet f) → ((label : ℕ) → at ≤ label → label < target → IsPart seen (sets name label)) → IsRecordedAt name target seen
       → IsGuarded name (region at target (except_kind f target)) × Range IsFine j (j + length (filter_funclet f))
   filter_is_set name owner scope before seen p Always j at target w h above t =
@@ -227,14 +227,14 @@ module _ (linear : LinearProgram) (lists : BodyName → List Seen) (funclet_list
 
   -- ---- `__finally` blocks
 
-  pub record FinallyIsSetAt (k : ℕ) (owner : Owner) (names : Names) (last : Statements) (before seen : Seen) : Type 0 where
+  pub record FinallyIsSetAt (k : ℕ) (owner : Owner) (names : Names) (last : Statements) (before seen : SeenNames) : Type 0 where
     pub place : IsPlace (FuncletBody k) (in_funclet k owner) (finally_scope names) before (with_local names.free seen)
     pub is_there : IsSegmentAt (lists (FuncletBody k)) 0 (statements_sets (names.free + 1) (with_local names.free seen) last)
     pub end : IsRecordedAt (FuncletBody k) (0 + statements_size last) (with_local names.free seen)
-    pub begun : (s : Seen) → IsPart seen s → FinallyBegins linear sets k s
+    pub begun : (s : SeenNames) → IsPart seen s → FinallyBegins linear sets k s
     pub fine : Lead (FuncletBody k) 0 (statements_code (finally_scope names) last 0) → AllByRecursion (IsGuarded (FuncletBody k)) (statements_regions last 0) → IsFine k
 
-  finally_alone : (owner : Owner) (names : Names) (last : Statements) (before seen : Seen) (k : ℕ) → function_locals (slice_get linear.functions owner.function) ≡ owner.locals → IsAround owner.locals names before seen → names.free < owner.locals
+  finally_alone : (owner : Owner) (names : Names) (last : Statements) (before seen : SeenNames) (k : ℕ) → function_locals (slice_get linear.functions owner.function) ≡ owner.locals → IsAround owner.locals names before seen → names.free < owner.locals
       → slice_get linear.funclets k ≡ Some (finally_funclet owner names last) → slice_get funclet_lists k ≡ Some (finally_sets names.free seen last) → FinallyIsSetAt k owner names last before seen
   finally_alone owner names last before seen k room a lt there recorded =
       let home = FuncletBody k in
@@ -248,12 +248,12 @@ module _ (linear : LinearProgram) (lists : BodyName → List Seen) (funclet_list
       let long = statements_long last (free + 1) more in
       let lc = statements_length (finally_scope names) last 0 in
       let same : size ≡ 0 + size = omega arith in
-      let whole : IsSegmentAt (lists home) 0 list = subst (λ (ls : List Seen). IsSegmentAt ls 0 list) (sym (listed k list recorded)) (whole_is_at list) in
+      let whole : IsSegmentAt (lists home) 0 list = subst (λ (ls : List SeenNames). IsSegmentAt ls 0 list) (sym (listed k list recorded)) (whole_is_at list) in
       let here_last : sets home size ≡ more = head_recorded (lists home) size more [] (back (lists home) 0 size ll (replicate 1 more) (omega arith) whole) in
       let recorded_last : IsRecordedAt home size more = is_same (sets home size) more here_last in
       let is_there = front (lists home) 0 ll (replicate 1 more) whole in
       let start = begins (lists home) 0 size ll more more is_there (statements_first last (free + 1) more more (itself more)) (omega arith) recorded_last in
-      let seen_flag : sets home size free ≡ true = ap (λ (s : Seen). s free) here_last ∙ sees_own seen free in
+      let seen_flag : sets home size free ≡ true = ap (λ (s : SeenNames). s free) here_last ∙ sees_own seen free in
       record {
         place = record { owned = owned; room = room; around = around_finally owner.locals names before seen lt a; exit = tt; loop_end = tt; loop_next = tt; leave = tt };
         is_there = is_there;
@@ -267,12 +267,12 @@ module _ (linear : LinearProgram) (lists : BodyName → List Seen) (funclet_list
 
   -- ---- funclets of a `__try`
 
-  record ExceptFunclets (j : ℕ) (owner : Owner) (names : Names) (seen : Seen) (body : Statements) (filter : Filter) (block : Statements) : Type 0 where
+  record ExceptFunclets (j : ℕ) (owner : Owner) (names : Names) (seen : SeenNames) (body : Statements) (filter : Filter) (block : Statements) : Type 0 where
     of_body : HasFunclets j (statements_funclets owner names body) (statements_funclet_sets names.free seen body) (funclets body)
     of_filter : HasFunclets (j + length (funclets body)) (filter_funclets owner (filter_names names) filter) (filter_sets seen filter) (filter_funclet filter)
     of_block : HasFunclets (j + length (funclets body) + length (filter_funclet filter)) (statements_funclets owner (except_names names) block) (statements_funclet_sets (names.free + 1) (with_local names.free seen) block) (funclets block)
 
-  except_funclets : (j : ℕ) (owner : Owner) (scope : Scope) (seen : Seen) (body : Statements) (filter : Filter) (block : Statements)
+  except_funclets : (j : ℕ) (owner : Owner) (scope : Scope) (seen : SeenNames) (body : Statements) (filter : Filter) (block : Statements)
       → HasFunclets j (statement_funclets owner scope.names (TryExcept body filter block)) (statement_funclet_sets scope.names.free seen (TryExcept body filter block)) (funclets_in (TryExcept body filter block))
       → ExceptFunclets j owner scope.names seen body filter block
   except_funclets j owner scope seen body filter block f =
@@ -296,14 +296,14 @@ module _ (linear : LinearProgram) (lists : BodyName → List Seen) (funclet_list
         of_block = has_back mid (mid + length nf) ff fk sf sk nf nk refl (filter_count owner (filter_names names) filter) (filter_many filter seen) rest;
       }
 
-  record FinallyFunclets (j : ℕ) (owner : Owner) (names : Names) (seen : Seen) (body : Statements) (k : ℕ) (last : Statements) : Type 0 where
+  record FinallyFunclets (j : ℕ) (owner : Owner) (names : Names) (seen : SeenNames) (body : Statements) (k : ℕ) (last : Statements) : Type 0 where
     of_body : HasFunclets j (statements_funclets owner names body) (statements_funclet_sets names.free seen body) (funclets body)
     same : k - 1 ≡ j + length (funclets body)
     there : slice_get linear.funclets (k - 1) ≡ Some (finally_funclet owner names last)
     recorded : slice_get funclet_lists (k - 1) ≡ Some (finally_sets names.free seen last)
     of_last : HasFunclets (j + length (funclets body) + 1) (statements_funclets (in_funclet (k - 1) owner) (finally_names names) last) (statements_funclet_sets (names.free + 1) (with_local names.free seen) last) (funclets last)
 
-  finally_funclets : (j : ℕ) (owner : Owner) (scope : Scope) (seen : Seen) (body : Statements) (k : ℕ) (last : Statements)
+  finally_funclets : (j : ℕ) (owner : Owner) (scope : Scope) (seen : SeenNames) (body : Statements) (k : ℕ) (last : Statements)
       → HasFunclets j (statement_funclets owner scope.names (TryFinally body k last)) (statement_funclet_sets scope.names.free seen (TryFinally body k last)) (funclets_in (TryFinally body k last))
       → FinallyFunclets j owner scope.names seen body k last
   finally_funclets j owner scope seen body k last f =
@@ -347,7 +347,7 @@ module _ (linear : LinearProgram) (lists : BodyName → List Seen) (funclet_list
       part_of IsFine j last j (j + length (ns ++ k ∷ os)) (omega arith) (omega arith) (both_parts IsFine j mid last x (both_parts IsFine mid (mid + 1) last (one_part IsFine mid f) z))
 
   mutual
-    pub statement_is_set : (s : Statement) (name : BodyName) (owner : Owner) (i : Inside) (scope : Scope) (before seen : Seen) (at j : ℕ) → IsPlace name owner scope before seen → length i.scope.sizes ≤ owner.locals
+    pub statement_is_set : (s : Statement) (name : BodyName) (owner : Owner) (i : Inside) (scope : Scope) (before seen : SeenNames) (at j : ℕ) → IsPlace name owner scope before seen → length i.scope.sizes ≤ owner.locals
         → scope.names.free + statement_notes s ≤ owner.locals → statement_sound i s ≡ true → statement_within before s ≡ true → IsSegmentAt (lists name) at (statement_sets scope.names.free seen s) → IsRecordedAt name (at + statement_size s) (after_statement seen s)
         → HasFunclets j (statement_funclets owner scope.names s) (statement_funclet_sets scope.names.free seen s) (funclets_in s) → IsSetAt name at (statement_code scope s at) (statement_regions s at) j (j + length (funclets_in s))
     statement_is_set (Declare d) name owner i scope before seen at j p fits notes ok w h end f =
@@ -457,7 +457,7 @@ module _ (linear : LinearProgram) (lists : BodyName → List Seen) (funclet_list
           funclets = block_ranges j (funclets body) k (funclets last) x.funclets fine y.funclets;
         }
 
-    pub statements_are_set : (ss : Statements) (name : BodyName) (owner : Owner) (i : Inside) (scope : Scope) (before seen : Seen) (at j : ℕ) → IsPlace name owner scope before seen → length i.scope.sizes ≤ owner.locals
+    pub statements_are_set : (ss : Statements) (name : BodyName) (owner : Owner) (i : Inside) (scope : Scope) (before seen : SeenNames) (at j : ℕ) → IsPlace name owner scope before seen → length i.scope.sizes ≤ owner.locals
         → scope.names.free + statements_notes ss ≤ owner.locals → statements_sound i ss ≡ true → statements_within before ss ≡ true → IsSegmentAt (lists name) at (statements_sets scope.names.free seen ss) → IsRecordedAt name (at + statements_size ss) seen
         → HasFunclets j (statements_funclets owner scope.names ss) (statements_funclet_sets scope.names.free seen ss) (funclets ss) → IsSetAt name at (statements_code scope ss at) (statements_regions ss at) j (j + length (funclets ss))
     statements_are_set Empty name owner i scope before seen at j p fits notes ok w h end f = plain name at [] j tt

@@ -10,7 +10,7 @@ use Rattle.c_checked.specs.Statement.{Declared, Filter, Always, Funclet, Stateme
 use Rattle.ir_sizes.specs.Sizes.{expression_size, discarded_size, condition_size, returned_size, declared_size, all_declared_size, statement_size, statements_size}
 use Rattle.ir_linked.proofs.Segments.{IsSegmentAt}
 use Rattle.ir_bounds.proofs.PlainExpressions.{all_append}
-use Rattle.scoped_programs.specs.Scoped.{Seen, with_local, IsPart, after_declared, after_all_declared, after_statement}
+use Rattle.scoped_programs.specs.Scoped.{SeenNames, with_local, IsPart, after_declared, after_all_declared, after_statement}
 use Rattle.scoped_programs.proofs.Split.{sees_before, itself, within}
 use Rattle.set_locals.specs.Places.{initialiser_size, declared_sets, all_declared_sets, statement_sets, statements_sets, filter_sets, finally_sets, statement_funclet_sets, statements_funclet_sets, set_in}
 use Rattle.set_locals.proofs.Straight.{is_same, is_same_back, head_recorded}
@@ -24,16 +24,16 @@ pub initialiser_is : (o : Option Expression) → initialiser_size o ≡ elim o [
 initialiser_is None = refl
 initialiser_is (Some e) = refl
 
-pub declared_long : (d : Declared) (seen : Seen) → length (declared_sets seen d) ≡ declared_size d
+pub declared_long : (d : Declared) (seen : SeenNames) → length (declared_sets seen d) ≡ declared_size d
 declared_long d seen = let l = length-replicate (initialiser_size d.value) (after_declared seen d) in let i = initialiser_is d.value in omega arith
 
-pub all_declared_long : (ds : List Declared) (seen : Seen) → length (all_declared_sets seen ds) ≡ all_declared_size ds
+pub all_declared_long : (ds : List Declared) (seen : SeenNames) → length (all_declared_sets seen ds) ≡ all_declared_size ds
 all_declared_long [] seen = refl
 all_declared_long (d ∷ ds) seen =
     two (declared_sets seen d) (all_declared_sets (after_declared seen d) ds) (declared_size d) (all_declared_size ds) (declared_long d seen) (all_declared_long ds (after_declared seen d))
 
 mutual
-  pub statement_long : (s : Statement) (free : ℕ) (seen : Seen) → length (statement_sets free seen s) ≡ statement_size s
+  pub statement_long : (s : Statement) (free : ℕ) (seen : SeenNames) → length (statement_sets free seen s) ≡ statement_size s
   statement_long (Declare d) free seen = declared_long d seen
   statement_long (Block ss) free seen = statements_long ss free seen
   statement_long (Evaluate e) free seen = length-replicate (discarded_size e) seen
@@ -74,14 +74,14 @@ mutual
       omega arith
   statement_long (TryFinally body k last) free seen = two (statements_sets free seen body) (replicate 3 seen) (statements_size body) 3 (statements_long body free seen) refl
 
-  pub statements_long : (ss : Statements) (free : ℕ) (seen : Seen) → length (statements_sets free seen ss) ≡ statements_size ss
+  pub statements_long : (ss : Statements) (free : ℕ) (seen : SeenNames) → length (statements_sets free seen ss) ≡ statements_size ss
   statements_long Empty free seen = refl
   statements_long (Then s ss) free seen =
       two (statement_sets free seen s) (statements_sets free (after_statement seen s) ss) (statement_size s) (statements_size ss) (statement_long s free seen) (statements_long ss free (after_statement seen s))
 
 -- ---- as many funclets as numbers
 
-pub filter_many : (f : Filter) (seen : Seen) → length (filter_sets seen f) ≡ length (filter_funclet f)
+pub filter_many : (f : Filter) (seen : SeenNames) → length (filter_sets seen f) ≡ length (filter_funclet f)
 filter_many Always seen = refl
 filter_many (Funclet k e) seen = refl
 
@@ -89,7 +89,7 @@ added : {X Y : Type 0} (xs ys : List X) (ks js : List Y) → length xs ≡ lengt
 added xs ys ks js e f = two xs ys (length ks) (length js) e f ∙ sym (length-append ks js)
 
 mutual
-  pub statement_many : (s : Statement) (free : ℕ) (seen : Seen) → length (statement_funclet_sets free seen s) ≡ length (funclets_in s)
+  pub statement_many : (s : Statement) (free : ℕ) (seen : SeenNames) → length (statement_funclet_sets free seen s) ≡ length (funclets_in s)
   statement_many (Declare d) free seen = refl
   statement_many (Block ss) free seen = statements_many ss free seen
   statement_many (Evaluate e) free seen = refl
@@ -115,14 +115,14 @@ mutual
       let own = statements_funclet_sets (free + 1) (with_local free seen) last in
       added (statements_funclet_sets free seen body) (finally_sets free seen last ∷ own) (funclets body) (k ∷ funclets last) (statements_many body free seen) (ap suc (statements_many last (free + 1) (with_local free seen)))
 
-  pub statements_many : (ss : Statements) (free : ℕ) (seen : Seen) → length (statements_funclet_sets free seen ss) ≡ length (funclets ss)
+  pub statements_many : (ss : Statements) (free : ℕ) (seen : SeenNames) → length (statements_funclet_sets free seen ss) ≡ length (funclets ss)
   statements_many Empty free seen = refl
   statements_many (Then s ss) free seen =
       added (statement_funclet_sets free seen s) (statements_funclet_sets free (after_statement seen s) ss) (funclets_in s) (funclets ss) (statement_many s free seen) (statements_many ss free (after_statement seen s))
 
 -- ---- what is declared is seen beside what was
 
-pub grows : (s : Statement) (seen : Seen) → IsPart seen (after_statement seen s)
+pub grows : (s : Statement) (seen : SeenNames) → IsPart seen (after_statement seen s)
 grows (Declare d) seen = sees_before seen d.local
 grows (Block ss) seen = itself seen
 grows (Evaluate e) seen = itself seen
@@ -137,35 +137,35 @@ grows Leave seen = itself seen
 grows (TryExcept body filter block) seen = itself seen
 grows (TryFinally body k last) seen = itself seen
 
-pub all_grow : (ds : List Declared) (seen : Seen) → IsPart seen (after_all_declared seen ds)
+pub all_grow : (ds : List Declared) (seen : SeenNames) → IsPart seen (after_all_declared seen ds)
 all_grow [] seen = itself seen
 all_grow (d ∷ ds) seen = within seen (after_declared seen d) (after_all_declared (after_declared seen d) ds) (sees_before seen d.local) (all_grow ds (after_declared seen d))
 
 -- ---- where a part begins, no more is recorded than is seen before it
 
 -- the first of a list, or where that is empty what comes after it
-abbrev pub IsFirst : Seen → Seen → List Seen → Type 0
+abbrev pub IsFirst : SeenNames → SeenNames → List SeenNames → Type 0
 IsFirst seen end [] = IsPart end seen
 IsFirst seen end (y ∷ ys) = IsPart y seen
 
-lower : (seen more end : Seen) (ys : List Seen) → IsPart more seen → IsFirst more end ys → IsFirst seen end ys
+lower : (seen more end : SeenNames) (ys : List SeenNames) → IsPart more seen → IsFirst more end ys → IsFirst seen end ys
 lower seen more end [] p h = within end more seen h p
 lower seen more end (y ∷ ys) p h = within y more seen h p
 
-first_join : (seen mid end : Seen) (xs ys : List Seen) → IsFirst seen mid xs → IsFirst mid end ys → IsFirst seen end (xs ++ ys)
+first_join : (seen mid end : SeenNames) (xs ys : List SeenNames) → IsFirst seen mid xs → IsFirst mid end ys → IsFirst seen end (xs ++ ys)
 first_join seen mid end [] ys h k = lower seen mid end ys h k
 first_join seen mid end (x ∷ xs) ys h k = h
 
-pub replicate_first : (n : ℕ) (seen : Seen) → IsFirst seen seen (replicate n seen)
+pub replicate_first : (n : ℕ) (seen : SeenNames) → IsFirst seen seen (replicate n seen)
 replicate_first zero seen = itself seen
 replicate_first (suc n) seen = itself seen
 
-pub all_declared_first : (ds : List Declared) (seen : Seen) → IsFirst seen (after_all_declared seen ds) (all_declared_sets seen ds)
+pub all_declared_first : (ds : List Declared) (seen : SeenNames) → IsFirst seen (after_all_declared seen ds) (all_declared_sets seen ds)
 all_declared_first [] seen = itself seen
 all_declared_first (d ∷ ds) seen = itself seen
 
 mutual
-  pub statement_first : (s : Statement) (free : ℕ) (seen : Seen) → IsFirst seen (after_statement seen s) (statement_sets free seen s)
+  pub statement_first : (s : Statement) (free : ℕ) (seen : SeenNames) → IsFirst seen (after_statement seen s) (statement_sets free seen s)
   statement_first (Declare d) free seen = itself seen
   statement_first (Block ss) free seen = statements_first ss free seen seen (itself seen)
   statement_first (Evaluate e) free seen = replicate_first (discarded_size e) seen
@@ -188,38 +188,38 @@ mutual
       first_join seen seen seen (statements_sets free seen body) (replicate 2 seen ++ statements_sets (free + 1) (with_local free seen) block) (statements_first body free seen seen (itself seen)) (itself seen)
   statement_first (TryFinally body k last) free seen = first_join seen seen seen (statements_sets free seen body) (replicate 3 seen) (statements_first body free seen seen (itself seen)) (itself seen)
 
-  pub statements_first : (ss : Statements) (free : ℕ) (seen end : Seen) → IsPart end seen → IsFirst seen end (statements_sets free seen ss)
+  pub statements_first : (ss : Statements) (free : ℕ) (seen end : SeenNames) → IsPart end seen → IsFirst seen end (statements_sets free seen ss)
   statements_first Empty free seen end h = h
   statements_first (Then s ss) free seen end h =
       let more = after_statement seen s in
       first_join seen more end (statement_sets free seen s) (statements_sets free more ss) (statement_first s free seen) (statements_first ss free more end (within end seen more h (grows s seen)))
 
-pub begins : (list : List Seen) (at to : ℕ) (ys : List Seen) (seen end : Seen) → IsSegmentAt list at ys → IsFirst seen end ys → at + length ys ≡ to → IsPart (set_in list to) end → IsPart (set_in list at) seen
+pub begins : (list : List SeenNames) (at to : ℕ) (ys : List SeenNames) (seen end : SeenNames) → IsSegmentAt list at ys → IsFirst seen end ys → at + length ys ≡ to → IsPart (set_in list to) end → IsPart (set_in list at) seen
 begins list at to [] seen end h k e p = let same : to ≡ at = omega arith in within (set_in list at) end seen (subst (λ n. IsPart (set_in list n) end) same p) k
 begins list at to (y ∷ ys) seen end h k e p = within (set_in list at) y seen (is_same (set_in list at) y (head_recorded list at y ys h)) k
 
 -- ---- in a part at least what is seen before it is recorded
 
-abbrev pub Above : Seen → List Seen → Type 0
-Above base ys = AllByRecursion (λ (y : Seen). IsPart base y) ys
+abbrev pub Above : SeenNames → List SeenNames → Type 0
+Above base ys = AllByRecursion (λ (y : SeenNames). IsPart base y) ys
 
-joined : (base : Seen) (xs ys : List Seen) → Above base xs → Above base ys → Above base (xs ++ ys)
-joined base xs ys h k = all_append (λ (y : Seen). IsPart base y) xs ys h k
+joined : (base : SeenNames) (xs ys : List SeenNames) → Above base xs → Above base ys → Above base (xs ++ ys)
+joined base xs ys h k = all_append (λ (y : SeenNames). IsPart base y) xs ys h k
 
-replicate_above : (n : ℕ) (base seen : Seen) → IsPart base seen → Above base (replicate n seen)
+replicate_above : (n : ℕ) (base seen : SeenNames) → IsPart base seen → Above base (replicate n seen)
 replicate_above zero base seen p = tt
 replicate_above (suc n) base seen p = (p, replicate_above n base seen p)
 
-declared_above : (d : Declared) (base seen : Seen) → IsPart base seen → Above base (declared_sets seen d)
+declared_above : (d : Declared) (base seen : SeenNames) → IsPart base seen → Above base (declared_sets seen d)
 declared_above d base seen p = (p, replicate_above (initialiser_size d.value) base (after_declared seen d) (within base seen (after_declared seen d) p (sees_before seen d.local)))
 
-all_declared_above : (ds : List Declared) (base seen : Seen) → IsPart base seen → Above base (all_declared_sets seen ds)
+all_declared_above : (ds : List Declared) (base seen : SeenNames) → IsPart base seen → Above base (all_declared_sets seen ds)
 all_declared_above [] base seen p = tt
 all_declared_above (d ∷ ds) base seen p =
     joined base (declared_sets seen d) (all_declared_sets (after_declared seen d) ds) (declared_above d base seen p) (all_declared_above ds base (after_declared seen d) (within base seen (after_declared seen d) p (sees_before seen d.local)))
 
 mutual
-  pub statement_above : (s : Statement) (free : ℕ) (base seen : Seen) → IsPart base seen → Above base (statement_sets free seen s)
+  pub statement_above : (s : Statement) (free : ℕ) (base seen : SeenNames) → IsPart base seen → Above base (statement_sets free seen s)
   statement_above (Declare d) free base seen p = declared_above d base seen p
   statement_above (Block ss) free base seen p = statements_above ss free base seen p
   statement_above (Evaluate e) free base seen p = replicate_above (discarded_size e) base seen p
@@ -247,13 +247,13 @@ mutual
       (joined base (replicate 2 seen) rest (replicate_above 2 base seen p) (statements_above block (free + 1) base (with_local free seen) (within base seen (with_local free seen) p (sees_before seen free))))
   statement_above (TryFinally body k last) free base seen p = joined base (statements_sets free seen body) (replicate 3 seen) (statements_above body free base seen p) (replicate_above 3 base seen p)
 
-  pub statements_above : (ss : Statements) (free : ℕ) (base seen : Seen) → IsPart base seen → Above base (statements_sets free seen ss)
+  pub statements_above : (ss : Statements) (free : ℕ) (base seen : SeenNames) → IsPart base seen → Above base (statements_sets free seen ss)
   statements_above Empty free base seen p = tt
   statements_above (Then s ss) free base seen p =
       let more = after_statement seen s in
       joined base (statement_sets free seen s) (statements_sets free more ss) (statement_above s free base seen p) (statements_above ss free base more (within base seen more p (grows s seen)))
 
-pub above_at : (list : List Seen) (at : ℕ) (ys : List Seen) (base : Seen) → IsSegmentAt list at ys → Above base ys → (label : ℕ) → at ≤ label → label < at + length ys → IsPart base (set_in list label)
+pub above_at : (list : List SeenNames) (at : ℕ) (ys : List SeenNames) (base : SeenNames) → IsSegmentAt list at ys → Above base ys → (label : ℕ) → at ≤ label → label < at + length ys → IsPart base (set_in list label)
 above_at list at [] base h p label le lt = absurd (omega arith)
 above_at list at (y ∷ ys) base h p label le lt = of (cases_lt at label) (λ more. above_at list (at + 1) ys base h.1 p.1 label (omega arith) (omega arith))
   where

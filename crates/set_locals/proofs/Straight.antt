@@ -12,46 +12,46 @@ use Rattle.linear_machine.specs.Frames.{BodyName}
 use Rattle.linear_machine.specs.Instructions.{is_constant}
 use Rattle.ir_linked.proofs.Segments.{IsSegmentAt}
 use Rattle.ir_typed.proofs.Stacked.{same_it}
-use Rattle.scoped_programs.specs.Scoped.{Seen, IsPart}
+use Rattle.scoped_programs.specs.Scoped.{SeenNames, IsPart}
 use Rattle.scoped_programs.proofs.Split.{sees_before}
 use Rattle.set_locals.specs.Sets.{with_slot, ReadsIn, OperandsIn, IsLocalOf, locals_at, Leads}
 use Rattle.set_locals.specs.Places.{none_seen, set_in}
 
 -- ---- what is recorded at a place
 
-get_is : (list : List Seen) (at : ℕ) (seen : Seen) → slice_get list at ≡ Some seen → set_in list at ≡ seen
+get_is : (list : List SeenNames) (at : ℕ) (seen : SeenNames) → slice_get list at ≡ Some seen → set_in list at ≡ seen
 get_is [] at seen e = absurd (cc)
 get_is (y ∷ list) zero seen e = same_it y seen e
 get_is (y ∷ list) (suc at) seen e = get_is list at seen e
 
-pub is_same : (a b : Seen) → a ≡ b → IsPart a b
-is_same a b e x h = ap (λ (f : Seen). f x) (sym e) ∙ h
+pub is_same : (a b : SeenNames) → a ≡ b → IsPart a b
+is_same a b e x h = ap (λ (f : SeenNames). f x) (sym e) ∙ h
 
-pub is_same_back : (a b : Seen) → a ≡ b → IsPart b a
-is_same_back a b e x h = ap (λ (f : Seen). f x) e ∙ h
+pub is_same_back : (a b : SeenNames) → a ≡ b → IsPart b a
+is_same_back a b e x h = ap (λ (f : SeenNames). f x) e ∙ h
 
 -- the first of a part that is there
-pub head_recorded : (list : List Seen) (at : ℕ) (seen : Seen) (rest : List Seen) → IsSegmentAt list at (seen ∷ rest) → set_in list at ≡ seen
+pub head_recorded : (list : List SeenNames) (at : ℕ) (seen : SeenNames) (rest : List SeenNames) → IsSegmentAt list at (seen ∷ rest) → set_in list at ≡ seen
 head_recorded list at seen rest h = get_is list at seen h.0
 
-pub past_end : (list : List Seen) (label : ℕ) → length list ≤ label → set_in list label ≡ none_seen
+pub past_end : (list : List SeenNames) (label : ℕ) → length list ≤ label → set_in list label ≡ none_seen
 past_end [] label le = refl
 past_end (y ∷ list) zero le = absurd (omega arith)
 past_end (y ∷ list) (suc label) le = past_end list label (omega arith)
 
 -- from one place to another a set is recorded, and where it ends no more
-pub record Even (own : ℕ → Seen) (seen : Seen) (lo hi : ℕ) : Type 0 where
+pub record Even (own : ℕ → SeenNames) (seen : SeenNames) (lo hi : ℕ) : Type 0 where
   pub inside : (label : ℕ) → lo ≤ label → label < hi → own label ≡ seen
   pub end : IsPart (own hi) seen
 
-pub even_part : (own : ℕ → Seen) (seen : Seen) (lo hi lo' hi' : ℕ) → Even own seen lo hi → lo ≤ lo' → lo' ≤ hi' → hi' ≤ hi → Even own seen lo' hi'
+pub even_part : (own : ℕ → SeenNames) (seen : SeenNames) (lo hi lo' hi' : ℕ) → Even own seen lo hi → lo ≤ lo' → lo' ≤ hi' → hi' ≤ hi → Even own seen lo' hi'
 even_part own seen lo hi lo' hi' e a m b = record { inside = λ label le lt. e.inside label (omega arith) (omega arith); end = of (cases_lt hi' hi) }
   where
     of : (hi' < hi) ⊎ (hi ≤ hi') → IsPart (own hi') seen
     of (inl lt) = is_same (own hi') seen (e.inside hi' (omega arith) lt)
     of (inr le) = let same : hi ≡ hi' = omega arith in subst (λ n. IsPart (own n) seen) same e.end
 
-evenly : (list : List Seen) (seen : Seen) (n at : ℕ) → IsSegmentAt list at (replicate n seen) → (label : ℕ) → at ≤ label → label < at + n → set_in list label ≡ seen
+evenly : (list : List SeenNames) (seen : SeenNames) (n at : ℕ) → IsSegmentAt list at (replicate n seen) → (label : ℕ) → at ≤ label → label < at + n → set_in list label ≡ seen
 evenly list seen zero at h label le lt = absurd (omega arith)
 evenly list seen (suc n) at h label le lt = of (cases_lt at label) (λ more. evenly list seen n (at + 1) h.1 label (omega arith) (omega arith))
   where
@@ -59,12 +59,12 @@ evenly list seen (suc n) at h label le lt = of (cases_lt at label) (λ more. eve
     of (inl more) go = go more
     of (inr last) go = let same : at ≡ label = omega arith in ap (set_in list) (sym same) ∙ get_is list at seen h.0
 
-pub even_list : (list : List Seen) (seen : Seen) (n at hi : ℕ) → at + n ≡ hi → IsSegmentAt list at (replicate n seen) → IsPart (set_in list hi) seen → Even (set_in list) seen at hi
+pub even_list : (list : List SeenNames) (seen : SeenNames) (n at hi : ℕ) → at + n ≡ hi → IsSegmentAt list at (replicate n seen) → IsPart (set_in list hi) seen → Even (set_in list) seen at hi
 even_list list seen n at hi e h end = record { inside = λ label le lt. evenly list seen n at h label le (omega arith); end = end }
 
 -- ---- instructions of such code
 
-module _ (locals lo hi : ℕ) (seen : Seen) where
+module _ (locals lo hi : ℕ) (seen : SeenNames) where
   abbrev pub IsWithin : ℕ → Type 0
   IsWithin label = (lo ≤ label) × (label ≤ hi)
 
@@ -85,11 +85,11 @@ module _ (locals lo hi : ℕ) (seen : Seen) where
   AllFine code = AllByRecursion Fine code
 
 -- temporaries aren't among them
-pub temporaries_in : (b : Bool) (seen : Seen) (i k : ℕ) → OperandsIn b seen (Temporary i) (Temporary k)
+pub temporaries_in : (b : Bool) (seen : SeenNames) (i k : ℕ) → OperandsIn b seen (Temporary i) (Temporary k)
 temporaries_in true seen i k = tt
 temporaries_in false seen i k = (tt, tt)
 
-module _ (program : LinearProgram) (sets : BodyName → ℕ → Seen) (name : BodyName) where
+module _ (program : LinearProgram) (sets : BodyName → ℕ → SeenNames) (name : BodyName) where
   abbrev pub AllLead : ℕ → List Instruction → Type 0
   AllLead at [] = Unit {0}
   AllLead at (i ∷ is) = Leads program sets name at i × AllLead (at + 1) is
@@ -104,14 +104,14 @@ module _ (program : LinearProgram) (sets : BodyName → ℕ → Seen) (name : Bo
   lead_at at (j ∷ code) (suc label) i h e = let same : at + 1 + label ≡ at + suc label = omega arith in subst (λ n. Leads program sets name n i) same (lead_at (at + 1) code label i h.1 e)
 
   -- a read of what is seen
-  pub reads_recorded : (own seen : Seen) (slot : Slot) → own ≡ seen → ReadsIn seen slot → ReadsIn own slot
-  reads_recorded own seen slot e r = subst (λ (s : Seen). ReadsIn s slot) (sym e) r
+  pub reads_recorded : (own seen : SeenNames) (slot : Slot) → own ≡ seen → ReadsIn seen slot → ReadsIn own slot
+  reads_recorded own seen slot e r = subst (λ (s : SeenNames). ReadsIn s slot) (sym e) r
 
-  written_part : (a b : Seen) (to : Slot) → IsPart a b → IsPart a (with_slot to b)
+  written_part : (a b : SeenNames) (to : Slot) → IsPart a b → IsPart a (with_slot to b)
   written_part a b (Local x) h y e = sees_before b x y (h y e)
   written_part a b (Temporary i) h y e = h y e
 
-  module _ (locals : ℕ) (room : locals_at program name ≡ locals) (seen : Seen) (lo hi : ℕ) (even : Even (sets name) seen lo hi) where
+  module _ (locals : ℕ) (room : locals_at program name ≡ locals) (seen : SeenNames) (lo hi : ℕ) (even : Even (sets name) seen lo hi) where
     -- at a place of it and at the next one no more is recorded than at each of its places
     at_most : (label : ℕ) → lo ≤ label → label ≤ hi → IsPart (sets name label) seen
     at_most label le lt = (even_part (sets name) seen lo hi lo label even (omega arith) le lt).end
@@ -133,7 +133,7 @@ module _ (program : LinearProgram) (sets : BodyName → ℕ → Seen) (name : Bo
 
         of : (i : Instruction) → Fine locals lo hi seen i → Leads program sets name at i
         of (instructions.Compute to o first second) h =
-            (subst (λ (s : Seen). OperandsIn (is_constant o) s first second) (sym here) h.0, is_local to h.1, written_part (sets name (at + 1)) (sets name at) to next)
+            (subst (λ (s : SeenNames). OperandsIn (is_constant o) s first second) (sym here) h.0, is_local to h.1, written_part (sets name (at + 1)) (sets name at) to next)
         of (instructions.Information to field) h = (is_local to h, written_part (sets name (at + 1)) (sets name at) to next)
         of (instructions.Jump label) h = from label h.0 h.1
         of (instructions.JumpIfZero slot label) h = (reads_recorded (sets name at) seen slot here h.0, from label h.1.0 h.1.1, next)

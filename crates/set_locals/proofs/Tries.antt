@@ -12,7 +12,7 @@ use Rattle.ir_expressions.specs.Scope.{in_try, in_except, in_guarded}
 use Rattle.seh_ir.specs.Statements.{landed, statement_code, statements_code}
 use Rattle.seh_ir.proofs.StatementCodes.{statements_length}
 use Rattle.ir_linked.proofs.Segments.{IsSegmentAt, front, back}
-use Rattle.scoped_programs.specs.Scoped.{Seen, with_local, IsPart}
+use Rattle.scoped_programs.specs.Scoped.{SeenNames, with_local, IsPart}
 use Rattle.scoped_programs.proofs.Split.{sees_before, itself, within}
 use Rattle.set_locals.specs.Sets.{locals_at, FinallyBegins}
 use Rattle.set_locals.specs.Places.{statement_sets, statements_sets, set_in}
@@ -21,14 +21,14 @@ use Rattle.set_locals.proofs.Fine.{IsAround}
 use Rattle.set_locals.proofs.Shapes.{statements_long, statements_first, begins}
 use Rattle.set_locals.proofs.Pieces.{from_here}
 
-module _ (linear : LinearProgram) (lists : BodyName → List Seen) (name : BodyName) (locals : ℕ) (room : locals_at linear name ≡ locals) (scope : Scope) (before seen : Seen) (around : IsAround locals scope.names before seen) where
-  abbrev sets : BodyName → ℕ → Seen
+module _ (linear : LinearProgram) (lists : BodyName → List SeenNames) (name : BodyName) (locals : ℕ) (room : locals_at linear name ≡ locals) (scope : Scope) (before seen : SeenNames) (around : IsAround locals scope.names before seen) where
+  abbrev sets : BodyName → ℕ → SeenNames
   sets n label = set_in (lists n) label
 
-  abbrev At : ℕ → List Seen → Type 0
+  abbrev At : ℕ → List SeenNames → Type 0
   At at ys = IsSegmentAt (lists name) at ys
 
-  abbrev IsRecordedAt : ℕ → Seen → Type 0
+  abbrev IsRecordedAt : ℕ → SeenNames → Type 0
   IsRecordedAt label recorded = IsPart (sets name label) recorded
 
   abbrev Lead : ℕ → List Instruction → Type 0
@@ -71,14 +71,14 @@ module _ (linear : LinearProgram) (lists : BodyName → List Seen) (name : BodyN
         leaves = leaves;
         leads = λ x z. both_lead linear sets name at skip (statements_code (in_try out scope) body at) (landed out free ++ statements_code (in_except scope) block (target + 1)) (omega arith) x (
           from_here linear lists name skip out seen here_skip leaves,
-          ((subst (λ n. free < n) (sym room) lt, subst (λ (s : Seen). IsPart (sets name (target + 1)) (with_local free s)) (sym here_target) start), z),
+          ((subst (λ n. free < n) (sym room) lt, subst (λ (s : SeenNames). IsPart (sets name (target + 1)) (with_local free s)) (sym here_target) start), z),
         );
       }
 
   pub record FinallyParts (body : Statements) (k : ℕ) (last : Statements) (at : ℕ) : Type 0 where
     pub is_there : At at (statements_sets free seen body)
     pub end : sets name (at + statements_size body) ≡ seen
-    pub leads : ((s : Seen) → IsPart seen s → FinallyBegins linear sets (k - 1) s) → Lead at (statements_code (in_guarded (at + statements_size body) scope) body at) → Lead at (statement_code scope (TryFinally body k last) at)
+    pub leads : ((s : SeenNames) → IsPart seen s → FinallyBegins linear sets (k - 1) s) → Lead at (statements_code (in_guarded (at + statements_size body) scope) body at) → Lead at (statement_code scope (TryFinally body k last) at)
 
   pub finally_parts : (body : Statements) (k : ℕ) (last : Statements) (at : ℕ) → At at (statement_sets free seen (TryFinally body k last)) → IsRecordedAt (at + statement_size (TryFinally body k last)) seen → FinallyParts body k last at
   finally_parts body k last at h end =

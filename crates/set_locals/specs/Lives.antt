@@ -9,18 +9,18 @@ use Rattle.linear_code.specs.Program.{LinearProgram, LinearFunction}
 use Rattle.linear_machine.specs.Frames.{BodyName, FuncletBody, Frame, Handler, Target, Item, Waits, Searches, Unwinds, Configuration}
 use Rattle.unset_locals.specs.Marks.{Marks, marks_of, local_written, begins_block, flag_set}
 use Rattle.unset_locals.specs.Alike.{AreActivationsAlike}
-use Rattle.scoped_programs.specs.Scoped.{Seen, IsPart}
+use Rattle.scoped_programs.specs.Scoped.{SeenNames, IsPart}
 use Rattle.set_locals.specs.Sets.{locals_at, Guards}
 
 -- a local of an activation has been set
 abbrev pub Marked : Marks → ℕ → ℕ → Type 0
 Marked marks k x = slice_get (marks_of marks k) x ≡ Some true
 
-module _ (program : LinearProgram) (sets : BodyName → ℕ → Seen) where
+module _ (program : LinearProgram) (sets : BodyName → ℕ → SeenNames) where
   -- ---- where what waits may lead
 
   -- what is known at a frame's place
-  abbrev pub here : Frame → Seen
+  abbrev pub here : Frame → SeenNames
   here f = sets f.body f.next
 
   -- a handler of a frame with so many items below it

@@ -14,25 +14,25 @@ use Rattle.linear_machine.specs.Regions.{holds}
 use Rattle.linear_machine.specs.Unwinding.{flag_of}
 use Rattle.linear_machine.specs.Instructions.{is_constant}
 use Rattle.ir_typed.specs.Bodies.{owner_of}
-use Rattle.scoped_programs.specs.Scoped.{Seen, with_local, IsPart, first_seen}
+use Rattle.scoped_programs.specs.Scoped.{SeenNames, with_local, IsPart, first_seen}
 
 -- with what is written, if it is a local
-abbrev pub with_slot : Slot → Seen → Seen
+abbrev pub with_slot : Slot → SeenNames → SeenNames
 with_slot (Local x) seen = with_local x seen
 with_slot (Temporary i) seen = seen
 
 -- with the flag of a `__finally` block
-abbrev pub with_flag : Option ℕ → Seen → Seen
+abbrev pub with_flag : Option ℕ → SeenNames → SeenNames
 with_flag None seen = seen
 with_flag (Some x) seen = with_local x seen
 
 -- a local that is read has been set
-abbrev pub ReadsIn : Seen → Slot → Type 0
+abbrev pub ReadsIn : SeenNames → Slot → Type 0
 ReadsIn seen (Local x) = seen x ≡ true
 ReadsIn seen (Temporary i) = Unit {0}
 
 -- a constant reads no slot
-abbrev pub OperandsIn : Bool → Seen → Slot → Slot → Type 0
+abbrev pub OperandsIn : Bool → SeenNames → Slot → Slot → Type 0
 OperandsIn true seen first second = Unit {0}
 OperandsIn false seen first second = ReadsIn seen first × ReadsIn seen second
 
@@ -53,9 +53,9 @@ owner_locals program (Some f) = function_locals (slice_get program.functions f)
 abbrev pub locals_at : LinearProgram → BodyName → ℕ
 locals_at program name = owner_locals program (owner_of program name)
 
-module _ (program : LinearProgram) (sets : BodyName → ℕ → Seen) where
+module _ (program : LinearProgram) (sets : BodyName → ℕ → SeenNames) where
   -- where a funclet begins, what has been set where it is run from, and its flag
-  abbrev pub FinallyBegins : ℕ → Seen → Type 0
+  abbrev pub FinallyBegins : ℕ → SeenNames → Type 0
   FinallyBegins k seen =
       IsPart (sets (FuncletBody k) 0) (with_flag (flag_of (slice_get program.funclets k)) seen)
 

@@ -57,5 +57,5 @@ code_from k y at (instruction ∷ more) =
     template k y at instruction ++ code_from k y (at + template_size y instruction) more
 
 -- a body that begins here, whose labels are the numbers of its instructions
-abbrev pub IsBody : Links → Layout → ℕ → List Instruction → Type 0
-IsBody k y start body = (number : ℕ) → k.label number ≡ start + offset_of y body number
+abbrev pub HasLabels : Links → Layout → ℕ → List Instruction → Type 0
+HasLabels k y start body = (number : ℕ) → k.label number ≡ start + offset_of y body number

@@ -2,7 +2,7 @@ ghost use Rattle.std.specs.Prelude.{◌≡◌, ℕ, All, IfOk};
 ghost use Rattle.seh_num.specs.declared.width.Width.TheVariants.{W64};
 ghost use Rattle.flat_memory.specs.Memory.{loaded, after_store};
 ghost use Rattle.x64_memory.specs.PageMaps.{memory_of, holds};
-ghost use Rattle.x64_memory.specs.Regions.{AreAscending, IsWhole, HoldsArena, in_regions, mapped};
+ghost use Rattle.x64_memory.specs.Regions.{AreAscending, IsWholeRegion, HoldsArena, in_regions, mapped};
 
 use crate::rows::{bytes_of, number, width_of};
 use flat_memory::access::RefusedAccess;
@@ -339,7 +339,7 @@ fn in_new_memory(
     at: u64,
     value: u64,
 ) -> Result<Result<u64, RefusedAccess>, AllocError>
-    requires whole { All IsWhole regions.now }
+    requires whole { All IsWholeRegion regions.now }
     requires ascending { AreAscending 0 regions.now }
     requires arena { HoldsArena regions.now }
     ensures { IfOk result (λ r. r ≡ loaded (after_store (mapped regions.now) at W64 value) at W64) }

@@ -1,5 +1,5 @@
 ghost use Rattle.std.specs.Prelude.{◌≡◌, ◌≤◌, ◌<◌, length};
-ghost use Rattle.eh_tables.specs.Tables.{IsWhole};
+ghost use Rattle.eh_tables.specs.Tables.{TablesAreWhole};
 
 use crate::rows::{bytes_of, columns_of, number, place_of};
 use eh_tables::{
@@ -274,7 +274,7 @@ fn finds_nothing_without_entries(rt: HostRuntime) -> Result<(), Fail> {
 /// takes no bytes, so that the contract alone says it: 0 where there are no entries, at most 2 of
 /// 3.
 fn looked_up<L: Ledger>(tables: &Tables<'_, '_>, rva: u64, blank: Blank) -> (Option<u32>, Steps<L>)
-    requires whole { IsWhole tables.now }
+    requires whole { TablesAreWhole tables.now }
     requires name { blank.name ≡ L.name }
     requires parts { blank.parts ≡ L.parts }
     requires some { 0 < L.parts }
@@ -287,7 +287,7 @@ fn looked_up<L: Ledger>(tables: &Tables<'_, '_>, rva: u64, blank: Blank) -> (Opt
 }
 
 fn begin_of<L: Ledger>(tables: &Tables<'_, '_>, rva: u64, blank: Blank) -> Option<u32>
-    requires whole { IsWhole tables.now }
+    requires whole { TablesAreWhole tables.now }
     requires name { blank.name ≡ L.name }
     requires parts { blank.parts ≡ L.parts }
     requires some { 0 < L.parts }

@@ -28,15 +28,15 @@ use Rattle.linear_machine.specs.Unwinding.{unwind}
 use Rattle.linear_machine.specs.Instructions.{end_finally}
 use Rattle.linear_machine.specs.Run.{exec}
 use Rattle.linked_stack.specs.Stack.{StackItem, Unwinding}
-use Rattle.linked_stack.specs.ImagePlan.{Plan}
+use Rattle.linked_stack.specs.ImagePlan.{ImagePlan}
 use Rattle.linked_stack.specs.Linked.{Activation, locals_of}
 use Rattle.linked_stack.proofs.Ends.{in_stack}
-use Rattle.linked_stack.specs.Records.{On, HasRoom}
+use Rattle.linked_stack.specs.Records.{On, RecordHasRoom}
 use Rattle.linked_stack.specs.Unwinding.{store_of}
 use Rattle.linked_stack.specs.States.{IsSane}
 use Rattle.linked_stack.specs.Unwinds.{Unwound}
 use Rattle.linked_stack.specs.Steps.{placed_in, SearchIsAnswered, AnswersAs}
-use Rattle.linked_stack.specs.Returns.{filter_turn, with_answer, answered, linear_answer, AsksTheNext, AskedTakesOver, IsContinued, IsRaisedAnew}
+use Rattle.linked_stack.specs.Returns.{filter_turn, with_answer, answered, linear_answer, AsksTheNext, AskedTakesOver, ContinuesException, IsRaisedAnew}
 use Rattle.linked_stack.proofs.Begun.{answers_continue, finally_returns_unwind}
 use Rattle.linked_stack.proofs.Returned.{filter_returns}
 use Rattle.whole_runs.specs.Ends.{HasRule}
@@ -55,7 +55,7 @@ use Rattle.turn_steps.proofs.Outcomes.{arrived_with, with_one, with_two, with_no
 use Rattle.turn_steps.proofs.TurnUnwinding.{unwound}
 use Rattle.turn_steps.proofs.Searching.{searched, taken_over}
 
-module _ (t : Functions) (fs : List Funclet) (program : LinearProgram) (p : Plan) (q : Sites) (image : IsProgramImage t fs program p q) (fits : FlagsFit program) where
+module _ (t : Functions) (fs : List Funclet) (program : LinearProgram) (p : ImagePlan) (q : Sites) (image : IsProgramImage t fs program p q) (fits : FlagsFit program) where
   -- ---- a filter has answered
 
   module _ (continues : Continuations t fs program p q) (s : State) (r : DispatchRecord) (is : List StackItem) (acts : List Activation) (exception : Exception) (resumption : Resumption) (asked : Handler) (rest : List Handler) (c : Configuration)
@@ -103,7 +103,7 @@ module _ (t : Functions) (fs : List Funclet) (program : LinearProgram) (p : Plan
         (outcome_same t fs program p q (arrived t fs x) (arrived t fs x) (λ next. accept program asked exception next c') seen (c.events ++ event ∷ []) (turns_left c) shadow refl a.goes
         (taken_over t fs program p q image fits s at r is acts exception rest c' onward.next memory store asked r.frame a.address a.frame_small a.address_small a.aimed (subst HasRule (a.goes (exec program zero)) rule))))
 
-    is_continued : IsContinued t fs program p s r is acts exception resumption asked rest c → Answers
+    is_continued : ContinuesException t fs program p s r is acts exception resumption asked rest c → Answers
     is_continued a =
         let x : Turn = Continues (restored s r) [] in
         let l = continues s r.saved is acts resumption c' a.on a.sane a.resumes memory store in
@@ -120,7 +120,7 @@ module _ (t : Functions) (fs : List Funclet) (program : LinearProgram) (p : Plan
           leads = λ known. l.1 known free;
         }))
       where
-        continued_quietly : IsContinued t fs program p s r is acts exception resumption asked rest c → arrivals r.saved (distance t.base r.saved.rip) 1 fs ≡ []
+        continued_quietly : ContinuesException t fs program p s r is acts exception resumption asked rest c → arrivals r.saved (distance t.base r.saved.rip) 1 fs ≡ []
         continued_quietly a = (continues s r.saved is acts resumption c' a.on a.sane a.resumes memory store).0
 
         resumed_few : (k : Resumption) → turns_left (resumed k c') ≤ turns_left c + 3
@@ -143,7 +143,7 @@ module _ (t : Functions) (fs : List Funclet) (program : LinearProgram) (p : Plan
         let y = arrived t fs x in
         let above = rsp (context_of r.saved) in
         let top = in_stack t fs program p s.memory (context_of r.saved) is (Waits c.frame ∷ c.below) acts g.next.on.is_there.stack g.next.on.is_there.linked in
-        let room : HasRoom s.memory at anew above = record { fits = g.anew.room.fits; below = g.next.room.below; small = g.next.room.small; room = g.next.room.room } in
+        let room : RecordHasRoom s.memory at anew above = record { fits = g.anew.room.fits; below = g.next.room.below; small = g.next.room.small; room = g.next.room.room } in
         let untouched = placing s.memory at anew above answers.on.data_alone room top in
         let memory' = memory_untouched t fs program p q s.memory (placed s.memory at anew) c.store.memory untouched memory g.anew.on.data_alone in
         let assoc = append_assoc c.events (event ∷ []) (e ∷ []) in

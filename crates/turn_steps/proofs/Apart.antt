@@ -9,8 +9,8 @@ use Rattle.linear_code.specs.declared.program.Region.{Region}
 use Rattle.linear_code.specs.Program.{LinearProgram, LinearBody}
 use Rattle.linear_machine.specs.Frames.{BodyName, body_of}
 use Rattle.linear_machine.specs.Regions.{holds, regions_of}
-use Rattle.ir_typed.specs.Apart.{is_call, AreApart}
-use Rattle.linked_stack.specs.ImagePlan.{Plan}
+use Rattle.ir_typed.specs.Apart.{is_call, AllReturnsStayInRegions}
+use Rattle.linked_stack.specs.ImagePlan.{ImagePlan}
 use Rattle.linked_stack.specs.Linked.{SameRegions}
 
 module _ {A : Type 0} (f g : A → Bool) where
@@ -40,7 +40,7 @@ module _ {A : Type 0} (f g : A → Bool) where
       by rest false p true q e = let z : true ≡ false = sym (none_passes g f x xs (filter g xs) (sym e)) ∙ p in absurd cc
 
 -- a call and the instruction after it are in the same regions
-pub apart_same : (t : Functions) (fs : List Funclet) (program : LinearProgram) (p : Plan) → AreApart program → (name : BodyName) (b : LinearBody) (label : ℕ) (i : Instruction)
+pub apart_same : (t : Functions) (fs : List Funclet) (program : LinearProgram) (p : ImagePlan) → AllReturnsStayInRegions program → (name : BodyName) (b : LinearBody) (label : ℕ) (i : Instruction)
     → body_of program name ≡ Some b → slice_get b.code label ≡ Some i → is_call i ≡ true → SameRegions t fs program p (body_of program name) (label + 1) label
 apart_same t fs program p apart name b label i there at call =
     subst (λ (rs : List Region). AllByRecursion (λ (r : Region). holds (label + 1) r ≡ holds label r) rs) (sym (ap regions_of there))

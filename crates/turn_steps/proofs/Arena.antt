@@ -13,7 +13,7 @@ use Rattle.host_model.specs.declared.funclet.Funclet.{Funclet}
 use Rattle.c_model.specs.Source.{is_reserved}
 use Rattle.linear_code.specs.Program.{LinearProgram}
 use Rattle.x64_templates.specs.Frames.{Agrees}
-use Rattle.linked_stack.specs.ImagePlan.{Plan}
+use Rattle.linked_stack.specs.ImagePlan.{ImagePlan}
 use Rattle.linked_stack.specs.ListLaws.{KeepsStack}
 use Rattle.body_states.specs.Sites.{Sites}
 use Rattle.body_states.specs.Programs.{IsMachineMemory, IsProgramImage}
@@ -75,7 +75,7 @@ module _ (m : Memory) (at : ℕ) where
       by true e = of_rights (rights_numbered n) e
       by false e = nothing_set
 
-module _ (t : Functions) (fs : List Funclet) (program : LinearProgram) (p : Plan) (q : Sites) (image : IsProgramImage t fs program p q) (m source : Memory) (at : ℕ) (n : ℤ) (h : IsMachineMemory t fs program p q m source) where
+module _ (t : Functions) (fs : List Funclet) (program : LinearProgram) (p : ImagePlan) (q : Sites) (image : IsProgramImage t fs program p q) (m source : Memory) (at : ℕ) (n : ℤ) (h : IsMachineMemory t fs program p q m source) where
   abbrev pub after : Memory
   after = protected m at n
 

@@ -23,10 +23,10 @@ use Rattle.linear_machine.specs.Unwinding.{unwind}
 use Rattle.linear_machine.specs.Instructions.{local_unwind}
 use Rattle.linear_machine.specs.Run.{exec}
 use Rattle.linked_stack.specs.Stack.{StackItem}
-use Rattle.linked_stack.specs.ImagePlan.{Plan}
+use Rattle.linked_stack.specs.ImagePlan.{ImagePlan}
 use Rattle.linked_stack.specs.Linked.{Activation, locals_of, Aimed}
 use Rattle.linked_stack.proofs.Ends.{in_stack}
-use Rattle.linked_stack.specs.Records.{HasRoom}
+use Rattle.linked_stack.specs.Records.{RecordHasRoom}
 use Rattle.linked_stack.specs.Unwinding.{store_of}
 use Rattle.linked_stack.specs.Steps.{placed_in, from_body, AsksHost, IsException}
 use Rattle.linked_stack.proofs.Begun.{raise_searches, local_unwind_unwinds}
@@ -46,7 +46,7 @@ use Rattle.turn_steps.proofs.Searching.{searched}
 abbrev pub having_shown : Event → Configuration → Configuration
 having_shown e c = record { frame = c.frame; below = c.below; store = c.store; events = c.events ++ e ∷ [] }
 
-module _ (t : Functions) (fs : List Funclet) (program : LinearProgram) (p : Plan) (q : Sites) (image : IsProgramImage t fs program p q) (fits : FlagsFit program) where
+module _ (t : Functions) (fs : List Funclet) (program : LinearProgram) (p : ImagePlan) (q : Sites) (image : IsProgramImage t fs program p q) (fits : FlagsFit program) where
   module _ (s : State) (saved : Cpu) (is : List StackItem) (acts : List Activation) (c : Configuration)
       (asks : AsksHost t fs program p s saved is (Waits c.frame ∷ c.below) acts) (memory : IsMachineMemory t fs program p q s.memory c.store.memory) (store : c.store.activations ≡ locals_of acts) where
     top : rsp (context_of saved) ≤ 0x70800000
@@ -63,7 +63,7 @@ module _ (t : Functions) (fs : List Funclet) (program : LinearProgram) (p : Plan
         let at = place_of saved in
         let a = raise_searches t fs program p s code flags access saved is acts exception c' asks is_exception in
         let found = a.searching in
-        let room : HasRoom s.memory at r (rsp (context_of saved)) = record { fits = found.room.fits; below = found.room.below; small = found.room.small; room = asks.room } in
+        let room : RecordHasRoom s.memory at r (rsp (context_of saved)) = record { fits = found.room.fits; below = found.room.below; small = found.room.small; room = asks.room } in
         let untouched = placing s.memory at r (rsp (context_of saved)) asks.on.data_alone room top in
         let memory' = memory_untouched t fs program p q s.memory (placed s.memory at r) c.store.memory untouched memory found.on.data_alone in
         record {
@@ -83,7 +83,7 @@ module _ (t : Functions) (fs : List Funclet) (program : LinearProgram) (p : Plan
         let w = from_body target c.frame c.below acts c.store.memory c.events in
         let a = local_unwind_unwinds t fs program p s frame address saved is acts (length c.below) label c.frame c.below c.store.memory c.events asks frame_small address_small aimed in
         let u = a.unwinding in
-        let room : HasRoom s.memory at r (rsp (context_of saved)) = record { fits = u.room.fits; below = u.room.below; small = u.room.small; room = asks.room } in
+        let room : RecordHasRoom s.memory at r (rsp (context_of saved)) = record { fits = u.room.fits; below = u.room.below; small = u.room.small; room = asks.room } in
         let untouched = placing s.memory at r (rsp (context_of saved)) asks.on.data_alone room top in
         let memory' = memory_untouched t fs program p q s.memory (placed s.memory at r) c.store.memory untouched memory u.on.data_alone in
         let same_store : c.store ≡ store_of c.store.memory acts = ap (λ (xs : List (List ℕ)). let x : Store = record { memory = c.store.memory; activations = xs } in x) store in

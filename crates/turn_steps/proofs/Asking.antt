@@ -35,7 +35,7 @@ use Rattle.template_code.proofs.Sizes.{sizes_append, call_size, template_sizes}
 use Rattle.x64_templates.specs.Straight.{MachineView, machine}
 use Rattle.x64_templates.specs.CallStates.{pushed}
 use Rattle.x64_templates.specs.Runs.{Reaches, HasCode}
-use Rattle.linked_stack.specs.ImagePlan.{Plan}
+use Rattle.linked_stack.specs.ImagePlan.{ImagePlan}
 use Rattle.linked_stack.specs.ListLaws.{KeepsAbove}
 use Rattle.linked_stack.specs.States.{IsSane}
 use Rattle.linked_stack.proofs.Entered.{set_small}
@@ -79,7 +79,7 @@ keep_some : (y : Layout) (first : ℕ) → 1 ≤ sizes (keep y (Temporary first)
 unfolding template_size
 keep_some y first = template_some y (instructions.Landing (Temporary first))
 
-module _ (t : Functions) (fs : List Funclet) (program : LinearProgram) (p : Plan) (q : Sites) (image : IsProgramImage t fs program p q) (made : IsWellMade program p) where
+module _ (t : Functions) (fs : List Funclet) (program : LinearProgram) (p : ImagePlan) (q : Sites) (image : IsProgramImage t fs program p q) (made : IsWellMade program p) where
   module _ (s : State) (c : Configuration) (b : Begins t fs program p q s c) (known : IsKnown program c) (f : BuiltIn) (first : ℕ) (at : instruction_at program c ≡ Some (instructions.CallBuiltIn f first)) where
     abbrev counted : IsCounted t fs program p q image c
     counted = counted_here t fs program p q image made c known

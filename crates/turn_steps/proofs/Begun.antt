@@ -18,7 +18,7 @@ use Rattle.linear_machine.specs.Regions.{holds, regions_of}
 use Rattle.template_code.specs.declared.layout.Layout.{Layout}
 use Rattle.linked_stack.specs.Stack.{StackItem}
 use Rattle.linked_stack.specs.WalkLaws.{context_below}
-use Rattle.linked_stack.specs.ImagePlan.{Plan}
+use Rattle.linked_stack.specs.ImagePlan.{ImagePlan}
 use Rattle.linked_stack.specs.Linked.{Activation, locals_of, HasSpace, below_end, HoldsWords, home_end, BodyWaits, HasPointers, FunctionIsAbove, ReturnsTo}
 use Rattle.linked_stack.specs.Records.{On}
 use Rattle.linked_stack.specs.States.{IsSane}
@@ -37,7 +37,7 @@ same_itself (r ∷ rs) label = (refl, same_itself rs label)
 count_of_locals : (acts : List Activation) → length (locals_of acts) ≡ length acts
 count_of_locals acts = locals_count acts
 
-module _ (t : Functions) (fs : List Funclet) (program : LinearProgram) (p : Plan) (q : Sites) (image : IsProgramImage t fs program p q) where
+module _ (t : Functions) (fs : List Funclet) (program : LinearProgram) (p : ImagePlan) (q : Sites) (image : IsProgramImage t fs program p q) where
   no_pointers : (m : Memory) (y : Layout) (sp size : ℕ) (items : List Item) → FunctionIsAbove t fs program p items → HasPointers t fs program p m y sp size items
   no_pointers m y sp size [] h = tt
   no_pointers m y sp size (Waits w ∷ below) h = tt

@@ -29,7 +29,7 @@ use Rattle.x64_templates.specs.Runs.{Reaches}
 use Rattle.x64_templates.proofs.Unwinds.{with_two, FinallyCalled, finally_begins}
 use Rattle.x64_templates.proofs.Entries.{pushed_back}
 use Rattle.linked_stack.specs.WalkLaws.{context_below}
-use Rattle.linked_stack.specs.ImagePlan.{Plan, InCode, by_parent, parent_body, IsFunclet}
+use Rattle.linked_stack.specs.ImagePlan.{ImagePlan, InCode, by_parent, parent_body, IsFunclet}
 use Rattle.linked_stack.specs.Linked as linked
 use Rattle.linked_stack.specs.Linked.{Activation, HasActivation, return_of, ReturnsTo}
 use Rattle.linked_stack.specs.ListLaws.{KeepsAbove}
@@ -39,8 +39,8 @@ use Rattle.linked_stack.proofs.SearchSearched.{body_reaches}
 use Rattle.linked_stack.specs.States.{IsSane}
 use Rattle.whole_runs.specs.Shadow.{AllKeep}
 use Rattle.whole_runs.specs.Comes.{Comes}
-use Rattle.ir_typed.specs.Apart.{AreApart}
-use Rattle.ir_typed.specs.Bodies.{IsFinally, parent_of, IsFuncletOf}
+use Rattle.ir_typed.specs.Apart.{AllReturnsStayInRegions}
+use Rattle.ir_typed.specs.Bodies.{IsFinallyKind, parent_of, IsFuncletOf}
 use Rattle.ir_typed.specs.Room.{HaveRoom}
 use Rattle.body_states.specs.Sites.{Sites}
 use Rattle.body_states.specs.Bodies.{slots_end, InBody, Begins}
@@ -67,10 +67,10 @@ same_parents : (function : ℕ) (o : Option ℕ) → by_parent function o ≡ pa
 same_parents function None = refl
 same_parents function (Some j) = refl
 
-module _ (t : Functions) (fs : List Funclet) (program : LinearProgram) (p : Plan) (q : Sites) (image : IsProgramImage t fs program p q) (roomy : HaveRoom program) (apart : AreApart program) where
+module _ (t : Functions) (fs : List Funclet) (program : LinearProgram) (p : ImagePlan) (q : Sites) (image : IsProgramImage t fs program p q) (roomy : HaveRoom program) (apart : AllReturnsStayInRegions program) where
   module _ (s : State) (c : Configuration) (b : Begins t fs program p q s c) (counted : IsCounted t fs program p q image c) (k flag : ℕ)
       (at : slice_get b.body.slots.code.code c.frame.next ≡ Some (instructions.CallFinally k)) (separator : slice_get b.body.slots.code.code (c.frame.next + 1) ≡ Some instructions.Separator) (framed : p.leaf c.frame.body ≡ false)
-      (block : IsFuncletOf program c.frame.body IsFinally k) (kind : block.funclet.kind ≡ funclets.Finally flag) where
+      (block : IsFuncletOf program c.frame.body IsFinallyKind k) (kind : block.funclet.kind ≡ funclets.Finally flag) where
     abbrev name : BodyName
     name = c.frame.body
 

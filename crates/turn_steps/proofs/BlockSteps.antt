@@ -15,11 +15,11 @@ use Rattle.linear_machine.specs.Frames.{Waits, Configuration, Finished, Next, pi
 use Rattle.linear_machine.specs.Instructions.{act}
 use Rattle.linear_machine.specs.Run.{instruction_at}
 use Rattle.linear_machine.specs.Unwinding.{flag_of, begin_finally}
-use Rattle.linked_stack.specs.ImagePlan.{Plan}
+use Rattle.linked_stack.specs.ImagePlan.{ImagePlan}
 use Rattle.whole_runs.specs.Matched.{IsMatched}
 use Rattle.whole_runs.specs.Comes.{LeadsTo}
 use Rattle.whole_runs.proofs.Matches.{quietly_after, fails_at_once}
-use Rattle.ir_typed.specs.Bodies.{IsFinally, IsInstructionOf, IsFuncletOf}
+use Rattle.ir_typed.specs.Bodies.{IsFinallyKind, IsInstructionOf, IsFuncletOf}
 use Rattle.body_states.specs.Sites.{Sites}
 use Rattle.body_states.specs.Bodies.{turns_left, Begins}
 use Rattle.body_states.specs.Programs.{IsProgramImage}
@@ -35,11 +35,11 @@ use Rattle.turn_steps.specs.BlockLaws.{BlockCallsAreMatched}
 use Rattle.turn_steps.proofs.BlockCalling as calling
 
 -- a `__finally` block has a flag
-pub flag_there : (kind : FuncletKind) → IsFinally kind → (flag : ℕ) × (kind ≡ funclets.Finally flag)
+pub flag_there : (kind : FuncletKind) → IsFinallyKind kind → (flag : ℕ) × (kind ≡ funclets.Finally flag)
 flag_there funclets.Filter h = absurd h
 flag_there (funclets.Finally flag) h = (flag, refl)
 
-module _ (t : Functions) (fs : List Funclet) (program : LinearProgram) (p : Plan) (q : Sites) (image : IsProgramImage t fs program p q) (made : IsWellMade program p) (fits : FlagsFit program) (separators : SeparatorsFollow program) where
+module _ (t : Functions) (fs : List Funclet) (program : LinearProgram) (p : ImagePlan) (q : Sites) (image : IsProgramImage t fs program p q) (made : IsWellMade program p) (fits : FlagsFit program) (separators : SeparatorsFollow program) where
   module _ (s : State) (c : Configuration) (k : ℕ) (b : Begins t fs program p q s c) (known : IsKnown program c) (at : instruction_at program c ≡ Some (instructions.CallFinally k)) (after : KnownNext program c (instructions.CallFinally k)) where
     abbrev i : Instruction
     i = instructions.CallFinally k
@@ -53,7 +53,7 @@ module _ (t : Functions) (fs : List Funclet) (program : LinearProgram) (p : Plan
     abbrev separator : slice_get body.code (c.frame.next + 1) ≡ Some instructions.Separator
     separator = separators c.frame.body body c.frame.next k b.body.slots.body here
 
-    abbrev block : IsFuncletOf program c.frame.body IsFinally k
+    abbrev block : IsFuncletOf program c.frame.body IsFinallyKind k
     block = each (IsInstructionOf program c.frame.body) body.code c.frame.next i (made.whole.bodies c.frame.body body b.body.slots.body).code here
 
     abbrev flagged : (flag : ℕ) × (block.funclet.kind ≡ funclets.Finally flag)

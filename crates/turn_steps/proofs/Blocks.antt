@@ -29,7 +29,7 @@ use Rattle.template_code.specs.Operations.{move}
 use Rattle.template_code.specs.Slots.{fetched, put_back, keep, keep_local, local_at}
 use Rattle.template_code.proofs.Sizes.{sizes_append}
 use Rattle.x64_templates.specs.Straight.{machine}
-use Rattle.x64_templates.specs.Runs.{Steps, HasCode, Enters, Frame, ReachesBody}
+use Rattle.x64_templates.specs.Runs.{Steps, HasCode, Enters, FramePlace, ReachesBody}
 use Rattle.x64_templates.proofs.Computes.{code_split}
 use Rattle.x64_templates.proofs.Encoded.{near}
 use Rattle.linked_stack.specs.Stack.{StackItem}
@@ -37,9 +37,9 @@ use Rattle.x64_encode.specs.Chosen.{is_encodable}
 use Rattle.x64_templates.proofs.PlacedCode.{enters_then}
 use Rattle.x64_templates.proofs.FuncletEntries.{flag_run}
 use Rattle.x64_templates.proofs.FilterEntries.{Within}
-use Rattle.ir_typed.specs.Bodies.{IsFinally, parent_of, function_of, owner_of, IsFuncletOf}
+use Rattle.ir_typed.specs.Bodies.{IsFinallyKind, parent_of, function_of, owner_of, IsFuncletOf}
 use Rattle.ir_typed.specs.Activations.{owners_of}
-use Rattle.linked_stack.specs.ImagePlan.{Plan, by_parent}
+use Rattle.linked_stack.specs.ImagePlan.{ImagePlan, by_parent}
 use Rattle.linked_stack.specs.Linked.{Activation, locals_of, IsActivation, HasSpace, below_end, record_room, HasPointers, FuncletIsAbove}
 use Rattle.linked_stack.specs.States.{IsSane}
 use Rattle.whole_runs.specs.Shadow.{is_call, KeepsShadow, AllKeep}
@@ -119,9 +119,9 @@ block_begins k flag activation held abnormal items store events = record {
   events = events;
 }
 
-module _ (t : Functions) (fs : List Funclet) (program : LinearProgram) (p : Plan) (q : Sites) (image : IsProgramImage t fs program p q) where
+module _ (t : Functions) (fs : List Funclet) (program : LinearProgram) (p : ImagePlan) (q : Sites) (image : IsProgramImage t fs program p q) where
   module _ (s : State) (k flag activation held : ℕ) (abnormal : Bool) (items : List Item) (store : Store) (events : List Event) (acts : List Activation)
-      (a : ArrivesBelow t fs program p s k activation (of_test abnormal) items acts) (name : BodyName) (known : IsFuncletOf program name IsFinally k)
+      (a : ArrivesBelow t fs program p s k activation (of_test abnormal) items acts) (name : BodyName) (known : IsFuncletOf program name IsFinallyKind k)
       (flagged : flag_of (slice_get program.funclets k) ≡ Some flag) (fits : FlagsFit program)
       (memory : IsMachineMemory t fs program p q s.memory store.memory) (stored : store.activations ≡ locals_of acts)
       (space : STACK_END ≤ a.at + (below_end + record_room) + LARGEST_FRAME * (length acts + held)) (few : length acts + held + 2 ≤ 1000)
@@ -231,7 +231,7 @@ module _ (t : Functions) (fs : List Funclet) (program : LinearProgram) (p : Plan
     abbrev here : SlotsPlaced s1.memory y f.body.temporaries (register s1.cpu Rsp) activation acts
     here = placed t fs program p q image s1 c1 b1 counted
 
-    abbrev fr : Frame
+    abbrev fr : FramePlace
     fr = frame_at program p (FuncletBody k) f.body (register s1.cpu Rsp) here.base
 
     abbrev old : BodyState

@@ -22,7 +22,7 @@ use Rattle.template_code.specs.Jumps.{IsNear, call}
 use Rattle.template_code.specs.Calls.{arguments_code, return_at, clear_result}
 use Rattle.template_code.proofs.Sizes.{sizes_append, call_size}
 use Rattle.x64_templates.specs.Runs.{Reaches}
-use Rattle.linked_stack.specs.ImagePlan.{Plan}
+use Rattle.linked_stack.specs.ImagePlan.{ImagePlan}
 use Rattle.whole_runs.specs.Shadow.{AllKeep}
 use Rattle.ir_typed.specs.Room.{HaveRoom}
 use Rattle.body_states.specs.Sites.{Sites}
@@ -41,7 +41,7 @@ clear_size : size clear_result ≡ 5
 unfolding size opcode_register
 clear_size = refl
 
-module _ (t : Functions) (fs : List Funclet) (program : LinearProgram) (p : Plan) (q : Sites) (image : IsProgramImage t fs program p q) (roomy : HaveRoom program) where
+module _ (t : Functions) (fs : List Funclet) (program : LinearProgram) (p : ImagePlan) (q : Sites) (image : IsProgramImage t fs program p q) (roomy : HaveRoom program) where
   service_found : (f : BuiltIn) (m : Memory) → FindsReturn t m (address_of (service_of f)) 0
   service_found Put m = image.callers_outside.services m (address_of (service_of Put)) (omega arith) (omega arith) (λ e. absurd (omega arith)) (λ e. absurd (omega arith))
   service_found Protect m = image.callers_outside.services m (address_of (service_of Protect)) (omega arith) (omega arith) (λ e. absurd (omega arith)) (λ e. absurd (omega arith))

@@ -12,7 +12,7 @@ use Rattle.template_code.specs.Jumps.{IsNear}
 use Rattle.template_code.specs.Calls.{return_at, begin_call, call_code, clear_result, call_built_in_code}
 use Rattle.x64_templates.specs.Straight.{MachineView, machine}
 use Rattle.x64_templates.specs.CallStates.{sp_of, with_four, pushed, HasBelow}
-use Rattle.x64_templates.specs.Runs.{Reaches, HasCode, Frame, Roomy, FrameHolds}
+use Rattle.x64_templates.specs.Runs.{Reaches, HasCode, FramePlace, Roomy, FrameHolds}
 use Rattle.x64_templates.specs.Thunks.{HasThunk}
 use Rattle.x64_templates.proofs.PlacedCode.{reaches_then}
 use Rattle.x64_templates.proofs.Computes.{code_split}
@@ -31,11 +31,11 @@ abbrev pub with_arguments_of : MachineView → BodyState → ℕ → MachineView
 with_arguments_of v b first = with_four (cleared v) (b.slots (Temporary first)) (b.slots (Temporary (first + 1))) (b.slots (Temporary (first + 2))) (b.slots (Temporary (first + 3)))
 
 -- the service is reached, with the return address at RSP
-pub record ServiceReached (p : Frame) (first : ℕ) (v : MachineView) (rip service : ℕ) (f : Flags) (b : BodyState) : Type 0 where
+pub record ServiceReached (p : FramePlace) (first : ℕ) (v : MachineView) (rip service : ℕ) (f : Flags) (b : BodyState) : Type 0 where
   pub flags : Flags
   pub comes : Reaches 7 (machine v rip f) (machine (pushed (with_arguments_of v b first) p.sp (return_at p.layout first (rip + 5))) service flags)
 
-pub service_reached : (p : Frame) (first : ℕ) (v : MachineView) (rip to service : ℕ) (f : Flags) (b : BodyState) → Roomy p → first + 4 ≤ p.counts.temporaries → sp_of v ≡ p.sp → FrameHolds p v.memory b → HasBelow v.memory p.sp 8
+pub service_reached : (p : FramePlace) (first : ℕ) (v : MachineView) (rip to service : ℕ) (f : Flags) (b : BodyState) → Roomy p → first + 4 ≤ p.counts.temporaries → sp_of v ≡ p.sp → FrameHolds p v.memory b → HasBelow v.memory p.sp 8
     → IsNear (return_at p.layout first (rip + 5)) to → HasCode v.memory rip (call_built_in_code p.layout first rip to) → HasThunk v.memory to service
     → ServiceReached p first v rip service f b
 service_reached p first v rip to service f b room le at h below near code thunk =

@@ -31,13 +31,13 @@ use Rattle.x64_templates.specs.CallStates.{sp_of, with_four, pushed, HasBelow}
 use Rattle.x64_templates.specs.EntryStates.{InRegisters}
 use Rattle.x64_templates.specs.Frames.{slot_at, IsBytes, Agrees}
 use Rattle.x64_templates.specs.Returned.{CallBegun}
-use Rattle.x64_templates.specs.Runs.{HasCode, Reaches, Frame}
+use Rattle.x64_templates.specs.Runs.{HasCode, Reaches, FramePlace}
 use Rattle.x64_templates.proofs.PlacedCode.{bytes_kept, reaches_then, same_number}
 use Rattle.x64_templates.proofs.Computes.{Reached, code_split, runs_view}
 use Rattle.x64_templates.proofs.Calls.{call_begins}
 use Rattle.x64_templates.proofs.Passing.{passed_in_registers}
 use Rattle.x64_templates.proofs.Entries.{beside, pushed_agrees, pushed_bytes}
-use Rattle.linked_stack.specs.ImagePlan.{Plan}
+use Rattle.linked_stack.specs.ImagePlan.{ImagePlan}
 use Rattle.ir_typed.specs.Room.{HaveRoom}
 use Rattle.body_states.specs.Sites.{Sites}
 use Rattle.body_states.specs.Programs.{IsProgramImage}
@@ -52,7 +52,7 @@ use Rattle.template_code.specs.declared.layout.TheConstants.{LARGEST_FRAME}
 same_slot : (x z : ℕ) → Some x ≡ Some z → x ≡ z
 same_slot x z e = cc
 
-module _ (t : Functions) (fs : List Funclet) (program : LinearProgram) (p : Plan) (q : Sites) (image : IsProgramImage t fs program p q) (roomy : HaveRoom program) where
+module _ (t : Functions) (fs : List Funclet) (program : LinearProgram) (p : ImagePlan) (q : Sites) (image : IsProgramImage t fs program p q) (roomy : HaveRoom program) where
   module _ (s : State) (c : Configuration) (b : Begins t fs program p q s c) (counted : IsCounted t fs program p q image c) (f first count : ℕ)
       (at : slice_get b.body.slots.code.code c.frame.next ≡ Some (instructions.Call f first count)) (few : count ≤ 8) (few_passed : count ≤ 4 + b.body.slots.code.passed) (framed : p.leaf c.frame.body ≡ false) where
     abbrev pub layout : Layout
@@ -64,7 +64,7 @@ module _ (t : Functions) (fs : List Funclet) (program : LinearProgram) (p : Plan
     abbrev pub room : ℕ
     room = 32 + 8 * b.body.slots.code.passed
 
-    abbrev pub here : Frame
+    abbrev pub here : FramePlace
     here = frame t fs program p q image roomy s c b counted
 
     abbrev pub view : MachineView

@@ -14,7 +14,7 @@ use Rattle.linear_code.specs.Program.{LinearProgram, LinearBody}
 use Rattle.linear_machine.specs.Frames.{FunctionBody, FuncletBody, body_of, function_body, Item, Waits, Searches, Unwinds, Frame, Configuration, Next, Finished, pick, read, local_of}
 use Rattle.linear_machine.specs.Instructions.{waiting, begin_function}
 use Rattle.linear_machine.specs.Run.{instruction_at}
-use Rattle.linked_stack.specs.ImagePlan.{Plan}
+use Rattle.linked_stack.specs.ImagePlan.{ImagePlan}
 use Rattle.linked_stack.specs.Linked.{Activation}
 use Rattle.whole_runs.specs.Matched.{Fails, IsMatched}
 use Rattle.whole_runs.proofs.Matches.{fails_at_once}
@@ -40,7 +40,7 @@ use Rattle.turn_steps.proofs.Returning as returning
 use Rattle.turn_steps.proofs.Called.{call_acts}
 use Rattle.turn_steps.proofs.Called as called
 
-module _ (t : Functions) (fs : List Funclet) (program : LinearProgram) (p : Plan) (q : Sites) (image : IsProgramImage t fs program p q) (made : IsWellMade program p) where
+module _ (t : Functions) (fs : List Funclet) (program : LinearProgram) (p : ImagePlan) (q : Sites) (image : IsProgramImage t fs program p q) (made : IsWellMade program p) where
   -- what is around a body, by what is known where it runs
   pub surrounded : (d : Configuration) → IsKnown program d → (o : LinearBody) → body_of program d.frame.body ≡ Some o → (depth : ℕ) → depth ≡ length d.store.activations → IsSurrounded t fs program p q image made.room d.frame.body d.frame.activation d.below depth
   surrounded d known o there depth same = record {

@@ -30,7 +30,7 @@ use Rattle.template_code.proofs.Sizes.{sizes_append, call_size}
 use Rattle.x64_templates.proofs.PlacedCode.{same_number}
 use Rattle.x64_templates.proofs.Entries.{pushed_back}
 use Rattle.linked_stack.specs.WalkLaws.{context_below}
-use Rattle.linked_stack.specs.ImagePlan.{Plan}
+use Rattle.linked_stack.specs.ImagePlan.{ImagePlan}
 use Rattle.linked_stack.specs.Linked.{home_end, HoldsWords, return_of, ReturnsTo}
 use Rattle.linked_stack.specs.Records.{On}
 use Rattle.whole_runs.specs.Shadow.{AllKeep}
@@ -94,7 +94,7 @@ call_acts program c f first count fn callee held next =
     deeper 1 c.frame.held c.store c.events
     (next (begin_function f function arguments c.frame.held (Waits (waiting c first).frame ∷ c.below) c.store c.events)))) callee
 
-module _ (t : Functions) (fs : List Funclet) (program : LinearProgram) (p : Plan) (q : Sites) (image : IsProgramImage t fs program p q) (roomy : HaveRoom program) where
+module _ (t : Functions) (fs : List Funclet) (program : LinearProgram) (p : ImagePlan) (q : Sites) (image : IsProgramImage t fs program p q) (roomy : HaveRoom program) where
   module _ (s : State) (c : Configuration) (b : Begins t fs program p q s c) (counted : IsCounted t fs program p q image c) (f first count : ℕ)
       (at : slice_get b.body.slots.code.code c.frame.next ≡ Some (instructions.Call f first count)) (few : count ≤ 8) (few_passed : count ≤ 4 + b.body.slots.code.passed) (framed : p.leaf c.frame.body ≡ false)
       (fn : LinearFunction) (callee : slice_get program.functions f ≡ Some fn) (parameters : fn.parameters ≡ count) (fits : count ≤ fn.body.locals)

@@ -22,13 +22,13 @@ use Rattle.template_code.specs.Jumps.{IsNear}
 use Rattle.template_code.specs.Calls.{return_at, passing_code, stack_parameter, parameter_code, parameters_code}
 use Rattle.x64_templates.specs.Straight.{MachineView, machine}
 use Rattle.x64_templates.specs.CallStates.{HasBelow}
-use Rattle.x64_templates.specs.EntryStates.{with_arguments, OnStack, IsFunction, body_in_memory, FreshFrame}
-use Rattle.x64_templates.specs.Frames.{InTemporaries, InLocals, HasBase, KeepsBase, KeepsReserved, IsBytes, Agrees}
-use Rattle.x64_templates.specs.Runs.{HasCode, Reaches, Enters, Frame, Roomy, ReachesBody}
+use Rattle.x64_templates.specs.EntryStates.{with_arguments, OnStack, IsFunctionFrame, body_in_memory, FreshFrame}
+use Rattle.x64_templates.specs.Frames.{InTemporaries, InLocals, HasBase, MemoryKeepsBase, KeepsReserved, IsBytes, Agrees}
+use Rattle.x64_templates.specs.Runs.{HasCode, Reaches, Enters, FramePlace, Roomy, ReachesBody}
 use Rattle.x64_templates.proofs.PlacedCode.{bytes_kept, same_number, enters_then}
 use Rattle.x64_templates.proofs.Entries.{pushed_agrees, pushed_bytes}
 use Rattle.x64_templates.proofs.Entering.{fresh_holds, parameters_run}
-use Rattle.linked_stack.specs.ImagePlan.{Plan}
+use Rattle.linked_stack.specs.ImagePlan.{ImagePlan}
 use Rattle.ir_typed.specs.Room.{HaveRoom}
 use Rattle.body_states.specs.Sites.{Sites, arguments_code}
 use Rattle.body_states.specs.Programs.{IsProgramImage}
@@ -49,7 +49,7 @@ use Rattle.template_code.specs.declared.layout.TheConstants.{LARGEST_FRAME}
 -- ---- what a frame needs
 
 module _ (globals : List ℕ) (y : Layout) (o : LinearBody) (sp : ℕ) where
-  abbrev pub own_frame : Frame
+  abbrev pub own_frame : FramePlace
   own_frame = record { layout = y; counts = counts_of o; reserved = is_reserved globals; sp = sp; base = sp }
 
   -- slots of the stack, apart from one another
@@ -87,7 +87,7 @@ module _ (globals : List ℕ) (y : Layout) (o : LinearBody) (sp : ℕ) where
     bytes = bytes;
     writable = λ a i. (let r = own_slots a h i in may a r.0 r.1);
     own = λ a i. (let r = own_slots a h i in stack_is_reserved globals a r.0 r.1);
-    base = subst (λ i. KeepsBase i sp sp m) (sym h.none) tt;
+    base = subst (λ i. MemoryKeepsBase i sp sp m) (sym h.none) tt;
     own_base = subst (λ i. KeepsReserved i sp (is_reserved globals)) (sym h.none) tt;
     agrees = agrees;
   }
@@ -130,7 +130,7 @@ parameters_soon y i (suc n) le = elim (cases_lt i 4) [
   | inr g ↦ (let z = two_each y i (suc n) in omega arith)
 ]
 
-module _ (t : Functions) (fs : List Funclet) (program : LinearProgram) (p : Plan) (q : Sites) (image : IsProgramImage t fs program p q) (roomy : HaveRoom program) where
+module _ (t : Functions) (fs : List Funclet) (program : LinearProgram) (p : ImagePlan) (q : Sites) (image : IsProgramImage t fs program p q) (roomy : HaveRoom program) where
   module _ (s : State) (c : Configuration) (b : Begins t fs program p q s c) (counted : IsCounted t fs program p q image c) (f first count : ℕ)
       (at : slice_get b.body.slots.code.code c.frame.next ≡ Some (instructions.Call f first count)) (few : count ≤ 8) (few_passed : count ≤ 4 + b.body.slots.code.passed) (framed : p.leaf c.frame.body ≡ false)
       (fn : LinearFunction) (callee : slice_get program.functions f ≡ Some fn) (parameters : fn.parameters ≡ count) (fits : count ≤ fn.body.locals) where
@@ -212,7 +212,7 @@ module _ (t : Functions) (fs : List Funclet) (program : LinearProgram) (p : Plan
 
     -- ---- once the frame is made, the parameters
 
-    module _ (sp to n : ℕ) (made : Made called target to flags (caller - 8) sp arguments n) (y : Layout) (own : IsOwn program.globals y o sp) (whole : IsFunction (own_frame program.globals y o sp)) (same_locals : y.locals ≡ layout.locals) (short : y.frame + 8 ≤ LARGEST_FRAME)
+    module _ (sp to n : ℕ) (made : Made called target to flags (caller - 8) sp arguments n) (y : Layout) (own : IsOwn program.globals y o sp) (whole : IsFunctionFrame (own_frame program.globals y o sp)) (same_locals : y.locals ≡ layout.locals) (short : y.frame + 8 ≤ LARGEST_FRAME)
         (up : (i : ℕ) → 4 ≤ i → i < count → sp + y.frame + 8 ≡ caller) (place : sp + layout.frame + 8 ≡ caller) (code : HasCode s.memory to (parameters_code y 0 count)) (ends : to + sizes (parameters_code y 0 count) ≡ p.address (FunctionBody f) 0)
         (outside : (a : ℕ) → Outside a → InTemporaries y (counts_of o) sp a ⊎ InLocals y (counts_of o) sp a → ⊥)
         (counted_turns : n + length (parameters_code y 0 count) ≡ making_steps (p.leaf (FunctionBody f)) layout.frame + length (arguments_code program p (FunctionBody f))) where

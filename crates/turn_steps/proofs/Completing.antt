@@ -27,8 +27,8 @@ use Rattle.template_code.specs.Bytes.{sizes}
 use Rattle.template_code.specs.Slots.{operands_code, finish_code}
 use Rattle.template_code.proofs.Lengths.{compute_length}
 use Rattle.x64_templates.specs.Straight.{machine}
-use Rattle.x64_templates.specs.Runs.{ReachesBody, Finished, Frame}
-use Rattle.linked_stack.specs.ImagePlan.{Plan}
+use Rattle.x64_templates.specs.Runs.{ReachesBody, Finished, FramePlace}
+use Rattle.linked_stack.specs.ImagePlan.{ImagePlan}
 use Rattle.linked_stack.specs.Linked.{locals_of}
 use Rattle.whole_runs.specs.Shadow.{AllKeep}
 use Rattle.whole_runs.specs.Comes.{Comes}
@@ -63,7 +63,7 @@ some_length : (code : List Instr) → 1 ≤ sizes code → 1 ≤ length code
 some_length [] le = absurd (omega arith)
 some_length (i ∷ is) le = omega arith
 
-module _ (t : Functions) (fs : List Funclet) (program : LinearProgram) (p : Plan) (q : Sites) (image : IsProgramImage t fs program p q) (made : IsWellMade program p)
+module _ (t : Functions) (fs : List Funclet) (program : LinearProgram) (p : ImagePlan) (q : Sites) (image : IsProgramImage t fs program p q) (made : IsWellMade program p)
     (s : State) (c : Configuration) (w : WorksOn t fs program p q s c) (known : IsKnown program c) where
   abbrev to : Slot
   to = w.again.to
@@ -98,7 +98,7 @@ module _ (t : Functions) (fs : List Funclet) (program : LinearProgram) (p : Plan
   abbrev body : LinearBody
   body = midst.body t fs program p q image made s c w known
 
-  abbrev here : Frame
+  abbrev here : FramePlace
   here = midst.frame_here t fs program p q image made s c w known
 
   abbrev now : BodyState

@@ -26,7 +26,7 @@ use Rattle.linear_machine.specs.Frames.{BodyName, FuncletBody, funclet_body, Han
 use Rattle.linked_stack.specs.Stack.{StackItem, Framed, Searching, Unwinding, IsStack, after_frame}
 use Rattle.linked_stack.specs.WalkLaws.{context_below}
 use Rattle.linked_stack.specs.PlainWalks.{state}
-use Rattle.linked_stack.specs.ImagePlan.{Plan, parent_body, IsFunclet}
+use Rattle.linked_stack.specs.ImagePlan.{ImagePlan, parent_body, IsFunclet}
 use Rattle.linked_stack.specs.Linked.{Activation}
 use Rattle.linked_stack.specs.States.{Arrives}
 use Rattle.linked_stack.specs.Searches.{FilterBegins}
@@ -72,7 +72,7 @@ kept_with (a ∷ b ∷ c ∷ d ∷ f ∷ rs) v e = refl
 abbrev others_of : Cpu → List ℕ
 others_of c = register c Rbx ∷ register c Rbp ∷ register c Rsi ∷ register c Rdi ∷ register c R12 ∷ register c R13 ∷ register c R14 ∷ register c R15 ∷ []
 
-module _ (t : Functions) (fs : List Funclet) (program : LinearProgram) (p : Plan) (q : Sites) (image : IsProgramImage t fs program p q) where
+module _ (t : Functions) (fs : List Funclet) (program : LinearProgram) (p : ImagePlan) (q : Sites) (image : IsProgramImage t fs program p q) where
   -- ---- at a funclet's first byte
 
   funclet_finds : (m : Memory) (k : ℕ) (name : BodyName) → IsFunclet t fs program p name k → FindsReturn t m (p.funclet k) 0

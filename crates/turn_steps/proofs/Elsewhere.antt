@@ -10,7 +10,7 @@ use Rattle.host_model.specs.declared.funclet.Funclet.{Funclet}
 use Rattle.linear_code.specs.Program.{LinearProgram}
 use Rattle.linear_machine.specs.Frames.{Configuration}
 use Rattle.linked_stack.specs.WalkLaws.{context_below}
-use Rattle.linked_stack.specs.ImagePlan.{Plan}
+use Rattle.linked_stack.specs.ImagePlan.{ImagePlan}
 use Rattle.linked_stack.specs.Linked.{activations_below, temporaries_end, BodyWaits}
 use Rattle.linked_stack.specs.ListLaws.{KeepsStack}
 use Rattle.linked_stack.proofs.Ends.{end_within}
@@ -26,7 +26,7 @@ use Rattle.body_steps.proofs.Around.{some_is}
 pub higher_stack : (m m' : Memory) (low high : ℕ) → low ≤ high → KeepsStack m m' low → KeepsStack m m' high
 higher_stack m m' low high le k = record { bytes = λ x from to. k.bytes x (omega arith) to; protection = k.protection; code = k.code; no_more_code = k.no_more_code }
 
-module _ (t : Functions) (fs : List Funclet) (program : LinearProgram) (p : Plan) (q : Sites) (image : IsProgramImage t fs program p q) (s : State) (c : Configuration) (b : Begins t fs program p q s c) (counted : IsCounted t fs program p q image c) (framed : p.leaf c.frame.body ≡ false)
+module _ (t : Functions) (fs : List Funclet) (program : LinearProgram) (p : ImagePlan) (q : Sites) (image : IsProgramImage t fs program p q) (s : State) (c : Configuration) (b : Begins t fs program p q s c) (counted : IsCounted t fs program p q image c) (framed : p.leaf c.frame.body ≡ false)
     (m source : Memory) (keeps : KeepsStack s.memory m (register s.cpu Rsp)) (memory : IsMachineMemory t fs program p q m source) where
   abbrev pub elsewhere : State
   elsewhere = record { cpu = s.cpu; memory = m }

@@ -22,7 +22,7 @@ use Rattle.linear_machine.specs.Run.{exec}
 use Rattle.template_code.specs.Calls.{return_code}
 use Rattle.linked_stack.specs.Stack.{StackItem, Searching, Unwinding}
 use Rattle.linked_stack.specs.WalkLaws.{context_below}
-use Rattle.linked_stack.specs.ImagePlan.{Plan}
+use Rattle.linked_stack.specs.ImagePlan.{ImagePlan}
 use Rattle.linked_stack.specs.Linked.{activations_below}
 use Rattle.linked_stack.specs.Records.{On}
 use Rattle.linked_stack.specs.Steps.{SearchIsAnswered}
@@ -50,7 +50,7 @@ use Rattle.turn_steps.proofs.TurnQuiet.{host_quiet}
 use Rattle.turn_steps.proofs.Answers.{answer_low}
 use Rattle.turn_steps.proofs.Records.{IsSearchOnTop, IsUnwindingOnTop, search_on_top, unwinding_on_top, are_clear}
 
-module _ (t : Functions) (fs : List Funclet) (program : LinearProgram) (p : Plan) (q : Sites) (image : IsProgramImage t fs program p q) (roomy : HaveRoom program) where
+module _ (t : Functions) (fs : List Funclet) (program : LinearProgram) (p : ImagePlan) (q : Sites) (image : IsProgramImage t fs program p q) (roomy : HaveRoom program) where
   module _ (s : State) (c : Configuration) (b : Begins t fs program p q s c) (counted : IsCounted t fs program p q image c) (k : ℕ) (is : c.frame.body ≡ FuncletBody k) (from : Slot)
       (at : slice_get b.body.slots.code.code c.frame.next ≡ Some (instructions.Return from)) (x : ℕ) (reads : read c from ≡ Some x)
       (g : LinearFunclet) (funclet : slice_get program.funclets k ≡ Some g) (rule : HasRule (act program (instructions.Return from) (exec program zero) c)) (known : KnownNext program c (instructions.Return from)) where

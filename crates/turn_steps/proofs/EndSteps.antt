@@ -10,7 +10,7 @@ use Rattle.linear_code.specs.Program.{LinearProgram, LinearFunclet}
 use Rattle.linear_machine.specs.Frames.{FuncletBody, Item, Waits, Searches, Unwinds, Configuration, read}
 use Rattle.linear_machine.specs.Instructions.{act}
 use Rattle.linear_machine.specs.Run.{instruction_at, exec}
-use Rattle.linked_stack.specs.ImagePlan.{Plan}
+use Rattle.linked_stack.specs.ImagePlan.{ImagePlan}
 use Rattle.linked_stack.specs.Linked.{FuncletIsAbove, IsAbove}
 use Rattle.whole_runs.specs.Ends.{HasRule}
 use Rattle.whole_runs.specs.Matched.{Moves, IsMatched}
@@ -27,7 +27,7 @@ use Rattle.turn_steps.specs.TurnEntries.{Continuations}
 use Rattle.turn_steps.specs.EndLaws.{FuncletReturnsAreMatched}
 use Rattle.turn_steps.proofs.EndReturned.{filter_returns, block_returns}
 
-module _ (t : Functions) (fs : List Funclet) (program : LinearProgram) (p : Plan) (q : Sites) (image : IsProgramImage t fs program p q) (made : IsWellMade program p) (fits : FlagsFit program) (continues : Continuations t fs program p q) where
+module _ (t : Functions) (fs : List Funclet) (program : LinearProgram) (p : ImagePlan) (q : Sites) (image : IsProgramImage t fs program p q) (made : IsWellMade program p) (fits : FlagsFit program) (continues : Continuations t fs program p q) where
   module _ (s : State) (c : Configuration) (k : ℕ) (from : Slot) (b : Begins t fs program p q s c) (known : IsKnown program c) (name : c.frame.body ≡ FuncletBody k) (at : instruction_at program c ≡ Some (instructions.Return from))
       (rule : HasRule (act program (instructions.Return from) (exec program zero) c)) (after : KnownNext program c (instructions.Return from)) where
     abbrev Goal : Type 0

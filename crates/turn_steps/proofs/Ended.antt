@@ -25,9 +25,9 @@ use Rattle.template_code.proofs.Sizes.{sizes_append, call_size, template_sizes, 
 use Rattle.x64_templates.specs.CallStates.{HasBack}
 use Rattle.x64_templates.specs.Runs.{Reaches}
 use Rattle.linked_stack.specs.WalkLaws.{context_below}
-use Rattle.ir_typed.specs.Apart.{AreApart}
+use Rattle.ir_typed.specs.Apart.{AllReturnsStayInRegions}
 use Rattle.ir_typed.specs.Room.{HaveRoom}
-use Rattle.linked_stack.specs.ImagePlan.{Plan, InCode}
+use Rattle.linked_stack.specs.ImagePlan.{ImagePlan, InCode}
 use Rattle.linked_stack.specs.Linked.{Activation, locals_of, activations_below, return_of, ReturnsTo}
 use Rattle.linked_stack.specs.Records.{On}
 use Rattle.linked_stack.specs.States.{IsSane}
@@ -55,7 +55,7 @@ same_number a b e = cc
 not_landed : (landed : Option ℕ) (value : ℕ) → landed ≡ None → landed ≡ Some value → ⊥
 not_landed landed value e f = let z : ◌≡◌ {A = Option ℕ} None (Some value) = sym e ∙ f in cc
 
-module _ (t : Functions) (fs : List Funclet) (program : LinearProgram) (p : Plan) (q : Sites) (image : IsProgramImage t fs program p q) (roomy : HaveRoom program) (apart : AreApart program) where
+module _ (t : Functions) (fs : List Funclet) (program : LinearProgram) (p : ImagePlan) (q : Sites) (image : IsProgramImage t fs program p q) (roomy : HaveRoom program) (apart : AllReturnsStayInRegions program) where
   -- where a call of a block returns to: the next instruction
   pub after_call : (name : BodyName) (o : LinearBody) (label k : ℕ) → body_of program name ≡ Some o → slice_get o.code label ≡ Some (instructions.CallFinally k) → p.address name label + sizes finally_arguments + 5 ≡ p.address name (label + 1)
   after_call name o label k there at =

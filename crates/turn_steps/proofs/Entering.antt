@@ -23,7 +23,7 @@ use Rattle.x64_templates.specs.CallStates.{sp_of}
 use Rattle.x64_templates.specs.Runs.{HasCode, Enters}
 use Rattle.x64_templates.proofs.Computes.{code_split}
 use Rattle.x64_templates.proofs.FilterEntries.{Within, within_keeps_code}
-use Rattle.linked_stack.specs.ImagePlan.{Plan}
+use Rattle.linked_stack.specs.ImagePlan.{ImagePlan}
 use Rattle.linked_stack.specs.Linked.{Activation, below_end, record_room}
 use Rattle.linked_stack.proofs.Ends.{in_stack}
 use Rattle.body_states.specs.Sites as sites
@@ -43,7 +43,7 @@ dropped_count (a ∷ []) e = absurd (omega arith)
 dropped_count (a ∷ b ∷ []) e = absurd (omega arith)
 dropped_count (a ∷ b ∷ c ∷ rs) e = omega arith
 
-module _ (t : Functions) (fs : List Funclet) (program : LinearProgram) (p : Plan) (q : Sites) (image : IsProgramImage t fs program p q) where
+module _ (t : Functions) (fs : List Funclet) (program : LinearProgram) (p : ImagePlan) (q : Sites) (image : IsProgramImage t fs program p q) where
   module _ (k : ℕ) (l : IsLaid t fs program p q image k) where
     abbrev y : Layout
     y = p.layout (FuncletBody k)

@@ -18,7 +18,7 @@ use Rattle.template_code.specs.Probing.{check_stack, enter_large}
 use Rattle.x64_templates.specs.CallStates.{HasBelow}
 use Rattle.x64_templates.specs.Runs.{HasCode}
 use Rattle.x64_templates.proofs.PlacedCode.{bytes_kept}
-use Rattle.linked_stack.specs.ImagePlan.{Plan}
+use Rattle.linked_stack.specs.ImagePlan.{ImagePlan}
 use Rattle.ir_typed.specs.Room.{HaveRoom}
 use Rattle.body_states.specs.Sites.{Sites, making}
 use Rattle.body_states.specs.Layouts.{IsFunctionLayout, IsLeafLayout, IsLayoutIf}
@@ -33,7 +33,7 @@ use Rattle.turn_steps.proofs.Callee as entering
 use Rattle.turn_steps.proofs.EntryCode.{making_frame, HasEntry, has_entry}
 use Rattle.turn_steps.proofs.Prologues.{Made, no_frame, small_frame, large_frame}
 
-module _ (t : Functions) (fs : List Funclet) (program : LinearProgram) (p : Plan) (q : Sites) (image : IsProgramImage t fs program p q) (roomy : HaveRoom program) where
+module _ (t : Functions) (fs : List Funclet) (program : LinearProgram) (p : ImagePlan) (q : Sites) (image : IsProgramImage t fs program p q) (roomy : HaveRoom program) where
   module _ (s : State) (c : Configuration) (b : Begins t fs program p q s c) (counted : IsCounted t fs program p q image c) (f first count : ℕ)
       (at : slice_get b.body.slots.code.code c.frame.next ≡ Some (instructions.Call f first count)) (few : count ≤ 8) (few_passed : count ≤ 4 + b.body.slots.code.passed) (framed : p.leaf c.frame.body ≡ false)
       (fn : LinearFunction) (callee : slice_get program.functions f ≡ Some fn) (parameters : fn.parameters ≡ count) (fits : count ≤ fn.body.locals) where

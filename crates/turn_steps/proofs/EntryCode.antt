@@ -14,23 +14,23 @@ use Rattle.template_code.specs.Template.{code_from}
 use Rattle.template_code.proofs.Sizes.{sizes_append}
 use Rattle.x64_templates.specs.Runs.{HasCode}
 use Rattle.x64_templates.proofs.Computes.{code_split}
-use Rattle.linked_stack.specs.ImagePlan.{Plan}
+use Rattle.linked_stack.specs.ImagePlan.{ImagePlan}
 use Rattle.body_states.specs.Sites.{Sites, links_of, frame_code, function_arguments, arguments_code, entry_code}
 use Rattle.body_states.specs.Programs.{HasProgram, IsProgramImage}
 use Rattle.body_states.proofs.FrameMaking.{making_steps}
 
-abbrev pub making_frame : Plan → Sites → ℕ → Bool → List Instr
+abbrev pub making_frame : ImagePlan → Sites → ℕ → Bool → List Instr
 making_frame p q f leaf = frame_code (p.layout (FunctionBody f)).frame (q.function f) q.check_stack leaf
 
 -- the frame is made first; after the arguments the body begins; so many turns does that take
-pub record HasEntry (program : LinearProgram) (p : Plan) (q : Sites) (f count : ℕ) (m : Memory) (leaf : Bool) : Type 0 where
+pub record HasEntry (program : LinearProgram) (p : ImagePlan) (q : Sites) (f count : ℕ) (m : Memory) (leaf : Bool) : Type 0 where
   pub making : HasCode m (q.function f) (making_frame p q f leaf)
   pub storing : HasCode m (q.function f + sizes (making_frame p q f leaf)) (parameters_code (p.layout (FunctionBody f)) 0 count)
   pub ends : q.function f + sizes (making_frame p q f leaf) + sizes (parameters_code (p.layout (FunctionBody f)) 0 count) ≡ p.address (FunctionBody f) 0
   pub turns : (n : ℕ) → making_steps leaf (p.layout (FunctionBody f)).frame ≡ n
       → n + length (parameters_code (p.layout (FunctionBody f)) 0 count) ≡ making_steps (p.leaf (FunctionBody f)) (p.layout (FunctionBody f)).frame + length (arguments_code program p (FunctionBody f))
 
-module _ (t : Functions) (fs : List Funclet) (program : LinearProgram) (p : Plan) (q : Sites) (image : IsProgramImage t fs program p q) (f count : ℕ) (fn : LinearFunction) (callee : slice_get program.functions f ≡ Some fn) (parameters : fn.parameters ≡ count) where
+module _ (t : Functions) (fs : List Funclet) (program : LinearProgram) (p : ImagePlan) (q : Sites) (image : IsProgramImage t fs program p q) (f count : ℕ) (fn : LinearFunction) (callee : slice_get program.functions f ≡ Some fn) (parameters : fn.parameters ≡ count) where
   abbrev layout : Layout
   layout = p.layout (FunctionBody f)
 

@@ -13,7 +13,7 @@ use Rattle.linear_code.specs.declared.instruction.Instruction.TheVariants as ins
 use Rattle.linear_code.specs.Program.{LinearProgram, LinearBody}
 use Rattle.linear_machine.specs.Frames.{body_of, SameOperation, Waits, Configuration}
 use Rattle.linked_stack.specs.Stack.{StackItem}
-use Rattle.linked_stack.specs.ImagePlan.{Plan, InCode}
+use Rattle.linked_stack.specs.ImagePlan.{ImagePlan, InCode}
 use Rattle.linked_stack.specs.Linked.{Activation, locals_of}
 use Rattle.linked_stack.specs.Records.{On}
 use Rattle.linked_stack.specs.States.{IsSane}
@@ -29,7 +29,7 @@ use Rattle.turn_steps.specs.Outcomes.{WorksOn}
 use Rattle.turn_steps.proofs.Places.{some_finish, whole_size, quiet_in_midst}
 use Rattle.template_code.specs.Template.{template_size}
 
-module _ (t : Functions) (fs : List Funclet) (program : LinearProgram) (p : Plan) (q : Sites) (image : IsProgramImage t fs program p q) (made : IsWellMade program p)
+module _ (t : Functions) (fs : List Funclet) (program : LinearProgram) (p : ImagePlan) (q : Sites) (image : IsProgramImage t fs program p q) (made : IsWellMade program p)
     (s : State) (saved : Cpu) (is : List StackItem) (acts : List Activation) (c : Configuration)
     (on : On t fs program p s.memory (context_of saved) is (Waits c.frame ∷ c.below) acts) (sane : IsSane (record { cpu = saved; memory = s.memory })) (resumes : p.resumes SameOperation c.frame saved ≡ true)
     (memory : IsMachineMemory t fs program p q s.memory c.store.memory) (store : c.store.activations ≡ locals_of acts) where

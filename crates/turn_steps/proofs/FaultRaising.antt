@@ -31,7 +31,7 @@ use Rattle.linear_machine.specs.Instructions.{act}
 use Rattle.linear_machine.specs.Run.{exec}
 use Rattle.template_code.specs.Slots.{operands_code, finish_code}
 use Rattle.x64_templates.specs.Runs.{Finished}
-use Rattle.linked_stack.specs.ImagePlan.{Plan}
+use Rattle.linked_stack.specs.ImagePlan.{ImagePlan}
 use Rattle.linked_stack.specs.ListLaws.{KeepsAbove}
 use Rattle.ir_typed.specs.Small.{IsSmallAccess}
 use Rattle.ir_typed.proofs.Results.{IsSmallOutcome, outcome_small}
@@ -81,7 +81,7 @@ exception_of code access = record { code = code.0; flag = false; access = access
 is_exception : (code : Code) (access : Option (Bool × ℕ)) → IsSmallOutcome (Raises code access) → IsException code 0 access (exception_of code access)
 is_exception code access h = record { same_code = refl; same_flag = refl; same_access = refl; code_small = h.0; one_flag = omega arith; access_small = parameters_small access h.1 }
 
-module _ (t : Functions) (fs : List Funclet) (program : LinearProgram) (p : Plan) (q : Sites) (image : IsProgramImage t fs program p q) (made : IsWellMade program p)
+module _ (t : Functions) (fs : List Funclet) (program : LinearProgram) (p : ImagePlan) (q : Sites) (image : IsProgramImage t fs program p q) (made : IsWellMade program p)
     (fits : FlagsFit program)
     (s : State) (c : Configuration) (w : WorksOn t fs program p q s c) (known : IsKnown program c) where
   abbrev to : Slot

@@ -15,7 +15,7 @@ use Rattle.linear_code.specs.Program.{LinearProgram}
 use Rattle.linear_machine.specs.Frames.{Configuration, body_of}
 use Rattle.linear_machine.specs.Instructions.{act}
 use Rattle.linear_machine.specs.Run.{instruction_at, exec}
-use Rattle.linked_stack.specs.ImagePlan.{Plan}
+use Rattle.linked_stack.specs.ImagePlan.{ImagePlan}
 use Rattle.ir_typed.specs.Bodies.{IsTemporary, ReadsWell, IsInstructionOf}
 use Rattle.ir_typed.specs.Ready.{IsReady}
 use Rattle.whole_runs.specs.Ends.{HasRule}
@@ -49,7 +49,7 @@ ready_at : (program : LinearProgram) (c : Configuration) (i : Instruction) → I
 ready_at program c i known e = subst (IsReady program c) (some_is known.continues.instruction i (sym known.continues.at ∙ e)) known.continues.ready
 
 -- where an instruction begins, the machine is
-pub begins_represents : (t : Functions) (fs : List Funclet) (program : LinearProgram) (p : Plan) (q : Sites) (most : ℕ) (s : State) (c : Configuration) (i : Instruction)
+pub begins_represents : (t : Functions) (fs : List Funclet) (program : LinearProgram) (p : ImagePlan) (q : Sites) (most : ℕ) (s : State) (c : Configuration) (i : Instruction)
     → Moves t fs program most turns_left (Begins t fs program p q) s c i → IsMatched t fs program most turns_left (Represents t fs program p q) s c i
 begins_represents t fs program p q most s c i m = inl (record {
   turns = m.turns;
@@ -64,7 +64,7 @@ begins_represents t fs program p q most s c i m = inl (record {
   is_there = inl m.is_there;
 })
 
-module _ (t : Functions) (fs : List Funclet) (program : LinearProgram) (p : Plan) (q : Sites) (image : IsProgramImage t fs program p q) (made : IsWellMade program p)
+module _ (t : Functions) (fs : List Funclet) (program : LinearProgram) (p : ImagePlan) (q : Sites) (image : IsProgramImage t fs program p q) (made : IsWellMade program p)
     (fits : FlagsFit program) where
   -- the instruction that is made again
   abbrev again : (s : State) (c : Configuration) → WorksOn t fs program p q s c → Instruction

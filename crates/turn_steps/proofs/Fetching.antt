@@ -26,7 +26,7 @@ use Rattle.template_code.proofs.Lengths.{before_length}
 use Rattle.x64_templates.specs.Straight.{machine}
 use Rattle.x64_templates.specs.Runs.{Reaches}
 use Rattle.x64_templates.proofs.Computes.{code_split, Begun, operands_run}
-use Rattle.linked_stack.specs.ImagePlan.{Plan, InCode}
+use Rattle.linked_stack.specs.ImagePlan.{ImagePlan, InCode}
 use Rattle.linked_stack.specs.States.{IsSane}
 use Rattle.whole_runs.specs.Shadow.{AllKeep}
 use Rattle.whole_runs.specs.Comes.{Comes, LeadsTo}
@@ -55,7 +55,7 @@ few_operands y o first second =
     let b = before_length o in
     omega (arith, length-append (fetch y Rax (Temporary first)) (fetch y Rcx (Temporary second) ++ before o), length-append (fetch y Rcx (Temporary second)) (before o))
 
-module _ (t : Functions) (fs : List Funclet) (program : LinearProgram) (p : Plan) (q : Sites) (image : IsProgramImage t fs program p q) (made : IsWellMade program p)
+module _ (t : Functions) (fs : List Funclet) (program : LinearProgram) (p : ImagePlan) (q : Sites) (image : IsProgramImage t fs program p q) (made : IsWellMade program p)
     (s : State) (c : Configuration) (to : Slot) (o : Operation) (first second : ℕ) (b : Begins t fs program p q s c) (known : IsKnown program c) (reads : is_constant o ≡ false)
     (e : instruction_at program c ≡ Some (instructions.Compute to o (Temporary first) (Temporary second))) where
   abbrev here : Instruction

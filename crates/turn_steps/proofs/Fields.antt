@@ -8,7 +8,7 @@ use Rattle.virtual_unwind.specs.CallerOf.{Functions}
 use Rattle.seh_records.specs.declared.dispatch.Kind.{Kind}
 use Rattle.seh_records.specs.declared.dispatch.DispatchRecord.{DispatchRecord}
 use Rattle.seh_records.specs.Record.{fetched, if_readable, if_marked, of_kind, kind_of, recorded, word, mark}
-use Rattle.seh_records.specs.Laws.{Fits}
+use Rattle.seh_records.specs.Laws.{RecordFits}
 use Rattle.seh_records.proofs.Fetched.{word_in}
 use Rattle.host_model.specs.declared.funclet.Funclet.{Funclet}
 use Rattle.host_model.specs.Dispatch.{parameters, count, write_number}
@@ -20,7 +20,7 @@ use Rattle.linear_code.specs.Program.{LinearProgram}
 use Rattle.template_code.specs.Calls.{field_at}
 use Rattle.x64_templates.specs.Exceptions.{field_width, IsField}
 use Rattle.x64_templates.proofs.Information.{field_number}
-use Rattle.linked_stack.specs.ImagePlan.{Plan}
+use Rattle.linked_stack.specs.ImagePlan.{ImagePlan}
 use Rattle.linked_stack.specs.Linked.{HasException}
 use Rattle.body_steps.proofs.Around.{some_is}
 
@@ -110,7 +110,7 @@ parameters_are (Some x) (suc (suc k)) =
     let second : nat_eq (suc (suc k)) 1 ≡ false = ne_eqb (suc (suc k)) 1 (λ e. absurd (omega arith)) in
     zero_among 13 k ∙ sym (ap (λ b. cond b (of_test x.0) (cond (nat_eq (suc (suc k)) 1) x.1 0)) first ∙ ap (λ b. cond b x.1 0) second)
 
-module _ (t : Functions) (fs : List Funclet) (program : LinearProgram) (p : Plan) where
+module _ (t : Functions) (fs : List Funclet) (program : LinearProgram) (p : ImagePlan) where
   pub field_is : (r : DispatchRecord) (exception : Exception) (field : Field) → HasException t fs program p r exception → recorded_field field r ≡ field_of field exception
   field_is r exception ExceptionCode h = h.code
   field_is r exception ExceptionFlags h = flags_are r.flags exception.flag h.one_flag h.flag
@@ -118,13 +118,13 @@ module _ (t : Functions) (fs : List Funclet) (program : LinearProgram) (p : Plan
   field_is r exception (ExceptionInformation k) h = ap (λ (xs : List ℕ). get_or xs k 0) h.parameters ∙ parameters_are exception.access k
 
 -- each fits its field
-pub field_fits : (r : DispatchRecord) (field : Field) → IsField field → Fits r → r.flags < 2 → field_number field (recorded_field field r) ≡ recorded_field field r
+pub field_fits : (r : DispatchRecord) (field : Field) → IsField field → RecordFits r → r.flags < 2 → field_number field (recorded_field field r) ≡ recorded_field field r
 field_fits r ExceptionCode is f one = let s = f.code in omega arith
 field_fits r ExceptionFlags is f one = omega arith
 field_fits r NumberParameters is f one = let s = f.count in omega arith
 field_fits r (ExceptionInformation k) is f one = let n = f.parameters in let s = f.parameters_small k (omega arith) in let e : get_or r.parameters k 0 % 2 ^ 64 ≡ get_or r.parameters k 0 = omega arith in e
 
-pub field_small : (r : DispatchRecord) (field : Field) → IsField field → Fits r → recorded_field field r < 2 ^ 64
+pub field_small : (r : DispatchRecord) (field : Field) → IsField field → RecordFits r → recorded_field field r < 2 ^ 64
 field_small r ExceptionCode is f = let s = f.code in omega arith
 field_small r ExceptionFlags is f = let s = f.flags in omega arith
 field_small r NumberParameters is f = let s = f.count in omega arith

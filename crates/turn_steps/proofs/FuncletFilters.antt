@@ -32,7 +32,7 @@ use Rattle.x64_templates.proofs.Funclets.{HasCell}
 use Rattle.x64_templates.proofs.FuncletEntries.{pointers_kept}
 use Rattle.x64_templates.proofs.FilterEntries.{Within, within_then, within_cell}
 use Rattle.ir_typed.specs.Bodies.{parent_of, owner_of}
-use Rattle.linked_stack.specs.ImagePlan.{Plan, by_parent, parent_body}
+use Rattle.linked_stack.specs.ImagePlan.{ImagePlan, by_parent, parent_body}
 use Rattle.linked_stack.specs.Linked.{Activation, locals_of, IsActivation, HasSpace, below_end, KeepsPointers}
 use Rattle.linked_stack.specs.WalkLaws.{context_below}
 use Rattle.linked_stack.specs.States.{IsSane, Arrives}
@@ -66,7 +66,7 @@ has_first program name b i is e = slice_get_within b.code 0 i (sym (ap (λ o. in
 pub cell_number : (v : MachineView) (at x : ℕ) → at + 8 < 2 ^ 63 → x < 2 ^ 64 → number_at (kept_at v at x).memory.byte 8 at ≡ x
 cell_number v at x high lt = stored_is_loaded v.memory.byte 8 at x (omega arith) (omega arith) ∙ (let q : x % 256 ^ 8 ≡ x = omega arith in q)
 
-module _ (t : Functions) (fs : List Funclet) (program : LinearProgram) (p : Plan) (q : Sites) (image : IsProgramImage t fs program p q) where
+module _ (t : Functions) (fs : List Funclet) (program : LinearProgram) (p : ImagePlan) (q : Sites) (image : IsProgramImage t fs program p q) where
   -- the parent of a funclet, by what is known of it
   pub parent_is : (name other : BodyName) (k : ℕ) (f : LinearFunclet) → slice_get program.funclets k ≡ Some f → parent_body (slice_get program.funclets k) ≡ Some name → by_parent f.function f.parent ≡ name
   parent_is name other k f there e = same_name (by_parent f.function f.parent) name (sym (ap parent_body there) ∙ e)
@@ -248,6 +248,6 @@ module _ (t : Functions) (fs : List Funclet) (program : LinearProgram) (p : Plan
       is_there = begins_here;
     }
 
-pub filters_begin : (t : Functions) (fs : List Funclet) (program : LinearProgram) (p : Plan) (q : Sites) → IsProgramImage t fs program p q → FiltersBegin t fs program p q
+pub filters_begin : (t : Functions) (fs : List Funclet) (program : LinearProgram) (p : ImagePlan) (q : Sites) → IsProgramImage t fs program p q → FiltersBegin t fs program p q
 filters_begin t fs program p q image s k argument handler rest exception resumption c acts a points asked memory stored shallow typed =
     filter_leads t fs program p q image s k argument handler rest exception resumption c acts a points asked memory stored shallow typed

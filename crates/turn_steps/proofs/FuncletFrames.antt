@@ -26,7 +26,7 @@ use Rattle.x64_templates.proofs.PlacedCode.{same_number}
 use Rattle.x64_templates.proofs.FilterEntries.{Within}
 use Rattle.linked_stack.specs.Stack.{StackItem}
 use Rattle.linked_stack.specs.WalkLaws.{context_below}
-use Rattle.linked_stack.specs.ImagePlan.{Plan, InCode, IsFunclet}
+use Rattle.linked_stack.specs.ImagePlan.{ImagePlan, InCode, IsFunclet}
 use Rattle.linked_stack.specs.Linked.{Activation, locals_of, Reaches, IsActivation, HasActivation, HoldsWords, HasSpace, below_end, HasPointers, FuncletIsAbove, BodyWaits, ReturnsTo}
 use Rattle.linked_stack.specs.ListLaws.{KeepsStack}
 use Rattle.linked_stack.proofs.ListKeeping.{kept_by_other_memories}
@@ -51,7 +51,7 @@ pub apart : true ≡ false → ⊥
 apart z = cc
 
 -- memory that differs within a part of the stack alone
-module _ (t : Functions) (fs : List Funclet) (program : LinearProgram) (p : Plan) (q : Sites) (image : IsProgramImage t fs program p q) (m m' source : Memory) (lo hi : ℕ) (w : Within lo hi m m') (low : STACK_START ≤ lo) (high : hi ≤ STACK_END) (memory : IsMachineMemory t fs program p q m source) where
+module _ (t : Functions) (fs : List Funclet) (program : LinearProgram) (p : ImagePlan) (q : Sites) (image : IsProgramImage t fs program p q) (m m' source : Memory) (lo hi : ℕ) (w : Within lo hi m m') (low : STACK_START ≤ lo) (high : hi ≤ STACK_END) (memory : IsMachineMemory t fs program p q m source) where
   same_protection : (a : ℕ) → m'.protection a ≡ m.protection a
   same_protection a = ap (λ (f : ℕ → Protection). f a) w.protection
 
@@ -106,7 +106,7 @@ module _ (t : Functions) (fs : List Funclet) (program : LinearProgram) (p : Plan
   word_within at v l h e = word_of m' at v (omega arith) (λ a x z. may_read_written m' a (stack_writable a (omega arith) (omega arith))) e
 
 -- a funclet is called, by the dispatcher or by a body: below its return address is the list
-pub record ArrivesBelow (t : Functions) (fs : List Funclet) (program : LinearProgram) (p : Plan) (s : State) (k activation first : ℕ) (items : List Item) (acts : List Activation) : Type 0 where
+pub record ArrivesBelow (t : Functions) (fs : List Funclet) (program : LinearProgram) (p : ImagePlan) (s : State) (k activation first : ℕ) (items : List Item) (acts : List Activation) : Type 0 where
   pub rip : s.cpu.rip ≡ p.funclet k
   pub name : BodyName
   pub funclet : IsFunclet t fs program p name k
@@ -122,7 +122,7 @@ pub record ArrivesBelow (t : Functions) (fs : List Funclet) (program : LinearPro
   pub on : (others : List ℕ) → length others ≡ 8 → On t fs program p s.memory (context_below back at others) is items acts
   pub sane : IsSane s
 
-abbrev pub arrives_below : (t : Functions) (fs : List Funclet) (program : LinearProgram) (p : Plan) (s : State) (k activation first : ℕ) (items : List Item) (acts : List Activation) → (a : Arrives t fs program p s k activation first items acts) → ReturnsTo t fs program p items a.back → ArrivesBelow t fs program p s k activation first items acts
+abbrev pub arrives_below : (t : Functions) (fs : List Funclet) (program : LinearProgram) (p : ImagePlan) (s : State) (k activation first : ℕ) (items : List Item) (acts : List Activation) → (a : Arrives t fs program p s k activation first items acts) → ReturnsTo t fs program p items a.back → ArrivesBelow t fs program p s k activation first items acts
 arrives_below t fs program p s k activation first items acts a to = record {
   rip = a.rip;
   name = a.name;
@@ -141,7 +141,7 @@ arrives_below t fs program p s k activation first items acts a to = record {
 }
 
 -- what a funclet's frame is made with
-module _ (t : Functions) (fs : List Funclet) (program : LinearProgram) (p : Plan) (q : Sites) (image : IsProgramImage t fs program p q) where
+module _ (t : Functions) (fs : List Funclet) (program : LinearProgram) (p : ImagePlan) (q : Sites) (image : IsProgramImage t fs program p q) where
   -- a funclet of the program, as its frame is laid out
   pub record IsLaid (k : ℕ) : Type 0 where
     pub funclet : LinearFunclet

@@ -11,7 +11,7 @@ use Rattle.virtual_unwind.specs.CallerOf.{Functions}
 use Rattle.host_model.specs.declared.funclet.Funclet.{Funclet}
 use Rattle.linear_code.specs.Program.{LinearProgram}
 use Rattle.linear_machine.specs.Frames.{FuncletBody, funclet_body, Item}
-use Rattle.linked_stack.specs.ImagePlan.{Plan}
+use Rattle.linked_stack.specs.ImagePlan.{ImagePlan}
 use Rattle.linked_stack.specs.Linked.{Activation}
 use Rattle.body_states.specs.Sites.{Sites, parent_base, keep_base, keep_argument, funclet_arguments, arguments_code}
 use Rattle.body_states.specs.Programs.{IsMachineMemory, IsProgramImage}
@@ -28,7 +28,7 @@ pub near_parent : (m : Memory) (o : Option ℕ) (frame base : ℕ) → LeadsBy m
 near_parent m None frame base leads away e = absurd cc
 near_parent m (Some x) frame base leads away e = let same : x ≡ away = cc in let n = leads.near in omega arith
 
-module _ (t : Functions) (fs : List Funclet) (program : LinearProgram) (p : Plan) (q : Sites) (image : IsProgramImage t fs program p q) where
+module _ (t : Functions) (fs : List Funclet) (program : LinearProgram) (p : ImagePlan) (q : Sites) (image : IsProgramImage t fs program p q) where
   module _ (s : State) (k activation argument : ℕ) (items : List Item) (acts : List Activation) (l : IsLaid t fs program p q image k) (a : ArrivesBelow t fs program p s k activation argument items acts) (source : Memory) (memory : IsMachineMemory t fs program p q s.memory source)
       (some : 0 < length l.funclet.body.code) (low : STACK_START ≤ register s.cpu Rsp) (high : a.at ≤ STACK_END) (frame base : ℕ) (leads : LeadsBy s.memory (parent_base p l.funclet.parent) frame base) where
     abbrev pub base_code : List Instr

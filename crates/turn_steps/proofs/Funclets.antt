@@ -20,7 +20,7 @@ use Rattle.linear_machine.specs.Frames.{Frame, Handler, Target, Resumption, Item
 use Rattle.linear_machine.specs.Instructions.{act, end_finally}
 use Rattle.linear_machine.specs.Run.{exec}
 use Rattle.linked_stack.specs.Stack.{StackItem, Searching, Unwinding}
-use Rattle.linked_stack.specs.ImagePlan.{Plan}
+use Rattle.linked_stack.specs.ImagePlan.{ImagePlan}
 use Rattle.linked_stack.specs.Linked.{Activation, locals_of}
 use Rattle.linked_stack.specs.Records.{On}
 use Rattle.linked_stack.specs.States.{IsSane}
@@ -42,7 +42,7 @@ use Rattle.turn_steps.specs.TurnLaws.{waiting_below}
 use Rattle.turn_steps.proofs.Answered.{filter_answered, finally_ended}
 use Rattle.turn_steps.proofs.Served.{filter_turns, finally_turns, filter_return_keeps, finally_return_keeps, matched_when_shown}
 
-module _ (t : Functions) (fs : List Funclet) (program : LinearProgram) (p : Plan) (q : Sites) (image : IsProgramImage t fs program p q) (fits : FlagsFit program) where
+module _ (t : Functions) (fs : List Funclet) (program : LinearProgram) (p : ImagePlan) (q : Sites) (image : IsProgramImage t fs program p q) (fits : FlagsFit program) where
   -- in at most 6 turns the machine comes to the host's return address of filters
   pub filter_step : (continues : Continuations t fs program p q) (k : ℕ) (s u : State) (c : Configuration) (i : Instruction) (r : DispatchRecord) (is : List StackItem) (acts : List Activation)
       → (exception : Exception) (resumption : Resumption) (asked : Handler) (rest : List Handler) (w : Frame) (below : List Item)

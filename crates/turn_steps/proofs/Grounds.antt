@@ -10,7 +10,7 @@ use Rattle.linear_code.specs.Program.{LinearProgram}
 use Rattle.linear_machine.specs.Frames.{Item, Configuration}
 use Rattle.linked_stack.specs.Stack.{IsStack}
 use Rattle.linked_stack.specs.WalkLaws.{context_below}
-use Rattle.linked_stack.specs.ImagePlan.{Plan}
+use Rattle.linked_stack.specs.ImagePlan.{ImagePlan}
 use Rattle.linked_stack.specs.Linked.{Activation}
 use Rattle.body_states.specs.Sites.{Sites}
 use Rattle.body_states.specs.Programs.{IsProgramImage}
@@ -20,7 +20,7 @@ use Rattle.body_states.proofs.Beneath.{Beneath, beneath_by}
 use Rattle.body_steps.proofs.Viewed.{IsCounted, frame_top}
 use Rattle.turn_steps.proofs.FuncletFrames.{ArrivesBelow}
 
-module _ (t : Functions) (fs : List Funclet) (program : LinearProgram) (p : Plan) (q : Sites) (image : IsProgramImage t fs program p q) where
+module _ (t : Functions) (fs : List Funclet) (program : LinearProgram) (p : ImagePlan) (q : Sites) (image : IsProgramImage t fs program p q) where
   module _ (s : State) (c : Configuration) (b : Begins t fs program p q s c) (counted : IsCounted t fs program p q image c) where
     -- the return address of the body that runs
     abbrev pub top_of : ℕ

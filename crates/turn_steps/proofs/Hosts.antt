@@ -15,7 +15,7 @@ use Rattle.linear_code.specs.Program.{LinearProgram}
 use Rattle.linear_machine.specs.Frames.{Waits, Configuration}
 use Rattle.x64_templates.proofs.PlacedCode.{all_may}
 use Rattle.linked_stack.specs.Stack.{StackItem}
-use Rattle.linked_stack.specs.ImagePlan.{Plan}
+use Rattle.linked_stack.specs.ImagePlan.{ImagePlan}
 use Rattle.linked_stack.specs.Linked.{Activation}
 use Rattle.linked_stack.specs.ListLaws.{KeepsAbove}
 use Rattle.linked_stack.proofs.Ends.{in_stack}
@@ -42,7 +42,7 @@ record_fits m sp low high may =
     ∙ ap (λ (b : Bool). cond b (Some (return_address_at at)) (first_refused (may_write m) 1576 (return_address_at at))) second
     ∙ third
 
-module _ (t : Functions) (fs : List Funclet) (program : LinearProgram) (p : Plan) (q : Sites) (image : IsProgramImage t fs program p q) where
+module _ (t : Functions) (fs : List Funclet) (program : LinearProgram) (p : ImagePlan) (q : Sites) (image : IsProgramImage t fs program p q) where
   -- the body's state is saved, and bytes below its stack pointer may have been stored since
   pub record Asks (cpu saved : Cpu) (m : Memory) (byte : ℕ → ℕ) (c : Configuration) (acts : List Activation) : Type 0 where
     pub is : List StackItem

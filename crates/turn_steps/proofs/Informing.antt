@@ -23,10 +23,10 @@ use Rattle.x64_templates.specs.Straight.{machine}
 use Rattle.x64_templates.specs.Runs.{ReachesBody}
 use Rattle.x64_templates.specs.Exceptions.{IsField}
 use Rattle.x64_templates.proofs.Information.{information_run}
-use Rattle.linked_stack.specs.ImagePlan.{Plan}
+use Rattle.linked_stack.specs.ImagePlan.{ImagePlan}
 use Rattle.whole_runs.specs.Matched.{Moves}
 use Rattle.ir_typed.specs.Room.{HaveRoom}
-use Rattle.ir_typed.specs.Ready.{IsNext}
+use Rattle.ir_typed.specs.Ready.{IsNextSlot}
 use Rattle.body_states.specs.Layouts.{IsFuncletPlan}
 use Rattle.body_states.specs.Sites.{Sites}
 use Rattle.body_states.specs.Programs.{IsProgramImage}
@@ -44,14 +44,14 @@ information_size : (y : Layout) (to : Slot) (field : Field) → template_size y 
 unfolding template_size
 information_size y to field = refl
 
-module _ (t : Functions) (fs : List Funclet) (program : LinearProgram) (p : Plan) (q : Sites) (image : IsProgramImage t fs program p q) (roomy : HaveRoom program) (s : State) (c : Configuration) (b : Begins t fs program p q s c) (counted : IsCounted t fs program p q image c) (around : Surroundings t fs program p q image roomy s c b counted) where
+module _ (t : Functions) (fs : List Funclet) (program : LinearProgram) (p : ImagePlan) (q : Sites) (image : IsProgramImage t fs program p q) (roomy : HaveRoom program) (s : State) (c : Configuration) (b : Begins t fs program p q s c) (counted : IsCounted t fs program p q image c) (around : Surroundings t fs program p q image roomy s c b counted) where
   abbrev body : LinearBody
   body = code t fs program p q image roomy s c b counted
 
   abbrev now : BodyState
   now = slots t fs program p q image roomy s c b counted
 
-  fits_next : (to : Slot) → IsNext (length c.frame.temporaries) to → FitsAfter c.frame.temporaries to
+  fits_next : (to : Slot) → IsNextSlot (length c.frame.temporaries) to → FitsAfter c.frame.temporaries to
   fits_next (Local x) h = tt
   fits_next (Temporary i) h = h
 
@@ -64,7 +64,7 @@ module _ (t : Functions) (fs : List Funclet) (program : LinearProgram) (p : Plan
       let same : (p.layout c.frame.body).frame ≡ (p.layout (FuncletBody f.number)).frame = ap (λ name. (p.layout name).frame) f.is in
       omega arith
 
-  pub information_step : (to : Slot) (field : Field) → c.frame.landed ≡ None → slice_get body.code c.frame.next ≡ Some (instructions.Information to field) → length c.frame.temporaries ≤ body.temporaries → IsNext (length c.frame.temporaries) to
+  pub information_step : (to : Slot) (field : Field) → c.frame.landed ≡ None → slice_get body.code c.frame.next ≡ Some (instructions.Information to field) → length c.frame.temporaries ≤ body.temporaries → IsNextSlot (length c.frame.temporaries) to
       → IsFilterBody program c.frame.body → IsField field
       → GoesInside t fs program p q image roomy s c b counted around (instructions.Information to field) → Moves t fs program 16 turns_left (Begins t fs program p q) s c (instructions.Information to field)
   information_step to field free e held next filter is inside =

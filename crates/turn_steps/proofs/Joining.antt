@@ -6,7 +6,7 @@ use Rattle.virtual_unwind.specs.CallerOf.{Functions}
 use Rattle.host_model.specs.declared.funclet.Funclet.{Funclet}
 use Rattle.linear_code.specs.Program.{LinearProgram}
 use Rattle.linear_machine.specs.Frames.{AfterCall, SameOperation, Configuration}
-use Rattle.linked_stack.specs.ImagePlan.{Plan}
+use Rattle.linked_stack.specs.ImagePlan.{ImagePlan}
 use Rattle.whole_runs.specs.Comes.{LeadsTo}
 use Rattle.body_states.specs.Sites.{Sites}
 use Rattle.body_states.specs.Bodies.{Begins}
@@ -15,7 +15,7 @@ use Rattle.turn_steps.proofs.FaultSteps.{continuations}
 use Rattle.turn_steps.specs.RaiseLaws.{BodiesContinue}
 use Rattle.turn_steps.proofs.RaiseContinuing.{continuations_after_calls}
 
-begun_represents : (t : Functions) (fs : List Funclet) (program : LinearProgram) (p : Plan) (q : Sites) (most : ℕ) (s : State) (c : Configuration)
+begun_represents : (t : Functions) (fs : List Funclet) (program : LinearProgram) (p : ImagePlan) (q : Sites) (most : ℕ) (s : State) (c : Configuration)
     → LeadsTo t fs most (Begins t fs program p q) s c → LeadsTo t fs most (Represents t fs program p q) s c
 begun_represents t fs program p q most s c l = record { turns = l.turns; few = l.few; state = l.state; comes = l.comes; is_there = inl l.is_there }
 

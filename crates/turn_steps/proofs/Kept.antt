@@ -31,7 +31,7 @@ use Rattle.x64_templates.specs.Quiet.{IsReturn}
 use Rattle.x64_templates.proofs.Returns.{call_ends}
 use Rattle.x64_templates.proofs.Flows.{keep_flow}
 use Rattle.linked_stack.specs.Stack.{StackItem}
-use Rattle.linked_stack.specs.ImagePlan.{Plan}
+use Rattle.linked_stack.specs.ImagePlan.{ImagePlan}
 use Rattle.linked_stack.specs.Linked.{Activation, locals_of}
 use Rattle.linked_stack.specs.Records.{On}
 use Rattle.linked_stack.specs.Unwinding.{on_top}
@@ -92,14 +92,14 @@ longer_leaves b d values ts v l lt = record {
 }
 
 -- in one turn, which keeps the shadow, it comes to where a configuration begins
-pub record Resumes (t : Functions) (fs : List Funclet) (program : LinearProgram) (p : Plan) (q : Sites) (u : State) (c : Configuration) : Type 0 where
+pub record Resumes (t : Functions) (fs : List Funclet) (program : LinearProgram) (p : ImagePlan) (q : Sites) (u : State) (c : Configuration) : Type 0 where
   pub state : State
   pub reaches : Reaches 1 u state
   pub quiet : arrivals state.cpu (distance t.base state.cpu.rip) 1 fs ≡ []
   pub begins : Begins t fs program p q state c
   pub keeps : AllKeep t fs 1 u
 
-module _ (t : Functions) (fs : List Funclet) (program : LinearProgram) (p : Plan) (q : Sites) (image : IsProgramImage t fs program p q) (roomy : HaveRoom program) where
+module _ (t : Functions) (fs : List Funclet) (program : LinearProgram) (p : ImagePlan) (q : Sites) (image : IsProgramImage t fs program p q) (roomy : HaveRoom program) where
   -- what the frames below a body are like: a leaf's caller has one, and the function whose locals a
   -- funclet works on
   pub record IsSurrounded (name : BodyName) (activation : ℕ) (items : List Item) (depth : ℕ) : Type 0 where

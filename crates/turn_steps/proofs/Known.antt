@@ -10,10 +10,10 @@ use Rattle.linear_code.specs.declared.program.FuncletKind.{FuncletKind}
 use Rattle.linear_code.specs.declared.program.FuncletKind.TheVariants as funclets
 use Rattle.linear_code.specs.Program.{LinearProgram, LinearBody, LinearFunclet}
 use Rattle.linear_machine.specs.Frames.{BodyName, FunctionBody, FuncletBody, body_of, function_body, funclet_body, Frame, Handler, Item, Waits, Searches, Unwinds}
-use Rattle.ir_typed.specs.Bodies.{IsFilter, parent_of, function_of, owner_of, IsFuncletOf, IsKindOf}
+use Rattle.ir_typed.specs.Bodies.{IsFilterKind, parent_of, function_of, owner_of, IsFuncletOf, IsKindOf}
 use Rattle.ir_typed.specs.Waiting.{Handles, IsHandler}
 use Rattle.ir_typed.specs.Activations.{with_own, owners_of, WorksOn, AreWorking, IsActivationOf, AreActivations}
-use Rattle.linked_stack.specs.ImagePlan.{Plan, by_parent}
+use Rattle.linked_stack.specs.ImagePlan.{ImagePlan, by_parent}
 use Rattle.linked_stack.specs.Linked.{Activation, activations_below, Leads}
 use Rattle.body_states.specs.Sites.{Sites, parent_base}
 use Rattle.body_states.specs.Layouts.{IsFuncletPlan}
@@ -36,11 +36,11 @@ same_body a b e = cc
 module _ (program : LinearProgram) where
   pub record IsFilterOfSome (k : ℕ) : Type 0 where
     pub parent : BodyName
-    pub funclet : IsFuncletOf program parent IsFilter k
+    pub funclet : IsFuncletOf program parent IsFilterKind k
 
   by_kind : (name : BodyName) (end : ℕ) (kind : RegionKind) (filter : Option ℕ) (target k : ℕ) → IsKindOf program name end kind → Handles program kind filter target → filter ≡ Some k → IsFilterOfSome k
   by_kind name end (kinds.Finally j) filter target k is h e = absurd h
-  by_kind name end (kinds.Filter j label) filter target k is h e = record { parent = name; funclet = subst (IsFuncletOf program name IsFilter) (same_number j k (sym h.0 ∙ e)) is.0 }
+  by_kind name end (kinds.Filter j label) filter target k is h e = record { parent = name; funclet = subst (IsFuncletOf program name IsFilterKind) (same_number j k (sym h.0 ∙ e)) is.0 }
   by_kind name end (kinds.Always label) filter target k is h e = let f : ◌≡◌ {A = Option ℕ} None (Some k) = sym h.0 ∙ e in absurd cc
 
   pub filter_of_some : (h : Handler) (k : ℕ) (items : List Item) → h.filter ≡ Some k → IsHandler program h items → IsFilterOfSome k
@@ -50,7 +50,7 @@ module _ (program : LinearProgram) where
   filter_of_some h k (Searches exception resumption asked rest ∷ below) e i = filter_of_some h k below e i
   filter_of_some h k (Unwinds rest target ∷ below) e i = filter_of_some h k below e i
 
-  pub is_filter : (kind : FuncletKind) → IsFilter kind → kind ≡ funclets.Filter
+  pub is_filter : (kind : FuncletKind) → IsFilterKind kind → kind ≡ funclets.Filter
   is_filter funclets.Filter h = refl
   is_filter (funclets.Finally flag) h = absurd h
 
@@ -75,7 +75,7 @@ module _ (program : LinearProgram) where
 
 -- ---- where a funclet is laid out
 
-module _ (t : Functions) (fs : List Funclet) (program : LinearProgram) (p : Plan) (q : Sites) (image : IsProgramImage t fs program p q) where
+module _ (t : Functions) (fs : List Funclet) (program : LinearProgram) (p : ImagePlan) (q : Sites) (image : IsProgramImage t fs program p q) where
   -- the locals of its function
   pub own_locals : (k : ℕ) (f : LinearFunclet) → slice_get program.funclets k ≡ Some f → (p.layout (FuncletBody k)).locals ≡ (p.layout (FunctionBody f.function)).locals
   own_locals k f there =

@@ -15,7 +15,7 @@ use Rattle.linear_machine.specs.Frames.{Frame, Target, Item, Waits, Configuratio
 use Rattle.linear_machine.specs.Unwinding as linear
 use Rattle.linear_machine.specs.Unwinding.{arrive}
 use Rattle.linked_stack.specs.Stack.{StackFrame, StackItem, Framed}
-use Rattle.linked_stack.specs.ImagePlan.{Plan, InCode}
+use Rattle.linked_stack.specs.ImagePlan.{ImagePlan, InCode}
 use Rattle.linked_stack.specs.Linked.{Activation}
 use Rattle.linked_stack.specs.Records.{On}
 use Rattle.linked_stack.specs.Unwinding.{store_of, on_top}
@@ -49,7 +49,7 @@ pub arrives_there : (body : Frame) (below : List Item) (target : Target) (code :
 arrives_there body below target None source outer shown next = ap (λ (es : List Event). next (on_top (landed body target.label None) below source outer es)) (sym (append-nil shown))
 arrives_there body below target (Some code) source outer shown next = refl
 
-module _ (t : Functions) (fs : List Funclet) (program : LinearProgram) (p : Plan) (q : Sites) (image : IsProgramImage t fs program p q) where
+module _ (t : Functions) (fs : List Funclet) (program : LinearProgram) (p : ImagePlan) (q : Sites) (image : IsProgramImage t fs program p q) where
   -- the state of the machine represents it
   lands_in_body : (s : State) (to : Context) (framed : StackFrame) (is : List StackItem) (body : Frame) (below : List Item) (outer : List Activation) (rax address label : ℕ) (code : Option ℕ) (source : Memory) (shown : List Event)
       → On t fs program p s.memory to (Framed framed ∷ is) (Waits body ∷ below) outer → address ≡ p.address body.body label → p.lands body.body label ≡ true → IsSane (at_landing s to rax address)

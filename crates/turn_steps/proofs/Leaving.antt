@@ -23,7 +23,7 @@ use Rattle.x64_templates.proofs.Entries.{number_small}
 use Rattle.x64_templates.proofs.Encoded.{fetch_fine}
 use Rattle.x64_templates.proofs.Returns.{sp_moved, return_run}
 use Rattle.ir_typed.specs.Room.{HaveRoom}
-use Rattle.linked_stack.specs.ImagePlan.{Plan}
+use Rattle.linked_stack.specs.ImagePlan.{ImagePlan}
 use Rattle.linked_stack.specs.States.{IsSane}
 use Rattle.body_states.specs.Sites.{Sites}
 use Rattle.whole_runs.specs.Shadow.{AllKeep}
@@ -61,7 +61,7 @@ returns_soon y x =
     let c = (ends_soon y.frame).1 in
     (omega arith, omega arith)
 
-module _ (t : Functions) (fs : List Funclet) (program : LinearProgram) (p : Plan) (q : Sites) (image : IsProgramImage t fs program p q) (roomy : HaveRoom program) where
+module _ (t : Functions) (fs : List Funclet) (program : LinearProgram) (p : ImagePlan) (q : Sites) (image : IsProgramImage t fs program p q) (roomy : HaveRoom program) where
   module _ (s : State) (c : Configuration) (b : Begins t fs program p q s c) (counted : IsCounted t fs program p q image c) (from : Slot)
       (at : slice_get b.body.slots.code.code c.frame.next ≡ Some (instructions.Return from)) where
     abbrev pub layout : Layout

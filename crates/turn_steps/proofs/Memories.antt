@@ -14,8 +14,8 @@ use Rattle.host_model.specs.declared.funclet.Funclet.{Funclet}
 use Rattle.c_model.specs.Source.{is_reserved}
 use Rattle.linear_code.specs.Program.{LinearProgram}
 use Rattle.x64_templates.specs.Frames.{Agrees}
-use Rattle.linked_stack.specs.ImagePlan.{Plan}
-use Rattle.linked_stack.specs.Records.{IsData, HasRoom, IsUntouched}
+use Rattle.linked_stack.specs.ImagePlan.{ImagePlan}
+use Rattle.linked_stack.specs.Records.{IsData, RecordHasRoom, IsUntouched}
 use Rattle.linked_stack.proofs.Laying.{place_of, placed_keeps_above}
 use Rattle.body_states.specs.Sites.{Sites}
 use Rattle.body_states.specs.Programs.{IsMachineMemory}
@@ -29,7 +29,7 @@ stack_is_reserved globals a l u =
     rw (low, high) refl
 
 -- protections and all that isn't in the stack are as they were, and the stack may be written
-module _ (t : Functions) (fs : List Funclet) (program : LinearProgram) (p : Plan) (q : Sites) (m m' source : Memory) (untouched : IsUntouched m m') where
+module _ (t : Functions) (fs : List Funclet) (program : LinearProgram) (p : ImagePlan) (q : Sites) (m m' source : Memory) (untouched : IsUntouched m m') where
   outside_stays : (a : ℕ) → (STACK_START ≤ a → a < STACK_END → ⊥) → m'.byte a ≡ m.byte a
   outside_stays a out = by (cases_lt a STACK_START) (cases_lt a STACK_END)
     where
@@ -70,7 +70,7 @@ untouched_then a b c f g = record {
 }
 
 -- a record is placed below the list
-pub placing : (m : Memory) (at : ℕ) (r : DispatchRecord) (above : ℕ) → IsData m → HasRoom m at r above → above ≤ STACK_END → IsUntouched m (placed m at r)
+pub placing : (m : Memory) (at : ℕ) (r : DispatchRecord) (above : ℕ) → IsData m → RecordHasRoom m at r above → above ≤ STACK_END → IsUntouched m (placed m at r)
 unfolding placed
 placing m at r above data_alone room le =
     let below = room.below in

@@ -29,10 +29,10 @@ use Rattle.template_code.specs.declared.layout.Layout.{Layout}
 use Rattle.template_code.specs.Slots.{finish_code}
 use Rattle.x64_templates.specs.Straight.{MachineView}
 use Rattle.x64_templates.specs.Implements.{IsReady, HasOperands}
-use Rattle.x64_templates.specs.Runs.{HasCode, Finished, Frame}
+use Rattle.x64_templates.specs.Runs.{HasCode, Finished, FramePlace}
 use Rattle.x64_templates.proofs.Computes.{finish_run}
 use Rattle.linked_stack.specs.WalkLaws.{context_below}
-use Rattle.linked_stack.specs.ImagePlan.{Plan, InCode}
+use Rattle.linked_stack.specs.ImagePlan.{ImagePlan, InCode}
 use Rattle.linked_stack.specs.Linked.{activations_below, home_end, below_end, HoldsWords, HasActivation, HasPointers, HasSpace}
 use Rattle.linked_stack.specs.Records.{On}
 use Rattle.body_states.specs.Sites.{Sites}
@@ -56,7 +56,7 @@ all_same : (label : ℕ) (rs : List Region) → AllByRecursion (λ (r : Region).
 all_same label [] = tt
 all_same label (r ∷ rs) = (refl, all_same label rs)
 
-pub in_body_at : (t : Functions) (fs : List Funclet) (program : LinearProgram) (p : Plan) (q : Sites) (s : State) (c : Configuration) (cpu : Cpu)
+pub in_body_at : (t : Functions) (fs : List Funclet) (program : LinearProgram) (p : ImagePlan) (q : Sites) (s : State) (c : Configuration) (cpu : Cpu)
     → InBody t fs program p q s c → register cpu Rsp ≡ register s.cpu Rsp → InCode p c.frame.body c.frame.next cpu.rip → cpu.rip < 2 ^ 64
     → InBody t fs program p q (record { cpu = cpu; memory = s.memory }) c
 in_body_at t fs program p q s c cpu b sp inside small =
@@ -95,7 +95,7 @@ ready_same (operations.Remainder s z) v w a d h = rw (← a, ← d) h
 ready_same (operations.Load z) v w a d h = tt
 ready_same (operations.Store z) v w a d h = tt
 
-module _ (t : Functions) (fs : List Funclet) (program : LinearProgram) (p : Plan) (q : Sites) (image : IsProgramImage t fs program p q) (made : IsWellMade program p)
+module _ (t : Functions) (fs : List Funclet) (program : LinearProgram) (p : ImagePlan) (q : Sites) (image : IsProgramImage t fs program p q) (made : IsWellMade program p)
     (s : State) (c : Configuration) (w : WorksOn t fs program p q s c) (known : IsKnown program c) where
   abbrev to : Slot
   to = w.again.to
@@ -152,7 +152,7 @@ module _ (t : Functions) (fs : List Funclet) (program : LinearProgram) (p : Plan
   at_here = code_at t fs program p q image made before c begins_before known here w.again.works
 
   -- its frame, and what its slots hold
-  abbrev pub frame_here : Frame
+  abbrev pub frame_here : FramePlace
   frame_here = frame t fs program p q image made.room before c begins_before counted
 
   abbrev pub slots_now : BodyState

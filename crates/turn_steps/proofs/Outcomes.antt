@@ -16,7 +16,7 @@ use Rattle.linear_code.specs.declared.instruction.Instruction.{Instruction}
 use Rattle.linear_code.specs.Program.{LinearProgram}
 use Rattle.linear_machine.specs.Frames.{Configuration, Seen, Finished, Next, pick}
 use Rattle.linear_machine.specs.Instructions.{act}
-use Rattle.linked_stack.specs.ImagePlan.{Plan}
+use Rattle.linked_stack.specs.ImagePlan.{ImagePlan}
 use Rattle.whole_runs.specs.Shadow.{KeepsShadow}
 use Rattle.whole_runs.specs.Comes.{IsLive, Comes, LeadsTo}
 use Rattle.whole_runs.specs.Matched.{IsMatched}
@@ -45,7 +45,7 @@ pub with_none : (x : Turn) → x ≡ with_events [] x
 with_none (Continues s es) = refl
 with_none (Ends es end) = refl
 
-module _ (t : Functions) (fs : List Funclet) (program : LinearProgram) (p : Plan) (q : Sites) where
+module _ (t : Functions) (fs : List Funclet) (program : LinearProgram) (p : ImagePlan) (q : Sites) where
   -- where a funclet's first instruction begins, the state represents the configuration
   pub begins_there : (s : State) (c : Configuration) → LeadsTo t fs entry_turns (Begins t fs program p q) s c → LeadsTo t fs entry_turns (Represents t fs program p q) s c
   begins_there s c l = record { turns = l.turns; few = l.few; state = l.state; comes = l.comes; is_there = inl l.is_there }

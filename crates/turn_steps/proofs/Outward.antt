@@ -16,8 +16,8 @@ use Rattle.template_code.specs.Slots.{fetched, temporary_at}
 use Rattle.template_code.specs.Calls.{keep_register, passing_code}
 use Rattle.x64_templates.specs.Straight.{MachineView, Executes}
 use Rattle.x64_templates.specs.CallStates.{sp_of}
-use Rattle.x64_templates.specs.Frames.{slot_at, IsBytes, KeepsBase}
-use Rattle.x64_templates.specs.Runs.{Frame, Roomy, FrameHolds, IsThere}
+use Rattle.x64_templates.specs.Frames.{slot_at, IsBytes, MemoryKeepsBase}
+use Rattle.x64_templates.specs.Runs.{FramePlace, Roomy, FrameHolds, IsThere}
 use Rattle.x64_templates.proofs.PlacedCode.{all_may, same_number}
 use Rattle.x64_templates.proofs.Straight.{executes_then, executes_nothing}
 use Rattle.x64_templates.proofs.Cells.{put, slot_high, fetch_does}
@@ -30,7 +30,7 @@ beside_at : (m : Memory) (at x a : ℕ) → at + 8 < 2 ^ 63 → (a < at) ⊎ (at
 beside_at m at x a high out = untouched m.byte 8 at x a (λ i lt e. absurd (elim out [ inl l ↦ omega arith | inr r ↦ omega arith ])) (omega arith)
 
 -- the bottom of a frame, up to the slots and the place of the base
-pub record HasOutgoing (p : Frame) (m : Memory) (room : ℕ) : Type 0 where
+pub record HasOutgoing (p : FramePlace) (m : Memory) (room : ℕ) : Type 0 where
   pub slots : (x : Slot) → IsThere p x → p.sp + room ≤ slot_at p.layout p.sp p.base x
   pub base : (k : ℕ) → p.layout.base ≡ Some k → room ≤ k
   pub writable : (a : ℕ) → p.sp ≤ a → a < p.sp + room → may_write m a ≡ true
@@ -40,7 +40,7 @@ pub record HasOutgoing (p : Frame) (m : Memory) (room : ℕ) : Type 0 where
 abbrev pub stored : Memory → (at x : ℕ) → Memory
 stored m at x = with_bytes m (with_number m.byte 8 at x)
 
-module _ (p : Frame) (roomy : Roomy p) (room : ℕ) where
+module _ (p : FramePlace) (roomy : Roomy p) (room : ℕ) where
   still_outgoing : (m m' : Memory) → m'.protection ≡ m.protection → HasOutgoing p m room → HasOutgoing p m' room
   still_outgoing m m' e h = record {
     slots = h.slots;
@@ -50,7 +50,7 @@ module _ (p : Frame) (roomy : Roomy p) (room : ℕ) where
     near = h.near;
   }
 
-  base_beside : (m : Memory) (at x : ℕ) (o : Option ℕ) → at + 8 ≤ p.sp + room → at + 8 < 2 ^ 63 → ((k : ℕ) → o ≡ Some k → (room ≤ k) × (p.sp + k + 8 < 2 ^ 64)) → KeepsBase o p.sp p.base m → KeepsBase o p.sp p.base (stored m at x)
+  base_beside : (m : Memory) (at x : ℕ) (o : Option ℕ) → at + 8 ≤ p.sp + room → at + 8 < 2 ^ 63 → ((k : ℕ) → o ≡ Some k → (room ≤ k) × (p.sp + k + 8 < 2 ^ 64)) → MemoryKeepsBase o p.sp p.base m → MemoryKeepsBase o p.sp p.base (stored m at x)
   base_beside m at x None le high up h = tt
   base_beside m at x (Some k) le high up h =
       let u = up k refl in

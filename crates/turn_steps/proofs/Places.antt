@@ -27,13 +27,13 @@ use Rattle.template_code.specs.Operations.{work}
 use Rattle.template_code.specs.Slots.{keep, operands_code, finish_code}
 use Rattle.template_code.specs.Template.{template, template_size}
 use Rattle.template_code.proofs.Sizes.{sizes_append}
-use Rattle.x64_templates.specs.Frames.{HasBase, HasRoom}
+use Rattle.x64_templates.specs.Frames.{HasBase, SlotsHaveRoom}
 use Rattle.x64_templates.specs.Runs.{HasCode}
 use Rattle.x64_templates.proofs.PlacedCode.{bytes_split, spells, reads}
 use Rattle.x64_templates.proofs.Computes.{code_split}
 use Rattle.x64_templates.proofs.Encoded.{Fine, none_taking, finish_fine}
 use Rattle.ir_typed.specs.Room.{HaveRoom}
-use Rattle.linked_stack.specs.ImagePlan.{Plan}
+use Rattle.linked_stack.specs.ImagePlan.{ImagePlan}
 use Rattle.body_states.specs.Sites.{Sites, links_of}
 use Rattle.body_states.specs.Layouts.{IsFunctionLayout, IsLeafLayout, IsFuncletLayout, IsLayoutIf, IsLaidOut}
 use Rattle.body_states.specs.Programs.{HasProgram, IsProgramImage}
@@ -71,7 +71,7 @@ whole_size y to o first second = sizes_append (operands_code y o first second) (
 pub record HasRoomSomewhere (y : Layout) (n : Counts) : Type 0 where
   pub sp : ℕ
   pub base : ℕ
-  pub room : HasRoom y n sp base
+  pub room : SlotsHaveRoom y n sp base
 
 own_room : (y : Layout) (n : Counts) → y.base ≡ None → y.temporaries + 8 * n.temporaries < 2 ^ 31 → y.locals + 8 * n.locals < 2 ^ 31
     → (0 + (y.locals + 8 * n.locals) ≤ 0 + y.temporaries) ⊎ (0 + (y.temporaries + 8 * n.temporaries) ≤ 0 + y.locals) → HasRoomSomewhere y n
@@ -123,7 +123,7 @@ funclet_room y f b g l m same =
       };
     }
 
-module _ (t : Functions) (fs : List Funclet) (program : LinearProgram) (p : Plan) (q : Sites) (image : IsProgramImage t fs program p q) where
+module _ (t : Functions) (fs : List Funclet) (program : LinearProgram) (p : ImagePlan) (q : Sites) (image : IsProgramImage t fs program p q) where
   by_leaf : (f : ℕ) (b : LinearBody) (leaf : Bool) → IsLayoutIf program p (p.layout (FunctionBody f)) b leaf → HasRoomSomewhere (p.layout (FunctionBody f)) (counts_of b)
   by_leaf f b true l = leaf_room (p.layout (FunctionBody f)) b l
   by_leaf f b false l = function_room (p.layout (FunctionBody f)) b l

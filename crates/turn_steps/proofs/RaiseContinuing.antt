@@ -31,7 +31,7 @@ use Rattle.x64_templates.proofs.Computes.{code_split}
 use Rattle.x64_templates.proofs.Encoded.{near}
 use Rattle.x64_templates.proofs.Linked.{template_placed}
 use Rattle.linked_stack.specs.Stack.{StackItem}
-use Rattle.linked_stack.specs.ImagePlan.{Plan}
+use Rattle.linked_stack.specs.ImagePlan.{ImagePlan}
 use Rattle.linked_stack.specs.Linked.{Activation, locals_of}
 use Rattle.linked_stack.specs.Records.{On}
 use Rattle.linked_stack.specs.Unwinding.{on_top}
@@ -64,7 +64,7 @@ abbrev locals_in : List (List ℕ) → ℕ → List ℕ
 locals_in xs k = elim (slice_get xs k) [ Some locals ↦ locals | None ↦ [] ]
 
 -- temporaries are near RSP
-temporaries_near : (program : LinearProgram) (p : Plan) (name : BodyName) (b : LinearBody) → IsLaidOut program p name b → (p.layout name).temporaries + 8 * b.temporaries + 8 ≤ LARGEST_FRAME
+temporaries_near : (program : LinearProgram) (p : ImagePlan) (name : BodyName) (b : LinearBody) → IsLaidOut program p name b → (p.layout name).temporaries + 8 * b.temporaries + 8 ≤ LARGEST_FRAME
 temporaries_near program p (FunctionBody f) b h = by (p.leaf (FunctionBody f)) h
   where
     by : (leaf : Bool) → IsLayoutIf program p (p.layout (FunctionBody f)) b leaf → (p.layout (FunctionBody f)).temporaries + 8 * b.temporaries + 8 ≤ LARGEST_FRAME
@@ -72,7 +72,7 @@ temporaries_near program p (FunctionBody f) b h = by (p.leaf (FunctionBody f)) h
     by false l = let a = l.temporaries in let e = l.locals in let z = l.small in omega arith
 temporaries_near program p (FuncletBody k) b h = let a = h.layout.temporaries in let z = h.layout.small in omega arith
 
-module _ (t : Functions) (fs : List Funclet) (program : LinearProgram) (p : Plan) (q : Sites) (image : IsProgramImage t fs program p q) where
+module _ (t : Functions) (fs : List Funclet) (program : LinearProgram) (p : ImagePlan) (q : Sites) (image : IsProgramImage t fs program p q) where
   module _ (made : IsWellMade program p) (s : State) (saved : Cpu) (is : List StackItem) (acts : List Activation) (c : Configuration)
       (on : On t fs program p s.memory (context_of saved) is (Waits c.frame ∷ c.below) acts) (sane : IsSane (record { cpu = saved; memory = s.memory })) (says : p.resumes AfterCall c.frame saved ≡ true)
       (memory : IsMachineMemory t fs program p q s.memory c.store.memory) (store : c.store.activations ≡ locals_of acts) where

@@ -30,7 +30,7 @@ use Rattle.x64_templates.specs.Runs.{HasCode}
 use Rattle.x64_templates.proofs.PlacedCode.{bytes_split, spells, reads}
 use Rattle.x64_templates.proofs.Computes.{code_split}
 use Rattle.x64_templates.proofs.Encoded.{near}
-use Rattle.linked_stack.specs.ImagePlan.{Plan}
+use Rattle.linked_stack.specs.ImagePlan.{ImagePlan}
 use Rattle.body_states.specs.Sites.{Sites, making, frame_code, arguments_code, entry_code, links_of}
 use Rattle.body_states.specs.Layouts.{IsFuncletPlan}
 use Rattle.body_states.specs.Programs.{HasProgram, IsProgramImage}
@@ -55,7 +55,7 @@ never_both i j m n e makes quiet = let z : true ≡ false = sym makes ∙ ap tak
 made_at_once : (size at check : ℕ) (leaf : Bool) → leaf ≡ false → size ≤ 4096 → frame_code size at check leaf ≡ enter_code size
 made_at_once size at check leaf e small = ap (frame_code size at check) e ∙ ap (making size at check) (le-leb size 4096 small)
 
-module _ (t : Functions) (fs : List Funclet) (program : LinearProgram) (p : Plan) (q : Sites) (image : IsProgramImage t fs program p q) where
+module _ (t : Functions) (fs : List Funclet) (program : LinearProgram) (p : ImagePlan) (q : Sites) (image : IsProgramImage t fs program p q) where
   -- a funclet begins with an instruction that makes its frame
   makes_frame : (m : Memory) (k : ℕ) (f : LinearFunclet) (j : Instr) → slice_get program.funclets k ≡ Some f → HasProgram t fs program p q m
       → is_encodable j ≡ true → takes_frame j ≡ false → HasCode m (p.funclet k) (j ∷ []) → ⊥

@@ -28,7 +28,7 @@ use Rattle.linear_machine.specs.Frames.{AfterCall, Configuration, Next, with_som
 use Rattle.linear_machine.specs.Searching.{raise}
 use Rattle.linear_machine.specs.Instructions.{count_of, waiting, built_in, act}
 use Rattle.linear_machine.specs.Run.{instruction_at, exec}
-use Rattle.linked_stack.specs.ImagePlan.{Plan}
+use Rattle.linked_stack.specs.ImagePlan.{ImagePlan}
 use Rattle.linked_stack.specs.Steps.{IsException}
 use Rattle.whole_runs.specs.Ends.{HasRule}
 use Rattle.whole_runs.specs.Matched.{IsMatched}
@@ -71,7 +71,7 @@ raise_acts program c first held next =
     ap (λ (x : Bool). if x then Some (drop first c.frame.temporaries) else None) (eq-eqb (length c.frame.temporaries) (first + 4) held) in
     ap (λ o. with_some c.events o (λ vs. built_in program next RaiseException vs (waiting c first))) last
 
-module _ (t : Functions) (fs : List Funclet) (program : LinearProgram) (p : Plan) (q : Sites) (image : IsProgramImage t fs program p q) (made : IsWellMade program p)
+module _ (t : Functions) (fs : List Funclet) (program : LinearProgram) (p : ImagePlan) (q : Sites) (image : IsProgramImage t fs program p q) (made : IsWellMade program p)
     (fits : FlagsFit program) where
   module _ (s : State) (c : Configuration) (b : Begins t fs program p q s c) (known : IsKnown program c) (first : ℕ) (at : instruction_at program c ≡ Some (instructions.CallBuiltIn RaiseException first)) where
     abbrev i : Instruction

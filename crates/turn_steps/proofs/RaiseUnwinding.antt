@@ -41,7 +41,7 @@ use Rattle.x64_templates.proofs.PlacedCode.{reaches_then}
 use Rattle.x64_templates.proofs.Services.{thunk_reaches, pushed_thunk}
 use Rattle.x64_templates.proofs.Unwinds.{with_two, local_unwind_begins}
 use Rattle.linked_stack.specs.Stack.{StackItem, Framed, Leaf}
-use Rattle.linked_stack.specs.ImagePlan.{Plan, InCode}
+use Rattle.linked_stack.specs.ImagePlan.{ImagePlan, InCode}
 use Rattle.linked_stack.specs.Linked.{Activation, SameRegions, AimedHere, Aimed, Linked}
 use Rattle.linked_stack.specs.ListLaws.{KeepsAbove}
 use Rattle.linked_stack.specs.States.{IsSane}
@@ -110,13 +110,13 @@ nothing_landed program c i (Some code) h e f =
 
 -- ---- the target, in the first frame of the list
 
-aimed_first : (t : Functions) (fs : List Funclet) (program : LinearProgram) (p : Plan) (m : Memory) (c : Context) (is : List StackItem) (b : Frame) (below : List Item) (acts : List Activation) (label frame address : ℕ)
+aimed_first : (t : Functions) (fs : List Funclet) (program : LinearProgram) (p : ImagePlan) (m : Memory) (c : Context) (is : List StackItem) (b : Frame) (below : List Item) (acts : List Activation) (label frame address : ℕ)
     → Linked t fs program p m c is (Waits b ∷ below) acts → p.leaf b.body ≡ false → AimedHere t fs program p (length below) label frame address c b below → Aimed t fs program p (length below) label frame address c is (Waits b ∷ below)
 aimed_first t fs program p m c (Framed f ∷ is) b below acts label frame address l framed here = inl here
 aimed_first t fs program p m c (Leaf back ∷ is) b below acts label frame address l framed here = absurd (let z : true ≡ false = sym l.0.leaf ∙ framed in cc)
 aimed_first t fs program p m c is b below acts label frame address l framed here = absurd l
 
-module _ (t : Functions) (fs : List Funclet) (program : LinearProgram) (p : Plan) (q : Sites) (image : IsProgramImage t fs program p q) (made : IsWellMade program p)
+module _ (t : Functions) (fs : List Funclet) (program : LinearProgram) (p : ImagePlan) (q : Sites) (image : IsProgramImage t fs program p q) (made : IsWellMade program p)
     (follows : AreFollowed program) (stays : StayInside program) (fits : FlagsFit program) where
   module _ (s : State) (c : Configuration) (b : Begins t fs program p q s c) (known : IsKnown program c) (label : ℕ) (at : instruction_at program c ≡ Some (instructions.LocalUnwind label)) where
     abbrev i : Instruction

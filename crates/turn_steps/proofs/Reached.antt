@@ -32,7 +32,7 @@ use Rattle.x64_templates.specs.Straight.{MachineView, machine}
 use Rattle.x64_templates.specs.CallStates.{pushed}
 use Rattle.x64_templates.specs.Runs.{Reaches, HasCode}
 use Rattle.x64_templates.proofs.Computes.{code_split}
-use Rattle.linked_stack.specs.ImagePlan.{Plan}
+use Rattle.linked_stack.specs.ImagePlan.{ImagePlan}
 use Rattle.whole_runs.specs.Comes.{IsLive, Comes}
 use Rattle.ir_typed.specs.Room.{HaveRoom}
 use Rattle.body_states.specs.Sites.{Sites}
@@ -66,7 +66,7 @@ built_in_size : (y : Layout) (f : BuiltIn) (first : ℕ) → template_size y (in
 unfolding template_size
 built_in_size y f first = let a = call_code_size y (Temporary first) first 5 0 in let b = clear_size in omega arith
 
-module _ (t : Functions) (fs : List Funclet) (program : LinearProgram) (p : Plan) (q : Sites) (image : IsProgramImage t fs program p q) (roomy : HaveRoom program) where
+module _ (t : Functions) (fs : List Funclet) (program : LinearProgram) (p : ImagePlan) (q : Sites) (image : IsProgramImage t fs program p q) (roomy : HaveRoom program) where
   module _ (s : State) (c : Configuration) (b : Begins t fs program p q s c) (counted : IsCounted t fs program p q image c) (f : BuiltIn) (first : ℕ)
       (at : slice_get b.body.slots.code.code c.frame.next ≡ Some (instructions.CallBuiltIn f first)) where
     abbrev pub layout : Layout

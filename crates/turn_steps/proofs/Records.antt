@@ -12,7 +12,7 @@ use Rattle.linear_code.specs.declared.program.Region.{Region}
 use Rattle.linear_code.specs.Program.{LinearProgram}
 use Rattle.linear_machine.specs.Frames.{Handler, Target, Resumption, Item, Waits, Searches, Unwinds}
 use Rattle.linked_stack.specs.Stack.{StackItem, Framed, Leaf, Searching, Unwinding, IsStack}
-use Rattle.linked_stack.specs.ImagePlan.{Plan}
+use Rattle.linked_stack.specs.ImagePlan.{ImagePlan}
 use Rattle.linked_stack.specs.Linked.{Activation, Linked}
 use Rattle.ir_typed.specs.Waiting.{AreWaiting}
 use Rattle.turn_steps.specs.Outcomes.{AreClear}
@@ -36,7 +36,7 @@ pub record IsUnwindingOnTop (c : Context) (is : List StackItem) : Type 0 where
   pub items : is ≡ Unwinding dispatch ∷ others
   pub at_host : c.rip ≡ finally_return
 
-module _ (t : Functions) (fs : List Funclet) (program : LinearProgram) (p : Plan) where
+module _ (t : Functions) (fs : List Funclet) (program : LinearProgram) (p : ImagePlan) where
   pub search_on_top : (m : Memory) (c : Context) (is : List StackItem) (exception : Exception) (resumption : Resumption) (asked : Handler) (rest : List Handler) (items : List Item) (acts : List Activation)
       → IsStack t m c is → Linked t fs program p m c is (Searches exception resumption asked rest ∷ items) acts → IsSearchOnTop c is
   search_on_top m c [] exception resumption asked rest items acts s h = absurd h

@@ -24,7 +24,7 @@ use Rattle.template_code.specs.Calls.{arguments_code, return_at, begin_call, pas
 use Rattle.template_code.specs.Template.{template_size}
 use Rattle.template_code.proofs.Sizes.{sizes_append, call_size, passing_call_size}
 use Rattle.linked_stack.specs.Stack.{StackItem}
-use Rattle.linked_stack.specs.ImagePlan.{Plan}
+use Rattle.linked_stack.specs.ImagePlan.{ImagePlan}
 use Rattle.linked_stack.specs.Linked.{Activation}
 use Rattle.linked_stack.specs.Records.{On}
 use Rattle.linked_stack.specs.Unwinding.{on_top}
@@ -46,7 +46,7 @@ pub call_template : (y : Layout) (f first count : ℕ) → template_size y (inst
 unfolding template_size
 call_template y f first count = passing_call_size y first count 0 0
 
-module _ (t : Functions) (fs : List Funclet) (program : LinearProgram) (p : Plan) (q : Sites) (image : IsProgramImage t fs program p q) (roomy : HaveRoom program) where
+module _ (t : Functions) (fs : List Funclet) (program : LinearProgram) (p : ImagePlan) (q : Sites) (image : IsProgramImage t fs program p q) (roomy : HaveRoom program) where
   -- after the callee's return RSP is the caller's, and the list is there from there on
   module _ (u : State) (w : Frame) (items : List Item) (acts : List Activation) (source : Memory) (es : List Event) (above : Context) (is : List StackItem)
       (on : On t fs program p u.memory above is (Waits w ∷ items) acts) (sp : register u.cpu Rsp ≡ rsp above) (sane : IsSane u) (memory : IsMachineMemory t fs program p q u.memory source)

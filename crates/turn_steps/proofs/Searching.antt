@@ -19,10 +19,10 @@ use Rattle.linear_machine.specs.Searching.{target_of, begin_filter, accept}
 use Rattle.linear_machine.specs.Unwinding.{unwind}
 use Rattle.linear_machine.specs.Run.{exec}
 use Rattle.linked_stack.specs.Stack.{StackItem}
-use Rattle.linked_stack.specs.ImagePlan.{Plan}
+use Rattle.linked_stack.specs.ImagePlan.{ImagePlan}
 use Rattle.linked_stack.specs.Linked.{Activation, locals_of, Aimed}
 use Rattle.linked_stack.proofs.Ends.{in_stack}
-use Rattle.linked_stack.specs.Records.{HasRoom}
+use Rattle.linked_stack.specs.Records.{RecordHasRoom}
 use Rattle.linked_stack.specs.Unwinding.{store_of}
 use Rattle.linked_stack.specs.Searches.{FilterBegins}
 use Rattle.linked_stack.specs.TurnLaws.{IsSearching}
@@ -42,7 +42,7 @@ use Rattle.turn_steps.proofs.Outcomes.{begins_there, outcome_same}
 use Rattle.turn_steps.proofs.DispatchWalks.{filter_walk}
 use Rattle.turn_steps.proofs.TurnUnwinding.{unwound}
 
-module _ (t : Functions) (fs : List Funclet) (program : LinearProgram) (p : Plan) (q : Sites) (image : IsProgramImage t fs program p q) (fits : FlagsFit program) where
+module _ (t : Functions) (fs : List Funclet) (program : LinearProgram) (p : ImagePlan) (q : Sites) (image : IsProgramImage t fs program p q) (fits : FlagsFit program) where
   module _ (s : State) (at : ℕ) (r : DispatchRecord) (is : List StackItem) (acts : List Activation) (exception : Exception) (found : List Handler) (c : Configuration)
       (h : IsSearching t fs program p s at r is acts exception found c) (memory : IsMachineMemory t fs program p q s.memory c.store.memory) (store : c.store.activations ≡ locals_of acts) where
     same_store : store_of c.store.memory acts ≡ c.store
@@ -57,7 +57,7 @@ module _ (t : Functions) (fs : List Funclet) (program : LinearProgram) (p : Plan
         let a = acceptance_unwinds t fs program p s at r frame address is acts exception found f c c.store.memory h frame_small address_small aimed in
         let w = from_body (target_of f exception.code c.frame.held) c.frame c.below acts c.store.memory c.events in
         let record' = accepting r frame address in
-        let room : HasRoom s.memory at record' (rsp (context_of r.saved)) = record { fits = a.unwinding.room.fits; below = h.room.below; small = h.room.small; room = h.room.room } in
+        let room : RecordHasRoom s.memory at record' (rsp (context_of r.saved)) = record { fits = a.unwinding.room.fits; below = h.room.below; small = h.room.small; room = h.room.room } in
         let top = in_stack t fs program p s.memory (context_of r.saved) is (Waits c.frame ∷ c.below) acts h.on.is_there.stack h.on.is_there.linked in
         let untouched = placing s.memory at record' (rsp (context_of r.saved)) h.on.data_alone room top in
         let memory' = memory_untouched t fs program p q s.memory (placed s.memory at record') c.store.memory untouched memory a.unwinding.on.data_alone in

@@ -26,7 +26,7 @@ use Rattle.linear_code.specs.declared.instruction.Instruction.{Instruction}
 use Rattle.linear_code.specs.Program.{LinearProgram}
 use Rattle.linear_machine.specs.Frames.{Configuration, Seen, Next}
 use Rattle.linear_machine.specs.Instructions.{act}
-use Rattle.linked_stack.specs.ImagePlan.{Plan}
+use Rattle.linked_stack.specs.ImagePlan.{ImagePlan}
 use Rattle.linked_stack.specs.Returns.{filter_turn}
 use Rattle.whole_runs.specs.Shadow.{drop_below, started, served, WalkGives, KeepsShadow}
 use Rattle.whole_runs.specs.Comes.{IsLive, Comes}
@@ -82,7 +82,7 @@ module _ (t : Functions) (fs : List Funclet) where
 
   -- ---- steps of linear code
 
-  module _ (program : LinearProgram) (p : Plan) (q : Sites) where
+  module _ (program : LinearProgram) (p : ImagePlan) (q : Sites) where
     pub filter_return_keeps : (s : State) (cs : List Context) → s.cpu.rip ≡ filter_return → WalkGives t s cs → KeepsWith t fs program p q s cs
     filter_return_keeps s cs e before = keeps_at s filter_return cs (service_step s filter_return e) before
 

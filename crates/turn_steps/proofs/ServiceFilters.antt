@@ -13,7 +13,7 @@ use Rattle.virtual_unwind.specs.Undone.{word}
 use Rattle.virtual_unwind.specs.CallerOf.{Functions}
 use Rattle.seh_records.specs.declared.dispatch.DispatchRecord.{DispatchRecord}
 use Rattle.seh_records.specs.Record.{fetched}
-use Rattle.seh_records.specs.Laws.{Fits}
+use Rattle.seh_records.specs.Laws.{RecordFits}
 use Rattle.host_model.specs.declared.funclet.Funclet.{Funclet}
 use Rattle.c_operations.specs.declared.field.Field.{Field}
 use Rattle.c_operations.specs.declared.field.Field.TheVariants.{ExceptionCode, ExceptionFlags, NumberParameters, ExceptionInformation}
@@ -23,11 +23,11 @@ use Rattle.linear_code.specs.declared.program.FuncletKind.TheVariants as funclet
 use Rattle.linear_code.specs.Program.{LinearProgram, LinearFunclet}
 use Rattle.linear_machine.specs.Frames.{Frame, Handler, Resumption, Item, Waits, Searches, Unwinds, Configuration}
 use Rattle.template_code.specs.Calls.{field_at}
-use Rattle.x64_templates.specs.Exceptions.{field_width, IsField, Reads, HasException}
+use Rattle.x64_templates.specs.Exceptions.{field_width, IsField, MayRead, HasException}
 use Rattle.x64_templates.proofs.Information.{field_number}
 use Rattle.linked_stack.specs.Stack.{StackItem, Framed, Leaf, Searching, Unwinding, IsStack}
 use Rattle.linked_stack.specs.WalkLaws.{context_below}
-use Rattle.linked_stack.specs.ImagePlan.{Plan}
+use Rattle.linked_stack.specs.ImagePlan.{ImagePlan}
 use Rattle.linked_stack.specs.Linked.{Activation, activations_below, HasPointers, FuncletIsAbove, IsAbove, Linked}
 use Rattle.linked_stack.specs.Linked as linked
 use Rattle.linked_stack.proofs.Ends.{in_stack}
@@ -47,7 +47,7 @@ pub record IsAsked (exception : Exception) (items : List Item) : Type 0 where
   pub items_are : items ≡ Searches searched resumption asked rest ∷ below
   pub same : exception ≡ searched
 
-module _ (t : Functions) (fs : List Funclet) (program : LinearProgram) (p : Plan) where
+module _ (t : Functions) (fs : List Funclet) (program : LinearProgram) (p : ImagePlan) where
   no_block : (kind flag : ℕ) → funclets.Filter ≡ funclets.Finally flag → ⊥
   no_block kind flag e = cc
 
@@ -74,7 +74,7 @@ module _ (t : Functions) (fs : List Funclet) (program : LinearProgram) (p : Plan
     pub fetches : fetched m (rsp c) ≡ Some found
     pub pointers : word m (rsp c + 80) ≡ Ok (rsp c + 96)
     pub carries : linked.HasException t fs program p found exception
-    pub fits : Fits found
+    pub fits : RecordFits found
     pub high : rsp c + 1568 ≤ STACK_END
 
   record_on_top : (m : Memory) (c : Context) (is : List StackItem) (acts : List Activation) (exception : Exception) (resumption : Resumption) (asked : Handler) (rest : List Handler) (below : List Item)
@@ -113,7 +113,7 @@ module _ (t : Functions) (fs : List Funclet) (program : LinearProgram) (p : Plan
     pointers_here f = let a = asked_here f in subst (HasPointers t fs program p s.memory (p.layout c.frame.body) sp size) a.items_are b.body.pointers
 
     -- bytes of the stack may be read
-    reads : (at n x : ℕ) → STACK_START ≤ at → at + n ≤ STACK_END → number_at s.memory.byte n at ≡ x → Reads s.memory n at x
+    reads : (at n x : ℕ) → STACK_START ≤ at → at + n ≤ STACK_END → number_at s.memory.byte n at ≡ x → MayRead s.memory n at x
     reads at n x low high e = record { high = omega arith; readable = λ a from to. may_read_written s.memory a (b.memory.stack a (omega arith) (omega arith)); number = e }
 
     width_most : (field : Field) → IsField field → field_at field + bytes_of (field_width field) ≤ 152

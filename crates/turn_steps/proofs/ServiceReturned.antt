@@ -35,7 +35,7 @@ use Rattle.x64_templates.specs.Runs.{ReachesBody}
 use Rattle.x64_templates.proofs.Keeping.{index_other}
 use Rattle.x64_templates.proofs.Returns.{call_ends}
 use Rattle.x64_templates.proofs.Flows.{keep_flow}
-use Rattle.linked_stack.specs.ImagePlan.{Plan}
+use Rattle.linked_stack.specs.ImagePlan.{ImagePlan}
 use Rattle.linked_stack.specs.Linked.{locals_of}
 use Rattle.linked_stack.specs.ListLaws.{KeepsAbove, KeepsStack}
 use Rattle.whole_runs.specs.Shadow.{WalkGives, KeepsShadow, AllKeep}
@@ -86,7 +86,7 @@ saved_kept xs third fourth low sp old back was =
 nothing : (landed : Option ℕ) (code : ℕ) → landed ≡ None → landed ≡ Some code → ⊥
 nothing landed code e h = let z : ◌≡◌ {A = Option ℕ} None (Some code) = sym e ∙ h in cc
 
-module _ (t : Functions) (fs : List Funclet) (program : LinearProgram) (p : Plan) (q : Sites) (image : IsProgramImage t fs program p q) (roomy : HaveRoom program) where
+module _ (t : Functions) (fs : List Funclet) (program : LinearProgram) (p : ImagePlan) (q : Sites) (image : IsProgramImage t fs program p q) (roomy : HaveRoom program) where
   module _ (s : State) (c : Configuration) (b : Begins t fs program p q s c) (counted : IsCounted t fs program p q image c) (around : Surroundings t fs program p q image roomy s c b counted) (f : BuiltIn) (first : ℕ)
       (at : slice_get b.body.slots.code.code c.frame.next ≡ Some (instructions.CallBuiltIn f first)) (framed : p.leaf c.frame.body ≡ false) (within : c.frame.next + 1 < length b.body.slots.code.code)
       (held : length c.frame.temporaries ≤ b.body.slots.code.temporaries) (fits : first ≤ length c.frame.temporaries) (free : c.frame.landed ≡ None) where

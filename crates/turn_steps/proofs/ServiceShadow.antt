@@ -28,7 +28,7 @@ use Rattle.linear_code.specs.Program.{LinearProgram}
 use Rattle.linear_machine.specs.Frames.{Configuration}
 use Rattle.x64_templates.proofs.Keeping.{index_other}
 use Rattle.linked_stack.specs.PlainWalks.{state}
-use Rattle.linked_stack.specs.ImagePlan.{Plan}
+use Rattle.linked_stack.specs.ImagePlan.{ImagePlan}
 use Rattle.linked_stack.specs.Linked.{activations_below}
 use Rattle.linked_stack.specs.ListLaws.{KeepsStack}
 use Rattle.linked_stack.proofs.ListKeeping.{reads_other, kept_by_other_memories}
@@ -62,7 +62,7 @@ service_found Put = (omega arith, omega arith, λ e. absurd (omega arith), λ e.
 service_found Protect = (omega arith, omega arith, λ e. absurd (omega arith), λ e. absurd (omega arith))
 service_found RaiseException = (omega arith, omega arith, λ e. absurd (omega arith), λ e. absurd (omega arith))
 
-module _ (t : Functions) (fs : List Funclet) (program : LinearProgram) (p : Plan) (q : Sites) (image : IsProgramImage t fs program p q) where
+module _ (t : Functions) (fs : List Funclet) (program : LinearProgram) (p : ImagePlan) (q : Sites) (image : IsProgramImage t fs program p q) where
   -- in another memory with the stack as it was from RSP up
   pub is_elsewhere : (s : State) (c : Configuration) (b : Begins t fs program p q s c) (counted : IsCounted t fs program p q image c) (m : Memory) → KeepsStack s.memory m (register s.cpu Rsp) → HasProgram t fs program p q m → Below t fs program p q image s c b counted m
   is_elsewhere s c b counted m keeps has =

@@ -14,7 +14,7 @@ use Rattle.linear_machine.specs.Frames.{Configuration}
 use Rattle.linear_machine.specs.Run.{instruction_at}
 use Rattle.ir_typed.specs.Waiting.{LandsWell}
 use Rattle.body_steps.proofs.Around.{some_is, counted_here, around_here, code_at, held_here, goes_inside, ready_here}
-use Rattle.linked_stack.specs.ImagePlan.{Plan}
+use Rattle.linked_stack.specs.ImagePlan.{ImagePlan}
 use Rattle.body_states.specs.Sites.{Sites}
 use Rattle.body_states.specs.Programs.{IsProgramImage}
 use Rattle.body_states.specs.Bodies.{Begins}
@@ -44,7 +44,7 @@ information_is_matched t fs program p q image made reads s c to field b known e 
     (goes_inside t fs program p q image made s c b known i e)
 
 -- a body that calls is no leaf
-module _ (t : Functions) (fs : List Funclet) (program : LinearProgram) (p : Plan) (q : Sites) (image : IsProgramImage t fs program p q) (made : IsWellMade program p) (s : State) (c : Configuration) (b : Begins t fs program p q s c) (known : IsKnown program c)
+module _ (t : Functions) (fs : List Funclet) (program : LinearProgram) (p : ImagePlan) (q : Sites) (image : IsProgramImage t fs program p q) (made : IsWellMade program p) (s : State) (c : Configuration) (b : Begins t fs program p q s c) (known : IsKnown program c)
     (f : BuiltIn) (first : ℕ) (e : instruction_at program c ≡ Some (instructions.CallBuiltIn f first)) where
   abbrev i : Instruction
   i = instructions.CallBuiltIn f first

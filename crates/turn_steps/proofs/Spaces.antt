@@ -13,7 +13,7 @@ use Rattle.linear_code.specs.declared.program.Region.{Region}
 use Rattle.linear_code.specs.Program.{LinearProgram}
 use Rattle.linear_machine.specs.Frames.{Frame, Handler, Target, Resumption, Item, Waits, Searches, Unwinds}
 use Rattle.linked_stack.specs.Stack.{StackItem, Framed, Leaf, Searching, Unwinding}
-use Rattle.linked_stack.specs.ImagePlan.{Plan}
+use Rattle.linked_stack.specs.ImagePlan.{ImagePlan}
 use Rattle.linked_stack.specs.Linked.{Activation, HasSpace, below_end, record_room, Linked}
 use Rattle.template_code.specs.declared.layout.TheConstants.{LARGEST_FRAME}
 
@@ -23,7 +23,7 @@ shallow_is n e = elim (cases_lt 1000 n) [
   | inr le ↦ le
 ]
 
-module _ (t : Functions) (fs : List Funclet) (program : LinearProgram) (p : Plan) where
+module _ (t : Functions) (fs : List Funclet) (program : LinearProgram) (p : ImagePlan) where
   -- below a record, by what waits where it was laid
   pub record HasRecordSpace (at depth : ℕ) : Type 0 where
     pub space : STACK_END ≤ at + (below_end + record_room) + LARGEST_FRAME * depth

@@ -8,11 +8,11 @@ use Rattle.host_model.specs.declared.funclet.Funclet.{Funclet}
 use Rattle.host_model.specs.Funclets.{arrivals}
 use Rattle.linear_code.specs.Program.{LinearProgram}
 use Rattle.linear_machine.specs.Frames.{FuncletBody, funclet_body}
-use Rattle.linked_stack.specs.ImagePlan.{Plan}
+use Rattle.linked_stack.specs.ImagePlan.{ImagePlan}
 use Rattle.body_states.specs.Sites.{Sites}
 use Rattle.body_states.specs.Programs.{HasProgram, IsProgramImage}
 
-module _ (t : Functions) (fs : List Funclet) (program : LinearProgram) (p : Plan) (q : Sites) (image : IsProgramImage t fs program p q) where
+module _ (t : Functions) (fs : List Funclet) (program : LinearProgram) (p : ImagePlan) (q : Sites) (image : IsProgramImage t fs program p q) where
   funclet_high : (m : Memory) (k : ℕ) → HasProgram t fs program p q m → k < length program.funclets → 0x100000000 ≤ p.funclet k
   funclet_high m k has lt = elim (slice_get_cases program.funclets k).1 [
     | inl x ↦ (has.code (FuncletBody k) x.0.body (ap funclet_body x.2)).placed.low

@@ -16,7 +16,7 @@ use Rattle.linear_machine.specs.Unwinding as linear
 use Rattle.linear_machine.specs.Unwinding.{flag_of, begin_finally}
 use Rattle.linear_machine.specs.Run.{exec}
 use Rattle.linked_stack.specs.Stack.{StackItem}
-use Rattle.linked_stack.specs.ImagePlan.{Plan}
+use Rattle.linked_stack.specs.ImagePlan.{ImagePlan}
 use Rattle.linked_stack.specs.Unwinding.{store_of, on_top}
 use Rattle.linked_stack.specs.Unwinds.{Unwound, BlockBegins, LandsThere}
 use Rattle.linked_stack.specs.TurnLaws.{IsUnwinding}
@@ -36,7 +36,7 @@ use Rattle.turn_steps.proofs.Unlanded.{noticing, IsBare, unmarked, unwind_bare}
 use Rattle.turn_steps.proofs.DispatchWalks.{block_walk}
 use Rattle.turn_steps.proofs.Landed.{landed, arrival, arrives_there, lands_as}
 
-module _ (t : Functions) (fs : List Funclet) (program : LinearProgram) (p : Plan) (q : Sites) (image : IsProgramImage t fs program p q) (fits : FlagsFit program) where
+module _ (t : Functions) (fs : List Funclet) (program : LinearProgram) (p : ImagePlan) (q : Sites) (image : IsProgramImage t fs program p q) (fits : FlagsFit program) where
   module _ (w : Unwound) (n : ℕ) (few : 3 * held_below w.items ≤ n) (clear : w.target.code ≡ None → AreClear w.items) where
     abbrev seen : Next → Seen
     seen next = linear.unwind program next w.target w.items w.left w.shown (store_of w.source w.acts)

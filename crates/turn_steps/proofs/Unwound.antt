@@ -6,7 +6,7 @@ use Rattle.host_model.specs.declared.funclet.Funclet.{Funclet}
 use Rattle.linear_code.specs.Program.{LinearProgram}
 use Rattle.linear_machine.specs.Frames.{Waits, Unwinds}
 use Rattle.linked_stack.specs.WalkLaws.{context_below}
-use Rattle.linked_stack.specs.ImagePlan.{Plan}
+use Rattle.linked_stack.specs.ImagePlan.{ImagePlan}
 use Rattle.body_states.specs.Sites.{Sites}
 use Rattle.body_states.specs.Programs.{IsProgramImage}
 use Rattle.body_steps.proofs.Activations.{locals_count}
@@ -15,7 +15,7 @@ use Rattle.turn_steps.proofs.Spaces.{shallow_is, unwind_space}
 use Rattle.turn_steps.proofs.FuncletFrames.{arrives_below}
 use Rattle.turn_steps.proofs.Blocks.{block_leads}
 
-pub blocks_begin : (t : Functions) (fs : List Funclet) (program : LinearProgram) (p : Plan) (q : Sites) → IsProgramImage t fs program p q → FlagsFit program → BlocksBegin t fs program p q
+pub blocks_begin : (t : Functions) (fs : List Funclet) (program : LinearProgram) (p : ImagePlan) (q : Sites) → IsProgramImage t fs program p q → FlagsFit program → BlocksBegin t fs program p q
 blocks_begin t fs program p q image fits s k flag rest target c acts a flagged memory stored shallow typed =
     let items = Unwinds rest target ∷ Waits c.frame ∷ c.below in
     let n : length acts + target.held + 2 ≤ 1000 = (let z = shallow_is (length c.store.activations + target.held + 2) shallow in omega (arith, ap length stored, locals_count acts)) in

@@ -14,7 +14,7 @@ use Rattle.template_code.specs.declared.layout.Layout.{Layout}
 use Rattle.linear_code.specs.Program.{LinearProgram, LinearFunclet}
 use Rattle.linear_machine.specs.Frames.{BodyName, FunctionBody, FuncletBody, body_of, Frame, Item, Waits, Searches, Unwinds, Configuration, with_last}
 use Rattle.linked_stack.specs.WalkLaws.{context_below}
-use Rattle.linked_stack.specs.ImagePlan.{Plan, InCode}
+use Rattle.linked_stack.specs.ImagePlan.{ImagePlan, InCode}
 use Rattle.linked_stack.specs.Linked.{activations_below, home_end, below_end, HoldsWords, HasActivation, HasSpace, SameRegions, HasPointers, FuncletIsAbove, IsAbove}
 use Rattle.linked_stack.specs.Records.{On}
 use Rattle.body_states.specs.Sites.{Sites}
@@ -32,7 +32,7 @@ first_words m (v ∷ vs) zero at end h = fits (v ∷ vs) at h
     fits (w ∷ ws) a h = let r = fits ws (a + 8) h.1 in omega arith
 first_words m (v ∷ vs) (suc n) at end h = (h.0, first_words m vs n (at + 8) end h.1)
 
-module _ (t : Functions) (fs : List Funclet) (program : LinearProgram) (p : Plan) (q : Sites) where
+module _ (t : Functions) (fs : List Funclet) (program : LinearProgram) (p : ImagePlan) (q : Sites) where
   -- what is below a body doesn't depend on its temporaries
   pub above_same : (b : Frame) (ts : List ℕ) (name : BodyName) (below : List Item) → IsAbove t fs program p b name below → IsAbove t fs program p (record b { temporaries = ts }) name below
   above_same b ts (FunctionBody f) below h = h

@@ -8,7 +8,7 @@ use Rattle.linear_code.specs.declared.instruction.Instruction.TheVariants as ins
 use Rattle.linear_code.specs.Program.{LinearProgram}
 use Rattle.linear_machine.specs.Frames.{FunctionBody, Configuration}
 use Rattle.linear_machine.specs.Run.{instruction_at}
-use Rattle.linked_stack.specs.ImagePlan.{Plan}
+use Rattle.linked_stack.specs.ImagePlan.{ImagePlan}
 use Rattle.whole_runs.specs.Matched.{Fails, IsMatched}
 use Rattle.body_states.specs.Sites.{Sites}
 use Rattle.body_states.specs.Programs.{IsProgramImage}
@@ -20,7 +20,7 @@ use Rattle.turn_steps.specs.Calls.{FunctionsApart, CallBegins}
 -- a function returns: to the body that waits for it, or out of `main`
 abbrev pub ReturnsAreMatched : Type 0
 ReturnsAreMatched =
-    (t : Functions) (fs : List Funclet) (program : LinearProgram) (p : Plan) (q : Sites)
+    (t : Functions) (fs : List Funclet) (program : LinearProgram) (p : ImagePlan) (q : Sites)
     → IsProgramImage t fs program p q → IsWellMade program p
     → (s : State) (c : Configuration) (f : ℕ) (from : Slot)
     → Begins t fs program p q s c → IsKnown program c → c.frame.body ≡ FunctionBody f
@@ -32,7 +32,7 @@ ReturnsAreMatched =
 -- a function is called: it begins, but where the depth would be too great
 abbrev pub CallsBegin : Type 0
 CallsBegin =
-    (t : Functions) (fs : List Funclet) (program : LinearProgram) (p : Plan) (q : Sites)
+    (t : Functions) (fs : List Funclet) (program : LinearProgram) (p : ImagePlan) (q : Sites)
     → IsProgramImage t fs program p q → IsWellMade program p → FunctionsApart program p q
     → (s : State) (c : Configuration) (f first count : ℕ)
     → Begins t fs program p q s c → IsKnown program c

@@ -10,7 +10,7 @@ use Rattle.linear_code.specs.declared.instruction.Instruction.TheVariants as ins
 use Rattle.linear_code.specs.Program.{LinearProgram, LinearFunction}
 use Rattle.linear_machine.specs.Frames.{FunctionBody, Item, Waits, Configuration, Next}
 use Rattle.linear_machine.specs.Instructions.{waiting, begin_function, act}
-use Rattle.linked_stack.specs.ImagePlan.{Plan}
+use Rattle.linked_stack.specs.ImagePlan.{ImagePlan}
 use Rattle.whole_runs.specs.Comes.{Comes}
 use Rattle.ir_typed.specs.Small.{AreSmall}
 use Rattle.body_states.specs.Sites.{Sites}
@@ -37,12 +37,13 @@ begun f values held below source activations es = record {
 }
 
 -- no funclet begins where a function does
-abbrev pub FunctionsApart : LinearProgram → Plan → Sites → Type 0
+abbrev pub FunctionsApart : LinearProgram → ImagePlan → Sites → Type 0
 FunctionsApart program p q =
     (f k : ℕ) → f < length program.functions → k < length program.funclets
     → q.function f ≢ p.funclet k
 
-module _ (t : Functions) (fs : List Funclet) (program : LinearProgram) (p : Plan) (q : Sites) where
+module _ (t : Functions) (fs : List Funclet) (program : LinearProgram) (p : ImagePlan)
+    (q : Sites) where
   -- a call comes to the callee's first instruction: its arguments are its first locals, and what
   -- the stack held is in the others, which linear code begins with 0
   pub record CallBegins (s : State) (c : Configuration) (f first count : ℕ) : Type 0 where

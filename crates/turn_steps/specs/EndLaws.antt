@@ -9,7 +9,7 @@ use Rattle.linear_code.specs.Program.{LinearProgram}
 use Rattle.linear_machine.specs.Frames.{FuncletBody, Configuration}
 use Rattle.linear_machine.specs.Instructions.{act}
 use Rattle.linear_machine.specs.Run.{instruction_at, exec}
-use Rattle.linked_stack.specs.ImagePlan.{Plan}
+use Rattle.linked_stack.specs.ImagePlan.{ImagePlan}
 use Rattle.whole_runs.specs.Ends.{HasRule}
 use Rattle.whole_runs.specs.Matched.{IsMatched}
 use Rattle.body_states.specs.Sites.{Sites}
@@ -24,7 +24,7 @@ use Rattle.turn_steps.specs.TurnEntries.{Continuations}
 -- a filter or a `__finally` block returns: the step is matched, whatever waits below
 abbrev pub FuncletReturnsAreMatched : Type 0
 FuncletReturnsAreMatched =
-    (t : Functions) (fs : List Funclet) (program : LinearProgram) (p : Plan) (q : Sites)
+    (t : Functions) (fs : List Funclet) (program : LinearProgram) (p : ImagePlan) (q : Sites)
     → IsProgramImage t fs program p q → IsWellMade program p → FlagsFit program
     → Continuations t fs program p q
     → (s : State) (c : Configuration) (k : ℕ) (from : Slot)

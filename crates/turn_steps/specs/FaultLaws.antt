@@ -18,7 +18,7 @@ use Rattle.linear_machine.specs.Searching.{resumed}
 use Rattle.linear_machine.specs.Instructions.{is_constant, act}
 use Rattle.linear_machine.specs.Run.{instruction_at, exec}
 use Rattle.linked_stack.specs.Stack.{StackItem}
-use Rattle.linked_stack.specs.ImagePlan.{Plan}
+use Rattle.linked_stack.specs.ImagePlan.{ImagePlan}
 use Rattle.linked_stack.specs.Linked.{Activation, locals_of}
 use Rattle.linked_stack.specs.Records.{On}
 use Rattle.linked_stack.specs.States.{IsSane}
@@ -50,7 +50,7 @@ UndefinedAccessesAreMatched =
 -- makes it
 abbrev pub OperandsAreFetched : Type 0
 OperandsAreFetched =
-    (t : Functions) (fs : List Funclet) (program : LinearProgram) (p : Plan) (q : Sites)
+    (t : Functions) (fs : List Funclet) (program : LinearProgram) (p : ImagePlan) (q : Sites)
     → IsProgramImage t fs program p q → IsWellMade program p
     → (s : State) (c : Configuration) (to : Slot) (o : Operation) (first second : ℕ)
     → Begins t fs program p q s c → IsKnown program c → is_constant o ≡ false
@@ -62,7 +62,7 @@ OperandsAreFetched =
 -- has touched a reserved byte
 abbrev pub RetriesAreMatched : Type 0
 RetriesAreMatched =
-    (t : Functions) (fs : List Funclet) (program : LinearProgram) (p : Plan) (q : Sites)
+    (t : Functions) (fs : List Funclet) (program : LinearProgram) (p : ImagePlan) (q : Sites)
     → IsProgramImage t fs program p q → IsWellMade program p → FlagsFit program
     → (s : State) (c : Configuration) (i : Instruction)
     → WorksOn t fs program p q s c → IsKnown program c → instruction_at program c ≡ Some i
@@ -72,7 +72,7 @@ RetriesAreMatched =
 -- where a fault is continued, the machine is there at once, in the saved state
 abbrev pub ContinuationsAtOperations : Type 0
 ContinuationsAtOperations =
-    (t : Functions) (fs : List Funclet) (program : LinearProgram) (p : Plan) (q : Sites)
+    (t : Functions) (fs : List Funclet) (program : LinearProgram) (p : ImagePlan) (q : Sites)
     → IsProgramImage t fs program p q → IsWellMade program p
     → (s : State) (saved : Cpu) (is : List StackItem) (acts : List Activation) (c : Configuration)
     → On t fs program p s.memory (context_of saved) is (Waits c.frame ∷ c.below) acts
@@ -88,7 +88,7 @@ ContinuationsAtOperations =
 -- each operation is matched, where its instruction begins and in its midst
 abbrev pub OperationsAreMatched : Type 0
 OperationsAreMatched =
-    (t : Functions) (fs : List Funclet) (program : LinearProgram) (p : Plan) (q : Sites)
+    (t : Functions) (fs : List Funclet) (program : LinearProgram) (p : ImagePlan) (q : Sites)
     → IsProgramImage t fs program p q → IsWellMade program p → FlagsFit program
     → (s : State) (c : Configuration) (to : Slot) (o : Operation) (first second : Slot)
     → Represents t fs program p q s c → IsKnown program c

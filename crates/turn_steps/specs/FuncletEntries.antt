@@ -13,7 +13,7 @@ use Rattle.linear_code.specs.Program.{LinearProgram, LinearBody, LinearFunclet}
 use Rattle.linear_machine.specs.Frames.{BodyName, body_of, Handler, Target, Resumption, Waits, Searches, Unwinds, Configuration}
 use Rattle.linear_machine.specs.Searching.{begin_filter}
 use Rattle.linear_machine.specs.Unwinding.{flag_of, begin_finally}
-use Rattle.linked_stack.specs.ImagePlan.{Plan}
+use Rattle.linked_stack.specs.ImagePlan.{ImagePlan}
 use Rattle.linked_stack.specs.Linked.{Activation, locals_of}
 use Rattle.linked_stack.specs.States.{Arrives}
 use Rattle.whole_runs.specs.Comes.{LeadsTo}
@@ -39,7 +39,8 @@ SeparatorsFollow program =
     → slice_get b.code label ≡ Some (instructions.CallFinally k)
     → slice_get b.code (label + 1) ≡ Some instructions.Separator
 
-module _ (t : Functions) (fs : List Funclet) (program : LinearProgram) (p : Plan) (q : Sites) where
+module _ (t : Functions) (fs : List Funclet) (program : LinearProgram) (p : ImagePlan)
+    (q : Sites) where
   -- a filter begins, on what waits where its exception was raised
   abbrev pub FiltersBegin : Type 0
   FiltersBegin =

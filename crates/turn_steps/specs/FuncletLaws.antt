@@ -10,7 +10,7 @@ use Rattle.linear_code.specs.declared.program.FuncletKind.TheVariants as funclet
 use Rattle.linear_code.specs.Program.{LinearProgram, LinearFunclet}
 use Rattle.linear_machine.specs.Frames.{FuncletBody, Frame, Item, Waits, Configuration}
 use Rattle.linear_machine.specs.Run.{instruction_at}
-use Rattle.linked_stack.specs.ImagePlan.{Plan}
+use Rattle.linked_stack.specs.ImagePlan.{ImagePlan}
 use Rattle.whole_runs.specs.Matched.{Moves}
 use Rattle.body_states.specs.Sites.{Sites}
 use Rattle.body_states.specs.Programs.{IsProgramImage}
@@ -22,13 +22,13 @@ use Rattle.turn_steps.specs.FuncletEntries.{FlagsFit, FiltersBegin, BlocksBegin}
 -- where the dispatcher calls a filter
 abbrev pub CalledFiltersBegin : Type 0
 CalledFiltersBegin =
-    (t : Functions) (fs : List Funclet) (program : LinearProgram) (p : Plan) (q : Sites)
+    (t : Functions) (fs : List Funclet) (program : LinearProgram) (p : ImagePlan) (q : Sites)
     → IsProgramImage t fs program p q → FiltersBegin t fs program p q
 
 -- and where it calls a `__finally` block
 abbrev pub CalledBlocksBegin : Type 0
 CalledBlocksBegin =
-    (t : Functions) (fs : List Funclet) (program : LinearProgram) (p : Plan) (q : Sites)
+    (t : Functions) (fs : List Funclet) (program : LinearProgram) (p : ImagePlan) (q : Sites)
     → IsProgramImage t fs program p q → FlagsFit program → BlocksBegin t fs program p q
 
 -- a `__finally` block above a body that waits
@@ -46,7 +46,7 @@ pub record IsCalledBlock (program : LinearProgram) (c : Configuration) : Type 0 
 -- continues in that body
 abbrev pub ReturnsOfBlocksAreMatched : Type 0
 ReturnsOfBlocksAreMatched =
-    (t : Functions) (fs : List Funclet) (program : LinearProgram) (p : Plan) (q : Sites)
+    (t : Functions) (fs : List Funclet) (program : LinearProgram) (p : ImagePlan) (q : Sites)
     → IsProgramImage t fs program p q → IsWellMade program p
     → (s : State) (c : Configuration) (from : Slot)
     → Begins t fs program p q s c → IsKnown program c

@@ -14,7 +14,7 @@ use Rattle.c_model.specs.declared.ended.Ended.TheVariants as source
 use Rattle.c_model.specs.declared.depth.TheConstants.{DEEPEST}
 use Rattle.linear_code.specs.Program.{LinearProgram}
 use Rattle.linear_machine.specs.Frames.{Item, Waits, Searches, Unwinds, Store, Configuration, Seen, Finished, Next, deeper}
-use Rattle.linked_stack.specs.ImagePlan.{Plan}
+use Rattle.linked_stack.specs.ImagePlan.{ImagePlan}
 use Rattle.linked_stack.specs.States.{IsSane}
 use Rattle.whole_runs.specs.Shadow.{drop_below, started, WalkGives, KeepsShadow}
 use Rattle.whole_runs.specs.Comes.{LeadsTo}
@@ -36,7 +36,8 @@ AreClear (Waits f ∷ below) = (f.landed ≡ None) × AreClear below
 AreClear (Searches exception resumption asked rest ∷ below) = AreClear below
 AreClear (Unwinds rest target ∷ below) = AreClear below
 
-module _ (t : Functions) (fs : List Funclet) (program : LinearProgram) (p : Plan) (q : Sites) where
+module _ (t : Functions) (fs : List Funclet) (program : LinearProgram) (p : ImagePlan)
+    (q : Sites) where
   -- in the midst of an operation that is made again: linear code is at its instruction, the machine
   -- at the instruction that had faulted, with the operands in its registers
   pub record WorksOn (s : State) (c : Configuration) : Type 0 where

@@ -14,7 +14,7 @@ use Rattle.linear_machine.specs.Searching.{resumed}
 use Rattle.linear_machine.specs.Instructions.{act}
 use Rattle.linear_machine.specs.Run.{instruction_at, exec}
 use Rattle.linked_stack.specs.Stack.{StackItem}
-use Rattle.linked_stack.specs.ImagePlan.{Plan}
+use Rattle.linked_stack.specs.ImagePlan.{ImagePlan}
 use Rattle.linked_stack.specs.Linked.{Activation, locals_of}
 use Rattle.linked_stack.specs.Records.{On}
 use Rattle.linked_stack.specs.States.{IsSane}
@@ -35,7 +35,7 @@ use Rattle.turn_steps.specs.Places.{AreFollowed, StayInside}
 -- handler takes over, or nobody does
 abbrev pub RaisesAreMatched : Type 0
 RaisesAreMatched =
-    (t : Functions) (fs : List Funclet) (program : LinearProgram) (p : Plan) (q : Sites)
+    (t : Functions) (fs : List Funclet) (program : LinearProgram) (p : ImagePlan) (q : Sites)
     → IsProgramImage t fs program p q → IsWellMade program p → FlagsFit program
     → (s : State) (c : Configuration) (first : ℕ)
     → Begins t fs program p q s c → IsKnown program c
@@ -48,7 +48,7 @@ RaisesAreMatched =
 -- a local unwind: its first `__finally` block begins, or the label's instruction
 abbrev pub LocalUnwindsAreMatched : Type 0
 LocalUnwindsAreMatched =
-    (t : Functions) (fs : List Funclet) (program : LinearProgram) (p : Plan) (q : Sites)
+    (t : Functions) (fs : List Funclet) (program : LinearProgram) (p : ImagePlan) (q : Sites)
     → IsProgramImage t fs program p q → IsWellMade program p → AreFollowed program
     → StayInside program → FlagsFit program
     → (s : State) (c : Configuration) (label : ℕ)
@@ -62,7 +62,7 @@ LocalUnwindsAreMatched =
 -- where the exception of a call is continued, the body continues from the saved state
 abbrev pub ContinuationsAfterCalls : Type 0
 ContinuationsAfterCalls =
-    (t : Functions) (fs : List Funclet) (program : LinearProgram) (p : Plan) (q : Sites)
+    (t : Functions) (fs : List Funclet) (program : LinearProgram) (p : ImagePlan) (q : Sites)
     → IsProgramImage t fs program p q → IsWellMade program p
     → (s : State) (saved : Cpu) (is : List StackItem) (acts : List Activation) (c : Configuration)
     → On t fs program p s.memory (context_of saved) is (Waits c.frame ∷ c.below) acts
@@ -77,5 +77,5 @@ ContinuationsAfterCalls =
 -- and wherever one is continued, after a call or at the same operation
 abbrev pub BodiesContinue : Type 0
 BodiesContinue =
-    (t : Functions) (fs : List Funclet) (program : LinearProgram) (p : Plan) (q : Sites)
+    (t : Functions) (fs : List Funclet) (program : LinearProgram) (p : ImagePlan) (q : Sites)
     → IsProgramImage t fs program p q → IsWellMade program p → Continuations t fs program p q

@@ -10,7 +10,7 @@ use Rattle.linear_code.specs.declared.instruction.Instruction.TheVariants as ins
 use Rattle.linear_code.specs.Program.{LinearProgram}
 use Rattle.linear_machine.specs.Frames.{Configuration}
 use Rattle.linear_machine.specs.Run.{instruction_at}
-use Rattle.linked_stack.specs.ImagePlan.{Plan}
+use Rattle.linked_stack.specs.ImagePlan.{ImagePlan}
 use Rattle.whole_runs.specs.Matched.{Moves}
 use Rattle.body_states.specs.Sites.{Sites}
 use Rattle.body_states.specs.Programs.{IsProgramImage}
@@ -22,7 +22,7 @@ use Rattle.turn_steps.specs.Static.{FiltersReadInformation}
 -- a filter reads a field of its exception from the record of its search
 abbrev pub InformationIsMatched : Type 0
 InformationIsMatched =
-    (t : Functions) (fs : List Funclet) (program : LinearProgram) (p : Plan) (q : Sites)
+    (t : Functions) (fs : List Funclet) (program : LinearProgram) (p : ImagePlan) (q : Sites)
     → IsProgramImage t fs program p q → IsWellMade program p → FiltersReadInformation program
     → (s : State) (c : Configuration) (to : Slot) (field : Field)
     → Begins t fs program p q s c → IsKnown program c
@@ -33,7 +33,7 @@ InformationIsMatched =
 -- `put` shows its argument as a signed number, and its result is 0
 abbrev pub PutsAreMatched : Type 0
 PutsAreMatched =
-    (t : Functions) (fs : List Funclet) (program : LinearProgram) (p : Plan) (q : Sites)
+    (t : Functions) (fs : List Funclet) (program : LinearProgram) (p : ImagePlan) (q : Sites)
     → IsProgramImage t fs program p q → IsWellMade program p
     → (s : State) (c : Configuration) (first : ℕ)
     → Begins t fs program p q s c → IsKnown program c
@@ -44,7 +44,7 @@ PutsAreMatched =
 -- `protect` sets the rights of a page, and its result says whether it has
 abbrev pub ProtectsAreMatched : Type 0
 ProtectsAreMatched =
-    (t : Functions) (fs : List Funclet) (program : LinearProgram) (p : Plan) (q : Sites)
+    (t : Functions) (fs : List Funclet) (program : LinearProgram) (p : ImagePlan) (q : Sites)
     → IsProgramImage t fs program p q → IsWellMade program p
     → (s : State) (c : Configuration) (first : ℕ)
     → Begins t fs program p q s c → IsKnown program c

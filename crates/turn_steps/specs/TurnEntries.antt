@@ -10,7 +10,7 @@ use Rattle.linear_code.specs.Program.{LinearProgram}
 use Rattle.linear_machine.specs.Frames.{Resumption, Waits, Configuration}
 use Rattle.linear_machine.specs.Searching.{resumed}
 use Rattle.linked_stack.specs.Stack.{StackItem}
-use Rattle.linked_stack.specs.ImagePlan.{Plan}
+use Rattle.linked_stack.specs.ImagePlan.{ImagePlan}
 use Rattle.linked_stack.specs.Linked.{Activation, locals_of}
 use Rattle.linked_stack.specs.Records.{On}
 use Rattle.linked_stack.specs.States.{IsSane}
@@ -21,7 +21,8 @@ use Rattle.body_steps.specs.Known.{IsKnown}
 use Rattle.turn_steps.specs.FuncletEntries.{entry_turns}
 use Rattle.turn_steps.specs.Outcomes.{Represents}
 
-module _ (t : Functions) (fs : List Funclet) (program : LinearProgram) (p : Plan) (q : Sites) where
+module _ (t : Functions) (fs : List Funclet) (program : LinearProgram) (p : ImagePlan)
+    (q : Sites) where
   -- where an exception is continued, the body continues from the saved state: after its call, whose
   -- result is kept, or with the same operation; it has not just taken over for another
   abbrev pub Continuations : Type 0

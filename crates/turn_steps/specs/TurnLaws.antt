@@ -20,7 +20,7 @@ use Rattle.linear_machine.specs.Searching.{raise}
 use Rattle.linear_machine.specs.Instructions.{act, end_finally, local_unwind}
 use Rattle.linear_machine.specs.Run.{exec}
 use Rattle.linked_stack.specs.Stack.{StackItem, Unwinding}
-use Rattle.linked_stack.specs.ImagePlan.{Plan}
+use Rattle.linked_stack.specs.ImagePlan.{ImagePlan}
 use Rattle.linked_stack.specs.Linked.{Activation, locals_of, Aimed}
 use Rattle.linked_stack.specs.Records.{On}
 use Rattle.linked_stack.specs.States.{IsSane}
@@ -46,7 +46,7 @@ waiting_below c w below = record { frame = w; below = below; store = c.store; ev
 -- linear code that ends the filter is matched, whatever the answer
 abbrev pub FilterAnswersAreMatched : Type 0
 FilterAnswersAreMatched =
-    (t : Functions) (fs : List Funclet) (program : LinearProgram) (p : Plan) (q : Sites)
+    (t : Functions) (fs : List Funclet) (program : LinearProgram) (p : ImagePlan) (q : Sites)
     → IsProgramImage t fs program p q → FlagsFit program → Continuations t fs program p q
     → (k : ℕ) (s u : State) (c : Configuration) (i : Instruction) (r : DispatchRecord)
     (is : List StackItem) (acts : List Activation)
@@ -66,7 +66,7 @@ FilterAnswersAreMatched =
 -- and where they lead to that of `__finally` blocks, the step that ends the block
 abbrev pub FinallyReturnsAreMatched : Type 0
 FinallyReturnsAreMatched =
-    (t : Functions) (fs : List Funclet) (program : LinearProgram) (p : Plan) (q : Sites)
+    (t : Functions) (fs : List Funclet) (program : LinearProgram) (p : ImagePlan) (q : Sites)
     → IsProgramImage t fs program p q → FlagsFit program
     → (k : ℕ) (s u : State) (c : Configuration) (i : Instruction) (r : DispatchRecord)
     (is : List StackItem) (acts : List Activation) (rest : List Region) (target : Target)
@@ -85,7 +85,7 @@ FinallyReturnsAreMatched =
 -- where a body asks the host, a raise shows its event, and then does what linear code does
 abbrev pub RaisesAreShown : Type 0
 RaisesAreShown =
-    (t : Functions) (fs : List Funclet) (program : LinearProgram) (p : Plan) (q : Sites)
+    (t : Functions) (fs : List Funclet) (program : LinearProgram) (p : ImagePlan) (q : Sites)
     → IsProgramImage t fs program p q → FlagsFit program
     → (s : State) (saved : Cpu) (is : List StackItem) (acts : List Activation) (c : Configuration)
     → AsksHost t fs program p s saved is (Waits c.frame ∷ c.below) acts
@@ -102,7 +102,7 @@ RaisesAreShown =
 -- and a local unwind does what linear code does
 abbrev pub LocalUnwindsAreShown : Type 0
 LocalUnwindsAreShown =
-    (t : Functions) (fs : List Funclet) (program : LinearProgram) (p : Plan) (q : Sites)
+    (t : Functions) (fs : List Funclet) (program : LinearProgram) (p : ImagePlan) (q : Sites)
     → IsProgramImage t fs program p q → FlagsFit program
     → (s : State) (saved : Cpu) (is : List StackItem) (acts : List Activation) (c : Configuration)
     → AsksHost t fs program p s saved is (Waits c.frame ∷ c.below) acts

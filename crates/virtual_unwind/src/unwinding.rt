@@ -1,7 +1,7 @@
 //! The caller of a frame.
 
 ghost use Rattle.std.specs.Prelude.{◌≡◌, option_map};
-ghost use Rattle.eh_tables.specs.Tables.{IsWhole};
+ghost use Rattle.eh_tables.specs.Tables.{TablesAreWhole};
 ghost use Rattle.virtual_unwind.specs.CallerOf as spec;
 ghost use Rattle.virtual_unwind.specs.Shown.{shown, raised_caller};
 ghost use Rattle.virtual_unwind.specs.Undone as undone;
@@ -210,7 +210,7 @@ pub fn caller<S: AddressSpace>(
     space: &S,
     context: &Context,
 ) -> Result<Caller, UnwindErr>
-    requires { IsWhole tables.now }
+    requires { TablesAreWhole tables.now }
     ensures { result ≡ shown (spec.caller_of tables.now (S.memory space.now) context.now) }
 {
     let rva = context.rip.wrapping_sub(tables.base());

@@ -13,7 +13,7 @@ use Rattle.linear_code.specs.Program.{LinearProgram, LinearFunction}
 use Rattle.linear_machine.specs.Frames.{Configuration, Seen, with_some}
 use Rattle.linear_machine.specs.Run.{exec, start, seen, shown}
 use Rattle.whole_runs.specs.Ends.{HasRule, IsCalm}
-use Rattle.whole_runs.specs.Laws.{ShowsAll, ShowsNoMore, Begins, RunsShowAll, RunsShowNoMore, ProgramsShowAll, ProgramsShowNoMore, TurnsAreEnough}
+use Rattle.whole_runs.specs.Laws.{ShowsAll, ShowsNoMore, RunBegins, RunsShowAll, RunsShowNoMore, ProgramsShowAll, ProgramsShowNoMore, TurnsAreEnough}
 use Rattle.whole_runs.proofs.Turns.{run_comes}
 use Rattle.whole_runs.proofs.All.{runs_show_all}
 use Rattle.whole_runs.proofs.NoMore.{in_midst, runs_show_no_more}
@@ -24,7 +24,7 @@ all t fs program pace credit n turns s c follows rule enough = runs_show_all t f
 pub no_more : RunsShowNoMore
 no_more t fs program pace credit m n s c follows calm fewer = runs_show_no_more t fs program pace credit n m s c follows calm fewer
 
-module _ (t : Functions) (fs : List Funclet) (program : LinearProgram) (pace : ℕ) (credit : Configuration → ℕ) (arg : ℤ) (first n : ℕ) (s : State) (b : Begins t fs program pace credit arg first s n) where
+module _ (t : Functions) (fs : List Funclet) (program : LinearProgram) (pace : ℕ) (credit : Configuration → ℕ) (arg : ℤ) (first n : ℕ) (s : State) (b : RunBegins t fs program pace credit arg first s n) where
   -- the run of linear code
   pub from_main : seen program arg n ≡ exec program n (start program arg b.main)
   unfolding with_some

@@ -26,7 +26,7 @@ use Rattle.whole_runs.specs.Shadowed.{Shadowed, by_turn, unless_over, shadowed, 
 use Rattle.whole_runs.specs.Comes.{IsLive, Comes}
 use Rattle.whole_runs.specs.Ends.{IsCalm}
 use Rattle.whole_runs.specs.Matched.{Moves, Exits, Dies, IsMatched, Follows}
-use Rattle.whole_runs.specs.Laws.{Begins, ProgramsWalkTheShadow}
+use Rattle.whole_runs.specs.Laws.{RunBegins, ProgramsWalkTheShadow}
 use Rattle.whole_runs.proofs.Turns.{run_comes, run_returned, run_dies}
 use Rattle.whole_runs.proofs.Steps.{at_instruction, first_has_rule, none_has_no_rule}
 use Rattle.whole_runs.proofs.NoMore.{not_wild}

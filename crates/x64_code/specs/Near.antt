@@ -68,9 +68,9 @@ IsInstructionNear y (instructions.Return from) = IsSlotNear y from × IsFrameNea
 IsInstructionNear y other = Unit {0}
 
 -- those that call a function, a block or a service
-abbrev pub IsCall : Instruction → Type 0
-IsCall (instructions.Call function first count) = Unit {0}
-IsCall (instructions.CallBuiltIn function first) = Unit {0}
-IsCall (instructions.CallFinally funclet) = Unit {0}
-IsCall (instructions.LocalUnwind label) = Unit {0}
-IsCall other = ⊥
+abbrev pub IsCallInstruction : Instruction → Type 0
+IsCallInstruction (instructions.Call function first count) = Unit {0}
+IsCallInstruction (instructions.CallBuiltIn function first) = Unit {0}
+IsCallInstruction (instructions.CallFinally funclet) = Unit {0}
+IsCallInstruction (instructions.LocalUnwind label) = Unit {0}
+IsCallInstruction other = ⊥

@@ -2,7 +2,7 @@
 
 ghost use Rattle.std.specs.Prelude.{OnOk};
 ghost use Rattle.x64_code.specs.Linking.{links_of};
-ghost use Rattle.x64_code.specs.Near.{IsNear, IsInstructionNear, IsCall};
+ghost use Rattle.x64_code.specs.Near.{IsNear, IsInstructionNear, IsCallInstruction};
 ghost use Rattle.x64_code.specs.Appending.{Appended};
 ghost use Rattle.template_code.specs.Template.{template};
 
@@ -28,7 +28,7 @@ fn put_call_instruction(
 ) -> Result<(), AllocError>
     requires near { IsInstructionNear layout.now instruction.now }
     requires at { IsNear at }
-    requires call { IsCall instruction.now }
+    requires call { IsCallInstruction instruction.now }
     ensures { OnOk result
         (Appended code.old (template (links_of links.now) layout.now at instruction.now) code.new) }
 {

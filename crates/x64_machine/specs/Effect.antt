@@ -335,8 +335,8 @@ memory_after m (Ok s) = s.memory
 memory_after m (Err e) = m
 
 -- the code answers with the registers of the state after it, or with what stopped it
-abbrev pub Answers : Result Cpu Stop → Answer State → Type 0
-Answers result done = result ≡ cpu_of done
+abbrev pub IsCpuOf : Result Cpu Stop → Answer State → Type 0
+IsCpuOf result done = result ≡ cpu_of done
 
 -- the code leaves the memory of the state after it, and after a stop the memory before
 abbrev pub LeavesMemory : Memory → Memory → Answer State → Type 0

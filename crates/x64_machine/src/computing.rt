@@ -4,7 +4,7 @@ ghost use Rattle.std.specs.Prelude.{◌≡◌, ◌<◌};
 ghost use Rattle.seh_num.specs.Widths.{limit};
 ghost use Rattle.x64_instr.specs.Families.{IsComputation};
 ghost use Rattle.x64_machine.specs.Effect as spec;
-ghost use Rattle.x64_machine.specs.Effect.{Answers, LeavesMemory};
+ghost use Rattle.x64_machine.specs.Effect.{IsCpuOf, LeavesMemory};
 
 use crate::cpu::{Cpu, Flags};
 use crate::multiplying::multiply_or_divide;
@@ -40,7 +40,7 @@ fn change<S: AddressSpace>(
     to: &RegisterOrMemory,
     from: &Operand,
 ) -> Result<Cpu, Stop>
-    ensures answer { Answers result
+    ensures answer { IsCpuOf result
         (spec.change (spec.state cpu (S.memory space.old)) operation width to.now from.now) }
     ensures memory { LeavesMemory (S.memory space.old) (S.memory space.new)
         (spec.change (spec.state cpu (S.memory space.old)) operation width to.now from.now) }
@@ -62,7 +62,7 @@ fn compare<S: AddressSpace>(
     first: &RegisterOrMemory,
     second: &Operand,
 ) -> Result<Cpu, Stop>
-    ensures answer { Answers result
+    ensures answer { IsCpuOf result
         (spec.compare (spec.state cpu (S.memory space.now)) operation width first.now second.now) }
     ensures memory { LeavesMemory (S.memory space.now) (S.memory space.now)
         (spec.compare (spec.state cpu (S.memory space.now)) operation width first.now second.now) }
@@ -91,7 +91,7 @@ fn arithmetic<S: AddressSpace>(
     to: &RegisterOrMemory,
     from: &Operand,
 ) -> Result<Cpu, Stop>
-    ensures answer { Answers result
+    ensures answer { IsCpuOf result
         (spec.arithmetic (spec.state cpu (S.memory space.old)) operation width to.now from.now) }
     ensures memory { LeavesMemory (S.memory space.old) (S.memory space.new)
         (spec.arithmetic (spec.state cpu (S.memory space.old)) operation width to.now from.now) }
@@ -120,7 +120,7 @@ fn unary<S: AddressSpace>(
     width: Width,
     to: &RegisterOrMemory,
 ) -> Result<Cpu, Stop>
-    ensures answer { Answers result
+    ensures answer { IsCpuOf result
         (spec.unary (spec.state cpu (S.memory space.old)) operation width to.now) }
     ensures memory { LeavesMemory (S.memory space.old) (S.memory space.new)
         (spec.unary (spec.state cpu (S.memory space.old)) operation width to.now) }
@@ -150,7 +150,7 @@ fn shift_by<S: AddressSpace>(
     count: u64,
 ) -> Result<Cpu, Stop>
     requires { count < 64 }
-    ensures answer { Answers result
+    ensures answer { IsCpuOf result
         (spec.shift_by (spec.state cpu (S.memory space.old)) direction width to.now count) }
     ensures memory { LeavesMemory (S.memory space.old) (S.memory space.new)
         (spec.shift_by (spec.state cpu (S.memory space.old)) direction width to.now count) }
@@ -170,7 +170,7 @@ fn shift_by_count<S: AddressSpace>(
     to: &RegisterOrMemory,
     by: Count,
 ) -> Result<Cpu, Stop>
-    ensures answer { Answers result
+    ensures answer { IsCpuOf result
         (spec.shift (spec.state cpu (S.memory space.old)) direction width to.now by) }
     ensures memory { LeavesMemory (S.memory space.old) (S.memory space.new)
         (spec.shift (spec.state cpu (S.memory space.old)) direction width to.now by) }
@@ -186,7 +186,7 @@ pub(crate) fn computation_effect<S: AddressSpace>(
     instr: &Instr,
 ) -> Result<Cpu, Stop>
     requires { IsComputation instr.now }
-    ensures answer { Answers result (spec.effect (spec.state cpu (S.memory space.old)) instr.now) }
+    ensures answer { IsCpuOf result (spec.effect (spec.state cpu (S.memory space.old)) instr.now) }
     ensures memory { LeavesMemory (S.memory space.old) (S.memory space.new)
         (spec.effect (spec.state cpu (S.memory space.old)) instr.now) }
 {

@@ -4,7 +4,7 @@
 ghost use Rattle.std.specs.Prelude.{◌≡◌};
 ghost use Rattle.x64_instr.specs.Families.{IsTransfer};
 ghost use Rattle.x64_machine.specs.Effect as spec;
-ghost use Rattle.x64_machine.specs.Effect.{Answers, LeavesMemory};
+ghost use Rattle.x64_machine.specs.Effect.{IsCpuOf, LeavesMemory};
 
 use crate::cpu::{Cpu, Flags};
 use crate::operands::{load, read, store};
@@ -15,7 +15,7 @@ use x64_instr::register::Reg;
 use x64_memory::space::AddressSpace;
 
 pub(crate) fn push<S: AddressSpace>(mut cpu: Cpu, space: &mut S, value: u64) -> Result<Cpu, Stop>
-    ensures answer { Answers result (spec.push (spec.state cpu (S.memory space.old)) value) }
+    ensures answer { IsCpuOf result (spec.push (spec.state cpu (S.memory space.old)) value) }
     ensures memory { LeavesMemory (S.memory space.old) (S.memory space.new)
         (spec.push (spec.state cpu (S.memory space.old)) value) }
 {
@@ -50,7 +50,7 @@ pub(crate) fn target_of<S: AddressSpace>(cpu: &Cpu, space: &S, to: &Target) -> R
 }
 
 pub(crate) fn jump<S: AddressSpace>(mut cpu: Cpu, space: &S, to: &Target) -> Result<Cpu, Stop>
-    ensures { Answers result (spec.jump (spec.state cpu (S.memory space.now)) to.now) }
+    ensures { IsCpuOf result (spec.jump (spec.state cpu (S.memory space.now)) to.now) }
 {
     let target = target_of(&cpu, space, to)?;
     cpu.rip = target;
@@ -73,7 +73,7 @@ pub(crate) fn condition_byte(flags: Flags, condition: Condition) -> u64
 }
 
 pub(crate) fn call<S: AddressSpace>(cpu: Cpu, space: &mut S, to: &Target) -> Result<Cpu, Stop>
-    ensures answer { Answers result (spec.call (spec.state cpu (S.memory space.old)) to.now) }
+    ensures answer { IsCpuOf result (spec.call (spec.state cpu (S.memory space.old)) to.now) }
     ensures memory { LeavesMemory (S.memory space.old) (S.memory space.new)
         (spec.call (spec.state cpu (S.memory space.old)) to.now) }
 {
@@ -90,7 +90,7 @@ pub(crate) fn transfer_effect<S: AddressSpace>(
     instr: &Instr,
 ) -> Result<Cpu, Stop>
     requires { IsTransfer instr.now }
-    ensures answer { Answers result (spec.effect (spec.state cpu (S.memory space.old)) instr.now) }
+    ensures answer { IsCpuOf result (spec.effect (spec.state cpu (S.memory space.old)) instr.now) }
     ensures memory { LeavesMemory (S.memory space.old) (S.memory space.new)
         (spec.effect (spec.state cpu (S.memory space.old)) instr.now) }
 {

@@ -1,7 +1,7 @@
 //! What one instruction does.
 
 ghost use Rattle.x64_machine.specs.Effect as spec;
-ghost use Rattle.x64_machine.specs.Effect.{Answers, LeavesMemory};
+ghost use Rattle.x64_machine.specs.Effect.{IsCpuOf, LeavesMemory};
 
 use crate::computing::computation_effect;
 use crate::control::transfer_effect;
@@ -13,7 +13,7 @@ use x64_memory::space::AddressSpace;
 
 /// What an instruction does, where RIP is that of the next one. INT3 and UD2 can't be run.
 pub(crate) fn effect<S: AddressSpace>(cpu: Cpu, space: &mut S, instr: &Instr) -> Result<Cpu, Stop>
-    ensures answer { Answers result (spec.effect (spec.state cpu (S.memory space.old)) instr.now) }
+    ensures answer { IsCpuOf result (spec.effect (spec.state cpu (S.memory space.old)) instr.now) }
     ensures memory { LeavesMemory (S.memory space.old) (S.memory space.new)
         (spec.effect (spec.state cpu (S.memory space.old)) instr.now) }
 {

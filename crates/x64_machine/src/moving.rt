@@ -3,7 +3,7 @@
 ghost use Rattle.std.specs.Prelude.{◌≡◌};
 ghost use Rattle.x64_instr.specs.Families.{IsMove};
 ghost use Rattle.x64_machine.specs.Effect as spec;
-ghost use Rattle.x64_machine.specs.Effect.{Answers, LeavesMemory};
+ghost use Rattle.x64_machine.specs.Effect.{IsCpuOf, LeavesMemory};
 
 use crate::control::condition_byte;
 use crate::cpu::Cpu;
@@ -43,7 +43,7 @@ pub(crate) fn move_effect<S: AddressSpace>(
     instr: &Instr,
 ) -> Result<Cpu, Stop>
     requires { IsMove instr.now }
-    ensures answer { Answers result (spec.effect (spec.state cpu (S.memory space.old)) instr.now) }
+    ensures answer { IsCpuOf result (spec.effect (spec.state cpu (S.memory space.old)) instr.now) }
     ensures memory { LeavesMemory (S.memory space.old) (S.memory space.new)
         (spec.effect (spec.state cpu (S.memory space.old)) instr.now) }
 {

@@ -3,7 +3,7 @@
 ghost use Rattle.std.specs.Prelude.{◌≡◌};
 ghost use Rattle.x64_instr.specs.Families.{IsMultiplyOrDivide};
 ghost use Rattle.x64_machine.specs.Effect as spec;
-ghost use Rattle.x64_machine.specs.Effect.{Answers, LeavesMemory};
+ghost use Rattle.x64_machine.specs.Effect.{IsCpuOf, LeavesMemory};
 
 use crate::cpu::Cpu;
 use crate::dividing::{divide, join};
@@ -26,7 +26,7 @@ fn product<S: AddressSpace>(
     to: Reg,
     from: &RegisterOrMemory,
 ) -> Result<Cpu, Stop>
-    ensures { Answers result
+    ensures { IsCpuOf result
         (spec.multiply (spec.state cpu (S.memory space.now)) width to from.now) }
 {
     let second = read(&cpu, space, width, from)?;
@@ -45,7 +45,7 @@ fn product_by<S: AddressSpace>(
     from: &RegisterOrMemory,
     by: u64,
 ) -> Result<Cpu, Stop>
-    ensures { Answers result
+    ensures { IsCpuOf result
         (spec.multiply_by (spec.state cpu (S.memory space.now)) width to from.now by) }
 {
     let first = read(&cpu, space, width, from)?;
@@ -72,7 +72,7 @@ fn quotient<S: AddressSpace>(
     width: Width,
     by: &RegisterOrMemory,
 ) -> Result<Cpu, Stop>
-    ensures { Answers result
+    ensures { IsCpuOf result
         (spec.divide (spec.state cpu (S.memory space.now)) division width by.now) }
 {
     let divisor = read(&cpu, space, width, by)?;
@@ -95,7 +95,7 @@ pub(crate) fn multiply_or_divide<S: AddressSpace>(
     instr: &Instr,
 ) -> Result<Cpu, Stop>
     requires { IsMultiplyOrDivide instr.now }
-    ensures answer { Answers result (spec.effect (spec.state cpu (S.memory space.now)) instr.now) }
+    ensures answer { IsCpuOf result (spec.effect (spec.state cpu (S.memory space.now)) instr.now) }
     ensures memory { LeavesMemory (S.memory space.now) (S.memory space.now)
         (spec.effect (spec.state cpu (S.memory space.now)) instr.now) }
 {

@@ -3,7 +3,7 @@
 ghost use Rattle.std.specs.Prelude.{◌≡◌, ◌<◌, ℕ, IfOk};
 ghost use Rattle.seh_num.specs.Widths.{limit};
 ghost use Rattle.x64_machine.specs.Effect as spec;
-ghost use Rattle.x64_machine.specs.Effect.{Answers, LeavesMemory};
+ghost use Rattle.x64_machine.specs.Effect.{IsCpuOf, LeavesMemory};
 
 use crate::cpu::Cpu;
 use crate::outcome::Stop;
@@ -90,7 +90,7 @@ pub(crate) fn store<S: AddressSpace>(
     width: Width,
     value: u64,
 ) -> Result<Cpu, Stop>
-    ensures answer { Answers result
+    ensures answer { IsCpuOf result
         (spec.store (spec.state cpu (S.memory space.old)) at width value) }
     ensures memory { LeavesMemory (S.memory space.old) (S.memory space.new)
         (spec.store (spec.state cpu (S.memory space.old)) at width value) }
@@ -139,7 +139,7 @@ pub(crate) fn write<S: AddressSpace>(
     to: &RegisterOrMemory,
     value: u64,
 ) -> Result<Cpu, Stop>
-    ensures answer { Answers result
+    ensures answer { IsCpuOf result
         (spec.write (spec.state cpu (S.memory space.old)) width to.now value) }
     ensures memory { LeavesMemory (S.memory space.old) (S.memory space.new)
         (spec.write (spec.state cpu (S.memory space.old)) width to.now value) }

@@ -1,6 +1,6 @@
 ghost use Rattle.std.specs.Prelude.{◌≡◌, Some};
 ghost use Rattle.x64_machine.specs.Effect as spec;
-ghost use Rattle.x64_machine.specs.Effect.{Answers, LeavesMemory};
+ghost use Rattle.x64_machine.specs.Effect.{IsCpuOf, LeavesMemory};
 ghost use Rattle.host_layout.specs.Services.{service_at};
 
 use crate::cpu::Cpu;
@@ -41,7 +41,7 @@ pub fn execute<S: AddressSpace>(
     instr: &Instr,
     len: usize,
 ) -> Result<Cpu, Stop>
-    ensures answer { Answers result
+    ensures answer { IsCpuOf result
         (spec.execute (spec.state cpu (S.memory space.old)) (Some (instr.now, len))) }
     ensures memory { LeavesMemory (S.memory space.old) (S.memory space.new)
         (spec.execute (spec.state cpu (S.memory space.old)) (Some (instr.now, len))) }

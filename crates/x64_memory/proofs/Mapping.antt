@@ -12,7 +12,7 @@ use Rattle.x64_memory.specs.declared.stretch.Stretch.{Stretch}
 use Rattle.x64_memory.specs.Stretches.{has_number, index_of, page_at, page_numbered, AreLaid, count_from, end_from}
 use Rattle.x64_memory.proofs.Laid.{within, before, past, page_added, laid_more, count_more, end_more}
 use Rattle.x64_memory.specs.Pages.{page_mode, page_byte, paged, has_page, HasArena, zero_page}
-use Rattle.x64_memory.specs.Regions.{IsWhole, region_mode, covers, with_region, unmapped, in_regions, HoldsArena, filled}
+use Rattle.x64_memory.specs.Regions.{IsWholeRegion, region_mode, covers, with_region, unmapped, in_regions, HoldsArena, filled}
 use Rattle.x64_memory.proofs.Paging.{page_changed}
 
 -- ---- a region over others
@@ -181,7 +181,7 @@ piece_after xs ys from k i ge le e =
 
 -- ---- a region put after others
 
-module _ (r : Region) (s : Stretch) (ss ss' : List Stretch) (ps ps' : List Page) (protection : Protection) (whole : IsWhole r) (laid : AreLaid 0 0 ss) (count : length ps ≡ count_from 0 ss) (above : 4096 * end_from 0 ss ≤ r.start) (first_is : s.first ≡ r.start / 4096) (end_is : s.end ≡ r.end / 4096) (kept : s.index ≡ length ps) (mode : protection ≡ region_mode r) (pushed : ss' ≡ ss ++ s ∷ []) (added : ps' ≡ ps ++ replicate (s.end - s.first) (zero_page protection)) where
+module _ (r : Region) (s : Stretch) (ss ss' : List Stretch) (ps ps' : List Page) (protection : Protection) (whole : IsWholeRegion r) (laid : AreLaid 0 0 ss) (count : length ps ≡ count_from 0 ss) (above : 4096 * end_from 0 ss ≤ r.start) (first_is : s.first ≡ r.start / 4096) (end_is : s.end ≡ r.end / 4096) (kept : s.index ≡ length ps) (mode : protection ≡ region_mode r) (pushed : ss' ≡ ss ++ s ∷ []) (added : ps' ≡ ps ++ replicate (s.end - s.first) (zero_page protection)) where
   grows : s.first ≤ s.end
   grows = let order = whole.order in omega arith
 

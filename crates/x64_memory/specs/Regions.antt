@@ -45,7 +45,7 @@ in_regions [] a = false
 in_regions (r ∷ rs) a = covers r a || in_regions rs a
 
 -- a region of whole pages, writable only where it is readable
-pub record IsWhole (r : Region) : Type 0 where
+pub record IsWholeRegion (r : Region) : Type 0 where
   pub start : r.start % PAGE ≡ 0
   pub end : r.end % PAGE ≡ 0
   pub order : r.start ≤ r.end

@@ -22,7 +22,7 @@ abbrev pub page_numbered : List Stretch → List Page → ℕ → Option Page
 page_numbered stretches pages k = page_at pages (index_of stretches k)
 
 -- a stretch begins with no lower page than one, and is kept from an index on
-pub record IsNext (low from : ℕ) (s : Stretch) : Type 0 where
+pub record IsNextStretch (low from : ℕ) (s : Stretch) : Type 0 where
   pub order : low ≤ s.first
   pub grows : s.first ≤ s.end
   pub kept : s.index ≡ from
@@ -30,12 +30,12 @@ pub record IsNext (low from : ℕ) (s : Stretch) : Type 0 where
 -- stretches ascend from a page on, and are kept one after another from an index on
 abbrev pub AreLaid : ℕ → ℕ → List Stretch → Type 0
 AreLaid low from [] = Unit {0}
-AreLaid low from (s ∷ ss) = IsNext low from s × AreLaid s.end (from + (s.end - s.first)) ss
+AreLaid low from (s ∷ ss) = IsNextStretch low from s × AreLaid s.end (from + (s.end - s.first)) ss
 
 pub AreLaid-prop : (low from : ℕ) (ss : List Stretch) → IsProp (AreLaid low from ss)
 AreLaid-prop low from [] = Unit-prop
 AreLaid-prop low from (s ∷ ss) =
-    let next : IsProp (IsNext low from s) = hlevel (le_prop, Coded-set coded_ℕ) in
+    let next : IsProp (IsNextStretch low from s) = hlevel (le_prop, Coded-set coded_ℕ) in
     ×_prop next (AreLaid-prop s.end (from + (s.end - s.first)) ss)
 
 -- the index after the last page of stretches that are kept from an index on

@@ -2,7 +2,7 @@ ghost use Rattle.std.specs.Prelude.{◌≡◌, ◌+◌, ◌*◌, ◌/◌, ◌%�
 ghost use Rattle.seh_num.specs.Widths.{bytes_of};
 ghost use Rattle.flat_memory.specs.Memory.{Memory, with_bytes, rights_asked};
 ghost use Rattle.x64_memory.specs.Pages.{HasArena, has_page, paged, page_with_number, zero_page};
-ghost use Rattle.x64_memory.specs.Regions.{AreAscending, IsWhole, HoldsArena, covers, filled, in_regions, mapped, with_region};
+ghost use Rattle.x64_memory.specs.Regions.{AreAscending, IsWholeRegion, HoldsArena, covers, filled, in_regions, mapped, with_region};
 ghost use Rattle.x64_memory.specs.Stretches.{AreLaid, AreLaid-prop, count_from, end_from, index_of, page_numbered};
 
 use crate::page::Page;
@@ -72,7 +72,7 @@ fn map_region(
     pages: &mut Vec<Page>,
     region: &Region,
 ) -> Result<(), AllocError>
-    requires whole { IsWhole region.now }
+    requires whole { IsWholeRegion region.now }
     requires laid { AreLaid 0 0 stretches.old.items }
     requires count { length pages.old.items ≡ count_from 0 stretches.old.items }
     requires above { PAGE * end_from 0 stretches.old.items ≤ region.now.start }
@@ -101,7 +101,7 @@ impl PageMap {
     /// Memory in which the regions are mapped, each with its protection, and all bytes are 0. Only
     /// the system's memory can be wanting.
     pub fn new(alloc: Global, regions: &[Region]) -> Result<PageMap, AllocError>
-        requires whole { All IsWhole regions.now }
+        requires whole { All IsWholeRegion regions.now }
         requires ascending { AreAscending 0 regions.now }
         requires arena { HoldsArena regions.now }
         ensures memory { IfOk result (λ s. memory_of s ≡ mapped regions.now) }

@@ -15,7 +15,7 @@ use Rattle.linear_code.specs.Meaning.{IsSlot}
 use Rattle.template_code.specs.declared.layout.Layout.{Layout}
 use Rattle.x64_templates.specs.Straight.{MachineView, Executes}
 use Rattle.template_code.specs.Slots.{fetched, put_back, temporary_at, local_at, keep_local, keep}
-use Rattle.x64_templates.specs.Frames.{slot_at, InTemporaries, InLocals, HasBase, HasRoom, KeepsBase, KeepsReserved, Agrees, HoldsBody, Changes, IsBytes}
+use Rattle.x64_templates.specs.Frames.{slot_at, InTemporaries, InLocals, HasBase, SlotsHaveRoom, MemoryKeepsBase, KeepsReserved, Agrees, HoldsBody, Changes, IsBytes}
 use Rattle.x64_templates.proofs.Straight.{executes_then}
 use Rattle.x64_templates.proofs.Accesses.{digits}
 use Rattle.x64_templates.proofs.Cells.{put, sp_of, written, to_sp, to_rcx, slot_high, slot_bytes, may_write_slot, sp_address, base_address, fetch_base}
@@ -29,7 +29,7 @@ may_write_same m m' a e = ap (λ (f : ℕ → Protection). is_writable (f a).rig
 eighth : (v : ℕ) → v < 2 ^ 64 → v % 256 ^ 8 ≡ v
 eighth v lt = omega arith
 
-module _ (y : Layout) (n : Counts) (reserved : ℕ → Bool) (sp base : ℕ) (room : HasRoom y n sp base) where
+module _ (y : Layout) (n : Counts) (reserved : ℕ → Bool) (sp base : ℕ) (room : SlotsHaveRoom y n sp base) where
   Outside : ℕ → Slot → Type 0
   Outside a x = (a < slot_at y sp base x) ⊎ (slot_at y sp base x + 8 ≤ a)
 
@@ -84,7 +84,7 @@ module _ (y : Layout) (n : Counts) (reserved : ℕ → Bool) (sp base : ℕ) (ro
   small_after b (Temporary i) v m (Local j) h iz lt = h.small (Local j) iz
   small_after b (Local i) v m (Temporary j) h iz lt = h.small (Temporary j) iz
 
-  base_after : (m : Memory) (x : Slot) (v : ℕ) (o : Option ℕ) → IsSlot n x → HasBase y o sp base → KeepsBase o sp base m → KeepsBase o sp base (with_bytes m (with_number m.byte 8 (slot_at y sp base x) v))
+  base_after : (m : Memory) (x : Slot) (v : ℕ) (o : Option ℕ) → IsSlot n x → HasBase y o sp base → MemoryKeepsBase o sp base m → MemoryKeepsBase o sp base (with_bytes m (with_number m.byte 8 (slot_at y sp base x) v))
   base_after m x v None is has keeps = tt
   base_after m (Temporary i) v (Some k) is has keeps =
       let a = has.0 in let t = room.temporaries in let hi = room.high in
@@ -117,7 +117,7 @@ module _ (y : Layout) (n : Counts) (reserved : ℕ → Bool) (sp base : ℕ) (ro
     pub rcx : ℕ
     pub does : Executes (keep y x) v (record { rax = v.rax; rcx = rcx; rdx = v.rdx; rest = v.rest; memory = with_bytes v.memory (with_number v.memory.byte 8 (slot_at y sp base x) v.rax) })
 
-  local_kept : (o : Option ℕ) (i : ℕ) (v : MachineView) (b : BodyState) → i < n.locals → sp_of v ≡ sp → HasBase y o sp base → KeepsBase o sp base v.memory → HoldsBody y n reserved sp base v.memory b → v.rax < 2 ^ 64 → (rcx : ℕ) × Executes (keep_local o (local_at y i)) v (record { rax = v.rax; rcx = rcx; rdx = v.rdx; rest = v.rest; memory = with_bytes v.memory (with_number v.memory.byte 8 (base + local_at y i) v.rax) })
+  local_kept : (o : Option ℕ) (i : ℕ) (v : MachineView) (b : BodyState) → i < n.locals → sp_of v ≡ sp → HasBase y o sp base → MemoryKeepsBase o sp base v.memory → HoldsBody y n reserved sp base v.memory b → v.rax < 2 ^ 64 → (rcx : ℕ) × Executes (keep_local o (local_at y i)) v (record { rax = v.rax; rcx = rcx; rdx = v.rdx; rest = v.rest; memory = with_bytes v.memory (with_number v.memory.byte 8 (base + local_at y i) v.rax) })
   local_kept None i v b lt at has keeps h small =
       let e : (sp_of v + 0 + local_at y i) % 2 ^ 64 ≡ base + local_at y i = ap (λ (s : ℕ). (s + 0 + local_at y i) % 2 ^ 64) (at ∙ sym has) ∙ base_address y n reserved sp base room i lt in
       (v.rcx, to_sp v (local_at y i) (base + local_at y i) e (may_write_slot y n reserved sp base room v.memory b (Local i) h lt) small)
@@ -138,7 +138,7 @@ module _ (y : Layout) (n : Counts) (reserved : ℕ → Bool) (sp base : ℕ) (ro
 
   -- ---- memory that differs in bytes that aren't reserved
 
-  base_same : (m m' : Memory) (o : Option ℕ) → ((a : ℕ) → reserved a ≡ true → m'.byte a ≡ m.byte a) → m'.protection ≡ m.protection → HasBase y o sp base → KeepsReserved o sp reserved → KeepsBase o sp base m → KeepsBase o sp base m'
+  base_same : (m m' : Memory) (o : Option ℕ) → ((a : ℕ) → reserved a ≡ true → m'.byte a ≡ m.byte a) → m'.protection ≡ m.protection → HasBase y o sp base → KeepsReserved o sp reserved → MemoryKeepsBase o sp base m → MemoryKeepsBase o sp base m'
   base_same m m' None same protection has own keeps = tt
   base_same m m' (Some k) same protection has own keeps =
       let a = has.0 in let t = room.temporaries in let hi = room.high in

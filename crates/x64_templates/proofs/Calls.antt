@@ -19,7 +19,7 @@ use Rattle.template_code.specs.Slots.{fetched, temporary_at}
 use Rattle.template_code.specs.Jumps.{distance, call, IsNear}
 use Rattle.template_code.specs.Calls.{arguments_code, return_at, begin_call}
 use Rattle.x64_templates.specs.CallStates.{sp_of, with_four, pushed, HasBelow}
-use Rattle.x64_templates.specs.Runs.{Reaches, HasCode, Frame, Roomy, FrameHolds}
+use Rattle.x64_templates.specs.Runs.{Reaches, HasCode, FramePlace, Roomy, FrameHolds}
 use Rattle.x64_templates.proofs.Straight.{executes_one, executes_then}
 use Rattle.x64_templates.proofs.Cells.{may_read_slot, sp_address}
 use Rattle.x64_templates.proofs.Encoded.{Fine, near}
@@ -64,7 +64,7 @@ sp_kept_five rest c = get_or-set_other rest 5 1 c 0 not_five
 pub sp_kept_six : (rest : List ℕ) (c : ℕ) → get_or (set rest 6 c) 1 0 ≡ get_or rest 1 0
 sp_kept_six rest c = get_or-set_other rest 6 1 c 0 not_six
 
-arguments_do : (p : Frame) (first : ℕ) (v : MachineView) (b : BodyState) → Roomy p → first + 4 ≤ p.counts.temporaries → sp_of v ≡ p.sp → FrameHolds p v.memory b → Executes (arguments_code p.layout first) v (with_four v (b.slots (Temporary first)) (b.slots (Temporary (first + 1))) (b.slots (Temporary (first + 2))) (b.slots (Temporary (first + 3))))
+arguments_do : (p : FramePlace) (first : ℕ) (v : MachineView) (b : BodyState) → Roomy p → first + 4 ≤ p.counts.temporaries → sp_of v ≡ p.sp → FrameHolds p v.memory b → Executes (arguments_code p.layout first) v (with_four v (b.slots (Temporary first)) (b.slots (Temporary (first + 1))) (b.slots (Temporary (first + 2))) (b.slots (Temporary (first + 3))))
 arguments_do p first v b room le at h =
     let y = p.layout in
     let a0 = b.slots (Temporary first) in
@@ -89,7 +89,7 @@ arguments_do p first v b room le at h =
     (executes_then (i1 ∷ []) (i2 ∷ i3 ∷ []) (one v a0) (two v a0 a1) (with_four v a0 a1 a2 a3) d1
     (executes_then (i2 ∷ []) (i3 ∷ []) (two v a0 a1) (three v a0 a1 a2) (with_four v a0 a1 a2 a3) d2 d3))
 
-arguments_fine : (p : Frame) (first : ℕ) → Roomy p → first + 4 ≤ p.counts.temporaries → Fine (arguments_code p.layout first)
+arguments_fine : (p : FramePlace) (first : ℕ) → Roomy p → first + 4 ≤ p.counts.temporaries → Fine (arguments_code p.layout first)
 arguments_fine p first room le =
     let t = room.temporaries in
     (near (temporary_at p.layout first) (omega arith), refl, refl, (near (temporary_at p.layout (first + 1)) (omega arith), refl, refl, (near (temporary_at p.layout (first + 2)) (omega arith), refl, refl, (near (temporary_at p.layout (first + 3)) (omega arith), refl, refl, tt))))
@@ -116,7 +116,7 @@ call_reaches v sp rip to f at below n code =
     one_reaches i v (pushed v sp (rip + 5)) rip to f f (short (rip + 5) to n) refl code
     (ap (λ (a : ℕ). effect (machine v a f) i) next ∙ call_effect v sp (rip + 5) (distance (rip + 5) to) to f at below (arrives (rip + 5) to n))
 
-pub call_begins : (p : Frame) (first : ℕ) (v : MachineView) (rip to : ℕ) (f : Flags) (b : BodyState) → Roomy p → first + 4 ≤ p.counts.temporaries → sp_of v ≡ p.sp → FrameHolds p v.memory b → HasBelow v.memory p.sp 8 → IsNear (return_at p.layout first rip) to → HasCode v.memory rip (begin_call p.layout first rip to) → CallBegun p first v rip to f b
+pub call_begins : (p : FramePlace) (first : ℕ) (v : MachineView) (rip to : ℕ) (f : Flags) (b : BodyState) → Roomy p → first + 4 ≤ p.counts.temporaries → sp_of v ≡ p.sp → FrameHolds p v.memory b → HasBelow v.memory p.sp 8 → IsNear (return_at p.layout first rip) to → HasCode v.memory rip (begin_call p.layout first rip to) → CallBegun p first v rip to f b
 call_begins p first v rip to f b room le at h below n code =
     let args = arguments_code p.layout first in
     let back = return_at p.layout first rip in

@@ -18,7 +18,7 @@ use Rattle.linear_code.specs.Meaning.{IsSlot}
 use Rattle.template_code.specs.declared.layout.Layout.{Layout}
 use Rattle.x64_templates.specs.Straight.{MachineView, machine, Executes}
 use Rattle.template_code.specs.Slots.{fetched, put_back, temporary_at, local_at, fetch_local, fetch}
-use Rattle.x64_templates.specs.Frames.{slot_at, InTemporaries, InLocals, HasBase, HasRoom, KeepsBase, HoldsBody}
+use Rattle.x64_templates.specs.Frames.{slot_at, InTemporaries, InLocals, HasBase, SlotsHaveRoom, MemoryKeepsBase, HoldsBody}
 use Rattle.x64_templates.proofs.Straight.{executes_one, executes_then}
 
 -- RAX or RCX
@@ -84,7 +84,7 @@ to_rcx v d at e may lt = executes_one (put_back Rcx d) v (written v at) (λ rip 
 
 -- ---- the slots of a frame
 
-module _ (y : Layout) (n : Counts) (reserved : ℕ → Bool) (sp base : ℕ) (room : HasRoom y n sp base) where
+module _ (y : Layout) (n : Counts) (reserved : ℕ → Bool) (sp base : ℕ) (room : SlotsHaveRoom y n sp base) where
   pub slot_high : (x : Slot) → IsSlot n x → slot_at y sp base x + 8 < 2 ^ 64
   slot_high (Temporary i) lt = let a = room.temporaries in let h = room.high in omega arith
   slot_high (Local i) lt = let a = room.locals in let h = room.base_high in omega arith
@@ -106,7 +106,7 @@ module _ (y : Layout) (n : Counts) (reserved : ℕ → Bool) (sp base : ℕ) (ro
   base_address i lt = let a = room.locals in let h = room.base_high in omega arith
 
   -- the base, from where a filter or a `__finally` block keeps it
-  pub fetch_base : (r : Bool) (b : ℕ) (v : MachineView) → sp_of v ≡ sp → HasBase y (Some b) sp base → KeepsBase (Some b) sp base v.memory → Executes (fetched (reg r) Rsp b ∷ []) v (put r v base)
+  pub fetch_base : (r : Bool) (b : ℕ) (v : MachineView) → sp_of v ≡ sp → HasBase y (Some b) sp base → MemoryKeepsBase (Some b) sp base v.memory → Executes (fetched (reg r) Rsp b ∷ []) v (put r v base)
   fetch_base r b v at has keeps =
       let t = room.temporaries in
       let h = room.high in
@@ -115,7 +115,7 @@ module _ (y : Layout) (n : Counts) (reserved : ℕ → Bool) (sp base : ℕ) (ro
       let e : (sp_of v + 0 + b) % 2 ^ 64 ≡ sp + b = omega arith in
       from_sp r v b (sp + b) base e (writable_is_readable v.memory 8 (sp + b) (all_may (may_write v.memory) 8 (sp + b) (omega arith) (λ a p q. keeps.1 a p (omega arith)))) keeps.0 (omega arith)
 
-  local_fetched : (r : Bool) (o : Option ℕ) (i : ℕ) (v : MachineView) (b : BodyState) → i < n.locals → sp_of v ≡ sp → HasBase y o sp base → KeepsBase o sp base v.memory → HoldsBody y n reserved sp base v.memory b → Executes (fetch_local o (reg r) (local_at y i)) v (put r v (b.slots (Local i)))
+  local_fetched : (r : Bool) (o : Option ℕ) (i : ℕ) (v : MachineView) (b : BodyState) → i < n.locals → sp_of v ≡ sp → HasBase y o sp base → MemoryKeepsBase o sp base v.memory → HoldsBody y n reserved sp base v.memory b → Executes (fetch_local o (reg r) (local_at y i)) v (put r v (b.slots (Local i)))
   local_fetched r None i v b lt at has keeps h =
       let e : (sp_of v + 0 + local_at y i) % 2 ^ 64 ≡ base + local_at y i = ap (λ (s : ℕ). (s + 0 + local_at y i) % 2 ^ 64) (at ∙ sym has) ∙ base_address i lt in
       from_sp r v (local_at y i) (base + local_at y i) (b.slots (Local i)) e (may_read_slot v.memory b (Local i) h lt) (h.slot (Local i) lt) (h.small (Local i) lt)

@@ -28,7 +28,7 @@ use Rattle.template_code.specs.Operations.{before, work}
 use Rattle.template_code.specs.Slots.{fetch, keep, operands_code, finish_code, compute_code}
 use Rattle.x64_templates.specs.Frames.{slot_at, IsBytes}
 use Rattle.x64_templates.specs.Implements.{IsReady, HasOperands, HeadFaults, LeavesResult, Implements}
-use Rattle.x64_templates.specs.Runs.{Reaches, HasCode, Frame, Roomy, FrameHolds, IsThere, ReachesBody, Finished, Computed}
+use Rattle.x64_templates.specs.Runs.{Reaches, HasCode, FramePlace, Roomy, FrameHolds, IsThere, ReachesBody, Finished, Computed}
 use Rattle.x64_templates.proofs.Straight.{straight_runs, executes_nothing, executes_then}
 use Rattle.template_code.proofs.Sizes.{sizes_spelled, sizes_append}
 use Rattle.x64_templates.proofs.Divisions.{half_set}
@@ -106,12 +106,12 @@ prepared (operations.Remainder s z) v a b = let h = half_set s z (waiting v a b 
 prepared (operations.Load w) v a b = record { rdx = v.rdx; does = executes_nothing (waiting v a b v.rdx); ready = tt }
 prepared (operations.Store w) v a b = record { rdx = v.rdx; does = executes_nothing (waiting v a b v.rdx); ready = tt }
 
-record Fetched (p : Frame) (o : Operation) (first second : Slot) (v : MachineView) (a b : ℕ) : Type 0 where
+record Fetched (p : FramePlace) (o : Operation) (first second : Slot) (v : MachineView) (a b : ℕ) : Type 0 where
   rdx : ℕ
   does : Executes (operands_code p.layout o first second) v (waiting v a b rdx)
   ready : IsReady o (waiting v a b rdx)
 
-operands_do : (p : Frame) (o : Operation) (first second : Slot) (v : MachineView) (b : BodyState) → Roomy p → IsThere p first → IsThere p second → sp_of v ≡ p.sp → FrameHolds p v.memory b → Fetched p o first second v (b.slots first) (b.slots second)
+operands_do : (p : FramePlace) (o : Operation) (first second : Slot) (v : MachineView) (b : BodyState) → Roomy p → IsThere p first → IsThere p second → sp_of v ≡ p.sp → FrameHolds p v.memory b → Fetched p o first second v (b.slots first) (b.slots second)
 operands_do p o first second v b room f s at h =
     let y = p.layout in
     let v1 = put true v (b.slots first) in
@@ -128,7 +128,7 @@ operands_do p o first second v b room f s at h =
     }
 
 -- the run comes to where the operation begins
-pub record Begun (p : Frame) (o : Operation) (first second : Slot) (v : MachineView) (rip : ℕ) (f : Flags) (b : BodyState) : Type 0 where
+pub record Begun (p : FramePlace) (o : Operation) (first second : Slot) (v : MachineView) (rip : ℕ) (f : Flags) (b : BodyState) : Type 0 where
   pub stopped : MachineView
   pub left : Flags
   pub comes : Reaches (length (operands_code p.layout o first second)) (machine v rip f) (machine stopped (rip + sizes (operands_code p.layout o first second)) left)
@@ -136,7 +136,7 @@ pub record Begun (p : Frame) (o : Operation) (first second : Slot) (v : MachineV
   pub rest : stopped.rest ≡ v.rest
   pub memory : stopped.memory ≡ v.memory
 
-pub operands_run : (p : Frame) (o : Operation) (first second : Slot) (v : MachineView) (rip : ℕ) (f : Flags) (b : BodyState) → Roomy p → IsThere p first → IsThere p second → sp_of v ≡ p.sp → FrameHolds p v.memory b → HasCode v.memory rip (operands_code p.layout o first second) → Begun p o first second v rip f b
+pub operands_run : (p : FramePlace) (o : Operation) (first second : Slot) (v : MachineView) (rip : ℕ) (f : Flags) (b : BodyState) → Roomy p → IsThere p first → IsThere p second → sp_of v ≡ p.sp → FrameHolds p v.memory b → HasCode v.memory rip (operands_code p.layout o first second) → Begun p o first second v rip f b
 operands_run p o first second v rip f b room i j at h code =
     let d = operands_do p o first second v b room i j at h in
     let w = waiting v (b.slots first) (b.slots second) d.rdx in
@@ -146,7 +146,7 @@ operands_run p o first second v rip f b room i j at h code =
 -- ---- the operation is made
 
 -- code that leads to a number in RAX, and the slot to which the number goes
-pub leads_kept : (p : Frame) (code : List Instr) (to : Slot) (v : MachineView) (at : ℕ) (f : Flags) (b : BodyState) (x : ℕ) (source : Memory) → Fine code → Roomy p → IsThere p to → sp_of v ≡ p.sp → FrameHolds p v.memory b → HasCode v.memory at (code ++ keep p.layout to) → LeavesResult p.reserved code v x source → ReachesBody p (length (code ++ keep p.layout to)) (machine v at f) (at + sizes (code ++ keep p.layout to)) v.rest (record { slots = with_slot b.slots to x; memory = source })
+pub leads_kept : (p : FramePlace) (code : List Instr) (to : Slot) (v : MachineView) (at : ℕ) (f : Flags) (b : BodyState) (x : ℕ) (source : Memory) → Fine code → Roomy p → IsThere p to → sp_of v ≡ p.sp → FrameHolds p v.memory b → HasCode v.memory at (code ++ keep p.layout to) → LeavesResult p.reserved code v x source → ReachesBody p (length (code ++ keep p.layout to)) (machine v at f) (at + sizes (code ++ keep p.layout to)) v.rest (record { slots = with_slot b.slots to x; memory = source })
 leads_kept p code to v at f b x source fine room is sp h is_there l =
     let y = p.layout in
     let mid : MachineView = record { rax = x; rcx = l.yields.rcx; rdx = l.yields.rdx; rest = v.rest; memory = l.after } in
@@ -164,13 +164,13 @@ leads_kept p code to v at f b x source fine room is sp h is_there l =
       changes = changes_then y p.counts p.reserved p.sp p.base v.memory l.after last.memory (changes_same y p.counts p.reserved p.sp p.base room v.memory l.after l.own l.protection l.bytes) (changes_slot y p.counts p.reserved p.sp p.base room l.after to x is);
     }
 
-finish_by : (p : Frame) (o : Operation) (to : Slot) (v : MachineView) (at : ℕ) (f : Flags) (b : BodyState) (outcome : Outcome) → Roomy p → IsThere p to → sp_of v ≡ p.sp → FrameHolds p v.memory b → HasCode v.memory at (finish_code p.layout o to) → Implements p.reserved (work o) v outcome → Finished p o to v at f b outcome
+finish_by : (p : FramePlace) (o : Operation) (to : Slot) (v : MachineView) (at : ℕ) (f : Flags) (b : BodyState) (outcome : Outcome) → Roomy p → IsThere p to → sp_of v ≡ p.sp → FrameHolds p v.memory b → HasCode v.memory at (finish_code p.layout o to) → Implements p.reserved (work o) v outcome → Finished p o to v at f b outcome
 finish_by p o to v at f b (Gives x source) room is sp h code w = leads_kept p (work o) to v at f b x source (work_fine o) room is sp h code w
 finish_by p o to v at f b (Raises c access) room is sp h code w = head_faults (finish_code p.layout o to) v at f c access (finish_fine p.layout p.counts p.sp p.base o to room is) code (more_faults (work o) (keep p.layout to) v c access w)
 finish_by p o to v at f b (Undefined a) room is sp h code w = tt
 
 -- from where its operands wait, an operation is made or refused as it means on the memory there
-pub finish_run : (p : Frame) (o : Operation) (to : Slot) (v : MachineView) (at : ℕ) (f : Flags) (b : BodyState) (x y : ℕ) → Roomy p → IsThere p to → x < 2 ^ 64 → y < 2 ^ 64 → HasOperands o x y v → sp_of v ≡ p.sp → FrameHolds p v.memory b → HasCode v.memory at (finish_code p.layout o to) → Finished p o to v at f b (performed p.reserved o x y b.memory)
+pub finish_run : (p : FramePlace) (o : Operation) (to : Slot) (v : MachineView) (at : ℕ) (f : Flags) (b : BodyState) (x y : ℕ) → Roomy p → IsThere p to → x < 2 ^ 64 → y < 2 ^ 64 → HasOperands o x y v → sp_of v ≡ p.sp → FrameHolds p v.memory b → HasCode v.memory at (finish_code p.layout o to) → Finished p o to v at f b (performed p.reserved o x y b.memory)
 finish_run p o to v at f b x y room is lx ly waits sp h code =
     let ex = waits.first in
     let ey = waits.second in
@@ -179,12 +179,12 @@ finish_run p o to v at f b x y room is lx ly waits sp h code =
     (subst (λ c. Implements p.reserved (work o) v (performed p.reserved o c y b.memory)) ex (subst (λ c. Implements p.reserved (work o) v (performed p.reserved o v.rax c b.memory)) ey w))
 
 -- an operation that gives a number has been made: the number is in RAX, and not yet in its slot
-pub record Worked (p : Frame) (o : Operation) (v : MachineView) (at : ℕ) (f : Flags) (x : ℕ) (source : Memory) : Type 0 where
+pub record Worked (p : FramePlace) (o : Operation) (v : MachineView) (at : ℕ) (f : Flags) (x : ℕ) (source : Memory) : Type 0 where
   pub result : LeavesResult p.reserved (work o) v x source
   pub left : Flags
   pub comes : Reaches (length (work o)) (machine v at f) (machine (record { rax = x; rcx = result.yields.rcx; rdx = result.yields.rdx; rest = v.rest; memory = result.after }) (at + sizes (work o)) left)
 
-pub work_run : (p : Frame) (o : Operation) (v : MachineView) (at : ℕ) (f : Flags) (b : BodyState) (x y value : ℕ) (source : Memory) → x < 2 ^ 64 → y < 2 ^ 64 → HasOperands o x y v → FrameHolds p v.memory b → HasCode v.memory at (work o) → performed p.reserved o x y b.memory ≡ Gives value source → Worked p o v at f value source
+pub work_run : (p : FramePlace) (o : Operation) (v : MachineView) (at : ℕ) (f : Flags) (b : BodyState) (x y value : ℕ) (source : Memory) → x < 2 ^ 64 → y < 2 ^ 64 → HasOperands o x y v → FrameHolds p v.memory b → HasCode v.memory at (work o) → performed p.reserved o x y b.memory ≡ Gives value source → Worked p o v at f value source
 work_run p o v at f b x y value source lx ly waits h code gives =
     let ex = waits.first in
     let ey = waits.second in
@@ -196,7 +196,7 @@ work_run p o v at f b x y value source lx ly waits h code gives =
 
 -- ---- a whole operation
 
-pub follows_after : (p : Frame) (m n : ℕ) (s t : State) (to : ℕ) (others : List ℕ) (b : BodyState) → Reaches m s t → ◌≡◌ {A = Memory} t.memory s.memory → ReachesBody p n t to others b → ReachesBody p (m + n) s to others b
+pub follows_after : (p : FramePlace) (m n : ℕ) (s t : State) (to : ℕ) (others : List ℕ) (b : BodyState) → Reaches m s t → ◌≡◌ {A = Memory} t.memory s.memory → ReachesBody p n t to others b → ReachesBody p (m + n) s to others b
 follows_after p m n s t to others b c same g = record {
   after = g.after;
   flags = g.flags;
@@ -206,7 +206,7 @@ follows_after p m n s t to others b c same g = record {
   changes = record { protection = g.changes.protection ∙ ap (λ (m : Memory). m.protection) same; byte = λ a own out. g.changes.byte a own out ∙ ap (λ (m : Memory). m.byte a) same; bytes = λ x. g.changes.bytes (subst IsBytes (sym same) x) };
 }
 
-compute_by : (p : Frame) (to : Slot) (o : Operation) (first second : Slot) (v : MachineView) (rip : ℕ) (f : Flags) (b : BodyState) (outcome : Outcome) → (g : Begun p o first second v rip f b) → Finished p o to g.stopped (rip + sizes (operands_code p.layout o first second)) g.left b outcome → Computed p to o first second v rip f b (kept to b.slots outcome)
+compute_by : (p : FramePlace) (to : Slot) (o : Operation) (first second : Slot) (v : MachineView) (rip : ℕ) (f : Flags) (b : BodyState) (outcome : Outcome) → (g : Begun p o first second v rip f b) → Finished p o to g.stopped (rip + sizes (operands_code p.layout o first second)) g.left b outcome → Computed p to o first second v rip f b (kept to b.slots outcome)
 compute_by p to o first second v rip f b (Gives x m) g fin =
     let ops = operands_code p.layout o first second in
     let rest = finish_code p.layout o to in
@@ -228,7 +228,7 @@ compute_by p to o first second v rip f b (Raises code access) g fin = record {
 }
 compute_by p to o first second v rip f b (Undefined a) g fin = tt
 
-pub compute_run : (p : Frame) (to : Slot) (o : Operation) (first second : Slot) (v : MachineView) (rip : ℕ) (f : Flags) (b : BodyState) → Roomy p → IsThere p to → IsThere p first → IsThere p second → sp_of v ≡ p.sp → FrameHolds p v.memory b → HasCode v.memory rip (compute_code p.layout to o first second) → Computed p to o first second v rip f b (step p.reserved (instructions.Compute to o first second) b)
+pub compute_run : (p : FramePlace) (to : Slot) (o : Operation) (first second : Slot) (v : MachineView) (rip : ℕ) (f : Flags) (b : BodyState) → Roomy p → IsThere p to → IsThere p first → IsThere p second → sp_of v ≡ p.sp → FrameHolds p v.memory b → HasCode v.memory rip (compute_code p.layout to o first second) → Computed p to o first second v rip f b (step p.reserved (instructions.Compute to o first second) b)
 compute_run p to o first second v rip f b room it ifst isnd at h code =
     let ops = operands_code p.layout o first second in
     let parts = code_split v.memory rip ops (finish_code p.layout o to) code in

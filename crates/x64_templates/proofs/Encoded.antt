@@ -30,7 +30,7 @@ use Rattle.x64_instr.specs.declared.instruction.Instr.TheVariants as instrs
 use Rattle.x64_templates.specs.Straight.{is_straight, AllStraight, is_rsp_place, begins_epilogue, is_subtraction, is_number, takes_frame, NoneTakesFrame}
 use Rattle.template_code.specs.Operations.{compare, extended, pure_code, high_half, before, work}
 use Rattle.template_code.specs.Slots.{fetched, put_back, temporary_at, local_at, fetch_local, keep_local, fetch, keep, operands_code, finish_code}
-use Rattle.x64_templates.specs.Frames.{HasBase, HasRoom}
+use Rattle.x64_templates.specs.Frames.{HasBase, SlotsHaveRoom}
 use Rattle.x64_templates.proofs.Cells.{reg}
 
 -- an instruction that has a spelling, is followed by the next, and begins no epilogue
@@ -73,22 +73,22 @@ fetched_fine false base d lt = (near d lt, refl, refl, tt)
 pub put_back_fine : (base : Reg) (d : ℕ) → d < 2 ^ 31 → Fine (put_back base d ∷ [])
 put_back_fine base d lt = (near d lt, refl, refl, tt)
 
-small_base : (y : Layout) (n : Counts) (sp base b : ℕ) → HasRoom y n sp base → HasBase y (Some b) sp base → b < 2 ^ 31
+small_base : (y : Layout) (n : Counts) (sp base b : ℕ) → SlotsHaveRoom y n sp base → HasBase y (Some b) sp base → b < 2 ^ 31
 small_base y n sp base b room has = let t = room.temporaries in let a = has.0 in omega arith
 
-fetch_local_fine : (y : Layout) (n : Counts) (sp base : ℕ) (r : Bool) (o : Option ℕ) (d : ℕ) → HasRoom y n sp base → HasBase y o sp base → d < 2 ^ 31 → Fine (fetch_local o (reg r) d)
+fetch_local_fine : (y : Layout) (n : Counts) (sp base : ℕ) (r : Bool) (o : Option ℕ) (d : ℕ) → SlotsHaveRoom y n sp base → HasBase y o sp base → d < 2 ^ 31 → Fine (fetch_local o (reg r) d)
 fetch_local_fine y n sp base r None d room has lt = fetched_fine r Rsp d lt
 fetch_local_fine y n sp base r (Some b) d room has lt = fine_both (fetched (reg r) Rsp b ∷ []) (fetched (reg r) (reg r) d ∷ []) (fetched_fine r Rsp b (small_base y n sp base b room has)) (fetched_fine r (reg r) d lt)
 
-keep_local_fine : (y : Layout) (n : Counts) (sp base : ℕ) (o : Option ℕ) (d : ℕ) → HasRoom y n sp base → HasBase y o sp base → d < 2 ^ 31 → Fine (keep_local o d)
+keep_local_fine : (y : Layout) (n : Counts) (sp base : ℕ) (o : Option ℕ) (d : ℕ) → SlotsHaveRoom y n sp base → HasBase y o sp base → d < 2 ^ 31 → Fine (keep_local o d)
 keep_local_fine y n sp base None d room has lt = put_back_fine Rsp d lt
 keep_local_fine y n sp base (Some b) d room has lt = fine_both (fetched Rcx Rsp b ∷ []) (put_back Rcx d ∷ []) (fetched_fine false Rsp b (small_base y n sp base b room has)) (put_back_fine Rcx d lt)
 
-pub fetch_fine : (y : Layout) (n : Counts) (sp base : ℕ) (r : Bool) (x : Slot) → HasRoom y n sp base → IsSlot n x → Fine (fetch y (reg r) x)
+pub fetch_fine : (y : Layout) (n : Counts) (sp base : ℕ) (r : Bool) (x : Slot) → SlotsHaveRoom y n sp base → IsSlot n x → Fine (fetch y (reg r) x)
 fetch_fine y n sp base r (Temporary i) room is = let t = room.temporaries in fetched_fine r Rsp (temporary_at y i) (omega arith)
 fetch_fine y n sp base r (Local i) room is = let l = room.locals in fetch_local_fine y n sp base r y.base (local_at y i) room room.kept_base (omega arith)
 
-pub keep_fine : (y : Layout) (n : Counts) (sp base : ℕ) (x : Slot) → HasRoom y n sp base → IsSlot n x → Fine (keep y x)
+pub keep_fine : (y : Layout) (n : Counts) (sp base : ℕ) (x : Slot) → SlotsHaveRoom y n sp base → IsSlot n x → Fine (keep y x)
 keep_fine y n sp base (Temporary i) room is = let t = room.temporaries in put_back_fine Rsp (temporary_at y i) (omega arith)
 keep_fine y n sp base (Local i) room is = let l = room.locals in keep_local_fine y n sp base y.base (local_at y i) room room.kept_base (omega arith)
 
@@ -162,8 +162,8 @@ work_fine (operations.Load W32) = (refl, refl, refl, tt)
 work_fine (operations.Load W64) = (refl, refl, refl, tt)
 work_fine (operations.Store w) = (refl, refl, refl, (refl, refl, refl, tt))
 
-pub operands_fine : (y : Layout) (n : Counts) (sp base : ℕ) (o : Operation) (first second : Slot) → HasRoom y n sp base → IsSlot n first → IsSlot n second → Fine (operands_code y o first second)
+pub operands_fine : (y : Layout) (n : Counts) (sp base : ℕ) (o : Operation) (first second : Slot) → SlotsHaveRoom y n sp base → IsSlot n first → IsSlot n second → Fine (operands_code y o first second)
 operands_fine y n sp base o first second room f s = fine_both (fetch y Rax first) (fetch y Rcx second ++ before o) (fetch_fine y n sp base true first room f) (fine_both (fetch y Rcx second) (before o) (fetch_fine y n sp base false second room s) (before_fine o))
 
-pub finish_fine : (y : Layout) (n : Counts) (sp base : ℕ) (o : Operation) (to : Slot) → HasRoom y n sp base → IsSlot n to → Fine (finish_code y o to)
+pub finish_fine : (y : Layout) (n : Counts) (sp base : ℕ) (o : Operation) (to : Slot) → SlotsHaveRoom y n sp base → IsSlot n to → Fine (finish_code y o to)
 finish_fine y n sp base o to room t = fine_both (work o) (keep y to) (work_fine o) (keep_fine y n sp base to room t)

@@ -11,9 +11,9 @@ use Rattle.template_code.specs.Bytes.{sizes}
 use Rattle.template_code.specs.Slots.{fetched, local_at}
 use Rattle.template_code.specs.Calls.{parameter_register, keep_register, stack_parameter, parameter_code, parameters_code, enter_code, function_entry}
 use Rattle.x64_templates.specs.CallStates.{sp_of, with_sp, moved}
-use Rattle.x64_templates.specs.EntryStates.{with_arguments, InRegisters, OnStack, IsFunction, body_in_memory, FreshFrame}
+use Rattle.x64_templates.specs.EntryStates.{with_arguments, InRegisters, OnStack, IsFunctionFrame, body_in_memory, FreshFrame}
 use Rattle.x64_templates.proofs.PlacedCode.{enters_then}
-use Rattle.x64_templates.specs.Runs.{ChangesOwn, HasCode, Frame, Roomy, FrameHolds, ReachesBody, Enters, EntersBody}
+use Rattle.x64_templates.specs.Runs.{ChangesOwn, HasCode, FramePlace, Roomy, FrameHolds, ReachesBody, Enters, EntersBody}
 use Rattle.template_code.proofs.Sizes.{sizes_append}
 use Rattle.x64_templates.proofs.Encoded.{Fine, fine_both, near}
 use Rattle.x64_templates.proofs.Computes.{code_split, runs_view}
@@ -21,7 +21,7 @@ use Rattle.x64_templates.proofs.Returns.{sp_moved, enter_run}
 use Rattle.x64_templates.proofs.Entries.{holds_body_in_memory}
 use Rattle.x64_templates.proofs.Parameters.{parameters_do}
 
-parameter_fine : (p : Frame) (i count : ℕ) (arguments : ℕ → ℕ) (m : Memory) → Roomy p → i < count → i < p.counts.locals → OnStack p m count arguments → Fine (parameter_code p.layout i)
+parameter_fine : (p : FramePlace) (i count : ℕ) (arguments : ℕ → ℕ) (m : Memory) → Roomy p → i < count → i < p.counts.locals → OnStack p m count arguments → Fine (parameter_code p.layout i)
 parameter_fine p i count arguments m room lc ll stack =
     let y = p.layout in
     let l = room.locals in
@@ -33,11 +33,11 @@ parameter_fine p i count arguments m room lc ll stack =
       | inr ge ↦ subst (λ c. Fine (cond c in_register on_stack)) (sym (le-ltb i 4 ge)) (near (stack_parameter y i) (stack.near i lc), refl, refl, (near (local_at y i) small, refl, refl, tt))
     ]
 
-pub parameters_fine : (p : Frame) (i n count : ℕ) (arguments : ℕ → ℕ) (m : Memory) → Roomy p → i + n ≤ count → i + n ≤ p.counts.locals → OnStack p m count arguments → Fine (parameters_code p.layout i n)
+pub parameters_fine : (p : FramePlace) (i n count : ℕ) (arguments : ℕ → ℕ) (m : Memory) → Roomy p → i + n ≤ count → i + n ≤ p.counts.locals → OnStack p m count arguments → Fine (parameters_code p.layout i n)
 parameters_fine p i zero count arguments m room lc ll stack = tt
 parameters_fine p i (suc n) count arguments m room lc ll stack = fine_both (parameter_code p.layout i) (parameters_code p.layout (i + 1) n) (parameter_fine p i count arguments m room (omega arith) (omega arith) stack) (parameters_fine p (i + 1) n count arguments m room (omega arith) (omega arith) stack)
 
-pub fresh_holds : (p : Frame) (m source : Memory) → FreshFrame p m source → FrameHolds p m (body_in_memory p.layout p.sp p.base m source)
+pub fresh_holds : (p : FramePlace) (m source : Memory) → FreshFrame p m source → FrameHolds p m (body_in_memory p.layout p.sp p.base m source)
 fresh_holds p m source b = holds_body_in_memory p.layout p.counts p.reserved p.sp p.base m source b.bytes b.base b.writable b.own b.own_base b.agrees
 
 not_sp : (i : ℕ) → i ≢ 1 → (rest : List ℕ) (x : ℕ) → get_or (set rest 1 x) i 0 ≡ get_or rest i 0
@@ -45,7 +45,7 @@ not_sp i ne rest x = get_or-set_other rest 1 i x 0 ne
 
 -- ---- parameters, once RSP is the frame's
 
-pub parameters_run : (p : Frame) (count : ℕ) (arguments : ℕ → ℕ) (v : MachineView) (rip : ℕ) (f : Flags) (b : BodyState) → Roomy p → IsFunction p → count ≤ p.counts.locals → sp_of v ≡ p.sp → FrameHolds p v.memory b → InRegisters v arguments → OnStack p v.memory count arguments → HasCode v.memory rip (parameters_code p.layout 0 count) → ReachesBody p (length (parameters_code p.layout 0 count)) (machine v rip f) (rip + sizes (parameters_code p.layout 0 count)) v.rest (record { slots = with_arguments b.slots arguments 0 count; memory = b.memory })
+pub parameters_run : (p : FramePlace) (count : ℕ) (arguments : ℕ → ℕ) (v : MachineView) (rip : ℕ) (f : Flags) (b : BodyState) → Roomy p → IsFunctionFrame p → count ≤ p.counts.locals → sp_of v ≡ p.sp → FrameHolds p v.memory b → InRegisters v arguments → OnStack p v.memory count arguments → HasCode v.memory rip (parameters_code p.layout 0 count) → ReachesBody p (length (parameters_code p.layout 0 count)) (machine v rip f) (rip + sizes (parameters_code p.layout 0 count)) v.rest (record { slots = with_arguments b.slots arguments 0 count; memory = b.memory })
 parameters_run p count arguments v rip f b room fn le at h regs stack code =
     let params = parameters_code p.layout 0 count in
     let k = parameters_do p 0 count count v b arguments room fn (omega arith) (omega arith) at h regs stack in
@@ -55,7 +55,7 @@ parameters_run p count arguments v rip f b room fn le at h regs stack code =
 
 -- a function begins
 -- a body is entered, and then reached
-pub entered_then : (p : Frame) (m n : ℕ) (s t : State) (to : ℕ) (others : List ℕ) (b : BodyState) → Enters m s t → ◌≡◌ {A = Memory} t.memory s.memory → ReachesBody p n t to others b → EntersBody p (m + n) s to others b
+pub entered_then : (p : FramePlace) (m n : ℕ) (s t : State) (to : ℕ) (others : List ℕ) (b : BodyState) → Enters m s t → ◌≡◌ {A = Memory} t.memory s.memory → ReachesBody p n t to others b → EntersBody p (m + n) s to others b
 entered_then p m n s t to others b e same r = record {
   after = r.after;
   flags = r.flags;
@@ -65,7 +65,7 @@ entered_then p m n s t to others b e same r = record {
   changes = subst (λ (m : Memory). ChangesOwn p m r.after.memory) same r.changes;
 }
 
-pub function_enters : (p : Frame) (count : ℕ) (arguments : ℕ → ℕ) (v : MachineView) (source : Memory) (rip : ℕ) (f : Flags) → Roomy p → IsFunction p → count ≤ p.counts.locals → length v.rest ≡ 13 → sp_of v ≡ p.sp + p.layout.frame → p.layout.frame < 2 ^ 31 → FreshFrame p v.memory source → InRegisters v arguments → OnStack p v.memory count arguments → HasCode v.memory rip (function_entry p.layout count) → EntersBody p (length (function_entry p.layout count)) (machine v rip f) (rip + sizes (function_entry p.layout count)) (with_sp v.rest p.sp) (record { slots = with_arguments (body_in_memory p.layout p.sp p.base v.memory source).slots arguments 0 count; memory = source })
+pub function_enters : (p : FramePlace) (count : ℕ) (arguments : ℕ → ℕ) (v : MachineView) (source : Memory) (rip : ℕ) (f : Flags) → Roomy p → IsFunctionFrame p → count ≤ p.counts.locals → length v.rest ≡ 13 → sp_of v ≡ p.sp + p.layout.frame → p.layout.frame < 2 ^ 31 → FreshFrame p v.memory source → InRegisters v arguments → OnStack p v.memory count arguments → HasCode v.memory rip (function_entry p.layout count) → EntersBody p (length (function_entry p.layout count)) (machine v rip f) (rip + sizes (function_entry p.layout count)) (with_sp v.rest p.sp) (record { slots = with_arguments (body_in_memory p.layout p.sp p.base v.memory source).slots arguments 0 count; memory = source })
 function_enters p count arguments v source rip f room fn le n at small bare regs stack code =
     let y = p.layout in
     let enter = enter_code y.frame in

@@ -11,7 +11,7 @@ use Rattle.flat_memory.specs.Protections.{is_readable, is_writable}
 use Rattle.linear_code.specs.BodyState.{Counts}
 use Rattle.template_code.specs.declared.layout.Layout.{Layout}
 use Rattle.x64_templates.specs.Straight.{MachineView}
-use Rattle.x64_templates.specs.Frames.{slot_at, InTemporaries, InLocals, KeepsBase, KeepsReserved, Agrees, HoldsBody, IsBytes}
+use Rattle.x64_templates.specs.Frames.{slot_at, InTemporaries, InLocals, MemoryKeepsBase, KeepsReserved, Agrees, HoldsBody, IsBytes}
 use Rattle.x64_templates.specs.CallStates.{pushed, HasBelow, HasBack}
 use Rattle.x64_templates.proofs.Accesses.{digits}
 use Rattle.x64_templates.proofs.Returns.{Outlasts}
@@ -31,7 +31,7 @@ number_small m (suc n) at h =
     subst (λ p. m.byte at + 256 * number_at m.byte n (next at) < p) (sym e) (digit_more (m.byte at) (256 ^ n) (number_at m.byte n (next at)) (h at) r)
 
 -- wherever a frame has its room, it holds a body
-pub holds_body_in_memory : (y : Layout) (n : Counts) (reserved : ℕ → Bool) (sp base : ℕ) (m source : Memory) → IsBytes m → KeepsBase y.base sp base m → ((a : ℕ) → InTemporaries y n sp a ⊎ InLocals y n base a → may_write m a ≡ true) → ((a : ℕ) → InTemporaries y n sp a ⊎ InLocals y n base a → reserved a ≡ true) → KeepsReserved y.base sp reserved → Agrees reserved m source → HoldsBody y n reserved sp base m (body_in_memory y sp base m source)
+pub holds_body_in_memory : (y : Layout) (n : Counts) (reserved : ℕ → Bool) (sp base : ℕ) (m source : Memory) → IsBytes m → MemoryKeepsBase y.base sp base m → ((a : ℕ) → InTemporaries y n sp a ⊎ InLocals y n base a → may_write m a ≡ true) → ((a : ℕ) → InTemporaries y n sp a ⊎ InLocals y n base a → reserved a ≡ true) → KeepsReserved y.base sp reserved → Agrees reserved m source → HoldsBody y n reserved sp base m (body_in_memory y sp base m source)
 holds_body_in_memory y n reserved sp base m source bytes base_kept writable own own_base agrees = record {
   slot = λ x is. refl;
   small = λ x is. number_small m 8 (slot_at y sp base x) bytes;

@@ -18,11 +18,11 @@ use Rattle.linear_code.specs.BodyState.{BodyState, Counts}
 use Rattle.template_code.specs.declared.layout.Layout.{Layout}
 use Rattle.x64_templates.specs.Straight.{MachineView, machine}
 use Rattle.template_code.specs.Bytes.{sizes}
-use Rattle.x64_templates.specs.Frames.{HasRoom, KeepsBase, KeepsReserved, Agrees, HoldsBody, IsBytes}
+use Rattle.x64_templates.specs.Frames.{SlotsHaveRoom, MemoryKeepsBase, KeepsReserved, Agrees, HoldsBody, IsBytes}
 use Rattle.template_code.specs.Calls.{keep_register, filter_entry}
 use Rattle.x64_templates.specs.CallStates.{sp_of, moved}
 use Rattle.x64_templates.specs.EntryStates.{joined, body_in_memory}
-use Rattle.x64_templates.specs.Exceptions.{Reads}
+use Rattle.x64_templates.specs.Exceptions.{MayRead}
 use Rattle.x64_templates.specs.Runs.{HasCode, Enters}
 use Rattle.template_code.proofs.Sizes.{sizes_append}
 use Rattle.x64_templates.proofs.Accesses.{digits}
@@ -67,7 +67,7 @@ within_keeps_code lo hi m m' at code writable w h = record { is_there = bytes_ke
 
 -- ---- the block's frame lies below its function's
 
-pub funclet_holds : (y yf : Layout) (n nf : Counts) (reserved : ℕ → Bool) (sp spf base frame : ℕ) (m m' : Memory) (b : BodyState) → HasRoom yf nf spf base → HoldsBody yf nf reserved spf base m b → y.locals ≡ yf.locals → n.locals ≡ nf.locals → IsBytes m → Within sp (sp + frame) m m' → sp + frame ≤ spf → y.temporaries + 8 * n.temporaries ≤ frame → ((a : ℕ) → sp ≤ a → a < sp + frame → may_write m a ≡ true) → ((a : ℕ) → sp ≤ a → a < sp + frame → reserved a ≡ true) → KeepsBase y.base sp base m' → KeepsReserved y.base sp reserved → HoldsBody y n reserved sp base m' (record { slots = joined b.slots (body_in_memory y sp base m' b.memory).slots; memory = b.memory })
+pub funclet_holds : (y yf : Layout) (n nf : Counts) (reserved : ℕ → Bool) (sp spf base frame : ℕ) (m m' : Memory) (b : BodyState) → SlotsHaveRoom yf nf spf base → HoldsBody yf nf reserved spf base m b → y.locals ≡ yf.locals → n.locals ≡ nf.locals → IsBytes m → Within sp (sp + frame) m m' → sp + frame ≤ spf → y.temporaries + 8 * n.temporaries ≤ frame → ((a : ℕ) → sp ≤ a → a < sp + frame → may_write m a ≡ true) → ((a : ℕ) → sp ≤ a → a < sp + frame → reserved a ≡ true) → MemoryKeepsBase y.base sp base m' → KeepsReserved y.base sp reserved → HoldsBody y n reserved sp base m' (record { slots = joined b.slots (body_in_memory y sp base m' b.memory).slots; memory = b.memory })
 funclet_holds y yf n nf reserved sp spf base frame m m' b room h ly ln bytes w below inside writable own keeps kept_own =
     shares yf y nf n reserved spf sp base m' b ly ln (w.bytes bytes) (holds_through yf nf reserved spf base room m m' b.memory b outlasts agrees h) keeps kept_own
     (λ a t. let lo = t.0 in let hi = t.1 in ap (λ (f : ℕ → Protection). is_writable (f a).rights) w.protection ∙ writable a (omega arith) (omega arith))
@@ -103,8 +103,8 @@ pub record FilterEntered (v : MachineView) (sp frame b base d x rip to : ℕ) (f
   pub flags : Flags
   pub comes : Enters 3 (machine v rip f) (machine after to flags)
   pub lowered : sp_of after ≡ sp
-  pub keeps : KeepsBase (Some b) sp base after.memory
-  pub pointers : Reads after.memory 8 (sp + d) x
+  pub keeps : MemoryKeepsBase (Some b) sp base after.memory
+  pub pointers : MayRead after.memory 8 (sp + d) x
   pub within : Within sp (sp + frame) v.memory after.memory
 
 pub filter_enters : (y : Layout) (v : MachineView) (sp b base x rip : ℕ) (f : Flags) → length v.rest ≡ 13 → sp_of v ≡ sp + y.frame → sp + y.frame < 2 ^ 62 → y.frame < 2 ^ 31 → b + 8 ≤ y.frame → y.pointers + 8 ≤ y.frame → (b + 8 ≤ y.pointers) ⊎ (y.pointers + 8 ≤ b) → v.rdx ≡ base → base < 2 ^ 64 → v.rcx ≡ x → x < 2 ^ 64 → ((a : ℕ) → sp ≤ a → a < sp + y.frame → may_write v.memory a ≡ true) → HasCode v.memory rip (filter_entry y b) → FilterEntered v sp y.frame b base y.pointers x rip (rip + sizes (filter_entry y b)) f

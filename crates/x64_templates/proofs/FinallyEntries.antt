@@ -13,11 +13,11 @@ use Rattle.x64_templates.specs.Straight.{MachineView, machine}
 use Rattle.template_code.specs.Bytes.{sizes}
 use Rattle.template_code.specs.Operations.{move}
 use Rattle.template_code.specs.Slots.{keep}
-use Rattle.x64_templates.specs.Frames.{HasRoom, KeepsBase, KeepsReserved, HoldsBody, IsBytes}
+use Rattle.x64_templates.specs.Frames.{SlotsHaveRoom, MemoryKeepsBase, KeepsReserved, HoldsBody, IsBytes}
 use Rattle.template_code.specs.Calls.{finally_entry}
 use Rattle.x64_templates.specs.CallStates.{sp_of, with_sp, moved}
 use Rattle.x64_templates.specs.EntryStates.{joined, body_in_memory}
-use Rattle.x64_templates.specs.Runs.{HasCode, Frame, Roomy, FrameHolds, IsThere, Enters}
+use Rattle.x64_templates.specs.Runs.{HasCode, FramePlace, Roomy, FrameHolds, IsThere, Enters}
 use Rattle.template_code.proofs.Sizes.{sizes_append}
 use Rattle.x64_templates.proofs.Computes.{code_split}
 use Rattle.x64_templates.proofs.Returns.{sp_moved}
@@ -27,9 +27,9 @@ use Rattle.x64_templates.proofs.FuncletEntries.{funclet_entry, funclet_enters, f
 use Rattle.x64_templates.proofs.FilterEntries.{Within, within_cell, within_keeps_code, funclet_holds}
 
 -- the function's frame, and the block's own below it
-pub record FuncletFrames (p : Frame) (yf : Layout) (nf : Counts) (spf b : ℕ) (m : Memory) (c : BodyState) : Type 0 where
+pub record FuncletFrames (p : FramePlace) (yf : Layout) (nf : Counts) (spf b : ℕ) (m : Memory) (c : BodyState) : Type 0 where
   pub room : Roomy p
-  pub function_room : HasRoom yf nf spf p.base
+  pub function_room : SlotsHaveRoom yf nf spf p.base
   pub function_holds : HoldsBody yf nf p.reserved spf p.base m c
   pub locals : p.layout.locals ≡ yf.locals
   pub count : p.counts.locals ≡ nf.locals
@@ -42,7 +42,7 @@ pub record FuncletFrames (p : Frame) (yf : Layout) (nf : Counts) (spf b : ℕ) (
   pub writable : (a : ℕ) → p.sp ≤ a → a < p.sp + p.layout.frame → may_write m a ≡ true
   pub own : (a : ℕ) → p.sp ≤ a → a < p.sp + p.layout.frame → p.reserved a ≡ true
 
-pub record FinallyEntered (p : Frame) (flag : Slot) (c : BodyState) (v : MachineView) (rip to : ℕ) (f : Flags) : Type 0 where
+pub record FinallyEntered (p : FramePlace) (flag : Slot) (c : BodyState) (v : MachineView) (rip to : ℕ) (f : Flags) : Type 0 where
   pub turns : ℕ
   pub after : MachineView
   pub flags : Flags
@@ -51,7 +51,7 @@ pub record FinallyEntered (p : Frame) (flag : Slot) (c : BodyState) (v : Machine
   pub rest : after.rest ≡ with_sp v.rest p.sp
   pub holds : FrameHolds p after.memory (record { slots = with_slot (joined c.slots temporaries) flag (low W32 v.rcx); memory = c.memory })
 
-pub finally_enters : (p : Frame) (yf : Layout) (nf : Counts) (spf b : ℕ) (flag : Slot) (c : BodyState) (v : MachineView) (rip : ℕ) (f : Flags) → FuncletFrames p yf nf spf b v.memory c → IsThere p flag → length v.rest ≡ 13 → sp_of v ≡ p.sp + p.layout.frame → v.rdx ≡ p.base → HasCode v.memory rip (finally_entry p.layout b flag) → FinallyEntered p flag c v rip (rip + sizes (finally_entry p.layout b flag)) f
+pub finally_enters : (p : FramePlace) (yf : Layout) (nf : Counts) (spf b : ℕ) (flag : Slot) (c : BodyState) (v : MachineView) (rip : ℕ) (f : Flags) → FuncletFrames p yf nf spf b v.memory c → IsThere p flag → length v.rest ≡ 13 → sp_of v ≡ p.sp + p.layout.frame → v.rdx ≡ p.base → HasCode v.memory rip (finally_entry p.layout b flag) → FinallyEntered p flag c v rip (rip + sizes (finally_entry p.layout b flag)) f
 finally_enters p yf nf spf b flag c v rip f k there n at is code =
     let y = p.layout in
     let hi = k.room.high in
@@ -69,7 +69,7 @@ finally_enters p yf nf spf b flag c v rip f k there n at is code =
     let within : Within p.sp (p.sp + y.frame) v.memory w.memory = record { byte = w1.byte; protection = w1.protection; bytes = w1.bytes } in
     let keeps = keeps_of_cell u p.sp b p.base (record { high = cell.high; writable = cell.writable }) (omega arith) in
     let own_b : KeepsReserved (Some b) p.sp p.reserved = λ a x z. k.own a (omega arith) (omega arith) in
-    let held = funclet_holds y yf p.counts nf p.reserved p.sp spf p.base y.frame v.memory w.memory c k.function_room k.function_holds k.locals k.count k.bytes within k.below k.inside k.writable k.own (subst (λ o. KeepsBase o p.sp p.base w.memory) (sym k.kept) keeps) (subst (λ o. KeepsReserved o p.sp p.reserved) (sym k.kept) own_b) in
+    let held = funclet_holds y yf p.counts nf p.reserved p.sp spf p.base y.frame v.memory w.memory c k.function_room k.function_holds k.locals k.count k.bytes within k.below k.inside k.writable k.own (subst (λ o. MemoryKeepsBase o p.sp p.base w.memory) (sym k.kept) keeps) (subst (λ o. KeepsReserved o p.sp p.reserved) (sym k.kept) own_b) in
     let temps = (body_in_memory y p.sp p.base w.memory c.memory).slots in
     let body : BodyState = record { slots = joined c.slots temps; memory = c.memory } in
     let r = flag_run p flag w (rip + sizes first) e.flags body k.room there (sp_moved v p.sp n) held (within_keeps_code p.sp (p.sp + y.frame) v.memory w.memory (rip + sizes first) last k.writable within parts.1) in

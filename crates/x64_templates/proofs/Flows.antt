@@ -30,7 +30,7 @@ use Rattle.template_code.specs.Jumps.{jump_equal, jump_code, compare_zero, test_
 use Rattle.template_code.specs.Calls.{field_load, information_code}
 use Rattle.template_code.proofs.Sizes.{short}
 use Rattle.x64_templates.specs.Keeping.{KeepsRegisters, StoresNothing, Flows, StoresOnce}
-use Rattle.x64_templates.specs.Frames.{HasRoom}
+use Rattle.x64_templates.specs.Frames.{SlotsHaveRoom}
 use Rattle.x64_templates.specs.Exceptions.{IsField}
 use Rattle.x64_templates.proofs.PlacedCode.{Encodable}
 use Rattle.x64_templates.proofs.Keeping.{keeps_both, nothing_both, nothing_keeps, flows, flows_to, once_after, nothing_once}
@@ -164,7 +164,7 @@ separator_flow = record { spelling = (refl, tt); flow = refl; once = inr tt }
 pub jump_flow : (at to : ℕ) → IsNear (at + 5) to → IsFlow (jump_code at to)
 jump_flow at to near_by = record { spelling = (short (at + 5) to near_by, tt); flow = refl; once = inr tt }
 
-module _ (y : Layout) (n : Counts) (sp base : ℕ) (room : HasRoom y n sp base) where
+module _ (y : Layout) (n : Counts) (sp base : ℕ) (room : SlotsHaveRoom y n sp base) where
   pub keep_flow : (to : Slot) → IsSlot n to → IsFlow (keep y to)
   keep_flow to is = record { spelling = encodable_of (keep y to) (keep_fine y n sp base to room is); flow = flows (keep y to) (keep_keeps y to); once = keep_once y to }
 

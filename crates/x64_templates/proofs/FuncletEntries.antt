@@ -13,10 +13,10 @@ use Rattle.x64_templates.specs.Straight.{MachineView, machine}
 use Rattle.template_code.specs.Bytes.{sizes}
 use Rattle.template_code.specs.Operations.{move}
 use Rattle.template_code.specs.Slots.{keep}
-use Rattle.x64_templates.specs.Frames.{KeepsBase}
+use Rattle.x64_templates.specs.Frames.{MemoryKeepsBase}
 use Rattle.template_code.specs.Calls.{enter_code, keep_register, keep_base, keep_parents_base}
 use Rattle.x64_templates.specs.CallStates.{sp_of, moved}
-use Rattle.x64_templates.specs.Runs.{HasCode, Frame, Roomy, FrameHolds, IsThere, ReachesBody, Enters}
+use Rattle.x64_templates.specs.Runs.{HasCode, FramePlace, Roomy, FrameHolds, IsThere, ReachesBody, Enters}
 use Rattle.x64_templates.proofs.Straight.{executes_one}
 use Rattle.template_code.proofs.Sizes.{sizes_append}
 use Rattle.x64_templates.proofs.Cells.{put}
@@ -52,7 +52,7 @@ funclet_enters v sp frame b base rip f n at high lf lb is small cell code =
 abbrev pub nested_funclet_entry : ℕ → ℕ → ℕ → List Instr
 nested_funclet_entry frame parent b = enter_code frame ++ keep_parents_base parent b
 
-pub nested_funclet_enters : (v : MachineView) (sp frame b base parent_sp parent rip : ℕ) (f : Flags) → length v.rest ≡ 13 → sp_of v ≡ sp + frame → sp + frame < 2 ^ 63 → frame < 2 ^ 31 → b < 2 ^ 31 → parent < 2 ^ 31 → v.rdx ≡ parent_sp → KeepsBase (Some parent) parent_sp base v.memory → parent_sp + (parent + 8) < 2 ^ 63 → base < 2 ^ 64 → HasCell v.memory (sp + b) → HasCode v.memory rip (nested_funclet_entry frame parent b) → FuncletEntered 3 v (kept_at (put true (moved v sp) base) (sp + b) base) rip (rip + sizes (nested_funclet_entry frame parent b)) f
+pub nested_funclet_enters : (v : MachineView) (sp frame b base parent_sp parent rip : ℕ) (f : Flags) → length v.rest ≡ 13 → sp_of v ≡ sp + frame → sp + frame < 2 ^ 63 → frame < 2 ^ 31 → b < 2 ^ 31 → parent < 2 ^ 31 → v.rdx ≡ parent_sp → MemoryKeepsBase (Some parent) parent_sp base v.memory → parent_sp + (parent + 8) < 2 ^ 63 → base < 2 ^ 64 → HasCell v.memory (sp + b) → HasCode v.memory rip (nested_funclet_entry frame parent b) → FuncletEntered 3 v (kept_at (put true (moved v sp) base) (sp + b) base) rip (rip + sizes (nested_funclet_entry frame parent b)) f
 nested_funclet_enters v sp frame b base parent_sp parent rip f n at high lf lb lp is keeps ph small cell code =
     let enter = enter_code frame in
     let rest = keep_parents_base parent b in
@@ -76,7 +76,7 @@ pointers_kept v sp d x rip f at is small near_d cell code =
     r
 
 -- a `__finally` block keeps ECX, its flag, in a local of the activation
-pub flag_run : (p : Frame) (flag : Slot) (v : MachineView) (rip : ℕ) (f : Flags) (b : BodyState) → Roomy p → IsThere p flag → sp_of v ≡ p.sp → FrameHolds p v.memory b → HasCode v.memory rip ((move W32 Rax Rcx ∷ []) ++ keep p.layout flag) → ReachesBody p (length ((move W32 Rax Rcx ∷ []) ++ keep p.layout flag)) (machine v rip f) (rip + sizes ((move W32 Rax Rcx ∷ []) ++ keep p.layout flag)) v.rest (record { slots = with_slot b.slots flag (low W32 v.rcx); memory = b.memory })
+pub flag_run : (p : FramePlace) (flag : Slot) (v : MachineView) (rip : ℕ) (f : Flags) (b : BodyState) → Roomy p → IsThere p flag → sp_of v ≡ p.sp → FrameHolds p v.memory b → HasCode v.memory rip ((move W32 Rax Rcx ∷ []) ++ keep p.layout flag) → ReachesBody p (length ((move W32 Rax Rcx ∷ []) ++ keep p.layout flag)) (machine v rip f) (rip + sizes ((move W32 Rax Rcx ∷ []) ++ keep p.layout flag)) v.rest (record { slots = with_slot b.slots flag (low W32 v.rcx); memory = b.memory })
 flag_run p flag v rip f b room is at h code =
     let i = move W32 Rax Rcx in
     let q : low W32 (low W32 v.rcx) ≡ low W32 v.rcx = omega arith in

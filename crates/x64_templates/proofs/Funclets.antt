@@ -20,7 +20,7 @@ use Rattle.template_code.specs.Slots.{fetched}
 use Rattle.template_code.specs.Calls.{keep_register, keep_base, keep_parents_base}
 use Rattle.x64_templates.specs.CallStates.{sp_of}
 use Rattle.x64_templates.specs.EntryStates.{joined, body_in_memory}
-use Rattle.x64_templates.specs.Frames.{slot_at, InTemporaries, KeepsBase, KeepsReserved, HoldsBody, IsBytes}
+use Rattle.x64_templates.specs.Frames.{slot_at, InTemporaries, MemoryKeepsBase, KeepsReserved, HoldsBody, IsBytes}
 use Rattle.x64_templates.proofs.Straight.{executes_one, executes_then}
 use Rattle.x64_templates.proofs.Cells.{put}
 use Rattle.x64_templates.proofs.Calls.{word_is}
@@ -40,7 +40,7 @@ kept_number v at x high lt = stored_is_loaded v.memory.byte 8 at x (omega arith)
 cell_may : (m : Memory) (at : ℕ) → HasCell m at → first_refused (may_write m) 8 at ≡ None
 cell_may m at c = let h = c.high in all_may (may_write m) 8 at (omega arith) (λ a p q. c.writable a p q)
 
-pub keeps_of_cell : (v : MachineView) (sp b base : ℕ) → HasCell v.memory (sp + b) → base < 2 ^ 64 → KeepsBase (Some b) sp base (kept_at v (sp + b) base).memory
+pub keeps_of_cell : (v : MachineView) (sp b base : ℕ) → HasCell v.memory (sp + b) → base < 2 ^ 64 → MemoryKeepsBase (Some b) sp base (kept_at v (sp + b) base).memory
 keeps_of_cell v sp b base c lt = (kept_number v (sp + b) base c.high lt, λ a p q. c.writable a p (omega arith))
 
 -- RDX is the base
@@ -48,7 +48,7 @@ pub base_kept : (v : MachineView) (sp b base : ℕ) → sp_of v ≡ sp → v.rdx
 base_kept v sp b base at is lt c = let h = c.high in keeps_register Rdx v b (sp + b) base is (let e : (sp_of v + 0 + b) % 2 ^ 64 ≡ sp + b = omega arith in e) (cell_may v.memory (sp + b) c) lt
 
 -- RDX is the RSP of a block that keeps the base so far above it
-pub parents_base_kept : (v : MachineView) (sp b base parent_sp parent : ℕ) → sp_of v ≡ sp → v.rdx ≡ parent_sp → KeepsBase (Some parent) parent_sp base v.memory → parent_sp + (parent + 8) < 2 ^ 63 → base < 2 ^ 64 → HasCell v.memory (sp + b) → Executes (keep_parents_base parent b) v (kept_at (put true v base) (sp + b) base)
+pub parents_base_kept : (v : MachineView) (sp b base parent_sp parent : ℕ) → sp_of v ≡ sp → v.rdx ≡ parent_sp → MemoryKeepsBase (Some parent) parent_sp base v.memory → parent_sp + (parent + 8) < 2 ^ 63 → base < 2 ^ 64 → HasCell v.memory (sp + b) → Executes (keep_parents_base parent b) v (kept_at (put true v base) (sp + b) base)
 parents_base_kept v sp b base parent_sp parent at is keeps high lt c =
     let h = c.high in
     let w = put true v base in
@@ -66,7 +66,7 @@ parents_base_kept v sp b base parent_sp parent at is keeps high lt c =
 
 -- ---- from the function's body to the block's: its locals, and the temporaries in the block's own frame
 
-pub shares : (y y' : Layout) (n n' : Counts) (reserved : ℕ → Bool) (sp sp' base : ℕ) (m : Memory) (b : BodyState) → y'.locals ≡ y.locals → n'.locals ≡ n.locals → IsBytes m → HoldsBody y n reserved sp base m b → KeepsBase y'.base sp' base m → KeepsReserved y'.base sp' reserved → ((a : ℕ) → InTemporaries y' n' sp' a → may_write m a ≡ true) → ((a : ℕ) → InTemporaries y' n' sp' a → reserved a ≡ true) → HoldsBody y' n' reserved sp' base m (record { slots = joined b.slots (body_in_memory y' sp' base m b.memory).slots; memory = b.memory })
+pub shares : (y y' : Layout) (n n' : Counts) (reserved : ℕ → Bool) (sp sp' base : ℕ) (m : Memory) (b : BodyState) → y'.locals ≡ y.locals → n'.locals ≡ n.locals → IsBytes m → HoldsBody y n reserved sp base m b → MemoryKeepsBase y'.base sp' base m → KeepsReserved y'.base sp' reserved → ((a : ℕ) → InTemporaries y' n' sp' a → may_write m a ≡ true) → ((a : ℕ) → InTemporaries y' n' sp' a → reserved a ≡ true) → HoldsBody y' n' reserved sp' base m (record { slots = joined b.slots (body_in_memory y' sp' base m b.memory).slots; memory = b.memory })
 shares y y' n n' reserved sp sp' base m b ly ln bytes h keeps kept_own writable own = record {
   slot = slots;
   small = smalls;
@@ -92,7 +92,7 @@ shares y y' n n' reserved sp sp' base m b ly ln bytes h keeps kept_own writable 
     smalls (Temporary i) is = number_small m 8 (slot_at y' sp' base (Temporary i)) bytes
 
 -- and back: the block's locals, and the function's temporaries, whose bytes are as they were
-pub shares_back : (y y' : Layout) (n n' : Counts) (reserved : ℕ → Bool) (sp sp' base : ℕ) (m m' : Memory) (b c : BodyState) → sp + (y.temporaries + 8 * n.temporaries) < 2 ^ 64 → y'.locals ≡ y.locals → n'.locals ≡ n.locals → HoldsBody y n reserved sp base m b → HoldsBody y' n' reserved sp' base m' c → KeepsBase y.base sp base m' → ((a : ℕ) → InTemporaries y n sp a → m'.byte a ≡ m.byte a) → ((a : ℕ) → InTemporaries y n sp a → m'.protection a ≡ m.protection a) → HoldsBody y n reserved sp base m' (record { slots = joined c.slots b.slots; memory = c.memory })
+pub shares_back : (y y' : Layout) (n n' : Counts) (reserved : ℕ → Bool) (sp sp' base : ℕ) (m m' : Memory) (b c : BodyState) → sp + (y.temporaries + 8 * n.temporaries) < 2 ^ 64 → y'.locals ≡ y.locals → n'.locals ≡ n.locals → HoldsBody y n reserved sp base m b → HoldsBody y' n' reserved sp' base m' c → MemoryKeepsBase y.base sp base m' → ((a : ℕ) → InTemporaries y n sp a → m'.byte a ≡ m.byte a) → ((a : ℕ) → InTemporaries y n sp a → m'.protection a ≡ m.protection a) → HoldsBody y n reserved sp base m' (record { slots = joined c.slots b.slots; memory = c.memory })
 shares_back y y' n n' reserved sp sp' base m m' b c high ly ln h g keeps bytes modes = record {
   slot = slots;
   small = smalls;

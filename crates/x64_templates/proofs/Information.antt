@@ -19,14 +19,14 @@ use Rattle.template_code.specs.Bytes.{sizes}
 use Rattle.template_code.specs.Slots.{fetched}
 use Rattle.template_code.specs.Calls.{field_at, field_load, information_code}
 use Rattle.x64_templates.specs.CallStates.{sp_of}
-use Rattle.x64_templates.specs.Exceptions.{field_width, IsField, Reads, HasException}
-use Rattle.x64_templates.specs.Runs.{HasCode, Frame, Roomy, FrameHolds, IsThere, ReachesBody}
+use Rattle.x64_templates.specs.Exceptions.{field_width, IsField, MayRead, HasException}
+use Rattle.x64_templates.specs.Runs.{HasCode, FramePlace, Roomy, FrameHolds, IsThere, ReachesBody}
 use Rattle.x64_templates.proofs.Straight.{executes_one, executes_then}
 use Rattle.x64_templates.proofs.Cells.{put}
 use Rattle.x64_templates.proofs.Encoded.{Fine, near}
 use Rattle.x64_templates.proofs.Computes.{leads_kept}
 
-reads_may : (m : Memory) (n at x : ℕ) → Reads m n at x → n ≤ 8 → first_refused (may_read m) n at ≡ None
+reads_may : (m : Memory) (n at x : ℕ) → MayRead m n at x → n ≤ 8 → first_refused (may_read m) n at ≡ None
 reads_may m n at x r le = let h = r.high in all_may (may_read m) n at (omega arith) (λ a p q. r.readable a p q)
 
 pub load_any : (m : Memory) (at : ℕ) (w : Width) → first_refused (may_read m) (bytes_of w) at ≡ None → load m at w ≡ Ok (number_at m.byte (bytes_of w) at)
@@ -35,7 +35,7 @@ load_any m at w h = ap (λ (o : Option ℕ). granted (access false o (number_at 
 plain : (a d : ℕ) → a + d < 2 ^ 64 → (a + 0 + d) % 2 ^ 64 ≡ a + d
 plain a d lt = omega arith
 
-loads_long : (from : ℕ) (v : MachineView) (at x : ℕ) (i : Instr) → ((rip : ℕ) (f : Flags) → effect (machine v rip f) i ≡ (load v.memory from W64 >>= λ y. Ok (machine (put true v (low W64 y)) rip f))) → from ≡ at → Reads v.memory 8 at x → x < 2 ^ 64 → Executes (i ∷ []) v (put true v x)
+loads_long : (from : ℕ) (v : MachineView) (at x : ℕ) (i : Instr) → ((rip : ℕ) (f : Flags) → effect (machine v rip f) i ≡ (load v.memory from W64 >>= λ y. Ok (machine (put true v (low W64 y)) rip f))) → from ≡ at → MayRead v.memory 8 at x → x < 2 ^ 64 → Executes (i ∷ []) v (put true v x)
 loads_long from v at x i h e r lt = executes_one i v (put true v x) (λ rip f. (
   f,
   h rip f
@@ -45,7 +45,7 @@ loads_long from v at x i h e r lt = executes_one i v (put true v x) (λ rip f. (
       ∙ ap (λ (y : ℕ). Ok (machine (put true v y) rip f)) (let q : low W64 x ≡ x = omega arith in q),
 ))
 
-loads_int : (from : ℕ) (v : MachineView) (at x : ℕ) (i : Instr) → ((rip : ℕ) (f : Flags) → effect (machine v rip f) i ≡ (load v.memory from W32 >>= λ y. Ok (machine (put true v (low W32 y)) rip f))) → from ≡ at → Reads v.memory 4 at x → Executes (i ∷ []) v (put true v (low W32 x))
+loads_int : (from : ℕ) (v : MachineView) (at x : ℕ) (i : Instr) → ((rip : ℕ) (f : Flags) → effect (machine v rip f) i ≡ (load v.memory from W32 >>= λ y. Ok (machine (put true v (low W32 y)) rip f))) → from ≡ at → MayRead v.memory 4 at x → Executes (i ∷ []) v (put true v (low W32 x))
 loads_int from v at x i h e r = executes_one i v (put true v (low W32 x)) (λ rip f. (
   f,
   h rip f
@@ -58,7 +58,7 @@ loads_int from v at x i h e r = executes_one i v (put true v (low W32 x)) (λ ri
 abbrev pub field_number : Field → ℕ → ℕ
 field_number f x = low (field_width f) x
 
-field_does : (field : Field) (v : MachineView) (exception x : ℕ) → v.rax ≡ exception → x < 2 ^ 64 → Reads v.memory (bytes_of (field_width field)) (exception + field_at field) x → Executes (field_load field ∷ []) v (put true v (field_number field x))
+field_does : (field : Field) (v : MachineView) (exception x : ℕ) → v.rax ≡ exception → x < 2 ^ 64 → MayRead v.memory (bytes_of (field_width field)) (exception + field_at field) x → Executes (field_load field ∷ []) v (put true v (field_number field x))
 field_does ExceptionCode v e x is lt r = let h = r.high in loads_int ((v.rax + 0 + 0) % 2 ^ 64) v (e + 0) x (field_load ExceptionCode) (λ rip f. refl) (omega arith) r
 field_does ExceptionFlags v e x is lt r = let h = r.high in loads_int ((v.rax + 0 + 4) % 2 ^ 64) v (e + 4) x (field_load ExceptionFlags) (λ rip f. refl) (omega arith) r
 field_does NumberParameters v e x is lt r = let h = r.high in loads_int ((v.rax + 0 + 24) % 2 ^ 64) v (e + 24) x (field_load NumberParameters) (λ rip f. refl) (omega arith) r
@@ -80,7 +80,7 @@ small_field ExceptionFlags x = omega arith
 small_field NumberParameters x = omega arith
 small_field (ExceptionInformation k) x = omega arith
 
-pub information_run : (p : Frame) (to : Slot) (field : Field) (v : MachineView) (at : ℕ) (f : Flags) (b : BodyState) (x : ℕ) → Roomy p → IsThere p to → IsField field → p.layout.pointers < 2 ^ 31 → sp_of v ≡ p.sp → FrameHolds p v.memory b → x < 2 ^ 64 → HasException v.memory (p.sp + p.layout.pointers) field x → HasCode v.memory at (information_code p.layout to field) → ReachesBody p (length (information_code p.layout to field)) (machine v at f) (at + sizes (information_code p.layout to field)) v.rest (record { slots = with_slot b.slots to (field_number field x); memory = b.memory })
+pub information_run : (p : FramePlace) (to : Slot) (field : Field) (v : MachineView) (at : ℕ) (f : Flags) (b : BodyState) (x : ℕ) → Roomy p → IsThere p to → IsField field → p.layout.pointers < 2 ^ 31 → sp_of v ≡ p.sp → FrameHolds p v.memory b → x < 2 ^ 64 → HasException v.memory (p.sp + p.layout.pointers) field x → HasCode v.memory at (information_code p.layout to field) → ReachesBody p (length (information_code p.layout to field)) (machine v at f) (at + sizes (information_code p.layout to field)) v.rest (record { slots = with_slot b.slots to (field_number field x); memory = b.memory })
 information_run p to field v at f b x room is isf near_p sp h lt e code =
     let y = p.layout in
     let i0 = fetched Rax Rsp y.pointers in

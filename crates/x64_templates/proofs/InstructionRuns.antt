@@ -16,8 +16,8 @@ use Rattle.template_code.specs.Bytes.{size, sizes}
 use Rattle.template_code.specs.Operations.{work}
 use Rattle.template_code.specs.Slots.{fetch, keep, keep_local, local_at, operands_code, finish_code, compute_code}
 use Rattle.template_code.specs.Jumps.{compare_zero, jump_equal, jump_if_zero_code, test_code, IsNear}
-use Rattle.template_code.specs.Template.{Links, nowhere, template, template_size, body_size, offset_of, code_from, IsBody}
-use Rattle.x64_templates.specs.Runs.{HasCode, Frame, Roomy, FrameHolds, ReachesBody, Computed}
+use Rattle.template_code.specs.Template.{Links, nowhere, template, template_size, body_size, offset_of, code_from, HasLabels}
+use Rattle.x64_templates.specs.Runs.{HasCode, FramePlace, Roomy, FrameHolds, ReachesBody, Computed}
 use Rattle.x64_templates.specs.InstructionRuns.{InstructionDone}
 use Rattle.x64_templates.proofs.Cells.{sp_of}
 use Rattle.template_code.proofs.Lengths.{fetch_length, compute_length}
@@ -42,7 +42,7 @@ compute_some y to o first second = let k = keep_some y to in omega (arith, lengt
 
 -- ---- by the outcome
 
-compute_done : (p : Frame) (k : Links) (to : Slot) (o : Operation) (first second : Slot) (v : MachineView) (here : ℕ) (f : Flags) (b : BodyState) (outcome : Outcome) → Computed p to o first second v here f b (kept to b.slots outcome) → InstructionDone p k v here f b (instructions.Compute to o first second) (kept to b.slots outcome)
+compute_done : (p : FramePlace) (k : Links) (to : Slot) (o : Operation) (first second : Slot) (v : MachineView) (here : ℕ) (f : Flags) (b : BodyState) (outcome : Outcome) → Computed p to o first second v here f b (kept to b.slots outcome) → InstructionDone p k v here f b (instructions.Compute to o first second) (kept to b.slots outcome)
 compute_done p k to o first second v here f b (Gives x m) g =
     record {
       least = compute_some p.layout to o first second;
@@ -52,7 +52,7 @@ compute_done p k to o first second v here f b (Gives x m) g =
 compute_done p k to o first second v here f b (Raises code access) g = g
 compute_done p k to o first second v here f b (Undefined a) g = tt
 
-branch_done : (p : Frame) (k : Links) (slot : Slot) (label : ℕ) (v : MachineView) (here : ℕ) (f : Flags) (b : BodyState) (z : Bool) → ReachesBody p (length (jump_if_zero_code p.layout slot here (k.label label))) (machine v here f) (cond z (k.label label) (here + sizes (test_code p.layout slot) + 6)) v.rest b → InstructionDone p k v here f b (instructions.JumpIfZero slot label) (cond z (JumpsTo b label) (Next b))
+branch_done : (p : FramePlace) (k : Links) (slot : Slot) (label : ℕ) (v : MachineView) (here : ℕ) (f : Flags) (b : BodyState) (z : Bool) → ReachesBody p (length (jump_if_zero_code p.layout slot here (k.label label))) (machine v here f) (cond z (k.label label) (here + sizes (test_code p.layout slot) + 6)) v.rest b → InstructionDone p k v here f b (instructions.JumpIfZero slot label) (cond z (JumpsTo b label) (Next b))
 branch_done p k slot label v here f b true g =
     let l = fetch_length p.layout Rax slot in
     record {
@@ -80,7 +80,7 @@ jump_template : (y : Layout) (here label : ℕ) → here + 5 ≡ here + template
 unfolding template_size size
 jump_template y here label = refl
 
-pub instruction_run : (p : Frame) (k : Links) (instruction : Instruction) (v : MachineView) (here : ℕ) (f : Flags) (b : BodyState) → Roomy p → HasSlots p.counts instruction → LabelsNear k p.layout here instruction → sp_of v ≡ p.sp → FrameHolds p v.memory b → HasCode v.memory here (template k p.layout here instruction) → InstructionDone p k v here f b instruction (step p.reserved instruction b)
+pub instruction_run : (p : FramePlace) (k : Links) (instruction : Instruction) (v : MachineView) (here : ℕ) (f : Flags) (b : BodyState) → Roomy p → HasSlots p.counts instruction → LabelsNear k p.layout here instruction → sp_of v ≡ p.sp → FrameHolds p v.memory b → HasCode v.memory here (template k p.layout here instruction) → InstructionDone p k v here f b instruction (step p.reserved instruction b)
 instruction_run p k (instructions.Compute to o first second) v here f b room has near at h code = compute_done p k to o first second v here f b (performed p.reserved o (b.slots first) (b.slots second) b.memory) (compute_run p to o first second v here f b room has.0 has.1 has.2 at h code)
 instruction_run p k (instructions.Jump label) v here f b room has near at h code =
     record { least = omega arith; most = omega arith; follows = jump_run p v here (k.label label) f b (subst (λ a. IsNear a (k.label label)) (sym (jump_template p.layout here label)) near) h code }
@@ -111,7 +111,7 @@ inside : (start n a b : ℕ) → start + n < 2 ^ 48 → n < 2 ^ 31 → a ≤ n �
 inside start n a b high small la lb = (omega arith, omega arith, omega arith, omega arith)
 
 -- those of an instruction in a body are
-pub labels_near : (k : Links) (y : Layout) (start : ℕ) (body : List Instruction) (number : ℕ) (instruction : Instruction) → IsBody k y start body → start + body_size y body < 2 ^ 48 → body_size y body < 2 ^ 31 → offset_of y body number + template_size y instruction ≤ body_size y body → LabelsNear k y (start + offset_of y body number) instruction
+pub labels_near : (k : Links) (y : Layout) (start : ℕ) (body : List Instruction) (number : ℕ) (instruction : Instruction) → HasLabels k y start body → start + body_size y body < 2 ^ 48 → body_size y body < 2 ^ 31 → offset_of y body number + template_size y instruction ≤ body_size y body → LabelsNear k y (start + offset_of y body number) instruction
 labels_near k y start body number (instructions.Jump label) is high small le =
     let near = inside start (body_size y body) (offset_of y body number + template_size y (instructions.Jump label)) (offset_of y body label) high small le (body_most y body label) in
     let z : start + (offset_of y body number + template_size y (instructions.Jump label)) ≡ start + offset_of y body number + template_size y (instructions.Jump label) = omega arith in
@@ -123,7 +123,7 @@ labels_near k y start body number (instructions.JumpIfZero slot label) is high s
 labels_near k y start body number instruction is high small le = tt
 
 -- the instruction of a number in a body
-pub body_instruction_run : (p : Frame) (k : Links) (start : ℕ) (body : List Instruction) (number : ℕ) (v : MachineView) (f : Flags) (b : BodyState) → Roomy p → IsBody k p.layout start body → body_size p.layout body < 2 ^ 31 → start + body_size p.layout body < 2 ^ 48 → number < length body → HasSlots p.counts (get_or body number instructions.Separator) → sp_of v ≡ p.sp → FrameHolds p v.memory b → HasCode v.memory start (code_from k p.layout start body) → InstructionDone p k v (start + offset_of p.layout body number) f b (get_or body number instructions.Separator) (step p.reserved (get_or body number instructions.Separator) b)
+pub body_instruction_run : (p : FramePlace) (k : Links) (start : ℕ) (body : List Instruction) (number : ℕ) (v : MachineView) (f : Flags) (b : BodyState) → Roomy p → HasLabels k p.layout start body → body_size p.layout body < 2 ^ 31 → start + body_size p.layout body < 2 ^ 48 → number < length body → HasSlots p.counts (get_or body number instructions.Separator) → sp_of v ≡ p.sp → FrameHolds p v.memory b → HasCode v.memory start (code_from k p.layout start body) → InstructionDone p k v (start + offset_of p.layout body number) f b (get_or body number instructions.Separator) (step p.reserved (get_or body number instructions.Separator) b)
 body_instruction_run p k start body number v f b room is small high lt has at h code =
     let y = p.layout in
     let instruction = get_or body number instructions.Separator in

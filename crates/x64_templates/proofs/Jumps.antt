@@ -23,7 +23,7 @@ use Rattle.template_code.specs.Bytes.{size, sizes}
 use Rattle.template_code.specs.Slots.{fetch}
 use Rattle.template_code.specs.Jumps.{distance, jump, jump_equal, jump_code, compare_zero, test_code, jump_if_zero_code, separator_code, IsNear}
 use Rattle.x64_templates.specs.Frames.{IsBytes}
-use Rattle.x64_templates.specs.Runs.{Reaches, Enters, HasCode, Frame, Roomy, FrameHolds, IsThere, ReachesBody}
+use Rattle.x64_templates.specs.Runs.{Reaches, Enters, HasCode, FramePlace, Roomy, FrameHolds, IsThere, ReachesBody}
 use Rattle.x64_templates.proofs.Straight.{one_runs, one_enters_frame}
 use Rattle.template_code.proofs.Sizes.{sizes_append}
 use Rattle.x64_templates.proofs.Cells.{put, sp_of, fetch_does}
@@ -46,7 +46,7 @@ one_enters i v w rip at f g enc code e =
     let h = code.placed.high in
     one_enters_frame i (machine v rip f) (machine w at g) (enc, tt) p.0 (record { low = l; high = omega arith }) e
 
-stays : (p : Frame) (turns : ℕ) (v w : MachineView) (rip at : ℕ) (f g : Flags) (b : BodyState) → Reaches turns (machine v rip f) (machine w at g) → w.rest ≡ v.rest → w.memory ≡ v.memory → FrameHolds p v.memory b → ReachesBody p turns (machine v rip f) at v.rest b
+stays : (p : FramePlace) (turns : ℕ) (v w : MachineView) (rip at : ℕ) (f g : Flags) (b : BodyState) → Reaches turns (machine v rip f) (machine w at g) → w.rest ≡ v.rest → w.memory ≡ v.memory → FrameHolds p v.memory b → ReachesBody p turns (machine v rip f) at v.rest b
 stays p turns v w rip at f g b comes rest same h = record {
   after = w;
   flags = g;
@@ -62,13 +62,13 @@ jump_size d = refl
 
 -- ---- a jump, and nothing
 
-pub jump_run : (p : Frame) (v : MachineView) (rip to : ℕ) (f : Flags) (b : BodyState) → IsNear (rip + 5) to → FrameHolds p v.memory b → HasCode v.memory rip (jump_code rip to) → ReachesBody p 1 (machine v rip f) to v.rest b
+pub jump_run : (p : FramePlace) (v : MachineView) (rip to : ℕ) (f : Flags) (b : BodyState) → IsNear (rip + 5) to → FrameHolds p v.memory b → HasCode v.memory rip (jump_code rip to) → ReachesBody p 1 (machine v rip f) to v.rest b
 jump_run p v rip to f b near h code =
     let i = jump (rip + 5) to in
     let e : (rip + size i + distance (rip + 5) to) % 2 ^ 64 ≡ to = ap (λ (n : ℕ). (rip + n + distance (rip + 5) to) % 2 ^ 64) (jump_size (distance (rip + 5) to)) ∙ arrives (rip + 5) to near in
     stays p 1 v v rip to f f b (one_reaches i v v rip to f f (short (rip + 5) to near) refl code (ap (λ (a : ℕ). Ok (machine v a f)) e)) refl refl h
 
-pub separator_run : (p : Frame) (v : MachineView) (rip : ℕ) (f : Flags) (b : BodyState) → FrameHolds p v.memory b → HasCode v.memory rip separator_code → ReachesBody p 1 (machine v rip f) (rip + sizes separator_code) v.rest b
+pub separator_run : (p : FramePlace) (v : MachineView) (rip : ℕ) (f : Flags) (b : BodyState) → FrameHolds p v.memory b → HasCode v.memory rip separator_code → ReachesBody p 1 (machine v rip f) (rip + sizes separator_code) v.rest b
 separator_run p v rip f b h code =
     let i = instrs.NoOperation in
     let z : rip + size i ≡ rip + (size i + 0) = omega arith in
@@ -105,7 +105,7 @@ branch_comes v rip to f z e near code =
 three_then : (l m n : ℕ) (s t u w : State) → Reaches l s t → Reaches m t u → Reaches n u w → Reaches (l + (m + n)) s w
 three_then l m n s t u w a b c = reaches_then l (m + n) s t w a (reaches_then m n t u w b c)
 
-pub jump_if_zero_comes : (p : Frame) (slot : Slot) (v : MachineView) (rip to : ℕ) (f : Flags) (b : BodyState) (z : Bool) → eqb (b.slots slot) 0 ≡ z → Roomy p → IsThere p slot → sp_of v ≡ p.sp → IsNear (rip + sizes (test_code p.layout slot) + 6) to → FrameHolds p v.memory b → HasCode v.memory rip (jump_if_zero_code p.layout slot rip to) → ReachesBody p (length (jump_if_zero_code p.layout slot rip to)) (machine v rip f) (cond z to (rip + sizes (test_code p.layout slot) + 6)) v.rest b
+pub jump_if_zero_comes : (p : FramePlace) (slot : Slot) (v : MachineView) (rip to : ℕ) (f : Flags) (b : BodyState) (z : Bool) → eqb (b.slots slot) 0 ≡ z → Roomy p → IsThere p slot → sp_of v ≡ p.sp → IsNear (rip + sizes (test_code p.layout slot) + 6) to → FrameHolds p v.memory b → HasCode v.memory rip (jump_if_zero_code p.layout slot rip to) → ReachesBody p (length (jump_if_zero_code p.layout slot rip to)) (machine v rip f) (cond z to (rip + sizes (test_code p.layout slot) + 6)) v.rest b
 jump_if_zero_comes p slot v rip to f b z e room is at near h code =
     let y = p.layout in
     let first = fetch y Rax slot in
@@ -127,14 +127,14 @@ jump_if_zero_comes p slot v rip to f b z e room is at near h code =
     refl refl h)
 
 -- what a jump that depends on a slot comes to, by what it means
-abbrev pub Branched : Frame → Slot → ℕ → ℕ → MachineView → ℕ → Flags → Step → Type 0
+abbrev pub Branched : FramePlace → Slot → ℕ → ℕ → MachineView → ℕ → Flags → Step → Type 0
 Branched p slot there to v rip f (JumpsTo b label) = ReachesBody p (length (jump_if_zero_code p.layout slot rip to)) (machine v rip f) to v.rest b
 Branched p slot there to v rip f (Next b) = ReachesBody p (length (jump_if_zero_code p.layout slot rip to)) (machine v rip f) there v.rest b
 Branched p slot there to v rip f _ = Unit {0}
 
-branch_by : (p : Frame) (slot : Slot) (label : ℕ) (v : MachineView) (rip to : ℕ) (f : Flags) (b : BodyState) (z : Bool) → ReachesBody p (length (jump_if_zero_code p.layout slot rip to)) (machine v rip f) (cond z to (rip + sizes (test_code p.layout slot) + 6)) v.rest b → Branched p slot (rip + sizes (test_code p.layout slot) + 6) to v rip f (cond z (JumpsTo b label) (Next b))
+branch_by : (p : FramePlace) (slot : Slot) (label : ℕ) (v : MachineView) (rip to : ℕ) (f : Flags) (b : BodyState) (z : Bool) → ReachesBody p (length (jump_if_zero_code p.layout slot rip to)) (machine v rip f) (cond z to (rip + sizes (test_code p.layout slot) + 6)) v.rest b → Branched p slot (rip + sizes (test_code p.layout slot) + 6) to v rip f (cond z (JumpsTo b label) (Next b))
 branch_by p slot label v rip to f b true g = g
 branch_by p slot label v rip to f b false g = g
 
-pub jump_if_zero_run : (p : Frame) (slot : Slot) (label : ℕ) (v : MachineView) (rip to : ℕ) (f : Flags) (b : BodyState) → Roomy p → IsThere p slot → sp_of v ≡ p.sp → IsNear (rip + sizes (test_code p.layout slot) + 6) to → FrameHolds p v.memory b → HasCode v.memory rip (jump_if_zero_code p.layout slot rip to) → Branched p slot (rip + sizes (test_code p.layout slot) + 6) to v rip f (step p.reserved (instructions.JumpIfZero slot label) b)
+pub jump_if_zero_run : (p : FramePlace) (slot : Slot) (label : ℕ) (v : MachineView) (rip to : ℕ) (f : Flags) (b : BodyState) → Roomy p → IsThere p slot → sp_of v ≡ p.sp → IsNear (rip + sizes (test_code p.layout slot) + 6) to → FrameHolds p v.memory b → HasCode v.memory rip (jump_if_zero_code p.layout slot rip to) → Branched p slot (rip + sizes (test_code p.layout slot) + 6) to v rip f (step p.reserved (instructions.JumpIfZero slot label) b)
 jump_if_zero_run p slot label v rip to f b room is at near h code = branch_by p slot label v rip to f b (eqb (b.slots slot) 0) (jump_if_zero_comes p slot v rip to f b (eqb (b.slots slot) 0) refl room is at near h code)

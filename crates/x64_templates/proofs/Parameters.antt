@@ -19,8 +19,8 @@ use Rattle.template_code.specs.Slots.{fetched, local_at}
 use Rattle.template_code.specs.Calls.{parameter_register, keep_register, stack_parameter, parameter_code, parameters_code}
 use Rattle.x64_templates.specs.CallStates.{sp_of}
 use Rattle.x64_templates.specs.Frames.{slot_at, InTemporaries, InLocals}
-use Rattle.x64_templates.specs.EntryStates.{with_arguments, InRegisters, OnStack, IsFunction}
-use Rattle.x64_templates.specs.Runs.{Frame, Roomy, FrameHolds, ChangesOwn}
+use Rattle.x64_templates.specs.EntryStates.{with_arguments, InRegisters, OnStack, IsFunctionFrame}
+use Rattle.x64_templates.specs.Runs.{FramePlace, Roomy, FrameHolds, ChangesOwn}
 use Rattle.x64_templates.proofs.Straight.{executes_one, executes_then, executes_nothing}
 use Rattle.x64_templates.proofs.Cells.{put, from_sp, may_write_slot}
 use Rattle.x64_templates.proofs.Bodies.{holds_after, changes_slot, changes_then}
@@ -51,14 +51,14 @@ register_holds v arguments (suc (suc zero)) lt h = h.third
 register_holds v arguments (suc (suc (suc zero))) lt h = h.fourth
 register_holds v arguments (suc (suc (suc (suc i)))) lt h = absurd (omega arith)
 
-pub record Kept (p : Frame) (i : ℕ) (v : MachineView) (x : ℕ) : Type 0 where
+pub record Kept (p : FramePlace) (i : ℕ) (v : MachineView) (x : ℕ) : Type 0 where
   pub rax : ℕ
   pub does : Executes (parameter_code p.layout i) v (record { rax = rax; rcx = v.rcx; rdx = v.rdx; rest = v.rest; memory = with_bytes v.memory (with_number v.memory.byte 8 (slot_at p.layout p.sp p.base (Local i)) x) })
 
-local_address : (p : Frame) (i sp : ℕ) → Roomy p → IsFunction p → i < p.counts.locals → sp ≡ p.sp → (sp + 0 + local_at p.layout i) % 2 ^ 64 ≡ slot_at p.layout p.sp p.base (Local i)
+local_address : (p : FramePlace) (i sp : ℕ) → Roomy p → IsFunctionFrame p → i < p.counts.locals → sp ≡ p.sp → (sp + 0 + local_at p.layout i) % 2 ^ 64 ≡ slot_at p.layout p.sp p.base (Local i)
 local_address p i sp room fn lt e = let a = room.locals in let h = room.high in let b = fn.base in omega arith
 
-parameter_does : (p : Frame) (i count : ℕ) (v : MachineView) (b : BodyState) (arguments : ℕ → ℕ) → Roomy p → IsFunction p → i < count → i < p.counts.locals → sp_of v ≡ p.sp → FrameHolds p v.memory b → InRegisters v arguments → OnStack p v.memory count arguments → Kept p i v (arguments i)
+parameter_does : (p : FramePlace) (i count : ℕ) (v : MachineView) (b : BodyState) (arguments : ℕ → ℕ) → Roomy p → IsFunctionFrame p → i < count → i < p.counts.locals → sp_of v ≡ p.sp → FrameHolds p v.memory b → InRegisters v arguments → OnStack p v.memory count arguments → Kept p i v (arguments i)
 parameter_does p i count v b arguments room fn lc ll at h regs stack =
     let y = p.layout in
     let to = slot_at y p.sp p.base (Local i) in
@@ -88,17 +88,17 @@ parameter_does p i count v b arguments room fn lc ll at h regs stack =
 
 -- ---- all of them
 
-pub record AllKept (p : Frame) (i n : ℕ) (v : MachineView) (b : BodyState) (arguments : ℕ → ℕ) : Type 0 where
+pub record AllKept (p : FramePlace) (i n : ℕ) (v : MachineView) (b : BodyState) (arguments : ℕ → ℕ) : Type 0 where
   pub rax : ℕ
   pub memory : Memory
   pub does : Executes (parameters_code p.layout i n) v (record { rax = rax; rcx = v.rcx; rdx = v.rdx; rest = v.rest; memory = memory })
   pub holds : FrameHolds p memory (record { slots = with_arguments b.slots arguments i n; memory = b.memory })
   pub changes : ChangesOwn p v.memory memory
 
-above_slots : (p : Frame) (i a : ℕ) → IsFunction p → p.sp + stack_parameter p.layout i ≤ a → InTemporaries p.layout p.counts p.sp a ⊎ InLocals p.layout p.counts p.base a → ⊥
+above_slots : (p : FramePlace) (i a : ℕ) → IsFunctionFrame p → p.sp + stack_parameter p.layout i ≤ a → InTemporaries p.layout p.counts p.sp a ⊎ InLocals p.layout p.counts p.base a → ⊥
 above_slots p i a fn le is = let b = fn.base in let t = fn.temporaries in let l = fn.locals in elim is [ inl x ↦ (let u = x.1 in absurd (omega arith)) | inr x ↦ (let u = x.1 in absurd (omega arith)) ]
 
-still_on_stack : (p : Frame) (m m' : Memory) (count : ℕ) (arguments : ℕ → ℕ) → Roomy p → IsFunction p → ChangesOwn p m m' → OnStack p m count arguments → OnStack p m' count arguments
+still_on_stack : (p : FramePlace) (m m' : Memory) (count : ℕ) (arguments : ℕ → ℕ) → Roomy p → IsFunctionFrame p → ChangesOwn p m m' → OnStack p m count arguments → OnStack p m' count arguments
 still_on_stack p m m' count arguments room fn c s = record {
   number = λ i ge lt. let hi = room.high in let near = s.near i lt in same_number m'.byte m.byte 8 (p.sp + stack_parameter p.layout i) (omega arith) (λ a x z. c.byte a (s.own i a ge lt x z) (above_slots p i a fn x)) ∙ s.number i ge lt;
   readable = λ i a ge lt x z. ap (λ (f : ℕ → Protection). is_readable (f a).rights) c.protection ∙ s.readable i a ge lt x z;
@@ -107,7 +107,7 @@ still_on_stack p m m' count arguments room fn c s = record {
   small = s.small;
 }
 
-pub parameters_do : (p : Frame) (i n count : ℕ) (v : MachineView) (b : BodyState) (arguments : ℕ → ℕ) → Roomy p → IsFunction p → i + n ≤ count → i + n ≤ p.counts.locals → sp_of v ≡ p.sp → FrameHolds p v.memory b → InRegisters v arguments → OnStack p v.memory count arguments → AllKept p i n v b arguments
+pub parameters_do : (p : FramePlace) (i n count : ℕ) (v : MachineView) (b : BodyState) (arguments : ℕ → ℕ) → Roomy p → IsFunctionFrame p → i + n ≤ count → i + n ≤ p.counts.locals → sp_of v ≡ p.sp → FrameHolds p v.memory b → InRegisters v arguments → OnStack p v.memory count arguments → AllKept p i n v b arguments
 parameters_do p i zero count v b arguments room fn lc ll at h regs stack = record { rax = v.rax; memory = v.memory; does = executes_nothing v; holds = h; changes = record { protection = refl; byte = λ a own out. refl; bytes = λ x. x } }
 parameters_do p i (suc n) count v b arguments room fn lc ll at h regs stack =
     let y = p.layout in

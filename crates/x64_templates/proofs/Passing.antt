@@ -14,11 +14,11 @@ use Rattle.template_code.specs.Slots.{temporary_at}
 use Rattle.template_code.specs.Calls.{stack_parameter, return_at}
 use Rattle.x64_templates.specs.CallStates.{HasBelow, with_four, pushed}
 use Rattle.x64_templates.specs.EntryStates.{passed, InRegisters, OnStack}
-use Rattle.x64_templates.specs.Runs.{Frame, Roomy, FrameHolds}
+use Rattle.x64_templates.specs.Runs.{FramePlace, Roomy, FrameHolds}
 use Rattle.x64_templates.proofs.Entries.{beside}
 
 -- the callee's view: the first four arguments in registers, and the return address pushed
-abbrev pub called_view : Frame → ℕ → MachineView → ℕ → BodyState → MachineView
+abbrev pub called_view : FramePlace → ℕ → MachineView → ℕ → BodyState → MachineView
 called_view p first v rip b = pushed (with_four v (b.slots (Temporary first)) (b.slots (Temporary (first + 1))) (b.slots (Temporary (first + 2))) (b.slots (Temporary (first + 3)))) p.sp (return_at p.layout first rip)
 
 six_apart : let six : ℕ = 6 in let five : ℕ = 5 in five ≢ six
@@ -31,7 +31,7 @@ one_six : let one : ℕ = 1 in let six : ℕ = 6 in six ≢ one
 one_six h = absurd (omega arith)
 
 -- the first four, in registers
-pub passed_in_registers : (p : Frame) (first : ℕ) (v : MachineView) (rip : ℕ) (b : BodyState) → length v.rest ≡ 13 → InRegisters (called_view p first v rip b) (passed b.slots first)
+pub passed_in_registers : (p : FramePlace) (first : ℕ) (v : MachineView) (rip : ℕ) (b : BodyState) → length v.rest ≡ 13 → InRegisters (called_view p first v rip b) (passed b.slots first)
 passed_in_registers p first v rip b n =
     let a2 = b.slots (Temporary (first + 2)) in
     let a3 = b.slots (Temporary (first + 3)) in
@@ -50,7 +50,7 @@ readable Read e = absurd cc
 readable ReadWrite e = refl
 
 -- the further ones, where the caller's temporaries begin after the home space
-pub passed_on_stack : (p q : Frame) (first count : ℕ) (v : MachineView) (rip : ℕ) (b : BodyState) → Roomy p → p.layout.temporaries ≡ 32 → q.sp + (q.layout.frame + 8) ≡ p.sp → q.reserved ≡ p.reserved → count ≤ p.counts.temporaries + 4 → first + 4 ≤ p.counts.temporaries → q.layout.frame + (8 * count + 16) < 2 ^ 31 → FrameHolds p v.memory b → HasBelow v.memory p.sp 8 → OnStack q (called_view p first v rip b).memory count (passed b.slots first)
+pub passed_on_stack : (p q : FramePlace) (first count : ℕ) (v : MachineView) (rip : ℕ) (b : BodyState) → Roomy p → p.layout.temporaries ≡ 32 → q.sp + (q.layout.frame + 8) ≡ p.sp → q.reserved ≡ p.reserved → count ≤ p.counts.temporaries + 4 → first + 4 ≤ p.counts.temporaries → q.layout.frame + (8 * count + 16) < 2 ^ 31 → FrameHolds p v.memory b → HasBelow v.memory p.sp 8 → OnStack q (called_view p first v rip b).memory count (passed b.slots first)
 passed_on_stack p q first count v rip b room home sp same few le near h below = record {
   number = λ i ge lt. at_place i ge ∙ apart i ge lt ∙ h.slot (Temporary (i - 4)) (let z : i - 4 < p.counts.temporaries = omega arith in z) ∙ sym (ap (λ (c : Bool). cond c (b.slots (Temporary (first + i))) (b.slots (Temporary (i - 4)))) (le-ltb i 4 ge));
   readable = λ i a ge lt x y. readable (v.memory.protection a).rights (h.writable a (inl (inside i a ge lt x y)));

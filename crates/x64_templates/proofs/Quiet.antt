@@ -22,7 +22,7 @@ use Rattle.template_code.specs.Slots.{fetched, put_back, fetch, keep, operands_c
 use Rattle.template_code.specs.Jumps.{compare_zero, jump_equal, test_code}
 use Rattle.template_code.specs.Calls.{begin_call, call_code, passing_code, field_load}
 use Rattle.template_code.specs.Template.{Links, template}
-use Rattle.x64_templates.specs.Frames.{HasRoom}
+use Rattle.x64_templates.specs.Frames.{SlotsHaveRoom}
 use Rattle.x64_templates.proofs.Encoded.{Fine, fine_both, fetch_fine, keep_fine, operands_fine, finish_fine}
 use Rattle.x64_templates.specs.Quiet.{AllQuiet, IsReturn}
 
@@ -34,7 +34,7 @@ quiet_both : (a b : List Instr) → AllQuiet a → AllQuiet b → AllQuiet (a ++
 quiet_both [] b p q = q
 quiet_both (i ∷ a) b p q = (p.0, quiet_both a b p.1 q)
 
-call_quiet : (y : Layout) (n : Counts) (sp base : ℕ) (to : Slot) (first at target : ℕ) → HasRoom y n sp base → IsSlot n to → AllQuiet (call_code y to first at target)
+call_quiet : (y : Layout) (n : Counts) (sp base : ℕ) (to : Slot) (first at target : ℕ) → SlotsHaveRoom y n sp base → IsSlot n to → AllQuiet (call_code y to first at target)
 call_quiet y n sp base to first at target room is = quiet_both (begin_call y first at target) (keep y to) (refl, (refl, (refl, (refl, (refl, tt))))) (quiet_of (keep y to) (keep_fine y n sp base to room is))
 
 passing_quiet : (y : Layout) (first i n : ℕ) → AllQuiet (passing_code y first i n)
@@ -47,7 +47,7 @@ field_quiet ExceptionFlags = refl
 field_quiet NumberParameters = refl
 field_quiet (ExceptionInformation k) = refl
 
-pub template_quiet : (k : Links) (y : Layout) (n : Counts) (sp base : ℕ) (at : ℕ) (instruction : Instruction) → HasRoom y n sp base → HasSlots n instruction → (IsReturn instruction → ⊥) → AllQuiet (template k y at instruction)
+pub template_quiet : (k : Links) (y : Layout) (n : Counts) (sp base : ℕ) (at : ℕ) (instruction : Instruction) → SlotsHaveRoom y n sp base → HasSlots n instruction → (IsReturn instruction → ⊥) → AllQuiet (template k y at instruction)
 template_quiet k y n sp base at (instructions.Compute to o first second) room has plain = quiet_of (operands_code y o first second ++ finish_code y o to) (fine_both (operands_code y o first second) (finish_code y o to) (operands_fine y n sp base o first second room has.1 has.2) (finish_fine y n sp base o to room has.0))
 template_quiet k y n sp base at (instructions.Information to field) room has plain = (refl, (refl, (field_quiet field, quiet_of (keep y to) (keep_fine y n sp base to room has))))
 template_quiet k y n sp base at (instructions.Jump label) room has plain = (refl, tt)

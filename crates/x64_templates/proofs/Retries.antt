@@ -16,7 +16,7 @@ use Rattle.template_code.specs.Bytes.{sizes}
 use Rattle.template_code.specs.Slots.{operands_code, finish_code}
 use Rattle.template_code.specs.Template.{Links, template, template_size, offset_of}
 use Rattle.x64_templates.specs.Implements.{HasOperands}
-use Rattle.x64_templates.specs.Runs.{HasCode, Frame, Roomy, FrameHolds, ChangesOwn, ReachesBody, ReachesFault, Finished}
+use Rattle.x64_templates.specs.Runs.{HasCode, FramePlace, Roomy, FrameHolds, ChangesOwn, ReachesBody, ReachesFault, Finished}
 use Rattle.x64_templates.specs.InstructionRuns.{InstructionDone, IsLinked}
 use Rattle.template_code.proofs.Sizes.{sizes_append}
 use Rattle.x64_templates.proofs.Cells.{sp_of}
@@ -28,13 +28,13 @@ use Rattle.x64_templates.proofs.InstructionRuns.{body_instruction_run}
 use Rattle.x64_templates.proofs.Stretches.{linked_stays, body_runs}
 use Rattle.x64_templates.specs.Retries.{FaultsAfter, Retried}
 
-refused : (p : Frame) (k : Links) (instruction : Instruction) (to first second : Slot) (o : Operation) (v : MachineView) (here : ℕ) (f : Flags) (b : BodyState) (s : Step) (code : Code) (access : Option (Bool × ℕ)) → instruction ≡ instructions.Compute to o first second → s ≡ Faults code access → InstructionDone p k v here f b instruction s → ReachesFault (length (operands_code p.layout o first second)) v here f (here + sizes (operands_code p.layout o first second)) o (b.slots first) (b.slots second) code access
+refused : (p : FramePlace) (k : Links) (instruction : Instruction) (to first second : Slot) (o : Operation) (v : MachineView) (here : ℕ) (f : Flags) (b : BodyState) (s : Step) (code : Code) (access : Option (Bool × ℕ)) → instruction ≡ instructions.Compute to o first second → s ≡ Faults code access → InstructionDone p k v here f b instruction s → ReachesFault (length (operands_code p.layout o first second)) v here f (here + sizes (operands_code p.layout o first second)) o (b.slots first) (b.slots second) code access
 refused p k instruction to first second o v here f b s code access is e done = subst (λ t. InstructionDone p k v here f b (instructions.Compute to o first second) t) e (subst (λ l. InstructionDone p k v here f b l s) is done)
 
 few_operands : (y : Layout) (to : Slot) (o : Operation) (first second : Slot) → length (operands_code y o first second) ≤ 16
 few_operands y to o first second = let l = compute_length y to o first second in omega (arith, length-append (operands_code y o first second) (finish_code y o to))
 
-pub body_faults : (p : Frame) (k : Links) (start : ℕ) (body : List Instruction) (n number : ℕ) (v : MachineView) (f : Flags) (b : BodyState) (last : ℕ) (c : BodyState) (to first second : Slot) (o : Operation) (code : Code) (access : Option (Bool × ℕ)) → Roomy p → IsLinked p k v.memory start body → sp_of v ≡ p.sp → FrameHolds p v.memory b → run p.reserved body n number b ≡ Some (last, c) → last < length body → get_or body last instructions.Separator ≡ instructions.Compute to o first second → step p.reserved (instructions.Compute to o first second) c ≡ Faults code access → FaultsAfter p n v (start + offset_of p.layout body number) f (start + offset_of p.layout body last + sizes (operands_code p.layout o first second)) o (c.slots first) (c.slots second) code access c
+pub body_faults : (p : FramePlace) (k : Links) (start : ℕ) (body : List Instruction) (n number : ℕ) (v : MachineView) (f : Flags) (b : BodyState) (last : ℕ) (c : BodyState) (to first second : Slot) (o : Operation) (code : Code) (access : Option (Bool × ℕ)) → Roomy p → IsLinked p k v.memory start body → sp_of v ≡ p.sp → FrameHolds p v.memory b → run p.reserved body n number b ≡ Some (last, c) → last < length body → get_or body last instructions.Separator ≡ instructions.Compute to o first second → step p.reserved (instructions.Compute to o first second) c ≡ Faults code access → FaultsAfter p n v (start + offset_of p.layout body number) f (start + offset_of p.layout body last + sizes (operands_code p.layout o first second)) o (c.slots first) (c.slots second) code access c
 body_faults p k start body n number v f b last c to first second o code access room l at h runs lt is e =
     let g = body_runs p k start body n room number v f b last c l at h runs in
     let w = g.follows.after in
@@ -61,12 +61,12 @@ body_faults p k start body n number v f b last c to first second o code access r
       fault = r.fault;
     }
 
-retried_by : (p : Frame) (next : ℕ) (to : Slot) (o : Operation) (v : MachineView) (at : ℕ) (f : Flags) (b : BodyState) (outcome : Outcome) → at + sizes (finish_code p.layout o to) ≡ next → Finished p o to v at f b outcome → Retried p next to o v at f b outcome
+retried_by : (p : FramePlace) (next : ℕ) (to : Slot) (o : Operation) (v : MachineView) (at : ℕ) (f : Flags) (b : BodyState) (outcome : Outcome) → at + sizes (finish_code p.layout o to) ≡ next → Finished p o to v at f b outcome → Retried p next to o v at f b outcome
 retried_by p next to o v at f b (Gives x m) e g = subst (λ a. ReachesBody p (length (finish_code p.layout o to)) (machine v at f) a v.rest (record { slots = with_slot b.slots to x; memory = m })) e g
 retried_by p next to o v at f b (Raises code access) e g = g
 retried_by p next to o v at f b (Undefined a) e g = tt
 
-pub body_retries : (p : Frame) (k : Links) (start : ℕ) (body : List Instruction) (number : ℕ) (v : MachineView) (f : Flags) (b : BodyState) (to first second : Slot) (o : Operation) (x y : ℕ) → Roomy p → IsLinked p k v.memory start body → number < length body → get_or body number instructions.Separator ≡ instructions.Compute to o first second → x < 2 ^ 64 → y < 2 ^ 64 → HasOperands o x y v → sp_of v ≡ p.sp → FrameHolds p v.memory b → Retried p (start + offset_of p.layout body (suc number)) to o v (start + offset_of p.layout body number + sizes (operands_code p.layout o first second)) f b (performed p.reserved o x y b.memory)
+pub body_retries : (p : FramePlace) (k : Links) (start : ℕ) (body : List Instruction) (number : ℕ) (v : MachineView) (f : Flags) (b : BodyState) (to first second : Slot) (o : Operation) (x y : ℕ) → Roomy p → IsLinked p k v.memory start body → number < length body → get_or body number instructions.Separator ≡ instructions.Compute to o first second → x < 2 ^ 64 → y < 2 ^ 64 → HasOperands o x y v → sp_of v ≡ p.sp → FrameHolds p v.memory b → Retried p (start + offset_of p.layout body (suc number)) to o v (start + offset_of p.layout body number + sizes (operands_code p.layout o first second)) f b (performed p.reserved o x y b.memory)
 body_retries p k start body number v f b to first second o x y room l lt is lx ly waits at h =
     let here = start + offset_of p.layout body number in
     let ops = operands_code p.layout o first second in

@@ -23,10 +23,10 @@ use Rattle.template_code.specs.declared.layout.Layout.{Layout}
 use Rattle.x64_templates.specs.Straight.{MachineView, machine}
 use Rattle.template_code.specs.Bytes.{size, sizes}
 use Rattle.template_code.specs.Slots.{fetch, keep}
-use Rattle.x64_templates.specs.Frames.{slot_at, HasBase, HasRoom, KeepsBase, KeepsReserved, Agrees, HoldsBody}
+use Rattle.x64_templates.specs.Frames.{slot_at, HasBase, SlotsHaveRoom, MemoryKeepsBase, KeepsReserved, Agrees, HoldsBody}
 use Rattle.template_code.specs.Calls.{enter_code, epilogue, return_code}
 use Rattle.x64_templates.specs.CallStates.{sp_of, HasBack, moved}
-use Rattle.x64_templates.specs.Runs.{Enters, Reaches, HasCode, Frame, Roomy, FrameHolds, IsThere, ReachesBody}
+use Rattle.x64_templates.specs.Runs.{Enters, Reaches, HasCode, FramePlace, Roomy, FrameHolds, IsThere, ReachesBody}
 use Rattle.x64_templates.proofs.Straight.{executes_nothing}
 use Rattle.x64_templates.proofs.Cells.{put, slot_high, slot_bytes, fetch_does}
 use Rattle.x64_templates.proofs.Encoded.{fetch_fine, near}
@@ -43,7 +43,7 @@ pub record Outlasts (reserved : ℕ → Bool) (sp : ℕ) (m m' : Memory) : Type 
   pub byte : (a : ℕ) → reserved a ≡ true → sp ≤ a → m'.byte a ≡ m.byte a
   pub protection : (a : ℕ) → reserved a ≡ true → m'.protection a ≡ m.protection a
 
-module _ (y : Layout) (n : Counts) (reserved : ℕ → Bool) (sp base : ℕ) (room : HasRoom y n sp base) where
+module _ (y : Layout) (n : Counts) (reserved : ℕ → Bool) (sp base : ℕ) (room : SlotsHaveRoom y n sp base) where
   base_above : (o : Option ℕ) → HasBase y o sp base → sp ≤ base + y.locals
   base_above None has = let e : base ≡ sp = has in omega arith
   base_above (Some b) has = let a = has.1 in omega arith
@@ -52,7 +52,7 @@ module _ (y : Layout) (n : Counts) (reserved : ℕ → Bool) (sp base : ℕ) (ro
   slot_above (Temporary i) = omega arith
   slot_above (Local i) = let a = base_above y.base room.kept_base in omega arith
 
-  base_through : (m m' : Memory) (o : Option ℕ) → Outlasts reserved sp m m' → HasBase y o sp base → KeepsReserved o sp reserved → KeepsBase o sp base m → KeepsBase o sp base m'
+  base_through : (m m' : Memory) (o : Option ℕ) → Outlasts reserved sp m m' → HasBase y o sp base → KeepsReserved o sp reserved → MemoryKeepsBase o sp base m → MemoryKeepsBase o sp base m'
   base_through m m' None out has own keeps = tt
   base_through m m' (Some k) out has own keeps =
       let a = has.0 in let t = room.temporaries in let hi = room.high in
@@ -71,7 +71,7 @@ module _ (y : Layout) (n : Counts) (reserved : ℕ → Bool) (sp base : ℕ) (ro
 
 -- ---- after a call: RAX goes to its slot
 
-pub call_ends : (p : Frame) (to : Slot) (v : MachineView) (at : ℕ) (f : Flags) (b : BodyState) → Roomy p → IsThere p to → v.rax < 2 ^ 64 → sp_of v ≡ p.sp → FrameHolds p v.memory b → HasCode v.memory at (keep p.layout to) → ReachesBody p (length (keep p.layout to)) (machine v at f) (at + sizes (keep p.layout to)) v.rest (record { slots = with_slot b.slots to v.rax; memory = b.memory })
+pub call_ends : (p : FramePlace) (to : Slot) (v : MachineView) (at : ℕ) (f : Flags) (b : BodyState) → Roomy p → IsThere p to → v.rax < 2 ^ 64 → sp_of v ≡ p.sp → FrameHolds p v.memory b → HasCode v.memory at (keep p.layout to) → ReachesBody p (length (keep p.layout to)) (machine v at f) (at + sizes (keep p.layout to)) v.rest (record { slots = with_slot b.slots to v.rax; memory = b.memory })
 call_ends p to v at f b room is small sp h code =
     leads_kept p [] to v at f b v.rax b.memory tt room is sp h code
     (record { after = v.memory; yields = record { rcx = v.rcx; rdx = v.rdx; does = executes_nothing v }; small = small; agrees = h.source; protection = refl; own = λ a o. refl; bytes = λ x. x })
@@ -137,7 +137,7 @@ epilogue_run v sp (suc m) back rip f n at lt high b code =
     let second = one_reaches instrs.Return up (moved up (sp + frame + 8)) (rip + sizes (i ∷ [])) back g g refl refl parts.1 (return_effect up (sp + frame) back (rip + sizes (i ∷ []) + size instrs.Return) g (sp_moved v (sp + frame) n) (omega arith) b) in
     (g, subst (λ w. Reaches 2 (machine v rip f) (machine w back g)) (moved_twice v (sp + frame) (sp + frame + 8)) (reaches_then 1 1 (machine v rip f) (machine up (rip + sizes (i ∷ [])) g) (machine (moved up (sp + frame + 8)) back g) first second))
 
-pub return_run : (p : Frame) (from : Slot) (v : MachineView) (back rip : ℕ) (f : Flags) (b : BodyState) → Roomy p → IsThere p from → length v.rest ≡ 13 → sp_of v ≡ p.sp → p.layout.frame < 2 ^ 31 → FrameHolds p v.memory b → HasBack v.memory (p.sp + p.layout.frame) back → HasCode v.memory rip (return_code p.layout from) → Returned (length (return_code p.layout from)) v (p.sp + p.layout.frame + 8) back (b.slots from) rip f
+pub return_run : (p : FramePlace) (from : Slot) (v : MachineView) (back rip : ℕ) (f : Flags) (b : BodyState) → Roomy p → IsThere p from → length v.rest ≡ 13 → sp_of v ≡ p.sp → p.layout.frame < 2 ^ 31 → FrameHolds p v.memory b → HasBack v.memory (p.sp + p.layout.frame) back → HasCode v.memory rip (return_code p.layout from) → Returned (length (return_code p.layout from)) v (p.sp + p.layout.frame + 8) back (b.slots from) rip f
 return_run p from v back rip f b room is n at lt h has code =
     let y = p.layout in
     let first = fetch y Rax from in

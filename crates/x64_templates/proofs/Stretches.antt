@@ -19,7 +19,7 @@ use Rattle.x64_templates.specs.Straight.{MachineView, machine}
 use Rattle.template_code.specs.Bytes.{sizes}
 use Rattle.template_code.specs.Template.{Links, template, template_size, offset_of, code_from}
 use Rattle.x64_templates.specs.Frames.{InTemporaries, InLocals}
-use Rattle.x64_templates.specs.Runs.{HasCode, Frame, Roomy, FrameHolds, ChangesOwn, ReachesBody}
+use Rattle.x64_templates.specs.Runs.{HasCode, FramePlace, Roomy, FrameHolds, ChangesOwn, ReachesBody}
 use Rattle.x64_templates.specs.InstructionRuns.{RunsTo, InstructionDone, RunsAllTo, IsLinked}
 use Rattle.template_code.proofs.Sizes.{sizes_spelled}
 use Rattle.x64_templates.proofs.Cells.{sp_of}
@@ -29,7 +29,7 @@ use Rattle.x64_templates.proofs.InstructionRuns.{body_instruction_run}
 
 -- ---- code stays where it is
 
-bytes_stay : (p : Frame) (m m' : Memory) (b : BodyState) (at : ℕ) (bytes : List ℕ) → ChangesOwn p m m' → FrameHolds p m b → ((a : ℕ) → at ≤ a → a < at + length bytes → p.reserved a ≡ true) → IsCodeAt m at bytes → IsCodeAt m' at bytes
+bytes_stay : (p : FramePlace) (m m' : Memory) (b : BodyState) (at : ℕ) (bytes : List ℕ) → ChangesOwn p m m' → FrameHolds p m b → ((a : ℕ) → at ≤ a → a < at + length bytes → p.reserved a ≡ true) → IsCodeAt m at bytes → IsCodeAt m' at bytes
 bytes_stay p m m' b at [] c h own s = tt
 bytes_stay p m m' b at (x ∷ bytes) c h own s =
     let off = λ (is : InTemporaries p.layout p.counts p.sp at ⊎ InLocals p.layout p.counts p.base at). let q : true ≡ false = sym (h.writable at is) ∙ s.0.fixed in let z : ⊥ = absurd cc in z in (
@@ -41,12 +41,12 @@ bytes_stay p m m' b at (x ∷ bytes) c h own s =
       bytes_stay p m m' b (at + 1) bytes c h (λ a l u. own a (omega arith) (omega arith)) s.1,
     )
 
-pub code_stays : (p : Frame) (m m' : Memory) (b : BodyState) (at : ℕ) (code : List Instr) → ChangesOwn p m m' → FrameHolds p m b → ((a : ℕ) → at ≤ a → a < at + sizes code → p.reserved a ≡ true) → HasCode m at code → HasCode m' at code
+pub code_stays : (p : FramePlace) (m m' : Memory) (b : BodyState) (at : ℕ) (code : List Instr) → ChangesOwn p m m' → FrameHolds p m b → ((a : ℕ) → at ≤ a → a < at + sizes code → p.reserved a ≡ true) → HasCode m at code → HasCode m' at code
 code_stays p m m' b at code c h own s =
     let e = sizes_spelled code in
     record { is_there = bytes_stay p m m' b at (spelled code) c h (λ a l u. own a l (omega arith)) s.is_there; placed = s.placed }
 
-pub linked_stays : (p : Frame) (k : Links) (m m' : Memory) (start : ℕ) (body : List Instruction) (b : BodyState) → ChangesOwn p m m' → FrameHolds p m b → IsLinked p k m start body → IsLinked p k m' start body
+pub linked_stays : (p : FramePlace) (k : Links) (m m' : Memory) (start : ℕ) (body : List Instruction) (b : BodyState) → ChangesOwn p m m' → FrameHolds p m b → IsLinked p k m start body → IsLinked p k m' start body
 linked_stays p k m m' start body b c h l =
     let e = body_sizes k p.layout start body in
     record {
@@ -60,7 +60,7 @@ linked_stays p k m m' start body b c h l =
 
 -- ---- one stretch after another
 
-pub follows_then : (p : Frame) (m n : ℕ) (s : State) (mid to : ℕ) (others : List ℕ) (b c : BodyState) → (g : ReachesBody p m s mid others b) → ReachesBody p n (machine g.after mid g.flags) to others c → ReachesBody p (m + n) s to others c
+pub follows_then : (p : FramePlace) (m n : ℕ) (s : State) (mid to : ℕ) (others : List ℕ) (b c : BodyState) → (g : ReachesBody p m s mid others b) → ReachesBody p n (machine g.after mid g.flags) to others c → ReachesBody p (m + n) s to others c
 follows_then p m n s mid to others b c g r = record {
   after = r.after;
   flags = r.flags;
@@ -70,7 +70,7 @@ follows_then p m n s mid to others b c g r = record {
   changes = changes_then p.layout p.counts p.reserved p.sp p.base s.memory g.after.memory r.after.memory g.changes r.changes;
 }
 
-nothing_made : (p : Frame) (v : MachineView) (at : ℕ) (f : Flags) (b : BodyState) → FrameHolds p v.memory b → RunsAllTo p 0 (machine v at f) at v.rest b
+nothing_made : (p : FramePlace) (v : MachineView) (at : ℕ) (f : Flags) (b : BodyState) → FrameHolds p v.memory b → RunsAllTo p 0 (machine v at f) at v.rest b
 nothing_made p v at f b h = record {
   turns = 0;
   least = omega arith;
@@ -85,14 +85,14 @@ nothing_made p v at f b h = record {
   };
 }
 
-made_then : (p : Frame) (m n : ℕ) (v : MachineView) (at : ℕ) (f : Flags) (mid to : ℕ) (b c : BodyState) → (g : RunsTo p m (machine v at f) mid v.rest b) → RunsAllTo p n (machine g.follows.after mid g.follows.flags) to v.rest c → RunsAllTo p (suc n) (machine v at f) to v.rest c
+made_then : (p : FramePlace) (m n : ℕ) (v : MachineView) (at : ℕ) (f : Flags) (mid to : ℕ) (b c : BodyState) → (g : RunsTo p m (machine v at f) mid v.rest b) → RunsAllTo p n (machine g.follows.after mid g.follows.flags) to v.rest c → RunsAllTo p (suc n) (machine v at f) to v.rest c
 made_then p m n v at f mid to b c g r =
     let l1 = g.least in let m1 = g.most in let l2 = r.least in let m2 = r.most in
     record { turns = m + r.turns; least = omega arith; most = omega arith; follows = follows_then p m r.turns (machine v at f) mid to v.rest b c g.follows r.follows }
 
 -- ---- the body
 
-abbrev Runs : Frame → Links → ℕ → List Instruction → ℕ → Type 0
+abbrev Runs : FramePlace → Links → ℕ → List Instruction → ℕ → Type 0
 Runs p k start body n = (number : ℕ) (v : MachineView) (f : Flags) (b : BodyState) (last : ℕ) (c : BodyState) → IsLinked p k v.memory start body → sp_of v ≡ p.sp → FrameHolds p v.memory b → run p.reserved body n number b ≡ Some (last, c) → RunsAllTo p n (machine v (start + offset_of p.layout body number) f) (start + offset_of p.layout body last) v.rest c
 
 same_point : (x y : ℕ) (b c : BodyState) → ◌≡◌ {A = Option BodyPoint} (Some (x, b)) (Some (y, c)) → (x ≡ y) × (b ≡ c)
@@ -106,7 +106,7 @@ same_point x y b c e = (ap (number_of x) e, ap (body_of b) e)
     body_of d None = d
     body_of d (Some q) = q.1
 
-after_line : (p : Frame) (k : Links) (start : ℕ) (body : List Instruction) (n number : ℕ) (v : MachineView) (f : Flags) (b : BodyState) (last : ℕ) (c : BodyState) (instruction : Instruction) (s : Step) → Runs p k start body n → IsLinked p k v.memory start body → sp_of v ≡ p.sp → FrameHolds p v.memory b → number < length body → instruction ≡ get_or body number instructions.Separator → InstructionDone p k v (start + offset_of p.layout body number) f b instruction s → continued (run p.reserved body n) number s ≡ Some (last, c) → RunsAllTo p (suc n) (machine v (start + offset_of p.layout body number) f) (start + offset_of p.layout body last) v.rest c
+after_line : (p : FramePlace) (k : Links) (start : ℕ) (body : List Instruction) (n number : ℕ) (v : MachineView) (f : Flags) (b : BodyState) (last : ℕ) (c : BodyState) (instruction : Instruction) (s : Step) → Runs p k start body n → IsLinked p k v.memory start body → sp_of v ≡ p.sp → FrameHolds p v.memory b → number < length body → instruction ≡ get_or body number instructions.Separator → InstructionDone p k v (start + offset_of p.layout body number) f b instruction s → continued (run p.reserved body n) number s ≡ Some (last, c) → RunsAllTo p (suc n) (machine v (start + offset_of p.layout body number) f) (start + offset_of p.layout body last) v.rest c
 after_line p k start body n number v f b last c instruction (Next d) rec l at h lt is done e =
     let y = p.layout in
     let here = start + offset_of y body number in
@@ -139,7 +139,7 @@ after_line p k start body n number v f b last c instruction (ReservedAccess a) r
 after_line p k start body n number v f b last c instruction NeedsDispatcher rec l at h lt is done e = absurd cc
 
 -- n instructions of a body take n to 16 n turns, and lead where they lead
-pub body_runs : (p : Frame) (k : Links) (start : ℕ) (body : List Instruction) (n : ℕ) → Roomy p → (number : ℕ) (v : MachineView) (f : Flags) (b : BodyState) (last : ℕ) (c : BodyState) → IsLinked p k v.memory start body → sp_of v ≡ p.sp → FrameHolds p v.memory b → run p.reserved body n number b ≡ Some (last, c) → RunsAllTo p n (machine v (start + offset_of p.layout body number) f) (start + offset_of p.layout body last) v.rest c
+pub body_runs : (p : FramePlace) (k : Links) (start : ℕ) (body : List Instruction) (n : ℕ) → Roomy p → (number : ℕ) (v : MachineView) (f : Flags) (b : BodyState) (last : ℕ) (c : BodyState) → IsLinked p k v.memory start body → sp_of v ≡ p.sp → FrameHolds p v.memory b → run p.reserved body n number b ≡ Some (last, c) → RunsAllTo p n (machine v (start + offset_of p.layout body number) f) (start + offset_of p.layout body last) v.rest c
 unfolding run
 body_runs p k start body zero room number v f b last c l at h e =
     let q = same_point number last b c e in

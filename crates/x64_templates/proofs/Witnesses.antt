@@ -5,19 +5,19 @@ use Rattle.flat_memory.specs.declared.protection.Rights.TheVariants.{ReadWrite}
 use Rattle.flat_memory.specs.Memory.{Memory}
 use Rattle.linear_code.specs.BodyState.{Counts}
 use Rattle.x64_templates.specs.Frames.{Agrees}
-use Rattle.x64_templates.specs.EntryStates.{IsFunction, body_in_memory, FreshFrame}
-use Rattle.x64_templates.specs.Runs.{Frame, Roomy, FrameHolds}
+use Rattle.x64_templates.specs.EntryStates.{IsFunctionFrame, body_in_memory, FreshFrame}
+use Rattle.x64_templates.specs.Runs.{FramePlace, Roomy, FrameHolds}
 use Rattle.x64_templates.proofs.Entering.{fresh_holds}
 
 -- 16 temporaries and 4 locals
 abbrev counts : Counts
 counts = record { locals = 4; temporaries = 16 }
 
-abbrev function_place : Frame
+abbrev function_place : FramePlace
 function_place = record { layout = record { base = None; pointers = 0; locals = 160; temporaries = 32; frame = 200 }; counts = counts; reserved = λ a. true; sp = 0x707FF000; base = 0x707FF000 }
 
 -- a block, one page below, keeps the base 24 above its RSP
-abbrev block_place : Frame
+abbrev block_place : FramePlace
 block_place = record { layout = record { base = Some 24; pointers = 16; locals = 160; temporaries = 32; frame = 200 }; counts = counts; reserved = λ a. true; sp = 0x707FE000; base = 0x707FF000 }
 
 function_room : Roomy function_place
@@ -26,7 +26,7 @@ function_room = record { temporaries = omega arith; locals = omega arith; high =
 block_room : Roomy block_place
 block_room = record { temporaries = omega arith; locals = omega arith; high = omega arith; base_high = omega arith; apart = inr (omega arith); kept_base = (omega arith, omega arith) }
 
-function_is : IsFunction function_place
+function_is : IsFunctionFrame function_place
 function_is = record { base = refl; temporaries = omega arith; locals = omega arith }
 
 abbrev plain_memory : Memory

@@ -6,9 +6,9 @@ use Rattle.linear_code.specs.declared.slot.Slot.TheVariants.{Local, Temporary}
 use Rattle.linear_code.specs.BodyState.{BodyState, with_slot}
 use Rattle.template_code.specs.declared.layout.Layout.{Layout}
 use Rattle.x64_templates.specs.Straight.{MachineView}
-use Rattle.x64_templates.specs.Frames.{InTemporaries, InLocals, IsBytes, KeepsBase, KeepsReserved, Agrees, slot_at}
+use Rattle.x64_templates.specs.Frames.{InTemporaries, InLocals, IsBytes, MemoryKeepsBase, KeepsReserved, Agrees, slot_at}
 use Rattle.template_code.specs.Calls.{stack_parameter}
-use Rattle.x64_templates.specs.Runs.{Frame}
+use Rattle.x64_templates.specs.Runs.{FramePlace}
 
 -- so many arguments from one on, in the locals of their numbers
 abbrev pub with_arguments : (Slot → ℕ) → (ℕ → ℕ) → ℕ → ℕ → Slot → ℕ
@@ -30,7 +30,7 @@ pub record InRegisters (v : MachineView) (arguments : ℕ → ℕ) : Type 0 wher
   pub fourth : get_or v.rest 6 0 ≡ arguments 3
 
 -- the further ones are above the frame, where no slot is
-pub record OnStack (p : Frame) (m : Memory) (count : ℕ) (arguments : ℕ → ℕ) : Type 0 where
+pub record OnStack (p : FramePlace) (m : Memory) (count : ℕ) (arguments : ℕ → ℕ) : Type 0 where
   pub number : (i : ℕ) → 4 ≤ i → i < count
       → number_at m.byte 8 (p.sp + stack_parameter p.layout i) ≡ arguments i
   pub readable : (i a : ℕ) → 4 ≤ i → i < count → p.sp + stack_parameter p.layout i ≤ a
@@ -41,7 +41,7 @@ pub record OnStack (p : Frame) (m : Memory) (count : ℕ) (arguments : ℕ → �
   pub small : (i : ℕ) → i < count → arguments i < 2 ^ 64
 
 -- a function's frame, all slots of which lie below its end
-pub record IsFunction (p : Frame) : Type 0 where
+pub record IsFunctionFrame (p : FramePlace) : Type 0 where
   pub base : p.base ≡ p.sp
   pub temporaries : p.layout.temporaries + 8 * p.counts.temporaries ≤ p.layout.frame
   pub locals : p.layout.locals + 8 * p.counts.locals ≤ p.layout.frame
@@ -57,12 +57,12 @@ body_in_memory y sp base m source =
     record { slots = λ x. number_at m.byte 8 (slot_at y sp base x); memory = source }
 
 -- a frame's memory before its body begins
-pub record FreshFrame (p : Frame) (m source : Memory) : Type 0 where
+pub record FreshFrame (p : FramePlace) (m source : Memory) : Type 0 where
   pub bytes : IsBytes m
   pub writable : (a : ℕ) → InTemporaries p.layout p.counts p.sp a
       ⊎ InLocals p.layout p.counts p.base a → may_write m a ≡ true
   pub own : (a : ℕ) → InTemporaries p.layout p.counts p.sp a ⊎ InLocals p.layout p.counts p.base a
       → p.reserved a ≡ true
-  pub base : KeepsBase p.layout.base p.sp p.base m
+  pub base : MemoryKeepsBase p.layout.base p.sp p.base m
   pub own_base : KeepsReserved p.layout.base p.sp p.reserved
   pub agrees : Agrees p.reserved m source

@@ -23,7 +23,7 @@ IsField NumberParameters = Unit {0}
 IsField (ExceptionInformation k) = k < EXCEPTION_MAXIMUM_PARAMETERS
 
 -- n bytes that may be read, and the number that they are
-pub record Reads (m : Memory) (n at x : ℕ) : Type 0 where
+pub record MayRead (m : Memory) (n at x : ℕ) : Type 0 where
   pub high : at + n < 2 ^ 63
   pub readable : (a : ℕ) → at ≤ a → a < at + n → may_read m a ≡ true
   pub number : number_at m.byte n at ≡ x
@@ -33,6 +33,6 @@ pub record Reads (m : Memory) (n at x : ℕ) : Type 0 where
 pub record HasException (m : Memory) (kept : ℕ) (field : Field) (x : ℕ) : Type 0 where
   pub pointers : ℕ
   pub exception : ℕ
-  pub keeps : Reads m 8 kept pointers
-  pub leads : Reads m 8 pointers exception
-  pub holds : Reads m (bytes_of (field_width field)) (exception + field_at field) x
+  pub keeps : MayRead m 8 kept pointers
+  pub leads : MayRead m 8 pointers exception
+  pub holds : MayRead m (bytes_of (field_width field)) (exception + field_at field) x

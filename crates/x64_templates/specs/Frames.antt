@@ -28,7 +28,7 @@ HasBase y None sp base = base ≡ sp
 HasBase y (Some b) sp base = (b + 8 ≤ y.temporaries) × (sp + (b + 8) ≤ base + y.locals)
 
 -- the slots lie apart, below 2 to the 48, and displacements of 31 bits reach them
-pub record HasRoom (y : Layout) (n : Counts) (sp base : ℕ) : Type 0 where
+pub record SlotsHaveRoom (y : Layout) (n : Counts) (sp base : ℕ) : Type 0 where
   pub temporaries : y.temporaries + 8 * n.temporaries < 2 ^ 31
   pub locals : y.locals + 8 * n.locals < 2 ^ 31
   pub high : sp < 2 ^ 47
@@ -38,9 +38,9 @@ pub record HasRoom (y : Layout) (n : Counts) (sp base : ℕ) : Type 0 where
   pub kept_base : HasBase y y.base sp base
 
 -- the base that is kept
-abbrev pub KeepsBase : Option ℕ → ℕ → ℕ → Memory → Type 0
-KeepsBase None sp base m = Unit {0}
-KeepsBase (Some b) sp base m =
+abbrev pub MemoryKeepsBase : Option ℕ → ℕ → ℕ → Memory → Type 0
+MemoryKeepsBase None sp base m = Unit {0}
+MemoryKeepsBase (Some b) sp base m =
     (number_at m.byte 8 (sp + b) ≡ base)
     × ((a : ℕ) → sp + b ≤ a → a < sp + (b + 8) → may_write m a ≡ true)
 
@@ -60,7 +60,7 @@ pub record HoldsBody (y : Layout) (n : Counts) (reserved : ℕ → Bool) (sp bas
     (b : BodyState) : Type 0 where
   pub slot : (x : Slot) → IsSlot n x → number_at m.byte 8 (slot_at y sp base x) ≡ b.slots x
   pub small : (x : Slot) → IsSlot n x → b.slots x < 2 ^ 64
-  pub kept_base : KeepsBase y.base sp base m
+  pub kept_base : MemoryKeepsBase y.base sp base m
   pub writable : (a : ℕ) → InTemporaries y n sp a ⊎ InLocals y n base a → may_write m a ≡ true
   pub own : (a : ℕ) → InTemporaries y n sp a ⊎ InLocals y n base a → reserved a ≡ true
   pub own_base : KeepsReserved y.base sp reserved

@@ -10,11 +10,11 @@ use Rattle.linear_code.specs.Meaning.{Step, Next, JumpsTo, Faults, HasSlots}
 use Rattle.x64_templates.specs.Straight.{MachineView, machine}
 use Rattle.template_code.specs.Bytes.{sizes}
 use Rattle.template_code.specs.Slots.{operands_code}
-use Rattle.template_code.specs.Template.{Links, template, template_size, body_size, code_from, IsBody}
-use Rattle.x64_templates.specs.Runs.{HasCode, Frame, ReachesBody, ReachesFault}
+use Rattle.template_code.specs.Template.{Links, template, template_size, body_size, code_from, HasLabels}
+use Rattle.x64_templates.specs.Runs.{HasCode, FramePlace, ReachesBody, ReachesFault}
 
 -- in so many turns, 1 to 16, the run comes to this address, with this body
-pub record RunsTo (p : Frame) (turns : ℕ) (s : State) (to : ℕ) (others : List ℕ)
+pub record RunsTo (p : FramePlace) (turns : ℕ) (s : State) (to : ℕ) (others : List ℕ)
     (b : BodyState) : Type 0 where
   pub least : 1 ≤ turns
   pub most : turns ≤ 16
@@ -22,7 +22,7 @@ pub record RunsTo (p : Frame) (turns : ℕ) (s : State) (to : ℕ) (others : Lis
 
 -- by what the instruction means: on to the next one, or to a label, in one turn for each machine
 -- instruction of its template, or to a fault
-abbrev pub InstructionDone : Frame → Links → MachineView → ℕ → Flags → BodyState → Instruction
+abbrev pub InstructionDone : FramePlace → Links → MachineView → ℕ → Flags → BodyState → Instruction
     → Step → Type 0
 InstructionDone p k v here flags b instruction (Next c) =
     RunsTo p (length (template k p.layout here instruction)) (machine v here flags)
@@ -37,7 +37,7 @@ InstructionDone p k v here flags b (instructions.Compute to o first second) (Fau
 InstructionDone p k v here flags b instruction _ = Unit {0}
 
 -- the same for n instructions, in n to 16 n turns
-pub record RunsAllTo (p : Frame) (n : ℕ) (s : State) (to : ℕ) (others : List ℕ)
+pub record RunsAllTo (p : FramePlace) (n : ℕ) (s : State) (to : ℕ) (others : List ℕ)
     (b : BodyState) : Type 0 where
   pub turns : ℕ
   pub least : n ≤ turns
@@ -45,10 +45,10 @@ pub record RunsAllTo (p : Frame) (n : ℕ) (s : State) (to : ℕ) (others : List
   pub follows : ReachesBody p turns s to others b
 
 -- a body whose code is placed where no source access reaches, with labels at its instructions
-pub record IsLinked (p : Frame) (k : Links) (m : Memory) (start : ℕ)
+pub record IsLinked (p : FramePlace) (k : Links) (m : Memory) (start : ℕ)
     (body : List Instruction) : Type 0 where
   pub code : HasCode m start (code_from k p.layout start body)
-  pub labels : IsBody k p.layout start body
+  pub labels : HasLabels k p.layout start body
   pub small : body_size p.layout body < 2 ^ 31
   pub high : start + body_size p.layout body < 2 ^ 48
   pub own : (a : ℕ) → start ≤ a → a < start + body_size p.layout body → p.reserved a ≡ true

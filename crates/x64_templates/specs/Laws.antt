@@ -17,12 +17,12 @@ use Rattle.template_code.specs.Slots.{operands_code, compute_code}
 use Rattle.template_code.specs.Jumps.{IsNear}
 use Rattle.template_code.specs.Calls.{return_at, begin_call, return_code, function_entry}
 use Rattle.template_code.specs.Template.{Links, template, offset_of}
-use Rattle.x64_templates.specs.Frames.{HasRoom}
+use Rattle.x64_templates.specs.Frames.{SlotsHaveRoom}
 use Rattle.x64_templates.specs.Implements.{HasOperands}
 use Rattle.x64_templates.specs.CallStates.{sp_of, with_sp, HasBelow, HasBack}
-use Rattle.x64_templates.specs.Runs.{HasCode, Frame, Roomy, FrameHolds, IsThere, EntersBody, Computed}
+use Rattle.x64_templates.specs.Runs.{HasCode, FramePlace, Roomy, FrameHolds, IsThere, EntersBody, Computed}
 use Rattle.x64_templates.specs.InstructionRuns.{RunsAllTo, IsLinked}
-use Rattle.x64_templates.specs.EntryStates.{with_arguments, InRegisters, OnStack, IsFunction, body_in_memory, FreshFrame}
+use Rattle.x64_templates.specs.EntryStates.{with_arguments, InRegisters, OnStack, IsFunctionFrame, body_in_memory, FreshFrame}
 use Rattle.x64_templates.specs.Returned.{CallBegun, Returned}
 use Rattle.x64_templates.specs.Retries.{FaultsAfter, Retried}
 use Rattle.x64_templates.specs.Quiet.{AllQuiet, IsReturn}
@@ -33,7 +33,7 @@ use Rattle.x64_templates.specs.Quiet.{AllQuiet, IsReturn}
 -- instruction faults
 abbrev pub OperationsRun : Type 0
 OperationsRun =
-    (p : Frame) (to : Slot) (o : Operation) (first second : Slot) (v : MachineView) (rip : ℕ)
+    (p : FramePlace) (to : Slot) (o : Operation) (first second : Slot) (v : MachineView) (rip : ℕ)
     (f : Flags) (b : BodyState)
     → Roomy p → IsThere p to → IsThere p first → IsThere p second → sp_of v ≡ p.sp
     → FrameHolds p v.memory b
@@ -45,7 +45,7 @@ OperationsRun =
 -- and at most 16 times as many turns
 abbrev pub BodiesRun : Type 0
 BodiesRun =
-    (p : Frame) (k : Links) (start : ℕ) (body : List Instruction) (n : ℕ) → Roomy p
+    (p : FramePlace) (k : Links) (start : ℕ) (body : List Instruction) (n : ℕ) → Roomy p
     → (number : ℕ) (v : MachineView) (f : Flags) (b : BodyState) (last : ℕ) (c : BodyState)
     → IsLinked p k v.memory start body → sp_of v ≡ p.sp → FrameHolds p v.memory b
     → run p.reserved body n number b ≡ Some (last, c)
@@ -57,7 +57,8 @@ BodiesRun =
 -- where a body's instruction faults, so does the machine's, with both operands in their registers
 abbrev pub BodiesFault : Type 0
 BodiesFault =
-    (p : Frame) (k : Links) (start : ℕ) (body : List Instruction) (n number : ℕ) (v : MachineView)
+    (p : FramePlace) (k : Links) (start : ℕ) (body : List Instruction) (n number : ℕ)
+    (v : MachineView)
     (f : Flags) (b : BodyState) (last : ℕ) (c : BodyState)
     (to first second : Slot) (o : Operation) (code : Code) (access : Option (Bool × ℕ))
     → Roomy p → IsLinked p k v.memory start body → sp_of v ≡ p.sp → FrameHolds p v.memory b
@@ -71,7 +72,8 @@ BodiesFault =
 -- the operation is made again with the same operands, in whatever memory there is by then
 abbrev pub FaultsAreRetried : Type 0
 FaultsAreRetried =
-    (p : Frame) (k : Links) (start : ℕ) (body : List Instruction) (number : ℕ) (v : MachineView)
+    (p : FramePlace) (k : Links) (start : ℕ) (body : List Instruction) (number : ℕ)
+    (v : MachineView)
     (f : Flags) (b : BodyState)
     (to first second : Slot) (o : Operation) (x y : ℕ)
     → Roomy p → IsLinked p k v.memory start body → number < length body
@@ -87,7 +89,7 @@ FaultsAreRetried =
 -- return address at RSP
 abbrev pub CallsBegin : Type 0
 CallsBegin =
-    (p : Frame) (first : ℕ) (v : MachineView) (rip to : ℕ) (f : Flags) (b : BodyState)
+    (p : FramePlace) (first : ℕ) (v : MachineView) (rip to : ℕ) (f : Flags) (b : BodyState)
     → Roomy p → first + 4 ≤ p.counts.temporaries → sp_of v ≡ p.sp → FrameHolds p v.memory b
     → HasBelow v.memory p.sp 8
     → IsNear (return_at p.layout first rip) to
@@ -97,9 +99,9 @@ CallsBegin =
 -- a function's entry makes its frame and brings its arguments to the locals of their numbers
 abbrev pub FunctionsEnter : Type 0
 FunctionsEnter =
-    (p : Frame) (count : ℕ) (arguments : ℕ → ℕ) (v : MachineView) (source : Memory) (rip : ℕ)
+    (p : FramePlace) (count : ℕ) (arguments : ℕ → ℕ) (v : MachineView) (source : Memory) (rip : ℕ)
     (f : Flags)
-    → Roomy p → IsFunction p → count ≤ p.counts.locals → length v.rest ≡ 13
+    → Roomy p → IsFunctionFrame p → count ≤ p.counts.locals → length v.rest ≡ 13
     → sp_of v ≡ p.sp + p.layout.frame → p.layout.frame < 2 ^ 31
     → FreshFrame p v.memory source → InRegisters v arguments → OnStack p v.memory count arguments
     → HasCode v.memory rip (function_entry p.layout count)
@@ -114,7 +116,7 @@ FunctionsEnter =
 -- a return leaves the number in RAX and gives the frame back
 abbrev pub BodiesReturn : Type 0
 BodiesReturn =
-    (p : Frame) (from : Slot) (v : MachineView) (back rip : ℕ) (f : Flags) (b : BodyState)
+    (p : FramePlace) (from : Slot) (v : MachineView) (back rip : ℕ) (f : Flags) (b : BodyState)
     → Roomy p → IsThere p from → length v.rest ≡ 13 → sp_of v ≡ p.sp → p.layout.frame < 2 ^ 31
     → FrameHolds p v.memory b → HasBack v.memory (p.sp + p.layout.frame) back
     → HasCode v.memory rip (return_code p.layout from)
@@ -127,5 +129,5 @@ BodiesReturn =
 abbrev pub TemplatesAreQuiet : Type 0
 TemplatesAreQuiet =
     (k : Links) (y : Layout) (n : Counts) (sp base : ℕ) (at : ℕ) (instruction : Instruction)
-    → HasRoom y n sp base → HasSlots n instruction → (IsReturn instruction → ⊥)
+    → SlotsHaveRoom y n sp base → HasSlots n instruction → (IsReturn instruction → ⊥)
     → AllQuiet (template k y at instruction)

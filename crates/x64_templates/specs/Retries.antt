@@ -11,11 +11,11 @@ use Rattle.linear_code.specs.BodyState.{BodyState, with_slot}
 use Rattle.x64_templates.specs.Straight.{MachineView, machine}
 use Rattle.template_code.specs.Slots.{finish_code}
 use Rattle.x64_templates.specs.Implements.{HasOperands}
-use Rattle.x64_templates.specs.Runs.{Reaches, Frame, FrameHolds, ChangesOwn, ReachesBody}
+use Rattle.x64_templates.specs.Runs.{Reaches, FramePlace, FrameHolds, ChangesOwn, ReachesBody}
 
 -- n instructions of a body, and then one that faults: the run comes to the instruction of the
 -- machine that does
-pub record FaultsAfter (p : Frame) (n : ℕ) (v : MachineView) (rip : ℕ) (f : Flags) (at : ℕ)
+pub record FaultsAfter (p : FramePlace) (n : ℕ) (v : MachineView) (rip : ℕ) (f : Flags) (at : ℕ)
     (o : Operation) (first second : ℕ) (code : Code) (access : Option (Bool × ℕ))
     (b : BodyState) : Type 0 where
   pub turns : ℕ
@@ -32,7 +32,8 @@ pub record FaultsAfter (p : Frame) (n : ℕ) (v : MachineView) (rip : ℕ) (f : 
 
 -- made again, with the same operands, on whatever the body holds by then: on to the next
 -- instruction, or the fault again
-abbrev pub Retried : Frame → ℕ → Slot → Operation → MachineView → ℕ → Flags → BodyState → Outcome
+abbrev pub Retried : FramePlace → ℕ → Slot → Operation → MachineView → ℕ → Flags → BodyState
+    → Outcome
     → Type 0
 Retried p next to o v at f b (Gives x m) =
     ReachesBody p (length (finish_code p.layout o to)) (machine v at f) next v.rest

@@ -6,7 +6,7 @@ use Rattle.linear_code.specs.BodyState.{BodyState}
 use Rattle.x64_templates.specs.Straight.{MachineView, machine}
 use Rattle.template_code.specs.Calls.{return_at}
 use Rattle.x64_templates.specs.CallStates.{with_four, pushed, moved}
-use Rattle.x64_templates.specs.Runs.{Reaches, Frame}
+use Rattle.x64_templates.specs.Runs.{Reaches, FramePlace}
 
 -- the body is left with this number in RAX, and RSP above the return address; no memory has changed
 pub record Returned (turns : ℕ) (v : MachineView) (sp back x rip : ℕ) (f : Flags) : Type 0 where
@@ -21,7 +21,7 @@ pub record Returned (turns : ℕ) (v : MachineView) (sp back x rip : ℕ) (f : F
       }) sp) back flags)
 
 -- with its arguments in their registers, and the return address at RSP
-pub record CallBegun (p : Frame) (first : ℕ) (v : MachineView) (rip to : ℕ) (f : Flags)
+pub record CallBegun (p : FramePlace) (first : ℕ) (v : MachineView) (rip to : ℕ) (f : Flags)
     (b : BodyState) : Type 0 where
   pub flags : Flags
   pub comes : Reaches 5 (machine v rip f)

@@ -20,7 +20,7 @@ use Rattle.template_code.specs.declared.layout.Layout.{Layout}
 use Rattle.x64_templates.specs.Straight.{AreSmall, MachineView, machine, takes_frame}
 use Rattle.template_code.specs.Bytes.{sizes}
 use Rattle.template_code.specs.Slots.{operands_code, finish_code, compute_code}
-use Rattle.x64_templates.specs.Frames.{HasRoom, HoldsBody, Changes}
+use Rattle.x64_templates.specs.Frames.{SlotsHaveRoom, HoldsBody, Changes}
 use Rattle.x64_templates.specs.Implements.{HasOperands}
 
 -- an instruction of the image is run, which changes no protection and no byte that may not be
@@ -58,28 +58,28 @@ pub record HasCode (m : Memory) (at : ℕ) (code : List Instr) : Type 0 where
   pub placed : IsPlaced at (at + sizes code)
 
 -- where a frame is, and what its memory is agreed on
-pub record Frame : Type 0 where
+pub record FramePlace : Type 0 where
   pub layout : Layout
   pub counts : Counts
   pub reserved : ℕ → Bool
   pub sp : ℕ
   pub base : ℕ
 
-abbrev pub Roomy : Frame → Type 0
-Roomy p = HasRoom p.layout p.counts p.sp p.base
+abbrev pub Roomy : FramePlace → Type 0
+Roomy p = SlotsHaveRoom p.layout p.counts p.sp p.base
 
-abbrev pub FrameHolds : Frame → Memory → BodyState → Type 0
+abbrev pub FrameHolds : FramePlace → Memory → BodyState → Type 0
 FrameHolds p m b = HoldsBody p.layout p.counts p.reserved p.sp p.base m b
 
-abbrev pub ChangesOwn : Frame → Memory → Memory → Type 0
+abbrev pub ChangesOwn : FramePlace → Memory → Memory → Type 0
 ChangesOwn p old new = Changes p.layout p.counts p.reserved p.sp p.base old new
 
-abbrev pub IsThere : Frame → Slot → Type 0
+abbrev pub IsThere : FramePlace → Slot → Type 0
 IsThere p x = IsSlot p.counts x
 
 -- the run comes to this address, with this body in the frame and all registers but RAX, RCX and RDX
 -- as they were
-pub record ReachesBody (p : Frame) (turns : ℕ) (s : State) (to : ℕ) (others : List ℕ)
+pub record ReachesBody (p : FramePlace) (turns : ℕ) (s : State) (to : ℕ) (others : List ℕ)
     (b : BodyState) : Type 0 where
   pub after : MachineView
   pub flags : Flags
@@ -89,7 +89,7 @@ pub record ReachesBody (p : Frame) (turns : ℕ) (s : State) (to : ℕ) (others 
   pub changes : ChangesOwn p s.memory after.memory
 
 -- the same from a function's first byte
-pub record EntersBody (p : Frame) (turns : ℕ) (s : State) (to : ℕ) (others : List ℕ)
+pub record EntersBody (p : FramePlace) (turns : ℕ) (s : State) (to : ℕ) (others : List ℕ)
     (b : BodyState) : Type 0 where
   pub after : MachineView
   pub flags : Flags
@@ -115,7 +115,7 @@ pub record ReachesFault (turns : ℕ) (v : MachineView) (rip : ℕ) (flags : Fla
 -- with its operands in their registers an operation is made, or refused; it is made so when it is
 -- made again too, whatever the memory is by then
 
-abbrev pub Finished : Frame → Operation → Slot → MachineView → ℕ → Flags → BodyState → Outcome
+abbrev pub Finished : FramePlace → Operation → Slot → MachineView → ℕ → Flags → BodyState → Outcome
     → Type 0
 Finished p o to v at flags b (Gives x m) =
     ReachesBody p (length (finish_code p.layout o to)) (machine v at flags)
@@ -127,7 +127,8 @@ Finished p o to v at flags b (Undefined a) = Unit {0}
 
 -- ---- a whole operation
 
-abbrev pub Computed : Frame → Slot → Operation → Slot → Slot → MachineView → ℕ → Flags → BodyState
+abbrev pub Computed : FramePlace → Slot → Operation → Slot → Slot → MachineView → ℕ → Flags
+    → BodyState
     → Step → Type 0
 Computed p to o first second v rip flags b (Next c) =
     ReachesBody p (length (compute_code p.layout to o first second)) (machine v rip flags)

@@ -2,7 +2,7 @@ use Rattle.std.proofs.Common.{None, refl, sym, subst}
 use Rattle.c_locals.proofs.Begun.{declaring}
 use Rattle.c_locals.proofs.declarations.for_initialiser.Goals as goal
 use Rattle.c_locals.specs.declared.declarations.Beginning.{Beginning}
-use Rattle.c_locals.specs.Resolved.{Begins}
+use Rattle.c_locals.specs.Resolved.{IsBeginning}
 use Rattle.c_locals.specs.Views.{environment, numbering}
 use Rattle.c_resolved.specs.Statements.{resolve_for_initialiser}
 use Rattle.c_syntax.specs.Statement.{first}
@@ -13,5 +13,5 @@ returns-in_ok-declared-in-Declaration c =
     let d = c.in-Declaration.declaration in
     let w = c.args.walk.now in
     let b : Beginning = record { declared = c.in_ok-declared-in-Declaration.declared; first = None } in
-    subst (λ f. Begins c.declare_each.new.block.entries w c.declare_each.new.walk b (resolve_for_initialiser a (first f) (numbering w))) (sym c.in-Declaration.is)
+    subst (λ f. IsBeginning c.declare_each.new.block.entries w c.declare_each.new.walk b (resolve_for_initialiser a (first f) (numbering w))) (sym c.in-Declaration.is)
     (declaring a d.base d.locals.items c.deref.result.now c.args.block.now.entries c.declare_each.new.block.entries w c.declare_each.new.walk b c.requires c.deref.ensures.value refl c.in_ok-declared-in-Declaration.ensures)

@@ -17,7 +17,7 @@ use Rattle.c_parse_type.proofs.Types.{punctuator_shorter}
 use Rattle.c_parse_expr.specs.declared.step.Operation.{Operation}
 use Rattle.c_parse_expr.specs.Operations.{with}
 use Rattle.c_parse_expr.specs.Readings.{NoExpression, HasExpression, NoOperand, NoArguments, HasArguments, NoneAfterPunctuator, HasAfterPunctuator, AreListed, IsAfterPunctuator}
-use Rattle.c_parse_expr.specs.Refusals.{Placed}
+use Rattle.c_parse_expr.specs.Refusals.{IsPlacedRefusal}
 use Rattle.c_parse_expr.specs.Steps as code_steps
 use Rattle.c_parse_expr.proofs.Arguing.{first_wraps, next_wraps, stuck_there}
 use Rattle.c_parse_expr.proofs.Beginning.{call_wraps, information_wraps, prefix_wraps, unary_wraps, group_wraps, cast_wraps, cast_unclosed, no_operand_there, no_room_there}
@@ -167,7 +167,7 @@ pub operated-returns-in_err-inner-in-Index-clause-refused : goal.operated-return
 operated-returns-in_err-inner-in-Index-clause-refused t c =
     let p = err_from_is_err_and c.from_residual.result c.from_residual.ensures.1 in
     let e = c.in_err-inner-in-Index.field-0.0 in
-    rw (p.1, p.2) (subst (λ (o : Operation). Placed e (NoneAfterPunctuator c.args.room o) (HasAfterPunctuator c.args.room o c.args.at) c.args.text.now c.args.tokens.now) (sym c.in-Index.is)
+    rw (p.1, p.2) (subst (λ (o : Operation). IsPlacedRefusal e (NoneAfterPunctuator c.args.room o) (HasAfterPunctuator c.args.room o c.args.at) c.args.text.now c.args.tokens.now) (sym c.in-Index.is)
     (placed_so e _ _ _ _ _ _ _ (index_wraps c.args.room c.args.at c.args.text.now c.args.tokens.now) c.in_err-inner-in-Index.ensures.refused))
 
 pub operated-returns-in_err-value-in-Infix-clause-refused : goal.operated-returns-in_err-value-in-Infix-clause-refused
@@ -176,8 +176,8 @@ operated-returns-in_err-value-in-Infix-clause-refused t c =
     let k = c.in_err-value-in-Infix in
     let e = k.field-0.0 in
     let p = err_from_is_err_and c.from_residual-in_err-value-in-Infix.result c.from_residual-in_err-value-in-Infix.ensures.1 in
-    let h = subst (λ (l : ℕ). Placed e (NoExpression l c.args.room) (HasExpression l c.args.room) c.args.text.now c.args.tokens.now) c.right.ensures k.ensures.refused in
-    rw (p.1, p.2) (subst (λ (o : Operation). Placed e (NoneAfterPunctuator c.args.room o) (HasAfterPunctuator c.args.room o c.args.at) c.args.text.now c.args.tokens.now) (sym c.in-Infix.is)
+    let h = subst (λ (l : ℕ). IsPlacedRefusal e (NoExpression l c.args.room) (HasExpression l c.args.room) c.args.text.now c.args.tokens.now) c.right.ensures k.ensures.refused in
+    rw (p.1, p.2) (subst (λ (o : Operation). IsPlacedRefusal e (NoneAfterPunctuator c.args.room o) (HasAfterPunctuator c.args.room o c.args.at) c.args.text.now c.args.tokens.now) (sym c.in-Infix.is)
     (placed_so e _ _ _ _ _ _ _ (right_wraps c.args.room op c.args.at c.args.text.now c.args.tokens.now) h))
 
 pub operated-returns-in_ok-right-in-Infix-clause-found : goal.operated-returns-in_ok-right-in-Infix-clause-found
@@ -238,7 +238,7 @@ signed-returns-then-not-opens-clause-refused t c =
 pub signed-returns-then-room-eq0-clause-refused : goal.signed-returns-then-room-eq0-clause-refused
 signed-returns-then-room-eq0-clause-refused t c =
     let o = c.opens.ensures.opens c.if-not-opens.false in
-    subst (λ (z : ℕ). Placed c.too_deep.result (NoOperand c.args.level z) (HasExpression c.args.level z) c.args.text.now c.args.tokens.now) (sym c.if-room-eq0.true)
+    subst (λ (z : ℕ). IsPlacedRefusal c.too_deep.result (NoOperand c.args.level z) (HasExpression c.args.level z) c.args.text.now c.args.tokens.now) (sym c.if-room-eq0.true)
     (placed_as _ _ _ _ _ _ c.too_deep.ensures (no_room_there c.args.level c.args.punctuator c.args.at c.args.text.now c.args.tokens.now c.args.rest.now c.requires.level c.requires.punctuator o))
 
 pub signed-returns-in_err-inner-clause-refused : goal.signed-returns-in_err-inner-clause-refused
@@ -368,7 +368,7 @@ grouped-returns-clause-found t c =
 
 pub arguments-returns-then-room-eq0-clause-refused : goal.arguments-returns-then-room-eq0-clause-refused
 arguments-returns-then-room-eq0-clause-refused t c =
-    subst (λ (z : ℕ). Placed c.no_argument.result (NoArguments z) (HasArguments z) c.args.text.now c.args.tokens.now) (sym c.if-room-eq0.true) c.no_argument.ensures
+    subst (λ (z : ℕ). IsPlacedRefusal c.no_argument.result (NoArguments z) (HasArguments z) c.args.text.now c.args.tokens.now) (sym c.if-room-eq0.true) c.no_argument.ensures
 
 pub arguments-returns-in_err-first-clause-refused : goal.arguments-returns-in_err-first-clause-refused
 arguments-returns-in_err-first-clause-refused t c =
