@@ -10,7 +10,7 @@ use Rattle.pe_image.specs.Image.{Image, stored}
 use Rattle.pe_image.specs.Imports.{Import, imports_of}
 use Rattle.pe_image.specs.Bound.{bound_name}
 use Rattle.eh_tables.specs.declared.layout.TheConstants.{JUMP_SIZE}
-use Rattle.eh_tables.specs.Handler.{extended, plain_slot, after_rex, has_rex, jump_slot, is_c_name, is_c_handler}
+use Rattle.eh_tables.specs.Handler.{extended, plain_slot, after_rex, begins_with_rex, jump_slot, is_c_name, is_c_handler}
 use Rattle.pe_write.specs.ImportTables.{slots_at, services, name_of, imported}
 use Rattle.host_layout.specs.declared.imported.ImportedService.TheVariants.{CSpecificHandler}
 use Rattle.x64_encode.specs.Chosen.{chosen, modrm, little}
@@ -52,7 +52,7 @@ slot_is rva to le lt =
 
 jumps : (image : Image) (rva to : ℕ) → rva + 6 ≤ to → to < 2 ^ 31 → stored image.sections rva 6 ≡ Some (jump_bytes (distance (rva + 6) to)) → jump_slot image rva ≡ Some to
 jumps image rva to le lt h =
-    ap (option_and_then (λ bytes. after_rex image rva bytes (has_rex bytes))) h
+    ap (option_and_then (λ bytes. after_rex image rva bytes (begins_with_rex bytes))) h
     ∙ ap (λ (n : ℕ). Some n) (slot_is rva to le lt)
 
 -- ---- the name of its slot

@@ -39,7 +39,7 @@ use Rattle.program_link.proofs.Images.{is_program, tables_fit, rdata_fits, has_p
 use Rattle.program_link.proofs.Infos.{info_small}
 use Rattle.program_link.proofs.Nearness.{routines_near}
 use Rattle.program_tables.specs.Placed.{Placed, end_of, placed_from, site_of, infos_begin, placed}
-use Rattle.program_tables.specs.Ranges.{IsRuntimeFunction as IsRegionRange, HasRanges, HasRegions}
+use Rattle.program_tables.specs.Ranges.{IsRange as IsRegionRange, HasRanges, HasRegions}
 use Rattle.program_tables.specs.Entries.{scopes_of, has_rows, unwind_of, entry_if, entries_of, entries}
 use Rattle.program_tables.specs.Laws.{TablesAreRead}
 use Rattle.program_tables.proofs.Stored.{text_there, xdata_there, pdata_there}
