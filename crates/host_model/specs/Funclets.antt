@@ -7,6 +7,7 @@ use Rattle.seh_num.specs.Widths.{low}
 use Rattle.x64_instr.specs.declared.register.Reg.TheVariants.{Rcx}
 use Rattle.x64_machine.specs.declared.cpu.Cpu.{Cpu}
 use Rattle.x64_machine.specs.Effect.{register}
+use Rattle.eh_tables.specs.declared.layout.TheConstants.{EXCEPTION_EXECUTE_HANDLER}
 use Rattle.eh_tables.specs.declared.scope.ScopeRecord.{ScopeRecord}
 use Rattle.eh_tables.specs.Tables.{Entry}
 use Rattle.virtual_unwind.specs.CallerOf.{Functions, distance}
@@ -38,7 +39,7 @@ with_row r fs false = inserted r.handler_address (r.jump_target == 0) fs
 -- with those of a scope table
 abbrev pub of_rows : List ScopeRecord → List Funclet → List Funclet
 of_rows [] fs = fs
-of_rows (r ∷ rows) fs = of_rows rows (with_row r fs (r.handler_address == 1))
+of_rows (r ∷ rows) fs = of_rows rows (with_row r fs (r.handler_address == EXCEPTION_EXECUTE_HANDLER))
 
 -- with those of a function table
 abbrev pub of_entries : List Entry → List Funclet → List Funclet

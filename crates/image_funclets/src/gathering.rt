@@ -2,10 +2,11 @@
 
 ghost use Rattle.std.specs.Prelude.{◌≡◌, ◌-◌, ◌<◌, ◌==◌, ◌^◌, length, IfOk, OnOk};
 ghost use Rattle.eh_tables.specs.Tables.{TablesAreWhole, entries_of};
+ghost use Rattle.eh_tables.specs.declared.layout.TheConstants.{EXCEPTION_EXECUTE_HANDLER};
 ghost use Rattle.host_model.specs.Funclets as spec;
 ghost use Rattle.image_funclets.specs.Listed.{AreAscending, funclets_of};
 
-use eh_tables::{ScopeRecord, Scopes, Tables};
+use eh_tables::{EXCEPTION_EXECUTE_HANDLER, ScopeRecord, Scopes, Tables};
 use host_model::funclet::Funclet;
 use std::alloc::{AllocError, Global};
 use std::collections::BTreeMap;
@@ -31,9 +32,10 @@ fn insert(
 fn add_row(gathered: &mut BTreeMap<u32, bool>, row: &ScopeRecord) -> Result<(), AllocError>
     requires { AreAscending 0 (funclets_of gathered.old.entries) }
     ensures { OnOk result (funclets_of gathered.new.entries
-        ≡ spec.with_row row.now (funclets_of gathered.old.entries) (row.now.handler_address == 1)) }
+        ≡ spec.with_row row.now (funclets_of gathered.old.entries)
+        (row.now.handler_address == EXCEPTION_EXECUTE_HANDLER)) }
 {
-    if row.handler_address == 1 {
+    if row.handler_address == EXCEPTION_EXECUTE_HANDLER {
         Ok(())
     } else {
         insert(gathered, row.handler_address, row.jump_target == 0)

@@ -2,6 +2,7 @@
 use Rattle.std.specs.Prelude.{◌≡◌, ◌⊎◌, ℕ, ◌+◌, ◌%◌, ◌^◌, ◌<◌, ◌≤◌, Bool, true, false, ◌||◌, ◌==◌, List, [], ◌∷◌, length, slice_get, Option, Some, None}
 use Rattle.seh_num.specs.declared.event.Event.TheVariants as events
 use Rattle.x64_machine.specs.declared.cpu.Cpu.{Cpu}
+use Rattle.eh_tables.specs.declared.layout.TheConstants.{EXCEPTION_EXECUTE_HANDLER}
 use Rattle.eh_tables.specs.declared.scope.ScopeRecord.{ScopeRecord}
 use Rattle.eh_tables.specs.Infos.{Info}
 use Rattle.eh_tables.specs.Tables.{Entry}
@@ -75,7 +76,7 @@ module _ (t : Functions) (fs : List Funclet) (program : LinearProgram) (p : Imag
   -- where the filter is a funclet, its address
   pub record IsFilterRow (name : BodyName) (row : ScopeRecord) (k label : ℕ) : Type 0 where
     pub to : JumpsTo name row label
-    pub asks : (row.handler_address == 1) ≡ false
+    pub asks : (row.handler_address == EXCEPTION_EXECUTE_HANDLER) ≡ false
     pub handler : (t.base + row.handler_address) % 2 ^ 64 ≡ p.funclet k
     pub funclet : IsFunclet name k
     pub named : (c : Cpu) → arrivals c (distance t.base (p.funclet k)) 1 fs
@@ -84,7 +85,7 @@ module _ (t : Functions) (fs : List Funclet) (program : LinearProgram) (p : Imag
   -- where it always takes over, HandlerAddress is 1
   pub record IsAlwaysRow (name : BodyName) (row : ScopeRecord) (label : ℕ) : Type 0 where
     pub to : JumpsTo name row label
-    pub accepts : (row.handler_address == 1) ≡ true
+    pub accepts : (row.handler_address == EXCEPTION_EXECUTE_HANDLER) ≡ true
 
   -- a row of an `__except` block, with a filter or without one
   abbrev pub IsHandlerRow : BodyName → ScopeRecord → Option ℕ → ℕ → Type 0

@@ -1,6 +1,7 @@
 -- The tables of a program: an unwind info for each routine with a frame, its scope table where it
 -- has regions, and its entry in the function table.
 use Rattle.std.specs.Prelude.{ℕ, ◌+◌, ◌*◌, Bool, true, false, not, ◌||◌, List, [], ◌∷◌, ◌++◌, length, map, Option, Some, None}
+use Rattle.eh_tables.specs.declared.layout.TheConstants.{EXCEPTION_EXECUTE_HANDLER}
 use Rattle.eh_tables.specs.declared.range.RuntimeFunction.{RuntimeFunction}
 use Rattle.eh_tables.specs.declared.scope.ScopeRecord.{ScopeRecord}
 use Rattle.eh_tables.specs.declared.unwind_info.Trailer.{Trailer}
@@ -23,7 +24,7 @@ use Rattle.program_link.specs.Text.{SiteView, own_addresses, routine_size, thunk
 abbrev pub handler_address : List ℕ → RegionKind → ℕ
 handler_address funclets (kinds.Finally funclet) = address_or funclets funclet 0
 handler_address funclets (kinds.Filter funclet target) = address_or funclets funclet 0
-handler_address funclets (kinds.Always target) = 1
+handler_address funclets (kinds.Always target) = EXCEPTION_EXECUTE_HANDLER
 
 abbrev pub jump_target : List ℕ → ℕ → RegionKind → ℕ
 jump_target labels end (kinds.Finally funclet) = 0

@@ -14,17 +14,14 @@ use crate::place::labels_at;
 use crate::routine::Routine;
 use crate::text::{Site, thunk_at};
 use eh_tables::{
-    RuntimeFunction, ScopeRecord, Trailer, UnwindInfo, write_pdata, write_scopes, write_unwind,
+    EXCEPTION_EXECUTE_HANDLER, RuntimeFunction, ScopeRecord, Trailer, UnwindInfo, write_pdata,
+    write_scopes, write_unwind,
 };
 use frame_layout::{Frame, unwind_of};
 use host_layout::imported::ImportedService;
 use linear_code::program::{Region, RegionKind};
 use std::alloc::{AllocError, Global};
 use x64_code::body::Labels;
-
-/// A scope record's handler address where a filter always accepts (`excpt.h`:
-/// EXCEPTION_EXECUTE_HANDLER).
-const EXECUTE_HANDLER: u32 = 1;
 
 /// The address of an index, or another one where there is none.
 fn address_or(addresses: &[u32], index: u64, other: u32) -> u32
@@ -43,7 +40,7 @@ fn handler_address(kind: RegionKind, funclets: &[u32]) -> u32
         RegionKind::Finally { funclet } | RegionKind::Filter { funclet, .. } => {
             address_or(funclets, funclet, 0)
         }
-        RegionKind::Always { .. } => EXECUTE_HANDLER,
+        RegionKind::Always { .. } => EXCEPTION_EXECUTE_HANDLER,
     }
 }
 

@@ -1,6 +1,7 @@
 -- The scope records of a whole function table, against the regions of a program.
 use Rattle.std.specs.Prelude.{◌≡◌, ℕ, ◌+◌, ◌<◌, ◌≤◌, ◌==◌, Bool, true, false, if◌then◌else◌, List, [], ◌∷◌, ◌++◌, length}
 use Rattle.std.specs.List.{AllByRecursion}
+use Rattle.eh_tables.specs.declared.layout.TheConstants.{EXCEPTION_EXECUTE_HANDLER}
 use Rattle.eh_tables.specs.declared.scope.ScopeRecord.{ScopeRecord}
 use Rattle.eh_tables.specs.Tables.{Entry}
 use Rattle.linear_code.specs.declared.program.Region.{Region}
@@ -24,7 +25,7 @@ abbrev pub is_finally_row : ScopeRecord → Bool
 is_finally_row row = row.jump_target == 0
 
 abbrev pub is_always_row : ScopeRecord → Bool
-is_always_row row = row.handler_address == 1
+is_always_row row = row.handler_address == EXCEPTION_EXECUTE_HANDLER
 
 -- the other handler addresses
 abbrev pub handlers : List ScopeRecord → List ℕ

@@ -7,6 +7,7 @@ use Rattle.seh_walk.specs.declared.walk.WalkState.{WalkState}
 use Rattle.seh_walk.specs.Asked.{AskedRecord, searched, first_with_jump_target}
 use Rattle.seh_walk.specs.Walk.{Visited, Over, Past, Frame, Broken, visited, continue_walk}
 use Rattle.seh_search.specs.declared.search_result.SearchResult.{SearchResult}
+use Rattle.eh_tables.specs.declared.layout.TheConstants.{EXCEPTION_EXECUTE_HANDLER}
 use Rattle.seh_search.specs.declared.search_result.SearchResult.TheVariants.{Filter, Accept, Nobody, Stop}
 
 -- HandlerAddress 1 accepts; any other is a filter
@@ -15,7 +16,7 @@ by_handler base frame c r true = Accept frame ((base + r.1.jump_target) % 2 ^ 64
 by_handler base frame c r false = Filter ((base + r.1.handler_address) % 2 ^ 64) frame (r.0 + 1) c
 
 abbrev pub chosen : ℕ → ℕ → Context → AskedRecord → SearchResult
-chosen base frame c r = by_handler base frame c r (r.1.handler_address == 1)
+chosen base frame c r = by_handler base frame c r (r.1.handler_address == EXCEPTION_EXECUTE_HANDLER)
 
 -- a step decides, or the walk continues: the first row that is asked decides
 abbrev pub by_row : Functions → ℕ → Context → WalkState → Option AskedRecord

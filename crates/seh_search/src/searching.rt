@@ -7,7 +7,7 @@ ghost use Rattle.seh_walk.specs.Walk as walk;
 ghost use Rattle.seh_search.specs.Search as spec;
 
 use crate::search_result::SearchResult;
-use eh_tables::{ScopeRecord, Tables};
+use eh_tables::{EXCEPTION_EXECUTE_HANDLER, ScopeRecord, Tables};
 use seh_records::DispatchRecord;
 use seh_walk::asked::first_searched;
 use seh_walk::walk::{WalkItem, WalkState, visit};
@@ -18,7 +18,7 @@ fn chosen(base: u64, frame: u64, context: &Context, k: u64, row: &ScopeRecord) -
     requires { k + 1 < 2 ^ 64 }
     ensures { result ≡ spec.chosen base frame context.now (k, row.now) }
 {
-    if row.handler_address == 1 {
+    if row.handler_address == EXCEPTION_EXECUTE_HANDLER {
         SearchResult::Accept {
             frame,
             target: base.wrapping_add(row.jump_target as u64),
