@@ -16,9 +16,16 @@ fn boxed(alloc: Global, left: Expr, right: Expr) -> Result<(Box<Expr>, Box<Expr>
     ensures left { IfOk result (λ boxes. boxes.0.value ≡ left) }
     ensures right { IfOk result (λ boxes. boxes.1.value ≡ right) }
 {
-    let left = Box::new(alloc, left)?;
-    let right = Box::new(alloc, right)?;
-    Ok((left, right))
+    match Box::new(alloc, left) {
+        Ok(left) => {
+            let right = Box::new(alloc, right)?;
+            Ok((left, right))
+        }
+        Err(failed) => {
+            drop(right);
+            Err(AllocError::from(failed))
+        }
+    }
 }
 
 /// An operation on two operands.
@@ -98,17 +105,29 @@ pub fn conditional(alloc: Global, condition: Expr, yes: Expr, no: Expr) -> Resul
     ensures { IfOk result (λ n. nodes.node n ≡
         nodes.Conditional (expression condition) (expression yes) (expression no)) }
 {
-    let (yes, no) = boxed(alloc, yes, no)?;
-    let condition = Box::new(alloc, condition)?;
-    Ok(Node::Conditional { condition, yes, no })
+    match boxed(alloc, yes, no) {
+        Ok((yes, no)) => {
+            let condition = Box::new(alloc, condition)?;
+            Ok(Node::Conditional { condition, yes, no })
+        }
+        Err(failed) => {
+            drop(condition);
+            Err(failed)
+        }
+    }
 }
 
 /// `target = value`
 pub fn assign(alloc: Global, target: Lvalue, value: Expr) -> Result<Node, AllocError>
     ensures { IfOk result (λ n. nodes.node n ≡ nodes.Assign (lvalue target) (expression value)) }
 {
-    let value = Box::new(alloc, value)?;
-    Ok(Node::Assign { target, value })
+    match Box::new(alloc, value) {
+        Ok(value) => Ok(Node::Assign { target, value }),
+        Err(failed) => {
+            drop(target);
+            Err(AllocError::from(failed))
+        }
+    }
 }
 
 /// `target operation= value`
@@ -123,14 +142,19 @@ pub fn compound_assign(
     ensures { IfOk result (λ n. nodes.node n ≡
         nodes.CompoundAssign (lvalue target) before operation (expression value) after) }
 {
-    let value = Box::new(alloc, value)?;
-    Ok(Node::CompoundAssign {
-        target,
-        before,
-        operation,
-        value,
-        after,
-    })
+    match Box::new(alloc, value) {
+        Ok(value) => Ok(Node::CompoundAssign {
+            target,
+            before,
+            operation,
+            value,
+            after,
+        }),
+        Err(failed) => {
+            drop(target);
+            Err(AllocError::from(failed))
+        }
+    }
 }
 
 /// `++` and `--` by an amount.
@@ -196,6 +220,9 @@ pub fn lvalue_of(of: Node) -> Option<Lvalue>
 {
     match of {
         Node::Read(found) => Some(found),
-        _ => None,
+        other => {
+            drop(other);
+            None
+        }
     }
 }

@@ -64,7 +64,13 @@ fn address(a: TypedNode) -> Result<Option<TypedNode>, AllocError>
     let t = a.of;
     match lvalue_of(a.node) {
         None => Ok(None),
-        Some(found) => Ok(Some(typed(pointer_to(t)?, address_of(found)))),
+        Some(found) => match pointer_to(t) {
+            Ok(p) => Ok(Some(typed(p, address_of(found)))),
+            Err(failed) => {
+                drop(found);
+                Err(failed)
+            }
+        },
     }
 }
 
