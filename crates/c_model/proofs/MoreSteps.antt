@@ -245,7 +245,7 @@ front_shown o o' h =
     subst (λ es. IsPrefixOf es (shows o').events) (sym (shows_events o))
     (subst (λ es. IsPrefixOf (events_of o) es) (sym (shows_events o')) h)
 
-pub shows_more : ShowsMore
+pub shows_more : ShowsMore meaning
 shows_more program arg n k =
     elim (ran_kin program arg n k) [
       | inl s ↦ subst (λ x. IsPrefixOf (meaning program arg n).events x.events)
@@ -253,7 +253,7 @@ shows_more program arg n k =
       | inr s ↦ front_shown (ran program arg n) (ran program arg (n + k)) s.front
     ]
 
-pub end_stays : EndStays
+pub end_stays : EndStays meaning
 end_stays program arg n k e at =
     elim (ran_kin program arg n k) [
       | inl s ↦ alive_shows k (n + k) _ _ s

@@ -1,11 +1,12 @@
 -- What holds of every program.
 use Rattle.std.specs.Prelude.{◌≡◌, ℕ, ◌+◌, ◌≤◌, true, List, ◌++◌, ℤ, Some}
 use Rattle.seh_num.specs.declared.event.Event.{Event}
+use Rattle.seh_num.specs.Shown.{Shown}
 use Rattle.c_checked.specs.Program.{Program}
 use Rattle.c_model.specs.declared.ended.Ended.{Ended}
 use Rattle.c_model.specs.State.{State, state_of}
 use Rattle.c_model.specs.Tasks.{Context, Task, counted}
-use Rattle.c_model.specs.Meaning.{perform, does, meaning, Calm}
+use Rattle.c_model.specs.Meaning.{perform, does, Calm}
 
 -- a list is the front of another
 abbrev pub IsPrefixOf : List Event → List Event → Type 0
@@ -24,17 +25,17 @@ NeverRises =
     (program : Program) (task : Task) (context : Context) (st : State)
     → (state_of (does program task context st)).steps_left ≤ st.steps_left
 
--- what n steps show is the front of what more steps show
-abbrev pub ShowsMore : Type 0
-ShowsMore =
-    (program : Program) (arg : ℤ) (n k : ℕ)
-    → IsPrefixOf (meaning program arg n).events (meaning program arg (n + k)).events
+-- by a meaning of programs of any kind, what n steps show is the front of what more steps show
+abbrev pub ShowsMore : {P : Type 0} → (P → ℤ → ℕ → Shown Ended) → Type 0
+ShowsMore {P} means =
+    (program : P) (arg : ℤ) (n k : ℕ)
+    → IsPrefixOf (means program arg n).events (means program arg (n + k)).events
 
--- a program that has ended shows nothing more
-abbrev pub EndStays : Type 0
-EndStays =
-    (program : Program) (arg : ℤ) (n k : ℕ) (e : Ended) → (meaning program arg n).end ≡ Some e
-    → meaning program arg (n + k) ≡ meaning program arg n
+-- and a program that has ended shows nothing more
+abbrev pub EndStays : {P : Type 0} → (P → ℤ → ℕ → Shown Ended) → Type 0
+EndStays {P} means =
+    (program : P) (arg : ℤ) (n k : ℕ) (e : Ended) → (means program arg n).end ≡ Some e
+    → means program arg (n + k) ≡ means program arg n
 
 abbrev pub CalmBefore : Type 0
 CalmBefore =

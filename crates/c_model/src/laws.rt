@@ -1,6 +1,7 @@
 //! What holds of every program, and what some programs show.
 
 ghost use Rattle.c_model.specs.Laws as laws_of;
+ghost use Rattle.c_model.specs.Meaning.{meaning};
 ghost use Rattle.c_model.specs.Rows as shown;
 ghost use Rattle.c_model.specs.MoreRows as shown_more;
 ghost use Rattle.c_model.specs.SoundRows.{RowsAreSound};
@@ -10,8 +11,8 @@ ghost use Rattle.c_model.specs.SoundRows.{RowsAreSound};
 pub fn laws()
     ensures does_is { laws_of.DoesIs }
     ensures never_rises { laws_of.NeverRises }
-    ensures shows_more { laws_of.ShowsMore }
-    ensures end_stays { laws_of.EndStays }
+    ensures shows_more { laws_of.ShowsMore meaning }
+    ensures end_stays { laws_of.EndStays meaning }
     ensures calm_before { laws_of.CalmBefore }
     ensures events_grow { laws_of.EventsGrow }
 {}

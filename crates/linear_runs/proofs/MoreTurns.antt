@@ -4,10 +4,9 @@ use Rattle.std.proofs.lemmas.List.{append-nil}
 use Rattle.std.specs.Prelude.{slice_get, ℤ, Option, Some, None}
 use Rattle.linear_code.specs.Program.{LinearProgram, LinearFunction}
 use Rattle.c_model.specs.declared.ended.Ended.{Ended}
-use Rattle.c_model.specs.Laws.{IsPrefixOf}
+use Rattle.c_model.specs.Laws.{IsPrefixOf, ShowsMore, EndStays}
 use Rattle.linear_machine.specs.Frames.{Seen, Running, Finished, Stuck, with_some}
-use Rattle.linear_machine.specs.Run.{start, seen, shown, exec}
-use Rattle.linear_runs.specs.Laws.{ShowsMore, EndStays}
+use Rattle.linear_machine.specs.Run.{start, seen, shown, exec, linear_meaning}
 use Rattle.linear_runs.proofs.Longer.{events_of, More, longer}
 
 main_more : (program : LinearProgram) (arg : ℤ) (n k : ℕ) (o : Option LinearFunction)
@@ -34,8 +33,8 @@ stays (Running es) b e m h = absurd (cc)
 stays (Finished x es) b e m h = ap shown m
 stays (Stuck es) b e m h = ap shown m
 
-pub shows_more : ShowsMore
+pub shows_more : ShowsMore linear_meaning
 shows_more program arg n k = front (seen program arg n) (seen program arg (n + k)) (seen_more program arg n k)
 
-pub end_stays : EndStays
+pub end_stays : EndStays linear_meaning
 end_stays program arg n k e h = stays (seen program arg n) (seen program arg (n + k)) e (seen_more program arg n k) h

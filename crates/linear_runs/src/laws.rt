@@ -1,10 +1,11 @@
 //! Laws of runs.
 
-ghost use Rattle.linear_runs.specs.Laws.{ShowsMore, EndStays};
+ghost use Rattle.c_model.specs.Laws.{ShowsMore, EndStays};
+ghost use Rattle.linear_machine.specs.Run.{linear_meaning};
 
 /// What n turns show is the front of what more turns show, and a run that has ended shows nothing
 /// more.
 pub fn more_turns()
-    ensures shows_more { ShowsMore }
-    ensures end_stays { EndStays }
+    ensures shows_more { ShowsMore linear_meaning }
+    ensures end_stays { EndStays linear_meaning }
 {}
