@@ -82,8 +82,13 @@ fn governed<'t>(
         (numbering walk.old))) }
 {
     let value = condition(alloc, env, block, &mut walk.worst, at, e)?;
-    let made = part(alloc, inner, walk, s)?;
-    Ok((value, made))
+    match part(alloc, inner, walk, s) {
+        Ok(made) => Ok((value, made)),
+        Err(failed) => {
+            drop(value);
+            Err(failed)
+        }
+    }
 }
 
 /// A `for` (C11, 6.8.5.3).
@@ -108,11 +113,31 @@ fn for_loop<'t>(
     let here = within(env, &scopes);
     let mut names = IndexMap::new(alloc);
     let beginning = for_initialiser(alloc, &here, first, &mut names, walk)?;
-    let value = condition_or_none(alloc, &here, &names, &mut walk.worst, at, condition)?;
-    let after = any_or_none(alloc, &here, &names, &mut walk.worst, next)?;
-    let inner = Scopes::Inside(&names, here.outer);
-    let made = part(alloc, &in_loop(&within(&here, &inner)), walk, body)?;
-    Ok(for_of(beginning, value, after, made))
+    match condition_or_none(alloc, &here, &names, &mut walk.worst, at, condition) {
+        Err(failed) => {
+            drop(beginning);
+            Err(failed)
+        }
+        Ok(value) => match any_or_none(alloc, &here, &names, &mut walk.worst, next) {
+            Err(failed) => {
+                drop(beginning);
+                drop(value);
+                Err(failed)
+            }
+            Ok(after) => {
+                let inner = Scopes::Inside(&names, here.outer);
+                match part(alloc, &in_loop(&within(&here, &inner)), walk, body) {
+                    Err(failed) => {
+                        drop(beginning);
+                        drop(value);
+                        drop(after);
+                        Err(failed)
+                    }
+                    Ok(made) => Ok(for_of(beginning, value, after, made)),
+                }
+            }
+        },
+    }
 }
 
 /// A `__try` of a block.
@@ -138,10 +163,22 @@ fn guarded<'t>(
             ..
         } => {
             let asked = filter_value(alloc, env, block, &mut walk.worst, filter)?;
-            let body = items(alloc, &in_body(&here), walk, body)?;
-            let filter = numbered(walk, asked)?;
-            let handler = items(alloc, &in_handler(&here), walk, handler)?;
-            one(alloc, except_of(body, filter, handler))
+            match items(alloc, &in_body(&here), walk, body) {
+                Err(failed) => {
+                    drop(asked);
+                    Err(failed)
+                }
+                Ok(body) => {
+                    let filter = numbered(walk, asked)?;
+                    match items(alloc, &in_handler(&here), walk, handler) {
+                        Err(failed) => {
+                            drop(filter);
+                            Err(failed)
+                        }
+                        Ok(handler) => one(alloc, except_of(body, filter, handler)),
+                    }
+                }
+            }
         }
         Stmt::TryFinally { body, last, .. } => {
             let body = items(alloc, &in_body(&here), walk, body)?;
@@ -216,10 +253,13 @@ fn with_parts<'t>(
             let (value, then) = governed(alloc, env, block, &here, walk, then, *at, condition)?;
             match otherwise {
                 None => one(alloc, if_of(value, then)),
-                Some(otherwise) => {
-                    let otherwise = part(alloc, &here, walk, otherwise)?;
-                    one(alloc, if_else_of(value, then, otherwise))
-                }
+                Some(otherwise) => match part(alloc, &here, walk, otherwise) {
+                    Ok(otherwise) => one(alloc, if_else_of(value, then, otherwise)),
+                    Err(failed) => {
+                        drop(value);
+                        Err(failed)
+                    }
+                },
             }
         }
         _ => loop_or_try(alloc, env, block, walk, s),

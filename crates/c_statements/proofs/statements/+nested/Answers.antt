@@ -16,13 +16,13 @@ use Rattle.c_syntax.specs.Expression.{expression}
 use Rattle.c_syntax.specs.Statement as trees
 use Rattle.c_syntax.specs.Statement.{statement, statements}
 
-pub governed-returns : goal.governed-returns
-governed-returns t c =
+pub governed-returns-in-Ok : goal.governed-returns-in-Ok
+governed-returns-in-Ok t c =
     let w = c.args.walk.now in
     let first : Walk = record { sizes = w.sizes; number = w.number; worst = c.condition.new.worst } in
     let f : Numbering → ResolvedStatements = λ n. resolve_statement (statement c.args.s.now) (environment c.args.inner.now) [] n in
     let v = definitions.condition c.args.at (resolved_at (environment c.args.env.now) (block_of c.args.block.now.entries) (expression c.args.e.now)) in
-    governed_is w first c.part.new.walk c.in_ok-value.value c.in_ok-made.made.value v f c.in_ok-value.ensures.value c.in_ok-value.ensures.faults refl c.in_ok-made.ensures
+    governed_is w first c.part.new.walk c.in_ok-value.value c.in-Ok.made.value v f c.in_ok-value.ensures.value c.in_ok-value.ensures.faults refl c.in-Ok.ensures
 
 pub for_loop-returns : goal.for_loop-returns
 for_loop-returns t c =
@@ -31,11 +31,11 @@ for_loop-returns t c =
     let w1 = c.for_initialiser.new.walk in
     let w2 : Walk = record { sizes = w1.sizes; number = w1.number; worst = c.condition_or_none.new.worst } in
     let w3 : Walk = record { sizes = w1.sizes; number = w1.number; worst = c.any_or_none.new.worst } in
-    for_over (block_of c.args.block.now.entries) es w w1 w2 w3 c.part.new.walk c.in_ok-beginning.beginning c.in_ok-value.value c.in_ok-after.after c.in_ok-made.made.value c.for_of.result (environment c.args.env.now) (environment c.within-here.result) (environment c.in_loop.result) c.args.at (trees.first c.args.first.now) (option_map expression c.args.condition.now)
-    (option_map expression c.args.next.now) (statement c.args.body.now) c.within-here.ensures (c.in_loop.ensures ∙ ap in_loop c.within.ensures) c.in_ok-beginning.ensures c.in_ok-value.ensures c.in_ok-after.ensures refl c.in_ok-made.ensures c.for_of.ensures
+    for_over (block_of c.args.block.now.entries) es w w1 w2 w3 c.part.new.walk c.in_ok-beginning.beginning c.in-Ok.value c.in-Ok-any_or_none.after c.in-Ok-part.made.value c.for_of.result (environment c.args.env.now) (environment c.within-here.result) (environment c.in_loop.result) c.args.at (trees.first c.args.first.now) (option_map expression c.args.condition.now)
+    (option_map expression c.args.next.now) (statement c.args.body.now) c.within-here.ensures (c.in_loop.ensures ∙ ap in_loop c.within.ensures) c.in_ok-beginning.ensures c.in-Ok.ensures c.in-Ok-any_or_none.ensures refl c.in-Ok-part.ensures c.for_of.ensures
 
-pub with_parts-returns-in_ok-otherwise-in-Some : goal.with_parts-returns-in_ok-otherwise-in-Some
-with_parts-returns-in_ok-otherwise-in-Some t c =
+pub with_parts-returns-in-Ok : goal.with_parts-returns-in-Ok
+with_parts-returns-in-Ok t c =
     let x = c.in-If in
     let y = c.in-Some in
     let w = c.args.walk.now in
@@ -45,15 +45,15 @@ with_parts-returns-in_ok-otherwise-in-Some t c =
     let a = environment c.args.env.now in
     let here = environment c.within-here.result in
     let k = c.in_ok-value-in-If in
-    let o = c.in_ok-otherwise-in-Some in
+    let o = c.in-Ok in
     let made = c.if_else_of.result in
     let v = definitions.condition x.at (resolved_at a (block_of es) (expression x.condition)) in
     let m = governed_in w w1 k.value k.then.value v (statement c.deref.result.now) (statement x.then.value) here (inside a (block_of es)) (numbering w) (ap statement c.deref.ensures) c.within-here.ensures k.ensures in
     let n = part_in w1 w2 o.otherwise.value (statement c.deref-in-Some.result.now) (statement y.otherwise.value) here (inside a (block_of es)) (numbering w1) (ap statement c.deref-in-Some.ensures) c.within-here.ensures o.ensures in
-    IfOk-weaker c.one-in-Some.result _ _
+    IfOk-weaker c.one-in-Ok.result _ _
     (λ list q.
     one_is es w w2 made (map checked.statement list.items) (statement c.args.s.now) (trees.IfElse x.at (expression x.condition) (statement x.then.value) (statement y.otherwise.value)) a (read.if_some x.at x.condition x.then x.otherwise y.otherwise c.args.s.now x.is y.is)
-    (if_else_is (block_of es) w w1 w2 k.value k.then.value o.otherwise.value made a x.at (expression x.condition) (statement x.then.value) (statement y.otherwise.value) m n c.if_else_of.ensures) q) c.one-in-Some.ensures
+    (if_else_is (block_of es) w w1 w2 k.value k.then.value o.otherwise.value made a x.at (expression x.condition) (statement x.then.value) (statement y.otherwise.value) m n c.if_else_of.ensures) q) c.one-in-Ok.ensures
 
 pub statement-returns-in-Break : goal.statement-returns-in-Break
 statement-returns-in-Break t c =
@@ -79,23 +79,23 @@ statement-returns-in-Leave t c =
     one_is es c.args.walk.now c.leave_from.new.walk c.leave_from.result (map checked.statement list.items) (statement c.args.s.now) (trees.Leave c.in-Leave.at) (environment c.args.env.now) (ap statement c.in-Leave.is ∙ read.leave_is c.in-Leave.at)
     (c.leave_from.ensures (block_of es)) q) c.one-in-Leave.ensures
 
-pub guarded-returns-in_ok-handler-in-TryExcept : goal.guarded-returns-in_ok-handler-in-TryExcept
-guarded-returns-in_ok-handler-in-TryExcept t c =
+pub guarded-returns-in-Ok-items : goal.guarded-returns-in-Ok-items
+guarded-returns-in-Ok-items t c =
     let x = c.in-TryExcept in
     let w = c.args.walk.now in
     let w1 : Walk = record { sizes = w.sizes; number = w.number; worst = c.filter_value.new.worst } in
     let w2 = c.items.new.walk in
     let w3 = c.numbered.new.walk in
-    let w4 = c.items-in-TryExcept.new.walk in
+    let w4 = c.items-in-Ok.new.walk in
     let es = c.args.block.now.entries in
     let a = environment c.args.env.now in
     let here = inside a (block_of es) in
-    let f = c.in_ok-filter-in-TryExcept in
-    let vs = c.in_ok-body-in-TryExcept in
-    let ks = c.in_ok-handler-in-TryExcept in
+    let f = c.in_ok-filter-in-Ok in
+    let vs = c.in-Ok in
+    let ks = c.in-Ok-items in
     let q = c.in_ok-asked-in-TryExcept in
     let m = block_in w1 w2 vs.body.items c.deref.result.now x.body.items (environment c.in_body.result) (in_body here) (numbering w1) c.deref.ensures.value (c.in_body.ensures ∙ ap in_body c.within-here.ensures) vs.ensures in
-    let k = block_in w3 w4 ks.handler.items c.deref-in-TryExcept.result.now x.handler.items (environment c.in_handler.result) (in_handler here) (numbering w3) c.deref-in-TryExcept.ensures.value (c.in_handler.ensures ∙ ap in_handler c.within-here.ensures) ks.ensures in
+    let k = block_in w3 w4 ks.handler.items c.deref-in-Ok.result.now x.handler.items (environment c.in_handler.result) (in_handler here) (numbering w3) c.deref-in-Ok.ensures.value (c.in_handler.ensures ∙ ap in_handler c.within-here.ensures) ks.ensures in
     let body = statements (map statement x.body.items) in
     let handler = statements (map statement x.handler.items) in
     IfOk-weaker c.one.result _ _
