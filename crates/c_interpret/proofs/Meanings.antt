@@ -14,14 +14,27 @@ use Rattle.source_machine.specs.Waiting.{comes_to}
 use Rattle.source_machine.specs.Runs.{beginning}
 use Rattle.c_interpret.specs.Runs.{Ran, ShownPart, Means, MeansPart, end_of}
 
+-- what a program does first: it calls `main`
+abbrev pub first_call : Program → List ℕ → frames.Next
+first_call p vs =
+    frames.Call (frames.Defined p.main) vs
+    (record { activation = 0; exception = no_exception; abnormal = false })
+
 -- the machine with which a program begins comes to what its run comes to
-pub begins : (p : Program) (arg : ℤ) (n : ℕ) (vs : List ℕ)
+begins : (p : Program) (arg : ℤ) (n : ℕ) (vs : List ℕ)
     → vs ≡ main_arguments (slice_get p.functions p.main) arg
-    → comes_to p (does p)
-    (beginning p n (frames.Call (frames.Defined p.main) vs
-    (record { activation = 0; exception = no_exception; abnormal = false }))) ≡ ran p arg n
+    → comes_to p (does p) (beginning p n (first_call p vs)) ≡ ran p arg n
 begins p arg n vs e =
     ap (λ vs. enter (does p) (slice_get p.functions p.main) vs outside (start p n)) e
+
+-- and so does one that was made as it, with the arguments of `main` from a number that is the run's
+pub started : (p : Program) (arg again : ℤ) (n : ℕ) (vs : List ℕ) (made : frames.Next → Machine)
+    → again ≡ arg → ((next : frames.Next) → made next ≡ beginning p n next)
+    → vs ≡ main_arguments (slice_get p.functions p.main) again
+    → comes_to p (does p) (made (first_call p vs)) ≡ ran p arg n
+started p arg again n vs made same m e =
+    ap (comes_to p (does p)) (m (first_call p vs))
+    ∙ begins p arg n vs (e ∙ ap (main_arguments (slice_get p.functions p.main)) same)
 
 shows_events : (o : Outcome) → (shows o).events ≡ (state_of o).events
 shows_events (Gives (Value v) st) = refl

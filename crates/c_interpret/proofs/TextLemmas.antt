@@ -3,15 +3,25 @@ use Rattle.std.proofs.Common.{◌≡◌, ℕ, List, ◌++◌, refl, sym, ap, ◌
 use Rattle.std.proofs.Common.{None}
 use Rattle.std.specs.Prelude.{Bool, unwrap_or}
 use Rattle.seh_num.specs.declared.event.Event.{Event}
+use Rattle.seh_num.specs.Shown.{Shown}
 use Rattle.seh_io.specs.Text.{lines}
 use Rattle.seh_io.specs.Successive.{lines_append}
 use Rattle.c_model.specs.declared.ended.Ended.{Ended}
 use Rattle.c_model.specs.declared.ended.Ended.TheVariants.{OutOfSteps}
-use Rattle.c_interpret.specs.Texts.{ended_within}
+use Rattle.c_interpret.specs.Texts.{ended_within, ended_line, text}
 
-pub within : (n : ℕ) (o : Option Ended) → unwrap_or o (OutOfSteps n) ≡ ended_within n o
+within : (n : ℕ) (o : Option Ended) → unwrap_or o (OutOfSteps n) ≡ ended_within n o
 within n None = refl
 within n (Some e) = refl
+
+-- the lines of what a program shows and the line of its end are its text
+pub whole_text : (trace traced : Bool) (n : ℕ) (shown : Shown Ended) (end : Option Ended)
+    (ended : Ended) (last : List ℕ) → traced ≡ trace → shown.end ≡ end
+    → ended ≡ unwrap_or end (OutOfSteps n) → last ≡ ended_line ended
+    → lines traced shown.events ++ last ≡ text trace n shown
+whole_text trace traced n shown end ended last same at is written =
+    let bytes = written ∙ ap ended_line (is ∙ within n end ∙ ap (ended_within n) (sym at)) in
+    λ i. lines (same i) shown.events ++ bytes i
 
 -- what was written of the front of the events is the front of the text
 pub front_of_text : (trace : Bool) (shown rest events : List Event) (end part others : List ℕ)

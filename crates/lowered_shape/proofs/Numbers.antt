@@ -3,6 +3,7 @@ use Rattle.std.proofs.Common.{◌≡◌, ◌≢◌, ℕ, suc, ◌+◌, ◌-◌, 
 use Rattle.std.specs.Prelude.{◌&&◌, nat_le, slice_get}
 use Rattle.std.specs.List.{AllByRecursion}
 use Rattle.std.proofs.lemmas.Bool.{and_parts, ne_eqb, eq-eqb, eqb-true, ltb-true, lt-ltb, cases_eq, false≢true}
+use Rattle.seh_num.specs.declared.limit.TheConstants.{MOST_FUNCTIONS, MOST_FUNCLETS, MOST_GLOBALS}
 use Rattle.c_checked.specs.Statement.{Filter, Always, Funclet, Statement, Declare, Block, Evaluate, If, IfElse, For, DoWhile, Return, Break, Continue, Leave, TryExcept, TryFinally, Statements, Empty, Then}
 use Rattle.c_checked.specs.Program.{Function, Program}
 use Rattle.c_checked.specs.Sound.{count_up, filter_funclet, funclets_in, funclets, IsSound}
@@ -238,9 +239,9 @@ counts p ok =
     let functions = sound.functions_sound p.functions p.functions in
     let main = sound.main_sound (slice_get p.functions p.main) in
     let up = count_up 1 (sound.all_funclets p.functions) in
-    let a = nat_le (length p.functions) 4096 in
-    let b = nat_le (length (sound.all_funclets p.functions)) 16384 in
-    let c = nat_le (length p.globals) 1048576 in
+    let a = nat_le (length p.functions) MOST_FUNCTIONS in
+    let b = nat_le (length (sound.all_funclets p.functions)) MOST_FUNCLETS in
+    let c = nat_le (length p.globals) MOST_GLOBALS in
     let all = (and_parts (functions && main && up && a && b) c ok).0 in
     let most = (and_parts (functions && main && up && a) b all).0 in
     (and_parts (functions && main) up (and_parts (functions && main && up) a most).0).1

@@ -1,11 +1,11 @@
-use Rattle.std.proofs.Common.{◌≡◌, ◌++◌, refl, sym, ap, ◌∙◌, rules, w64, to_z, of_z}
+use Rattle.std.proofs.Common.{◌++◌, refl, sym, ap, ◌∙◌, rules, w64, to_z, of_z}
 use Rattle.std.proofs.lemmas.Int.{to_z-of_z}
 use Rattle.seh_io.specs.Text.{lines}
 use Rattle.seh_io.proofs.Writers.{ran_whole, ran_part, same_grew, same_part}
 use Rattle.c_checked.specs.Whole as whole
 use Rattle.c_model.specs.Meaning as meaning
 use Rattle.c_interpret.specs.Texts as texts
-use Rattle.c_interpret.proofs.TextLemmas.{within, front_of_text}
+use Rattle.c_interpret.proofs.TextLemmas.{whole_text, front_of_text}
 use Rattle.c_interpret.proofs.interpret.interpret.Goals as goal
 
 pub returns-in_default-clause-part : goal.returns-in_default-clause-part
@@ -38,15 +38,13 @@ returns-in-Ok-outcome-clause-text g c =
     (meaning.meaning (whole.program c.args.program.now) a c.args.budget))
     (to_z-of_z w64 c.args.arg c.ranges.arg) in
     let means = c.in-Ok.ensures.means in
-    let ended_is = c.unwrap_or-ended.ensures ∙ within c.args.budget c.in-Ok.end
-    ∙ ap (texts.ended_within c.args.budget) (sym means.ended) in
-    let bytes_is : c.as_bytes.result.now ≡ texts.ended_line
-    (texts.ended_within c.args.budget shown.end) =
-    c.as_bytes.ensures.value ∙ c.ended_line.ensures ∙ ap texts.ended_line ended_is in
+    let whole_is = whole_text c.args.trace c.new-lines.result.trace c.args.budget shown c.in-Ok.end
+    _ c.as_bytes.result.now c.new-lines.ensures.trace means.ended
+    c.unwrap_or-ended.ensures (c.as_bytes.ensures.value ∙ c.ended_line.ensures) in
     same_grew (g.O.Sink.taken c.new-lines.result.sink.now) (g.O.Sink.taken c.args.sink.now)
     (g.O.Sink.taken c.put.new.self.sink.now) _ _ _
     (ap g.O.Sink.taken c.new-lines.ensures.sink)
-    ((λ i. lines (c.new-lines.ensures.trace i) shown.events ++ bytes_is i) ∙ text_is)
+    (whole_is ∙ text_is)
     (search rules)
     (ran_whole _ _ _ _ _ means.took_events.wrote c.put.ensures.wrote c.in-Ok-outcome.ensures)
 
@@ -58,15 +56,13 @@ returns-clause-part g c =
     (meaning.meaning (whole.program c.args.program.now) a c.args.budget))
     (to_z-of_z w64 c.args.arg c.ranges.arg) in
     let means = c.in-Ok.ensures.means in
-    let ended_is = c.unwrap_or-ended.ensures ∙ within c.args.budget c.in-Ok.end
-    ∙ ap (texts.ended_within c.args.budget) (sym means.ended) in
-    let bytes_is : c.as_bytes.result.now ≡ texts.ended_line
-    (texts.ended_within c.args.budget shown.end) =
-    c.as_bytes.ensures.value ∙ c.ended_line.ensures ∙ ap texts.ended_line ended_is in
+    let whole_is = whole_text c.args.trace c.new-lines.result.trace c.args.budget shown c.in-Ok.end
+    _ c.as_bytes.result.now c.new-lines.ensures.trace means.ended
+    c.unwrap_or-ended.ensures (c.as_bytes.ensures.value ∙ c.ended_line.ensures) in
     same_part (g.O.Sink.taken c.new-lines.result.sink.now) (g.O.Sink.taken c.args.sink.now)
     (g.O.Sink.taken c.put.new.self.sink.now) _ _ _ c.in-Err.fault.taken
     (ap g.O.Sink.taken c.new-lines.ensures.sink)
-    ((λ i. lines (c.new-lines.ensures.trace i) shown.events ++ bytes_is i) ∙ text_is)
+    (whole_is ∙ text_is)
     (search rules)
     (ran_part _ _ _ _ _ means.took_events.wrote c.put.ensures.wrote c.in-Err.fault.taken
     c.new-lines.ensures.taken (c.in-Err.ensures).1)
