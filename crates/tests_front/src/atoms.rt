@@ -1,33 +1,58 @@
 //! Operators and operands by the C standard's rules (C11, 6.4.4 and 6.5).
 
 use crate::rows::{Reader, all_as_wanted};
-use c_lex::lexing::lex;
-use c_lex::punctuator::Punctuator;
-use c_lex::token::{IntegerType, Kind};
+use c_lex::token::Token;
 use c_parse_atom::information::information;
-use c_parse_atom::laws::laws;
 use c_parse_atom::operands::{integer, literal, name};
 use c_parse_atom::operators::{assignment_of, binary_of, follows, increment_of, level, unary_of};
-use c_syntax::expression::{Identifier, Literal};
-use c_syntax::operator::{Arithmetic, Increment, UnaryOperator};
-use std::alloc::Global;
-use std::process::Abort;
+use c_parse_type::front::punctuator;
+use std::alloc::{AllocError, Global};
 use std::test::Fail;
 
-/// The operator that a text's first punctuator is, and its level.
-pub fn operator_of(alloc: Global, text: &[u8]) -> Result<String, Fail> {
-    let tokens = lex(alloc, text)?;
-    if let Some(Kind::Punctuator(punctuator)) = tokens.first().map(|token| token.kind) {
-        if let Some(operator) = binary_of(punctuator) {
-            let level = level(operator);
-            return Ok(format!(in alloc; "{operator:?} {level}")?);
+/// The binary operator that the first punctuator is, and its level.
+pub fn binary_operator_of(alloc: Global, tokens: &[Token]) -> Result<String, AllocError> {
+    if let Some((found, _, _)) = punctuator(tokens) {
+        if let Some(operator) = binary_of(found) {
+            return format!(in alloc; "{operator:?} {}", level(operator));
         }
     }
-    Ok(String::from_str(alloc, "no binary operator")?)
+    String::from_str(alloc, "no binary operator")
+}
+
+/// What the first punctuator is before `=`, before an operand, and beside one.
+pub fn operator_of(alloc: Global, tokens: &[Token]) -> Result<String, AllocError> {
+    let Some((found, _, _)) = punctuator(tokens) else {
+        return String::from_str(alloc, "no punctuator");
+    };
+    let assignment = assignment_of(found);
+    let unary = unary_of(found);
+    let increment = increment_of(found);
+    format!(in alloc; "{assignment:?} {unary:?} {increment:?}")
+}
+
+/// The operand at the front: what it is, whether it is an integer, and the level of the operator
+/// after it.
+pub fn operand_of(alloc: Global, tokens: &[Token]) -> Result<String, AllocError> {
+    let is_integer = integer(tokens).is_some();
+    if let Some((found, at, rest)) = literal(tokens) {
+        return format!(in alloc; "{found:?} {at} {is_integer} {}", follows(rest));
+    }
+    match name(tokens) {
+        Some((found, rest)) => { format!(in alloc; "{found:?} {is_integer} {}", follows(rest)) }
+        None => String::from_str(alloc, "no operand"),
+    }
+}
+
+/// The field that a text names: its place, and how many tokens follow.
+pub fn information_of(alloc: Global, text: &[u8], tokens: &[Token]) -> Result<String, AllocError> {
+    match information(text, tokens) {
+        Some((at, field, rest)) => { format!(in alloc; "{field:?} {at} {}", rest.len()) }
+        None => String::from_str(alloc, "no field"),
+    }
 }
 
 /// Binary operators by the lines of the grammar, from multiplication, 4, on.
-const OPERATORS: &str = r"
+const BINARY: &str = r"
 % => Arithmetic(Remainder) 4
 >> => Arithmetic(ShiftRight) 6
 <= => Comparison(LessEqual) 7
@@ -37,64 +62,34 @@ const OPERATORS: &str = r"
 
 #[test]
 fn binary_operators_have_levels(rt: HostRuntime) -> Result<(), Fail> {
-    laws();
-    all_as_wanted(&rt, rt.alloc(), Reader::Operator, OPERATORS)
+    all_as_wanted(&rt, rt.alloc(), Reader::Binary, &[BINARY])
 }
 
+/// Operators of assignments, and of one operand before and beside it.
+const OPERATORS: &str = r"
+^= => Some(Some(ExclusiveOr)) None None
+= => Some(None) None None
+* => None Some(Indirection) None
+-- => None None Some(Decrement)
+";
+
 #[test]
-fn punctuators_are_operators(rt: HostRuntime) {
-    assert_eq!(rt;
-        assignment_of(Punctuator::CaretAssign),
-        Some(Some(Arithmetic::ExclusiveOr))
-    );
-    assert_eq!(rt; assignment_of(Punctuator::Assign), Some(None));
-    assert_eq!(rt;
-        unary_of(Punctuator::Star),
-        Some(UnaryOperator::Indirection)
-    );
-    assert_eq!(rt;
-        increment_of(Punctuator::MinusMinus),
-        Some(Increment::Decrement)
-    );
+fn punctuators_are_operators(rt: HostRuntime) -> Result<(), Fail> {
+    all_as_wanted(&rt, rt.alloc(), Reader::Operator, &[OPERATORS])
 }
+
+/// A text from each of its operands on. No expression continues with an operand, 17, and one does
+/// with a comma, 16.
+const OPERANDS: &str = r"
+7u x '\xff' , => Integer { value: 7, of: Unsigned } 0 true 17
+   x '\xff' , => Identifier { start: 3, end: 4 } false 17
+     '\xff' , => CharacterConstant(-1) 5 false 16
+            , => no operand
+";
 
 #[test]
 fn operands_are_literals_and_names(rt: HostRuntime) -> Result<(), Fail> {
-    let tokens = lex(rt.alloc(), b"7u x '\\xff' ,")?;
-    let seven = Literal::Integer {
-        value: 7,
-        of: IntegerType::Unsigned,
-    };
-    let Some((found, at, rest)) = literal(&tokens) else {
-        assert!(rt; false, "no literal");
-        return Ok(());
-    };
-    assert_eq!(rt; (found, at), (seven, 0));
-    let Some((found, rest)) = name(rest) else {
-        assert!(rt; false, "no name");
-        return Ok(());
-    };
-    assert_eq!(rt; found, Identifier { start: 3, end: 4 });
-    assert!(rt; integer(rest).is_none());
-    let Some((found, at, rest)) = literal(rest) else {
-        assert!(rt; false, "no character");
-        return Ok(());
-    };
-    assert_eq!(rt; (found, at), (Literal::CharacterConstant(-1), 5));
-    assert_eq!(rt; follows(rest), 16);
-    Ok(())
-}
-
-/// The field that a text names: its place, and how many tokens follow.
-pub fn information_of(alloc: Global, text: &[u8]) -> Result<String, Fail> {
-    let tokens = lex(alloc, text)?;
-    match information(text, &tokens) {
-        None => Ok(String::from_str(alloc, "no field")?),
-        Some((at, field, rest)) => {
-            let left = rest.len();
-            Ok(format!(in alloc; "{field:?} {at} {left}")?)
-        }
-    }
+    all_as_wanted(&rt, rt.alloc(), Reader::Operand, &[OPERANDS])
 }
 
 /// Fields of the exception's record (Microsoft C reference, "GetExceptionInformation").
@@ -107,5 +102,5 @@ GetExceptionInformation()->Context->ExceptionFlags => no field
 
 #[test]
 fn fields_of_the_record_are_named(rt: HostRuntime) -> Result<(), Fail> {
-    all_as_wanted(&rt, rt.alloc(), Reader::Information, FIELDS)
+    all_as_wanted(&rt, rt.alloc(), Reader::Information, &[FIELDS])
 }

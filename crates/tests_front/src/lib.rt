@@ -7,11 +7,11 @@ mod atoms;
 #[cfg(test)]
 mod expressions;
 #[cfg(test)]
+mod laws;
+#[cfg(test)]
 mod programs;
 #[cfg(test)]
 mod rows;
-#[cfg(test)]
-mod starts;
 #[cfg(test)]
 mod statements;
 #[cfg(test)]

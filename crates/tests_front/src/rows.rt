@@ -1,10 +1,14 @@
 //! Tables of texts, and what is found of each.
 //!
 //! A table is one text. Each line after its first is a row, `TEXT => FOUND`: a text, and what its
-//! reader finds of it. In a text `$TIMES$PIECE$` is a piece so many times.
+//! reader finds of it. In a text `$TIMES$PIECE$` is a piece so many times, and `$byte$NUMBER$` is
+//! the byte of that number.
+
+ghost use Rattle.c_lex.specs.Text.{IsTokens};
 
 use crate::{atoms, expressions, programs, statements, tokens, types};
-use c_parse_expr::refusal::ParseErr;
+use c_lex::lexing::lex;
+use c_lex::token::Token;
 use std::alloc::{AllocError, Global};
 use std::process::Abort;
 use std::test::Fail;
@@ -17,13 +21,19 @@ pub enum Reader {
     /// All tokens of a text.
     Tokens,
     /// A binary operator.
+    Binary,
+    /// An operator of an assignment, or of one operand.
     Operator,
+    /// A literal or a name.
+    Operand,
     /// A field of the exception's record.
     Information,
     /// A type, and a token after it.
     Type,
     /// An expression, with room for so many expressions around a part.
     Expression { room: u64 },
+    /// Where an expression starts.
+    Start,
     /// The items of a block.
     Items,
     /// A program.
@@ -31,16 +41,23 @@ pub enum Reader {
 }
 
 /// A row's text with each piece as often as it is wanted.
-fn expanded(alloc: Global, text: &str) -> Result<String, AllocError> {
-    let mut whole = String::new(alloc);
+fn expanded(alloc: Global, text: &str) -> Result<Vec<u8>, AllocError> {
+    let mut whole = Vec::new(alloc);
+    let mut is_byte = false;
     let mut times = 0u32;
     for (number, part) in text.split('$').enumerate() {
         match number % 3 {
-            0 => whole.push_str(part)?,
-            1 => times = part.parse().unwrap_or(0),
+            0 => whole.extend_from_slice(part.as_bytes())?,
+            1 => {
+                is_byte = part == "byte";
+                times = part.parse().unwrap_or(0);
+            }
             _ => {
+                if is_byte {
+                    whole.push(part.parse().unwrap_or(0))?;
+                }
                 for _ in 0..times {
-                    whole.push_str(part)?;
+                    whole.extend_from_slice(part.as_bytes())?;
                 }
             }
         }
@@ -48,44 +65,59 @@ fn expanded(alloc: Global, text: &str) -> Result<String, AllocError> {
     Ok(whole)
 }
 
-/// What is reported of a text.
-fn found_of(alloc: Global, reader: Reader, text: &str) -> Result<String, Fail> {
+/// What is reported of a text with these tokens, and of what is given before it.
+fn report(
+    alloc: Global,
+    reader: Reader,
+    given: &str,
+    text: &[u8],
+    tokens: &[Token],
+) -> Result<String, AllocError>
+    requires { IsTokens text.now tokens.now }
+{
     match reader {
-        Reader::Token => tokens::token_of(alloc, text.as_bytes()),
-        Reader::Tokens => tokens::tokens_of(alloc, text.as_bytes()),
-        Reader::Operator => atoms::operator_of(alloc, text.as_bytes()),
-        Reader::Information => atoms::information_of(alloc, text.as_bytes()),
-        Reader::Type => types::type_of(alloc, text.as_bytes()),
-        Reader::Expression { room } => expressions::found_of(alloc, text.as_bytes(), room),
-        Reader::Items => statements::found_of(alloc, text),
-        Reader::Program => programs::found_of(alloc, text.as_bytes()),
+        Reader::Token => tokens::token_of(alloc, text, tokens),
+        Reader::Tokens => tokens::tokens_of(alloc, tokens),
+        Reader::Binary => atoms::binary_operator_of(alloc, tokens),
+        Reader::Operator => atoms::operator_of(alloc, tokens),
+        Reader::Operand => atoms::operand_of(alloc, tokens),
+        Reader::Information => atoms::information_of(alloc, text, tokens),
+        Reader::Type => types::type_of(alloc, tokens),
+        Reader::Expression { room } => expressions::expression_of(alloc, text, room, tokens),
+        Reader::Start => expressions::start_of(alloc, text, tokens),
+        Reader::Items => statements::items_of(alloc, given, text, tokens),
+        Reader::Program => programs::program_of(alloc, text, tokens),
     }
 }
 
-/// The words of a refusal: its name, its place, and what is too many.
-pub fn refusal_of(alloc: Global, refusal: ParseErr) -> Result<String, AllocError> {
-    match refusal {
-        ParseErr::Unexpected { at } => { format!(in alloc; "Unexpected {at}") }
-        ParseErr::TooDeep { at } => { format!(in alloc; "TooDeep {at}") }
-        ParseErr::TooMany { at, what } => { format!(in alloc; "TooMany {at} {what:?}") }
-        ParseErr::Memory => String::from_str(alloc, "Memory"),
+/// What is reported of a row's text. Before the items of a block numbers are given.
+fn found_of(alloc: Global, reader: Reader, row: &str) -> Result<String, AllocError> {
+    let (given, text) = match reader {
+        Reader::Items => row.split_once(": ").unwrap_or(("", row)),
+        _ => ("", row),
+    };
+    let whole = expanded(alloc, text)?;
+    match lex(alloc, &whole) {
+        Ok(tokens) => report(alloc, reader, given, &whole, &tokens),
+        Err(refusal) => { format!(in alloc; "{refusal:?}") }
     }
 }
 
-/// Compares what is reported of each text of a table with its row.
+/// Compares what is reported of each text of some tables with its row.
 pub fn all_as_wanted(
     rt: &impl Abort,
     alloc: Global,
     reader: Reader,
-    table: &str,
+    tables: &[&str],
 ) -> Result<(), Fail> {
-    for row in table.lines().skip(1) {
-        match row.split_once(" => ") {
-            None => assert!(rt; false, "no row: {row}"),
-            Some((text, wanted)) => {
-                let whole = expanded(alloc, text)?;
-                let found = found_of(alloc, reader, &whole)?;
-                assert_eq!(rt; found.as_str(), wanted, "of {text}");
+    for table in tables {
+        for row in table.lines().skip(1) {
+            match row.split_once(" => ") {
+                None => assert!(rt; false, "no row: {row}"),
+                Some((text, wanted)) => {
+                    let found = found_of(alloc, reader, text)?;
+                    assert_eq!(rt; found.as_str(), wanted, "of {text}");
+                }
             }
         }
     }

@@ -4,12 +4,12 @@
 //! A row's text is `ROOM LOCALS FUNCLETS: ITEMS`: the room for statements around each, what is left
 //! of the counts, and the items of a block after the opening brace.
 
-use crate::rows::{Reader, all_as_wanted, refusal_of};
-use c_lex::lexing::lex;
+use crate::rows::{Reader, all_as_wanted};
+use c_lex::token::Token;
 use c_parse_stmt::left::Left;
 use c_parse_stmt::statements::items;
 use c_syntax::limit::MOST_STATEMENTS;
-use std::alloc::Global;
+use std::alloc::{AllocError, Global};
 use std::test::Fail;
 
 /// The three numbers that a row begins with.
@@ -22,26 +22,25 @@ fn given_of(words: &str) -> Option<(u64, Left)> {
 }
 
 /// How many items there are, and what is left of the counts of locals and funclets; or the refusal.
-pub fn found_of(alloc: Global, row: &str) -> Result<String, Fail> {
-    let Some((given, text)) = row.split_once(": ") else {
-        return Ok(String::from_str(alloc, "no numbers")?);
-    };
+pub fn items_of(
+    alloc: Global,
+    given: &str,
+    text: &[u8],
+    tokens: &[Token],
+) -> Result<String, AllocError> {
     let Some((room, left)) = given_of(given) else {
-        return Ok(String::from_str(alloc, "not three numbers")?);
+        return String::from_str(alloc, "not three numbers");
     };
-    let tokens = lex(alloc, text.as_bytes())?;
-    match items(
-        alloc,
-        text.as_bytes(),
-        room.min(MOST_STATEMENTS),
-        left,
-        &tokens,
-    ) {
-        Err(refusal) => Ok(refusal_of(alloc, refusal)?),
-        Ok((_, _, [_, ..])) => Ok(String::from_str(alloc, "tokens are left")?),
-        Ok((read, left, [])) => {
+    match items(alloc, text, room.min(MOST_STATEMENTS), left, tokens) {
+        Err(refusal) => { format!(in alloc; "{refusal:?}") }
+        Ok((read, left, rest)) => {
             let count = read.len();
-            Ok(format!(in alloc; "{count} {} {}", left.locals, left.funclets)?)
+            drop(read);
+            if rest.is_empty() {
+                format!(in alloc; "{count} {} {}", left.locals, left.funclets)
+            } else {
+                String::from_str(alloc, "tokens are left")
+            }
         }
     }
 }
@@ -58,29 +57,29 @@ const BLOCKS: &str = r"
 
 /// Refusals without expressions before them.
 const REFUSED: &str = r"
-1 0 0:  => Unexpected 0
-1 0 0: ;  => Unexpected 2
-1 0 0: break } => Unexpected 6
-0 0 0: ; ;} => TooDeep 0
-0 9 9: int a; __try => TooDeep 7
-0 0 0: else } => Unexpected 0
-0 1 0: int a = 1; } => TooDeep 6
-1 0 0: { ; } } => TooDeep 2
-1 0 0: { 1; } } => TooDeep 2
-1 0 0: ; if => TooDeep 2
-1 0 0: do ; while => TooDeep 0
-1 0 0: return x; } => TooDeep 7
-1 0 0: return } => Unexpected 7
-0 1 0: int } => Unexpected 4
-0 1 0: int a + 1; } => Unexpected 6
-0 1 0: int a, b; } => TooMany 5 Locals
-0 1 0: int a; signed b; } => TooMany 7 Locals
-2 0 0: for (int => TooMany 5 Locals
-2 0 1: __try ; => Unexpected 6
-2 0 1: __try {} ; => Unexpected 9
-1 0 1: __try {} __except => TooDeep 9
-2 0 0: __try {} __finally => TooMany 9 Funclets
-1 0 0: __try {} __finally => TooMany 0 Funclets
+1 0 0:  => Unexpected { at: 0 }
+1 0 0: ;  => Unexpected { at: 2 }
+1 0 0: break } => Unexpected { at: 6 }
+0 0 0: ; ;} => TooDeep { at: 0 }
+0 9 9: int a; __try => TooDeep { at: 7 }
+0 0 0: else } => Unexpected { at: 0 }
+0 1 0: int a = 1; } => TooDeep { at: 6 }
+1 0 0: { ; } } => TooDeep { at: 2 }
+1 0 0: { 1; } } => TooDeep { at: 2 }
+1 0 0: ; if => TooDeep { at: 2 }
+1 0 0: do ; while => TooDeep { at: 0 }
+1 0 0: return x; } => TooDeep { at: 7 }
+1 0 0: return } => Unexpected { at: 7 }
+0 1 0: int } => Unexpected { at: 4 }
+0 1 0: int a + 1; } => Unexpected { at: 6 }
+0 1 0: int a, b; } => TooMany { at: 5, what: Locals }
+0 1 0: int a; signed b; } => TooMany { at: 7, what: Locals }
+2 0 0: for (int => TooMany { at: 5, what: Locals }
+2 0 1: __try ; => Unexpected { at: 6 }
+2 0 1: __try {} ; => Unexpected { at: 9 }
+1 0 1: __try {} __except => TooDeep { at: 9 }
+2 0 0: __try {} __finally => TooMany { at: 9, what: Funclets }
+1 0 0: __try {} __finally => TooMany { at: 0, what: Funclets }
 ";
 
 /// Statements with expressions.
@@ -97,60 +96,51 @@ const STATEMENTS: &str = r"
 
 /// Refusals after expressions.
 const REFUSED_AFTER_EXPRESSIONS: &str = r"
-1 0 0: a } => TooDeep 0
-2 0 0: a } => Unexpected 2
-2 0 0: if a => Unexpected 3
-2 0 0: if (a ; => Unexpected 6
-2 0 0: if (a) b => TooDeep 7
-2 0 0: if (a) ; else b => TooDeep 14
-2 0 0: if (a) ; else ; else => Unexpected 16
-2 1 0: if (a) int => Unexpected 7
-2 0 0: do ; until => Unexpected 5
-2 0 0: do ; while (a) } => Unexpected 15
-1 1 0: int a = 1, b => TooMany 9 Locals
+1 0 0: a } => TooDeep { at: 0 }
+2 0 0: a } => Unexpected { at: 2 }
+2 0 0: if a => Unexpected { at: 3 }
+2 0 0: if (a ; => Unexpected { at: 6 }
+2 0 0: if (a) b => TooDeep { at: 7 }
+2 0 0: if (a) ; else b => TooDeep { at: 14 }
+2 0 0: if (a) ; else ; else => Unexpected { at: 16 }
+2 1 0: if (a) int => Unexpected { at: 7 }
+2 0 0: do ; until => Unexpected { at: 5 }
+2 0 0: do ; while (a) } => Unexpected { at: 15 }
+1 1 0: int a = 1, b => TooMany { at: 9, what: Locals }
 ";
 
 /// Where no filter may have a number, each text is refused at the first token with which no filter
 /// continues that accepts whatever was raised.
 const REFUSED_IN_FILTERS: &str = r"
-2 0 0: __try {} __except (1 + => TooMany 21 Funclets
-2 0 0: __try {} __except (f => TooMany 19 Funclets
-2 0 0: __try {} __except (2 => TooMany 19 Funclets
-2 0 0: __try {} __except () => Unexpected 19
-2 0 0: __try {} __except (int => Unexpected 19
-2 0 0: __try {} __except ((int => TooMany 20 Funclets
-2 0 0: __try {} __except (1( => Unexpected 20
-2 0 0: __try {} __except (EXCEPTION_EXECUTE_HANDLER( => TooMany 44 Funclets
-2 0 0: __try {} __except $64$($1 + => TooMany 84 Funclets
-2 0 0: __try {} __except $65$($1 + => TooDeep 85
-2 0 0: __try {} __except $65$($int => TooMany 83 Funclets
-2 0 0: __try {} __except $66$($1 => TooDeep 83
-2 0 0: __try {} __except ((1) ; => Unexpected 23
-2 0 0: __try {} __except (1) ; => Unexpected 22
-2 0 0: __try {} __except (1) => Unexpected 21
+2 0 0: __try {} __except (1 + => TooMany { at: 21, what: Funclets }
+2 0 0: __try {} __except (f => TooMany { at: 19, what: Funclets }
+2 0 0: __try {} __except (2 => TooMany { at: 19, what: Funclets }
+2 0 0: __try {} __except () => Unexpected { at: 19 }
+2 0 0: __try {} __except (int => Unexpected { at: 19 }
+2 0 0: __try {} __except ((int => TooMany { at: 20, what: Funclets }
+2 0 0: __try {} __except (1( => Unexpected { at: 20 }
+2 0 0: __try {} __except (EXCEPTION_EXECUTE_HANDLER( => TooMany { at: 44, what: Funclets }
+2 0 0: __try {} __except $64$($1 + => TooMany { at: 84, what: Funclets }
+2 0 0: __try {} __except $65$($1 + => TooDeep { at: 85 }
+2 0 0: __try {} __except $65$($int => TooMany { at: 83, what: Funclets }
+2 0 0: __try {} __except $66$($1 => TooDeep { at: 83 }
+2 0 0: __try {} __except ((1) ; => Unexpected { at: 23 }
+2 0 0: __try {} __except (1) ; => Unexpected { at: 22 }
+2 0 0: __try {} __except (1) => Unexpected { at: 21 }
 ";
 
 #[test]
-fn blocks_are_read_whole(rt: HostRuntime) -> Result<(), Fail> {
-    all_as_wanted(&rt, rt.alloc(), Reader::Items, BLOCKS)
-}
-
-#[test]
-fn no_block_continues(rt: HostRuntime) -> Result<(), Fail> {
-    all_as_wanted(&rt, rt.alloc(), Reader::Items, REFUSED)
-}
-
-#[test]
-fn statements_are_read_whole(rt: HostRuntime) -> Result<(), Fail> {
-    all_as_wanted(&rt, rt.alloc(), Reader::Items, STATEMENTS)
-}
-
-#[test]
-fn no_statement_continues(rt: HostRuntime) -> Result<(), Fail> {
-    all_as_wanted(&rt, rt.alloc(), Reader::Items, REFUSED_AFTER_EXPRESSIONS)
-}
-
-#[test]
-fn no_accepting_filter_continues(rt: HostRuntime) -> Result<(), Fail> {
-    all_as_wanted(&rt, rt.alloc(), Reader::Items, REFUSED_IN_FILTERS)
+fn items_are_read_or_refused(rt: HostRuntime) -> Result<(), Fail> {
+    all_as_wanted(
+        &rt,
+        rt.alloc(),
+        Reader::Items,
+        &[
+            BLOCKS,
+            REFUSED,
+            STATEMENTS,
+            REFUSED_AFTER_EXPRESSIONS,
+            REFUSED_IN_FILTERS,
+        ],
+    )
 }

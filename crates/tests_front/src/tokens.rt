@@ -1,9 +1,8 @@
 //! Texts and their tokens by the rules of C11, 6.4, and what is refused.
 
 use crate::rows::{Reader, all_as_wanted};
-use c_lex::laws::laws;
 use c_lex::lexing::{LexErr, lex};
-use c_lex::token::Kind;
+use c_lex::token::{Kind, Token};
 use std::alloc::{AllocError, Global};
 use std::process::Abort;
 use std::test::Fail;
@@ -16,51 +15,65 @@ fn kind_of(alloc: Global, kind: Kind) -> Result<String, AllocError> {
     }
 }
 
-/// The words of a refusal: its name and its place.
-fn refusal_of(alloc: Global, refusal: LexErr) -> Result<String, AllocError> {
-    match refusal {
-        LexErr::BadByte { at } => { format!(in alloc; "BadByte {at}") }
-        LexErr::OpenComment { at } => { format!(in alloc; "OpenComment {at}") }
-        LexErr::BadChar { at } => { format!(in alloc; "BadChar {at}") }
-        LexErr::BigLiteral { at } => { format!(in alloc; "BigLiteral {at}") }
-        LexErr::Memory => String::from_str(alloc, "Memory"),
-    }
-}
-
 /// What a text is that is one token.
-pub fn token_of(alloc: Global, text: &[u8]) -> Result<String, Fail> {
-    let tokens = lex(alloc, text)?;
-    if let [token] = tokens.as_slice() {
-        if token.start == 0 && token.end == text.len() as u64 {
-            return Ok(kind_of(alloc, token.kind)?);
+pub fn token_of(alloc: Global, text: &[u8], tokens: &[Token]) -> Result<String, AllocError> {
+    match tokens {
+        [token] if token.start == 0 && token.end == text.len() as u64 => {
+            kind_of(alloc, token.kind)
         }
+        _ => String::from_str(alloc, "not one token"),
     }
-    Ok(String::from_str(alloc, "not one token")?)
 }
 
-/// The tokens of a text, each with where it starts and ends; or its refusal.
-pub fn tokens_of(alloc: Global, text: &[u8]) -> Result<String, Fail> {
-    let tokens = match lex(alloc, text) {
-        Ok(tokens) => tokens,
-        Err(refusal) => return Ok(refusal_of(alloc, refusal)?),
-    };
+/// A token: what it is, and where it starts and ends.
+fn part_of(alloc: Global, token: Token) -> Result<String, AllocError> {
+    let kind = kind_of(alloc, token.kind)?;
+    format!(in alloc; "{kind} {} {}", token.start, token.end)
+}
+
+/// The tokens of a text, each with where it starts and ends.
+pub fn tokens_of(alloc: Global, tokens: &[Token]) -> Result<String, AllocError> {
     let mut found = String::new(alloc);
-    for token in tokens.iter() {
-        let comma = if found.is_empty() { "" } else { ", " };
-        let kind = kind_of(alloc, token.kind)?;
-        let part = format!(in alloc; "{comma}{kind} {} {}", token.start, token.end)?;
-        found.push_str(&part)?;
+    for token in tokens {
+        if !found.is_empty() {
+            found.push_str(", ")?;
+        }
+        found.push_str(&part_of(alloc, *token)?)?;
+    }
+    if found.is_empty() {
+        found.push_str("no tokens")?;
     }
     Ok(found)
 }
 
-/// The tokens of a text that no row of a table can have.
-fn found(rt: &impl Abort, alloc: Global, text: &[u8], wanted: &str) -> Result<(), Fail> {
-    let found = tokens_of(alloc, text)?;
-    assert_eq!(rt; found.as_str(), wanted, "of {text:?}");
-    Ok(())
+/// Whether a token is a character of a number.
+fn is_value(kind: Kind, number: u8) -> bool {
+    match kind {
+        Kind::CharacterConstant(value) => i16::from(value) == i16::from(number),
+        _ => false,
+    }
 }
 
+/// Whether a byte between quotes is the character of its number.
+fn is_character(alloc: Global, byte: u8) -> bool {
+    let Ok(tokens) = lex(alloc, &[b'\'', byte, b'\'']) else {
+        return false;
+    };
+    match tokens.as_slice() {
+        [token] => token.start == 0 && token.end == 3 && is_value(token.kind, byte),
+        _ => false,
+    }
+}
+
+/// Whether a text is refused at a place, where no token begins.
+fn no_token_at(alloc: Global, text: &[u8], place: u64) -> bool {
+    match lex(alloc, text) {
+        Err(LexErr::BadByte { at }) => at == place,
+        _ => false,
+    }
+}
+
+/// Words that are no keywords.
 const NAMES: &str = r"
 a => Identifier
 Z => Identifier
@@ -81,11 +94,6 @@ RaiseException => Identifier
 EXCEPTION_EXECUTE_HANDLER => Identifier
 abcdefghijklmnopqrstuvwxyzABCDEFGHIJKLMNOPQRSTUVWXYZ_0123456789 => Identifier
 ";
-
-#[test]
-fn words_are_identifiers(rt: HostRuntime) -> Result<(), Fail> {
-    all_as_wanted(&rt, rt.alloc(), Reader::Token, NAMES)
-}
 
 /// Decimal literals: int, long long, unsigned long long.
 const DECIMAL: &str = r"
@@ -125,12 +133,6 @@ const OCTAL_AND_HEXADECIMAL: &str = r"
 0xffffffffffffffff => 18446744073709551615 UnsignedLongLong
 ";
 
-#[test]
-fn literals_have_the_first_type_that_holds_them(rt: HostRuntime) -> Result<(), Fail> {
-    all_as_wanted(&rt, rt.alloc(), Reader::Token, DECIMAL)?;
-    all_as_wanted(&rt, rt.alloc(), Reader::Token, OCTAL_AND_HEXADECIMAL)
-}
-
 /// `long` has 32 bits, so that `l` alone changes no type.
 const SUFFIXES: &str = r"
 1u => 1 Unsigned
@@ -166,11 +168,7 @@ const SUFFIXES: &str = r"
 9223372036854775808ll => 9223372036854775808 UnsignedLongLong
 ";
 
-#[test]
-fn suffixes_narrow_the_types(rt: HostRuntime) -> Result<(), Fail> {
-    all_as_wanted(&rt, rt.alloc(), Reader::Token, SUFFIXES)
-}
-
+/// Escapes, and characters that are signed.
 const ESCAPES: &str = r#"
 '\n' => CharacterConstant(10)
 '\t' => CharacterConstant(9)
@@ -187,19 +185,6 @@ const ESCAPES: &str = r#"
 '\xaB' => CharacterConstant(-85)
 '\x09' => CharacterConstant(9)
 "#;
-
-#[test]
-fn characters_are_signed(rt: HostRuntime) -> Result<(), Fail> {
-    let alloc = rt.alloc();
-    for byte in 32..127u8 {
-        if byte != b'\'' && byte != b'\\' {
-            let found = token_of(alloc, &[b'\'', byte, b'\''])?;
-            let wanted = format!(in alloc; "CharacterConstant({byte})")?;
-            assert_eq!(rt; found, wanted);
-        }
-    }
-    all_as_wanted(&rt, alloc, Reader::Token, ESCAPES)
-}
 
 /// Each token is the longest that there is.
 const LONGEST: &str = r"
@@ -221,120 +206,131 @@ if1 1if => Identifier 0 3, 1 Int 4 5, Keyword(If) 5 7
 'a''b' => CharacterConstant(97) 0 3, CharacterConstant(98) 3 6
 ";
 
-#[test]
-fn tokens_are_the_longest(rt: HostRuntime) -> Result<(), Fail> {
-    all_as_wanted(&rt, rt.alloc(), Reader::Tokens, LONGEST)
-}
-
 /// Comments end at the first end, and separate tokens.
-const COMMENTS: &str = r"
+const COMMENTS: &str = r#"
+ => no tokens
+ $byte$9$$byte$13$$byte$10$$byte$11$$byte$12$ => no tokens
+// => no tokens
+// a $byte$0$$byte$255$$byte$13$ /* @ ' => no tokens
+//$byte$10$//$byte$10$ => no tokens
+/**/ => no tokens
+/***/ => no tokens
+/*/*/ => no tokens
+/* $byte$0$$byte$255$ @ ' " // $byte$10$ ** / * */ => no tokens
+/**//**/ => no tokens
+a//b$byte$10$c => Identifier 0 1, Identifier 5 6
+//\$byte$10$a => Identifier 4 5
 a/*b*/c => Identifier 0 1, Identifier 6 7
 /*a*/b*/ => Identifier 5 6, Punctuator(Star) 6 7, Punctuator(Slash) 7 8
+"#;
+
+/// Comments without ends.
+const OPEN_COMMENTS: &str = r"
+//$byte$10$/* => OpenComment { at: 3 }
+/* => OpenComment { at: 0 }
+/*/ => OpenComment { at: 0 }
+/** => OpenComment { at: 0 }
+/* * / @ => OpenComment { at: 0 }
+/**//* => OpenComment { at: 4 }
+a /* x => OpenComment { at: 2 }
+int a /* x => OpenComment { at: 6 }
 ";
 
-#[test]
-fn white_space_and_comments_separate_tokens(rt: HostRuntime) -> Result<(), Fail> {
-    let alloc = rt.alloc();
-    for text in [
-        b"".as_slice(),
-        b" \t\r\n\x0b\x0c",
-        b"//",
-        b"// a \x00\xff\r /* @ '",
-        b"//\n//\n",
-        b"/**/",
-        b"/***/",
-        b"/*/*/",
-        b"/* \x00\xff @ ' \" // \n ** / * */",
-        b"/**//**/",
-    ] {
-        found(&rt, alloc, text, "")?;
+/// Quotes that begin no character.
+const BAD_CHARACTERS: &str = r"
+'$byte$10$' => BadChar { at: 0 }
+'$byte$31$' => BadChar { at: 0 }
+'$byte$127$' => BadChar { at: 0 }
+'$byte$195$' => BadChar { at: 0 }
+' => BadChar { at: 0 }
+'' => BadChar { at: 0 }
+'a => BadChar { at: 0 }
+'ab' => BadChar { at: 0 }
+'\' => BadChar { at: 0 }
+'\a' => BadChar { at: 0 }
+'\N' => BadChar { at: 0 }
+'\n => BadChar { at: 0 }
+'\00' => BadChar { at: 0 }
+'\x' => BadChar { at: 0 }
+'\x8' => BadChar { at: 0 }
+'\x8 => BadChar { at: 0 }
+'\xg0' => BadChar { at: 0 }
+'\x800' => BadChar { at: 0 }
+'\X80' => BadChar { at: 0 }
+'a'' => BadChar { at: 3 }
+a' => BadChar { at: 1 }
+int main(void){ return 'ab'; } => BadChar { at: 23 }
+";
+
+/// Literals of 2^64 and above.
+const BIG_LITERALS: &str = r"
+18446744073709551616 => BigLiteral { at: 0 }
+18446744073709551616u => BigLiteral { at: 0 }
+99999999999999999999999999999999999999999999999999 => BigLiteral { at: 0 }
+02000000000000000000000 => BigLiteral { at: 0 }
+0x10000000000000000 => BigLiteral { at: 0 }
+0xFFFFFFFFFFFFFFFF0ull => BigLiteral { at: 0 }
+1 + 18446744073709551616 => BigLiteral { at: 4 }
+int main(void){ return 18446744073709551616; } => BigLiteral { at: 23 }
+";
+
+/// Whether a byte is in no token, no white space and no comment (C11, 5.2.1).
+fn is_bad(byte: u8) -> bool {
+    match byte {
+        0..=8 | 14..=31 | b'"' | b'#' | b'$' | b'.' | b'@' | b'\\' | b'`' | 127..=255 => true,
+        _ => false,
     }
-    found(&rt, alloc, b"a//b\nc", "Identifier 0 1, Identifier 5 6")?;
-    found(&rt, alloc, b"//\\\na", "Identifier 4 5")?;
-    all_as_wanted(&rt, alloc, Reader::Tokens, COMMENTS)
 }
 
 #[test]
-fn bytes_begin_no_token(rt: HostRuntime) -> Result<(), Fail> {
-    let alloc = rt.alloc();
-    for byte in 0..=255u8 {
-        let bad = match byte {
-            0..=8 | 14..=31 | b'"' | b'#' | b'$' | b'.' | b'@' | b'\\' | b'`' | 127..=255 => true,
-            _ => false,
-        };
-        if bad {
-            found(&rt, alloc, &[byte], "BadByte 0")?;
-            found(&rt, alloc, &[b'a', b' ', byte], "BadByte 2")?;
-            found(&rt, alloc, &[byte, b'\''], "BadByte 0")?;
+fn texts_are_one_token(rt: HostRuntime) -> Result<(), Fail> {
+    all_as_wanted(
+        &rt,
+        rt.alloc(),
+        Reader::Token,
+        &[NAMES, DECIMAL, OCTAL_AND_HEXADECIMAL, SUFFIXES, ESCAPES],
+    )
+}
+
+#[test]
+fn tokens_are_the_longest(rt: HostRuntime) -> Result<(), Fail> {
+    all_as_wanted(
+        &rt,
+        rt.alloc(),
+        Reader::Tokens,
+        &[
+            LONGEST,
+            COMMENTS,
+            OPEN_COMMENTS,
+            BAD_CHARACTERS,
+            BIG_LITERALS,
+        ],
+    )
+}
+
+#[test]
+fn characters_have_their_numbers(rt: HostRuntime) {
+    for byte in 32..127u8 {
+        if byte != b'\'' && byte != b'\\' {
+            assert!(rt; is_character(rt.alloc(), byte), "of {byte}");
         }
     }
-    Ok(())
 }
 
-const OPEN_COMMENTS: &str = r"
-/* => OpenComment 0
-/*/ => OpenComment 0
-/** => OpenComment 0
-/* * / @ => OpenComment 0
-/**//* => OpenComment 4
-a /* x => OpenComment 2
-int a /* x => OpenComment 6
-";
-
 #[test]
-fn comments_have_ends(rt: HostRuntime) -> Result<(), Fail> {
-    found(&rt, rt.alloc(), b"//\n/*", "OpenComment 3")?;
-    all_as_wanted(&rt, rt.alloc(), Reader::Tokens, OPEN_COMMENTS)
-}
-
-const BAD_CHARACTERS: &str = r"
-' => BadChar 0
-'' => BadChar 0
-'a => BadChar 0
-'ab' => BadChar 0
-'\' => BadChar 0
-'\a' => BadChar 0
-'\N' => BadChar 0
-'\n => BadChar 0
-'\00' => BadChar 0
-'\x' => BadChar 0
-'\x8' => BadChar 0
-'\x8 => BadChar 0
-'\xg0' => BadChar 0
-'\x800' => BadChar 0
-'\X80' => BadChar 0
-'a'' => BadChar 3
-a' => BadChar 1
-int main(void){ return 'ab'; } => BadChar 23
-";
-
-#[test]
-fn quotes_begin_one_character(rt: HostRuntime) -> Result<(), Fail> {
+fn bytes_begin_no_token(rt: HostRuntime) {
     let alloc = rt.alloc();
-    found(&rt, alloc, b"'\n'", "BadChar 0")?;
-    found(&rt, alloc, b"'\x1f'", "BadChar 0")?;
-    found(&rt, alloc, b"'\x7f'", "BadChar 0")?;
-    found(&rt, alloc, b"'\xc3'", "BadChar 0")?;
-    all_as_wanted(&rt, alloc, Reader::Tokens, BAD_CHARACTERS)
-}
-
-const BIG_LITERALS: &str = r"
-18446744073709551616 => BigLiteral 0
-18446744073709551616u => BigLiteral 0
-99999999999999999999999999999999999999999999999999 => BigLiteral 0
-02000000000000000000000 => BigLiteral 0
-0x10000000000000000 => BigLiteral 0
-0xFFFFFFFFFFFFFFFF0ull => BigLiteral 0
-1 + 18446744073709551616 => BigLiteral 4
-int main(void){ return 18446744073709551616; } => BigLiteral 23
-";
-
-#[test]
-fn literals_are_below_2_to_the_64(rt: HostRuntime) -> Result<(), Fail> {
-    all_as_wanted(&rt, rt.alloc(), Reader::Tokens, BIG_LITERALS)
-}
-
-#[test]
-fn laws_hold() {
-    laws();
+    for byte in 0..=255u8 {
+        if is_bad(byte) {
+            assert!(rt; no_token_at(alloc, &[byte], 0), "of {byte}");
+            assert!(rt;
+                no_token_at(alloc, &[b'a', b' ', byte], 2),
+                "of {byte} after a"
+            );
+            assert!(rt;
+                no_token_at(alloc, &[byte, b'\''], 0),
+                "of {byte} before a quote"
+            );
+        }
+    }
 }

@@ -1,18 +1,17 @@
 //! Types by the C standard's rules (C11, 6.7.2 and 6.7.6), with `long` of 32 bits.
 
 use crate::rows::{Reader, all_as_wanted};
-use c_lex::lexing::lex;
+use c_lex::token::Token;
 use c_parse_type::specifiers::c_type;
-use std::alloc::Global;
+use std::alloc::{AllocError, Global};
 use std::test::Fail;
 
 /// The type that a text begins with: its base, and how many pointers; one token is after it.
-pub fn type_of(alloc: Global, text: &[u8]) -> Result<String, Fail> {
-    let tokens = lex(alloc, text)?;
-    match c_type(&tokens) {
-        Some((found, [_])) => { Ok(format!(in alloc; "{:?} {}", found.base, found.pointers)?) }
-        Some(_) => Ok(String::from_str(alloc, "not one token")?),
-        None => Ok(String::from_str(alloc, "no type")?),
+pub fn type_of(alloc: Global, tokens: &[Token]) -> Result<String, AllocError> {
+    match c_type(tokens) {
+        Some((found, [_])) => { format!(in alloc; "{:?} {}", found.base, found.pointers) }
+        Some(_) => String::from_str(alloc, "not one token"),
+        None => String::from_str(alloc, "no type"),
     }
 }
 
@@ -29,5 +28,5 @@ x int => no type
 
 #[test]
 fn texts_begin_with_types(rt: HostRuntime) -> Result<(), Fail> {
-    all_as_wanted(&rt, rt.alloc(), Reader::Type, TYPES)
+    all_as_wanted(&rt, rt.alloc(), Reader::Type, &[TYPES])
 }
