@@ -22,7 +22,7 @@ const MOST: usize = 1 << 24;
 const INFOS: u32 = 0x4000;
 
 /// What a function begins with.
-#[derive(Clone, Copy, Debug)]
+#[derive(Clone, Copy)]
 pub enum Prologue {
     /// `sub rsp,40`, of four bytes.
     Fixed,
@@ -31,7 +31,7 @@ pub enum Prologue {
 }
 
 /// A function of an image.
-#[derive(Clone, Copy, Debug)]
+#[derive(Clone, Copy)]
 pub struct Function<'a> {
     /// Its first byte, relative to the image base.
     pub begin: u32,
@@ -75,7 +75,7 @@ pub fn scope(begin: u32, end: u32, handler_address: u32, jump_target: u32) -> Sc
 }
 
 /// What an image is built of.
-#[derive(Clone, Copy, Debug)]
+#[derive(Clone, Copy)]
 pub struct Parts<'a> {
     /// Its data, at 0x1000.
     pub data: &'a [u8],
@@ -164,24 +164,35 @@ fn info(prologue: Prologue, trailer: Trailer) -> UnwindInfo
     }
 }
 
+/// Adds a function's info with its scope table, and its entry.
+fn add_function(
+    function: &Function<'_>,
+    handler: u32,
+    infos: &mut Vec<u8>,
+    ranges: &mut Vec<RuntimeFunction>,
+) -> Result<(), AllocError> {
+    if function.scopes.len() > MOST || infos.len() > MOST {
+        return Err(AllocError);
+    }
+    ranges.push(RuntimeFunction {
+        begin: function.begin,
+        end: function.end,
+        unwind_info: INFOS + infos.len() as u32,
+    })?;
+    let handled = trailer(handler, function.scopes);
+    write_unwind(&info(function.prologue, handled), infos)?;
+    if function.scopes.is_empty() {
+        return Ok(());
+    }
+    write_scopes(function.scopes, infos)
+}
+
 /// The infos of functions, with their scope tables, and the function table.
 fn tables(alloc: Global, parts: Parts<'_>) -> Result<(Vec<u8>, Vec<u8>), AllocError> {
     let mut infos = Vec::new(alloc);
     let mut ranges = Vec::new(alloc);
     for function in parts.functions {
-        if function.scopes.len() > MOST || infos.len() > MOST {
-            return Err(AllocError);
-        }
-        ranges.push(RuntimeFunction {
-            begin: function.begin,
-            end: function.end,
-            unwind_info: INFOS + infos.len() as u32,
-        })?;
-        let handled = trailer(parts.handler, function.scopes);
-        write_unwind(&info(function.prologue, handled), &mut infos)?;
-        if !function.scopes.is_empty() {
-            write_scopes(function.scopes, &mut infos)?;
-        }
+        add_function(function, parts.handler, &mut infos, &mut ranges)?;
     }
     let mut table = Vec::new(alloc);
     write_pdata(&ranges, &mut table)?;
@@ -191,15 +202,15 @@ fn tables(alloc: Global, parts: Parts<'_>) -> Result<(Vec<u8>, Vec<u8>), AllocEr
 /// The bytes of an image. There is no memory for parts that are larger than those limits, nor for
 /// an image without code.
 pub fn built(alloc: Global, parts: Parts<'_>) -> Result<Vec<u8>, AllocError> {
+    if parts.data.len() > PAGE || parts.text.len() > PAGE || parts.text.is_empty() {
+        return Err(AllocError);
+    }
     let (infos, table) = tables(alloc, parts)?;
+    if infos.len() > MOST || table.len() > MOST {
+        return Err(AllocError);
+    }
     let data = parts.data.to_vec(alloc)?;
     let text = parts.text.to_vec(alloc)?;
-    if data.len() > PAGE || text.len() > PAGE || infos.len() > MOST || table.len() > MOST {
-        return Err(AllocError);
-    }
-    if text.is_empty() {
-        return Err(AllocError);
-    }
     let image = Image::new(PAGE as u32, data, text, 0, infos, table);
     write(alloc, &image)
 }

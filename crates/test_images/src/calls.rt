@@ -1,6 +1,8 @@
 //! Images of functions that call each other: exceptions pass from one function to its caller.
 
-use crate::building::{Parts, built, fixed, framed, scope};
+use crate::building::{Function, Parts, built, fixed, framed, scope};
+use crate::tables::put;
+use eh_tables::ScopeRecord;
 use std::alloc::{AllocError, Global};
 
 /// A `main` that calls a function with a frame register, in a `__try` within a `__try`. That one
@@ -239,30 +241,53 @@ const RAISES_LAST: &[u8] = &[
     0xFF, 0x25, 0xD6, 0x09, 0x00, 0x00, // jmp [__C_specific_handler]
 ];
 
+/// The code of all of them.
+fn hundred_texts(alloc: Global) -> Result<Vec<u8>, AllocError> {
+    let mut text = vec![in alloc; 0; 0x68A]?;
+    put(&mut text, 0, CALLS_IN_TRY);
+    for k in 0..100 {
+        put(&mut text, 0x20 + 16 * k, CALLS_NEXT);
+    }
+    put(&mut text, 0x660, RAISES_LAST);
+    Ok(text)
+}
+
+/// Adds the scope records of the hundred.
+fn add_records(records: &mut Vec<[ScopeRecord; 1]>) -> Result<(), AllocError> {
+    for k in 0..100_u32 {
+        let begin = 0x2020 + 16 * k;
+        records.push([scope(begin + 4, begin + 10, 0x2672, 0)])?;
+    }
+    Ok(())
+}
+
+/// Adds `main`, the hundred, by their scope records, and the last two.
+fn add_functions<'a>(
+    functions: &mut Vec<Function<'a>>,
+    of_main: &'a [ScopeRecord],
+    records: &'a [[ScopeRecord; 1]],
+) -> Result<(), AllocError> {
+    functions.push(fixed(0x2000, 0x2014, of_main))?;
+    let mut begin: u32 = 0x2020;
+    for record in records {
+        functions.push(fixed(begin, begin.saturating_add(15), record))?;
+        begin = begin.saturating_add(16);
+    }
+    functions.push(fixed(0x2660, 0x2672, &[]))?;
+    functions.push(fixed(0x2672, 0x2684, &[]))?;
+    Ok(())
+}
+
 /// The image of a `main` and a hundred functions, of which each calls the next, up to one that
 /// raises E0000001. The filter of `main` is 1; the `__finally` block of the hundred is 2, and shows
 /// the establisher frame.
 pub fn hundred_frames(alloc: Global) -> Result<Vec<u8>, AllocError> {
-    let mut text = Vec::new(alloc);
-    text.extend_from_slice(CALLS_IN_TRY)?;
-    let mut rows = Vec::new(alloc);
-    for k in 0..100_u32 {
-        text.extend_from_slice(CALLS_NEXT)?;
-        let begin = 0x2020 + 16 * k;
-        rows.push([scope(begin + 4, begin + 10, 0x2672, 0)])?;
-    }
-    text.extend_from_slice(RAISES_LAST)?;
     let of_main = [scope(0x2004, 0x200A, 0x2014, 0x200A)];
+    let mut records = Vec::new(alloc);
+    add_records(&mut records)?;
     let mut functions = Vec::new(alloc);
-    functions.push(fixed(0x2000, 0x2014, &of_main))?;
-    for k in 0..100_u32 {
-        if let Some(row) = rows.get(k as usize) {
-            let begin = 0x2020 + 16 * k;
-            functions.push(fixed(begin, begin + 15, row))?;
-        }
-    }
-    functions.push(fixed(0x2660, 0x2672, &[]))?;
-    functions.push(fixed(0x2672, 0x2684, &[]))?;
+    add_functions(&mut functions, &of_main, &records)?;
+    let text = hundred_texts(alloc)?;
     let parts = Parts {
         data: &[],
         text: &text,

@@ -195,6 +195,30 @@ pub fn plain_framed(alloc: Global, text: &[u8]) -> Result<Vec<u8>, AllocError> {
     built(alloc, parts)
 }
 
+/// A `main` that raises E0000001.
+const RAISES: &[u8] = &[
+    0x48, 0x83, 0xEC, 0x28, // sub rsp,0x28
+    0xB9, 0x01, 0x00, 0x00, 0xE0, // mov ecx,0xe0000001
+    0x31, 0xD2, // xor edx,edx
+    0xFF, 0x15, 0x47, 0x10, 0x00, 0x00, // call [RaiseException]
+    0xCC, // int3
+];
+
+/// That code, the funclet after it and the thunk of the language handler.
+fn raising_text(alloc: Global, funclet: &[u8]) -> Result<Vec<u8>, AllocError> {
+    let end = 18 + funclet.len();
+    let mut text = vec![in alloc; 0; end + 6]?;
+    put(&mut text, 0, RAISES);
+    put(&mut text, 18, funclet);
+    put(&mut text, end, &[0xFF, 0x25]);
+    put(
+        &mut text,
+        end + 2,
+        &(0x105A - (end % 256) as u32).to_le_bytes(),
+    );
+    Ok(text)
+}
+
 /// The image of a `main` that raises E0000001 under these scope records, from 0x2004 to before
 /// 0x2012, where this funclet begins. The record of that raise is at 0x707FF990; where a filter
 /// begins RCX is 80 bytes above it, and where a `__finally` block begins RSP is 8 below it.
@@ -203,16 +227,8 @@ pub fn handled(
     funclet: &[u8],
     scopes: &[ScopeRecord],
 ) -> Result<Vec<u8>, AllocError> {
-    let mut text = Vec::new(alloc);
-    // sub rsp,0x28; mov ecx,0xe0000001; xor edx,edx; call [RaiseException]; int3
-    text.extend_from_slice(&[
-        0x48, 0x83, 0xEC, 0x28, 0xB9, 0x01, 0x00, 0x00, 0xE0, 0x31, 0xD2, 0xFF, 0x15, 0x47, 0x10,
-        0x00, 0x00, 0xCC,
-    ])?;
-    text.extend_from_slice(funclet)?;
-    let thunk = 0x2000 + (text.len() % 256) as u32;
-    text.extend_from_slice(&[0xFF, 0x25])?;
-    text.extend_from_slice(&(0x305A - thunk).to_le_bytes())?;
+    let text = raising_text(alloc, funclet)?;
+    let thunk = 0x2000 + ((18 + funclet.len()) % 256) as u32;
     let functions = [fixed(0x2000, 0x2012, scopes), fixed(0x2012, thunk, &[])];
     let parts = Parts {
         data: &[],

@@ -1,5 +1,6 @@
 //! Images of one section and no tables, field by field, as the PE format has them.
 
+use crate::tables::{put, put_rows};
 use std::alloc::{AllocError, Global};
 
 /// Where the signature of [`image`] is.
@@ -12,7 +13,7 @@ pub const OPTIONAL: usize = SIGNATURE + 24;
 pub const TABLE: usize = OPTIONAL + 112;
 
 /// The fields of [`image`] that vary.
-#[derive(Clone, Copy, Debug)]
+#[derive(Clone, Copy)]
 pub struct Fields {
     /// ImageBase.
     pub base: u64,
@@ -32,26 +33,25 @@ pub const PLAIN: Fields = Fields {
     characteristics: 0x6000_0020,
 };
 
+/// The fields of [`image`] that don't vary.
+const FIXED: &str = r"
+0 4D 5A   | MZ
+3C 40     | e_lfanew
+40 50 45  | PE
+44 64 86  | Machine
+46 1      | NumberOfSections
+56 23     | Characteristics
+58 B 2    | Magic
+";
+
 /// The headers of an image whose optional header has this size.
 pub fn headers(alloc: Global, fields: Fields, optional: u16) -> Result<Vec<u8>, AllocError> {
-    let mut out = Vec::new(alloc);
-    out.extend_from_slice(b"MZ")?;
-    out.extend_from_slice(&[0; 58])?;
-    out.extend_from_slice(&[64, 0, 0, 0])?; // e_lfanew
-    out.extend_from_slice(b"PE\0\0")?;
-    out.extend_from_slice(&[0x64, 0x86])?; // Machine
-    out.extend_from_slice(&[1, 0])?; // NumberOfSections
-    out.extend_from_slice(&[0; 12])?;
-    out.extend_from_slice(&optional.to_le_bytes())?; // SizeOfOptionalHeader
-    out.extend_from_slice(&[0x23, 0])?; // Characteristics
-    out.extend_from_slice(&[0x0B, 0x02])?; // Magic
-    out.extend_from_slice(&[0; 14])?;
-    out.extend_from_slice(&fields.entry.to_le_bytes())?; // AddressOfEntryPoint
-    out.extend_from_slice(&[0; 4])?;
-    out.extend_from_slice(&fields.base.to_le_bytes())?; // ImageBase
-    out.extend_from_slice(&[0; 24])?;
-    out.extend_from_slice(&fields.size.to_le_bytes())?; // SizeOfImage
-    out.extend_from_slice(&[0; 48])?;
+    let mut out = vec![in alloc; 0; TABLE - 4]?;
+    put_rows(&mut out, FIXED);
+    put(&mut out, SIGNATURE + 20, &optional.to_le_bytes()); // SizeOfOptionalHeader
+    put(&mut out, OPTIONAL + 16, &fields.entry.to_le_bytes()); // AddressOfEntryPoint
+    put(&mut out, OPTIONAL + 24, &fields.base.to_le_bytes()); // ImageBase
+    put(&mut out, OPTIONAL + 56, &fields.size.to_le_bytes()); // SizeOfImage
     Ok(out)
 }
 
@@ -59,14 +59,13 @@ pub fn headers(alloc: Global, fields: Fields, optional: u16) -> Result<Vec<u8>, 
 pub fn image(alloc: Global, fields: Fields, code: &[u8]) -> Result<Vec<u8>, AllocError> {
     let size = u32::try_from(code.len()).unwrap_or(0).to_le_bytes();
     let mut out = headers(alloc, fields, 112)?;
-    out.extend_from_slice(&[0; 4])?; // NumberOfRvaAndSizes
-    out.extend_from_slice(b".text\0\0\0")?;
-    out.extend_from_slice(&size)?; // VirtualSize
-    out.extend_from_slice(&[0, 0x10, 0, 0])?; // VirtualAddress
-    out.extend_from_slice(&size)?; // SizeOfRawData
-    out.extend_from_slice(&[240, 0, 0, 0])?; // PointerToRawData
-    out.extend_from_slice(&[0; 12])?;
-    out.extend_from_slice(&fields.characteristics.to_le_bytes())?;
+    out.resize(TABLE + 40, 0)?;
+    put(&mut out, TABLE, b".text");
+    put(&mut out, TABLE + 8, &size); // VirtualSize
+    put(&mut out, TABLE + 12, &[0, 0x10]); // VirtualAddress
+    put(&mut out, TABLE + 16, &size); // SizeOfRawData
+    put(&mut out, TABLE + 20, &[240]); // PointerToRawData
+    put(&mut out, TABLE + 36, &fields.characteristics.to_le_bytes());
     out.extend_from_slice(code)?;
     Ok(out)
 }
