@@ -19,7 +19,7 @@ use Rattle.linear_code.specs.declared.instruction.Instruction.TheVariants.{Jump,
 use Rattle.ir_expressions.specs.declared.scope.Names.{Names}
 use Rattle.ir_sizes.specs.Sizes.{address_count, conversion_size, read_size, expression_size, locate_size}
 use Rattle.ir_expressions.specs.Expressions.{constant, copy, combine, conversion_code, unary_code, read_code, write_code, choice_code, argument_count, expression_code, locate_code, arguments_code, node_code}
-use Rattle.ir_expressions.specs.Pieces.{assigned, compound_begun, compound_ended, difference_ended, incremented, increment_ended}
+use Rattle.ir_expressions.specs.Pieces.{truth, assigned, compound_begun, compound_ended, difference_ended, incremented, increment_ended}
 use Rattle.ir_expressions.proofs.Codes.{joined, longer, begun_length, expression_length, locate_length}
 
 -- ---- code whose length is known, and more that depends on its place
@@ -48,11 +48,16 @@ Made names n d old new = new ≡ old ++ node_code names n d (length old)
 of : (names : Names) (n m : Node) (d : ℕ) (old new : List Instruction) → n ≡ m → Made names m d old new → Made names n d old new
 of names n m d old new e h = subst (λ x. Made names x d old new) (sym e) h
 
-pub element_is : (names : Names) (access : Access) (e f : Expression) (p : Lvalue) (d next : ℕ) (old one two three : List Instruction) → p ≡ Element access e f → next ≡ d + 1 → one ≡ old ++ expression_code names e d (length old) → two ≡ one ++ expression_code names f next (length one) → three ≡ two ++ combine d (Pure (Add Long)) ∷ [] → three ≡ old ++ locate_code names p d (length old)
-element_is names access e f p d next old one two three is more a b c =
+-- two operands, to a temporary and the next one, and what follows them
+after_operands : (names : Names) (e f : Expression) (d : ℕ) (old one two three last : List Instruction) → one ≡ old ++ expression_code names e d (length old) → two ≡ one ++ expression_code names f (d + 1) (length one) → three ≡ two ++ last → three ≡ old ++ (expression_code names e d (length old) ++ (expression_code names f (d + 1) (length old + expression_size e) ++ last))
+after_operands names e f d old one two three last a b c =
+    after_expression names e d old one three (λ at. expression_code names f (d + 1) at ++ last) a
+    (after_expression names f (d + 1) one two three (λ at. last) b c)
+
+pub element_is : (names : Names) (access : Access) (e f : Expression) (p : Lvalue) (d : ℕ) (old one two three : List Instruction) → p ≡ Element access e f → one ≡ old ++ expression_code names e d (length old) → two ≡ one ++ expression_code names f (d + 1) (length one) → three ≡ two ++ combine d (Pure (Add Long)) ∷ [] → three ≡ old ++ locate_code names p d (length old)
+element_is names access e f p d old one two three is a b c =
     subst (λ q. three ≡ old ++ locate_code names q d (length old)) (sym is)
-    (after_expression names e d old one three (λ at. expression_code names f (d + 1) at ++ combine d (Pure (Add Long)) ∷ []) a
-    (after_expression names f (d + 1) one two three (λ at. combine d (Pure (Add Long)) ∷ []) (b ∙ ap (λ x. one ++ expression_code names f x (length one)) more) c))
+    (after_operands names e f d old one two three (combine d (Pure (Add Long)) ∷ []) a b c)
 
 pub assign_is : (names : Names) (p : Lvalue) (e : Expression) (n : Node) (d from : ℕ) (old one two three : List Instruction) → n ≡ nodes.Assign p e → from ≡ d + address_count p → one ≡ old ++ locate_code names p d (length old) → two ≡ one ++ expression_code names e from (length one) → three ≡ two ++ assigned p d → Made names n d old three
 assign_is names p e n d from old one two three is more a b c =
@@ -90,58 +95,55 @@ increment_is names m p before o k after' n d old one two is a b =
 pub unary_is : (names : Names) (o : Pure') (e : Expression) (n : Node) (d : ℕ) (old one two : List Instruction) → n ≡ nodes.Unary o e → one ≡ old ++ expression_code names e d (length old) → two ≡ one ++ unary_code o d → Made names n d old two
 unary_is names o e n d old one two is a b = of names n (nodes.Unary o e) d old two is (joined old one two (expression_code names e d (length old)) (unary_code o d) a b)
 
-pub binary_is : (names : Names) (o : Operation) (e f : Expression) (n : Node) (d next : ℕ) (old one two three : List Instruction) → n ≡ nodes.Binary o e f → next ≡ d + 1 → one ≡ old ++ expression_code names e d (length old) → two ≡ one ++ expression_code names f next (length one) → three ≡ two ++ combine d o ∷ [] → Made names n d old three
-binary_is names o e f n d next old one two three is more a b c =
-    of names n (nodes.Binary o e f) d old three is
-    (after_expression names e d old one three (λ at. expression_code names f (d + 1) at ++ combine d o ∷ []) a
-    (after_expression names f (d + 1) one two three (λ at. combine d o ∷ []) (b ∙ ap (λ x. one ++ expression_code names f x (length one)) more) c))
+pub binary_is : (names : Names) (o : Operation) (e f : Expression) (n : Node) (d : ℕ) (old one two three : List Instruction) → n ≡ nodes.Binary o e f → one ≡ old ++ expression_code names e d (length old) → two ≡ one ++ expression_code names f (d + 1) (length one) → three ≡ two ++ combine d o ∷ [] → Made names n d old three
+binary_is names o e f n d old one two three is a b c =
+    of names n (nodes.Binary o e f) d old three is (after_operands names e f d old one two three (combine d o ∷ []) a b c)
 
-pub difference_is : (names : Names) (k : ℕ) (e f : Expression) (n : Node) (d next : ℕ) (old one two three : List Instruction) → n ≡ nodes.PointerDifference k e f → next ≡ d + 1 → one ≡ old ++ expression_code names e d (length old) → two ≡ one ++ expression_code names f next (length one) → three ≡ two ++ difference_ended k d → Made names n d old three
-difference_is names k e f n d next old one two three is more a b c =
-    of names n (nodes.PointerDifference k e f) d old three is
-    (after_expression names e d old one three (λ at. expression_code names f (d + 1) at ++ difference_ended k d) a
-    (after_expression names f (d + 1) one two three (λ at. difference_ended k d) (b ∙ ap (λ x. one ++ expression_code names f x (length one)) more) c))
+pub difference_is : (names : Names) (k : ℕ) (e f : Expression) (n : Node) (d : ℕ) (old one two three : List Instruction) → n ≡ nodes.PointerDifference k e f → one ≡ old ++ expression_code names e d (length old) → two ≡ one ++ expression_code names f (d + 1) (length one) → three ≡ two ++ difference_ended k d → Made names n d old three
+difference_is names k e f n d old one two three is a b c =
+    of names n (nodes.PointerDifference k e f) d old three is (after_operands names e f d old one two three (difference_ended k d) a b c)
 
 pub not_is : (names : Names) (e : Expression) (n : Node) (d : ℕ) (old one two : List Instruction) → n ≡ nodes.Not e → one ≡ old ++ expression_code names e d (length old) → two ≡ one ++ choice_code d (length one) 1 0 → Made names n d old two
 not_is names e n d old one two is a b = of names n (nodes.Not e) d old two is (after_expression names e d old one two (λ at. choice_code d at 1 0) a b)
 
-pub and_is : (names : Names) (e f : Expression) (n : Node) (d len : ℕ) (old one two three four : List Instruction) → n ≡ nodes.And e f → len ≡ expression_size f → one ≡ old ++ expression_code names e d (length old) → two ≡ one ++ JumpIfZero (Temporary d) (length one + (len + 4)) ∷ [] → three ≡ two ++ expression_code names f d (length two) → four ≡ three ++ choice_code d (length three) 0 1 → Made names n d old four
-and_is names e f n d len old one two three four is size a b c k =
+pub truth_is : (names : Names) (e : Expression) (d : ℕ) (old one two : List Instruction) → one ≡ old ++ expression_code names e d (length old) → two ≡ one ++ choice_code d (length one) 0 1 → two ≡ old ++ truth names e d (length old)
+truth_is names e d old one two a b = after_expression names e d old one two (λ at. choice_code d at 0 1) a b
+
+pub and_is : (names : Names) (e f : Expression) (n : Node) (d : ℕ) (old one two three : List Instruction) → n ≡ nodes.And e f → one ≡ old ++ expression_code names e d (length old) → two ≡ one ++ JumpIfZero (Temporary d) (length one + (expression_size f + 4)) ∷ [] → three ≡ two ++ truth names f d (length two) → Made names n d old three
+and_is names e f n d old one two three is a b c =
     let s = expression_size f in
-    let label = length one + (len + 4) in
+    let label = length one + (s + 4) in
     let rest = λ (at : ℕ). expression_code names f d at ++ choice_code d (at + s) 0 1 in
-    let g = after_expression names f d two three four (λ at. choice_code d at 0 1) c k in
-    let h = after_one (JumpIfZero (Temporary d) label) one two four rest b g in
+    let h = after_one (JumpIfZero (Temporary d) label) one two three rest b c in
     let z : label ≡ length one + 1 + s + 3 = omega arith in
-    of names n (nodes.And e f) d old four is
-    (after_expression names e d old one four (λ at. JumpIfZero (Temporary d) (at + 1 + s + 3) ∷ rest (at + 1)) a
+    of names n (nodes.And e f) d old three is
+    (after_expression names e d old one three (λ at. JumpIfZero (Temporary d) (at + 1 + s + 3) ∷ rest (at + 1)) a
     (h ∙ ap (λ k. one ++ JumpIfZero (Temporary d) k ∷ rest (length one + 1)) z))
 
-pub or_is : (names : Names) (e f : Expression) (n : Node) (d len : ℕ) (old one two three four five six : List Instruction) → n ≡ nodes.Or e f → len ≡ expression_size f → one ≡ old ++ expression_code names e d (length old) → two ≡ one ++ JumpIfZero (Temporary d) (length one + (0 + 3)) ∷ [] → three ≡ two ++ constant d 1 ∷ [] → four ≡ three ++ Jump (length three + (len + 5)) ∷ [] → five ≡ four ++ expression_code names f d (length four) → six ≡ five ++ choice_code d (length five) 0 1 → Made names n d old six
-or_is names e f n d len old one two three four five six is size a b c k l m =
+pub or_is : (names : Names) (e f : Expression) (n : Node) (d : ℕ) (old one two three four five : List Instruction) → n ≡ nodes.Or e f → one ≡ old ++ expression_code names e d (length old) → two ≡ one ++ JumpIfZero (Temporary d) (length one + (0 + 3)) ∷ [] → three ≡ two ++ constant d 1 ∷ [] → four ≡ three ++ Jump (length three + (expression_size f + 5)) ∷ [] → five ≡ four ++ truth names f d (length four) → Made names n d old five
+or_is names e f n d old one two three four five is a b c k l =
     let s = expression_size f in
     let label = length one + (0 + 3) in
-    let end = length three + (len + 5) in
+    let end = length three + (s + 5) in
     let rest = λ (at : ℕ). expression_code names f d at ++ choice_code d (at + s) 0 1 in
-    let g = after_expression names f d four five six (λ at. choice_code d at 0 1) l m in
-    let h = after_one (JumpIfZero (Temporary d) label) one two six (λ at. constant d 1 ∷ Jump end ∷ rest (at + 1 + 1)) b (after_one (constant d 1) two three six (λ at. Jump end ∷ rest (at + 1)) c (after_one (Jump end) three four six rest k g)) in
+    let h = after_one (JumpIfZero (Temporary d) label) one two five (λ at. constant d 1 ∷ Jump end ∷ rest (at + 1 + 1)) b (after_one (constant d 1) two three five (λ at. Jump end ∷ rest (at + 1)) c (after_one (Jump end) three four five rest k l)) in
     let t : length two ≡ length one + 1 = longer one two (JumpIfZero (Temporary d) label ∷ []) 1 refl b in
     let u : length three ≡ length two + 1 = longer two three (constant d 1 ∷ []) 1 refl c in
     let y : label ≡ length one + 3 = omega arith in
     let z : end ≡ length one + 3 + s + 4 = omega arith in
     let w : length one + 1 + 1 + 1 ≡ length one + 3 = omega arith in
-    of names n (nodes.Or e f) d old six is
-    (after_expression names e d old one six (λ at. JumpIfZero (Temporary d) (at + 3) ∷ constant d 1 ∷ Jump (at + 3 + s + 4) ∷ rest (at + 3)) a
+    of names n (nodes.Or e f) d old five is
+    (after_expression names e d old one five (λ at. JumpIfZero (Temporary d) (at + 3) ∷ constant d 1 ∷ Jump (at + 3 + s + 4) ∷ rest (at + 3)) a
     (h ∙ ap (λ k. one ++ JumpIfZero (Temporary d) label ∷ constant d 1 ∷ Jump end ∷ rest k) w
     ∙ ap (λ k. one ++ JumpIfZero (Temporary d) label ∷ constant d 1 ∷ Jump k ∷ rest (length one + 3)) z
     ∙ ap (λ k. one ++ JumpIfZero (Temporary d) k ∷ constant d 1 ∷ Jump (length one + 3 + s + 4) ∷ rest (length one + 3)) y))
 
-pub conditional_is : (names : Names) (c e f : Expression) (n : Node) (d first other : ℕ) (old one two three four five : List Instruction) → n ≡ nodes.Conditional c e f → first ≡ expression_size e → other ≡ expression_size f → one ≡ old ++ expression_code names c d (length old) → two ≡ one ++ JumpIfZero (Temporary d) (length one + (first + 2)) ∷ [] → three ≡ two ++ expression_code names e d (length two) → four ≡ three ++ Jump (length three + (other + 1)) ∷ [] → five ≡ four ++ expression_code names f d (length four) → Made names n d old five
-conditional_is names c e f n d first other old one two three four five is se sf a b k l m =
+pub conditional_is : (names : Names) (c e f : Expression) (n : Node) (d : ℕ) (old one two three four five : List Instruction) → n ≡ nodes.Conditional c e f → one ≡ old ++ expression_code names c d (length old) → two ≡ one ++ JumpIfZero (Temporary d) (length one + (expression_size e + 2)) ∷ [] → three ≡ two ++ expression_code names e d (length two) → four ≡ three ++ Jump (length three + (expression_size f + 1)) ∷ [] → five ≡ four ++ expression_code names f d (length four) → Made names n d old five
+conditional_is names c e f n d old one two three four five is a b k l m =
     let x = expression_size e in
     let y = expression_size f in
-    let label = length one + (first + 2) in
-    let end = length three + (other + 1) in
+    let label = length one + (x + 2) in
+    let end = length three + (y + 1) in
     let g = after_one (Jump end) three four five (λ at. expression_code names f d at) l m in
     let h = after_expression names e d two three five (λ at. Jump end ∷ expression_code names f d (at + 1)) k g in
     let i = after_one (JumpIfZero (Temporary d) label) one two five (λ at. expression_code names e d at ++ Jump end ∷ expression_code names f d (at + x + 1)) b h in
@@ -154,11 +156,9 @@ conditional_is names c e f n d first other old one two three four five is se sf 
     (i ∙ ap (λ k. one ++ JumpIfZero (Temporary d) label ∷ (expression_code names e d (length one + 1) ++ Jump k ∷ expression_code names f d (length one + 1 + x + 1))) w
     ∙ ap (λ k. one ++ JumpIfZero (Temporary d) k ∷ (expression_code names e d (length one + 1) ++ Jump (length one + 1 + x + 1 + y) ∷ expression_code names f d (length one + 1 + x + 1))) z))
 
-pub comma_is : (names : Names) (e f : Expression) (n : Node) (d next : ℕ) (old one two three : List Instruction) → n ≡ nodes.Comma e f → next ≡ d + 1 → one ≡ old ++ expression_code names e d (length old) → two ≡ one ++ expression_code names f next (length one) → three ≡ two ++ copy (Temporary d) (Temporary (d + 1)) ∷ [] → Made names n d old three
-comma_is names e f n d next old one two three is more a b c =
-    of names n (nodes.Comma e f) d old three is
-    (after_expression names e d old one three (λ at. expression_code names f (d + 1) at ++ copy (Temporary d) (Temporary (d + 1)) ∷ []) a
-    (after_expression names f (d + 1) one two three (λ at. copy (Temporary d) (Temporary (d + 1)) ∷ []) (b ∙ ap (λ x. one ++ expression_code names f x (length one)) more) c))
+pub comma_is : (names : Names) (e f : Expression) (n : Node) (d : ℕ) (old one two three : List Instruction) → n ≡ nodes.Comma e f → one ≡ old ++ expression_code names e d (length old) → two ≡ one ++ expression_code names f (d + 1) (length one) → three ≡ two ++ copy (Temporary d) (Temporary (d + 1)) ∷ [] → Made names n d old three
+comma_is names e f n d old one two three is a b c =
+    of names n (nodes.Comma e f) d old three is (after_operands names e f d old one two three (copy (Temporary d) (Temporary (d + 1)) ∷ []) a b c)
 
 -- ---- calls
 

@@ -7,11 +7,17 @@ use Rattle.c_operations.specs.declared.operation.Signedness.TheVariants.{Signed}
 use Rattle.c_operations.specs.declared.operation.Size.TheVariants.{Long}
 use Rattle.c_checked.specs.declared.expression.Conversion.{Conversion}
 use Rattle.c_checked.specs.declared.expression.Fixity.{Fixity}
-use Rattle.c_checked.specs.Expression.{Lvalue}
+use Rattle.c_checked.specs.Expression.{Lvalue, Expression}
 use Rattle.linear_code.specs.declared.slot.Slot.TheVariants.{Temporary}
 use Rattle.linear_code.specs.declared.instruction.Instruction.{Instruction}
-use Rattle.ir_sizes.specs.Sizes.{address_count}
+use Rattle.ir_sizes.specs.Sizes.{address_count, expression_size}
+use Rattle.ir_expressions.specs.declared.scope.Names.{Names}
 use Rattle.ir_expressions.specs.Expressions.{constant, copy, combine, conversion_code, read_code, write_code, chosen_of}
+use Rattle.ir_expressions.specs.Expressions.{expression_code, choice_code}
+
+-- an operand, as 0 or 1
+abbrev pub truth : Names → Expression → ℕ → ℕ → List Instruction
+truth names e d at = expression_code names e d at ++ choice_code d (at + expression_size e) 0 1
 
 abbrev pub assigned : Lvalue → ℕ → List Instruction
 assigned p d = write_code p d (d + address_count p) d ∷ []

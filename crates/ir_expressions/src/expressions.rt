@@ -1,23 +1,23 @@
 //! The code of expressions.
 
-ghost use Rattle.std.specs.Prelude.{◌≡◌, map, length, true, OnOk};
+ghost use Rattle.std.specs.Prelude.{◌≡◌, ◌+◌, map, length, true, OnOk};
 ghost use Rattle.c_checked.specs.Expression as tree;
 ghost use Rattle.ir_sizes.specs.Kinds.{is_assignment, is_branch_or_assignment, has_several};
 ghost use Rattle.ir_expressions.specs.Appended.{Places};
 ghost use Rattle.ir_expressions.specs.Expressions as spec;
+ghost use Rattle.ir_expressions.specs.Pieces as pieces;
 
 use crate::instructions::{
     abnormal, choose, constant, convert, exception_code, information, put, read, unary,
 };
 use crate::pieces::{
     after_place, assign, begin_compound, copy_down, end_compound, end_difference, increment,
-    operate, skip, test,
+    operate, skip_before, test, test_before,
 };
 use crate::scope::Names;
 use c_checked::expression::{Conversion, Expr, Fixity, Lvalue, Node};
 use c_operations::built_in::BuiltIn;
 use c_operations::operation::{Operation, Pure, Size};
-use ir_sizes::sizes::expression_size;
 use ir_sizes::sums::sum;
 use linear_code::instruction::Instruction;
 use std::alloc::AllocError;
@@ -59,13 +59,26 @@ fn locate(
         Lvalue::Global { address, .. } => put(code, constant(d, *address)),
         Lvalue::Indirection { pointer, .. } => expression(code, names, pointer, d),
         Lvalue::Element { array, index, .. } => {
-            let next = sum(d, 1)?;
             expression(code, names, array, d)?;
-            expression(code, names, index, next)?;
-            operate(code, d, Operation::Pure(Pure::Add(Size::Long)))?;
-            Ok(())
+            next_operand(code, names, index, d)?;
+            operate(code, d, Operation::Pure(Pure::Add(Size::Long)))
         }
     }
+}
+
+/// An expression to the temporary after `d`.
+#[cycle(expressions)]
+fn next_operand(
+    code: &mut Vec<Instruction>,
+    names: Names,
+    expr: &Expr,
+    d: u64,
+) -> Result<(), AllocError>
+    ensures { OnOk result (Places code.old code.new
+        (spec.expression_code names (tree.expression expr.now) (d + 1))) }
+{
+    let next = sum(d, 1)?;
+    expression(code, names, expr, next)
 }
 
 #[cycle(expressions)]
@@ -136,8 +149,7 @@ fn stepped(
         (tree.Increment fixity (tree.lvalue target.now) before operation amount after) d)) }
 {
     locate(code, names, target, d)?;
-    increment(code, target, fixity, before, operation, amount, after, d)?;
-    Ok(())
+    increment(code, target, fixity, before, operation, amount, after, d)
 }
 
 #[cycle(expressions)]
@@ -152,8 +164,7 @@ fn one_operand(
         (spec.node_code names (tree.Unary operation (tree.expression operand.now)) d)) }
 {
     expression(code, names, operand, d)?;
-    unary(code, operation, d)?;
-    Ok(())
+    unary(code, operation, d)
 }
 
 #[cycle(expressions)]
@@ -167,8 +178,7 @@ fn negation(
         (spec.node_code names (tree.Not (tree.expression operand.now)) d)) }
 {
     expression(code, names, operand, d)?;
-    choose(code, d, 1, 0)?;
-    Ok(())
+    choose(code, d, 1, 0)
 }
 
 #[cycle(expressions)]
@@ -191,8 +201,7 @@ fn call(
             first: d,
             count: count_of(args),
         },
-    )?;
-    Ok(())
+    )
 }
 
 #[cycle(expressions)]
@@ -208,8 +217,7 @@ fn call_built_in(
         (tree.CallBuiltIn function (tree.arguments (map tree.expression args.now))) d)) }
 {
     arguments(code, names, args, d)?;
-    put(code, Instruction::CallBuiltIn { function, first: d })?;
-    Ok(())
+    put(code, Instruction::CallBuiltIn { function, first: d })
 }
 
 /// `=`, also with an operator (C11, 6.5.16).
@@ -228,8 +236,7 @@ fn assignment(
             let from = after_place(target, d)?;
             locate(code, names, target, d)?;
             expression(code, names, value, from)?;
-            assign(code, target, d)?;
-            Ok(())
+            assign(code, target, d)
         }
         Node::CompoundAssign {
             target,
@@ -243,11 +250,20 @@ fn assignment(
             locate(code, names, target, d)?;
             begin_compound(code, target, *before, d)?;
             expression(code, names, value, next)?;
-            end_compound(code, target, *operation, *after, d)?;
-            Ok(())
+            end_compound(code, target, *operation, *after, d)
         }
         _ => unreachable!(),
     }
+}
+
+/// The second operand of `&&` or `||`, as 0 or 1.
+#[cycle(expressions)]
+fn truth(code: &mut Vec<Instruction>, names: Names, expr: &Expr, d: u64) -> Result<(), AllocError>
+    ensures { OnOk result (Places code.old code.new
+        (pieces.truth names (tree.expression expr.now) d)) }
+{
+    expression(code, names, expr, d)?;
+    choose(code, d, 0, 1)
 }
 
 /// `&&`, `||` and `? :`, whose first operand chooses what is evaluated (C11, 6.5.13 to 6.5.15).
@@ -258,32 +274,23 @@ fn branch(code: &mut Vec<Instruction>, names: Names, node: &Node, d: u64) -> Res
 {
     match node {
         Node::And(left, right) => {
-            let size = expression_size(right)?;
             expression(code, names, left, d)?;
-            test(code, d, size, 4)?;
-            expression(code, names, right, d)?;
-            choose(code, d, 0, 1)?;
-            Ok(())
+            test_before(code, d, right, 4)?;
+            truth(code, names, right, d)
         }
         Node::Or(left, right) => {
-            let size = expression_size(right)?;
             expression(code, names, left, d)?;
             test(code, d, 0, 3)?;
             put(code, constant(d, 1))?;
-            skip(code, size, 5)?;
-            expression(code, names, right, d)?;
-            choose(code, d, 0, 1)?;
-            Ok(())
+            skip_before(code, right, 5)?;
+            truth(code, names, right, d)
         }
         Node::Conditional { condition, yes, no } => {
-            let first = expression_size(yes)?;
-            let other = expression_size(no)?;
             expression(code, names, condition, d)?;
-            test(code, d, first, 2)?;
+            test_before(code, d, yes, 2)?;
             expression(code, names, yes, d)?;
-            skip(code, other, 1)?;
-            expression(code, names, no, d)?;
-            Ok(())
+            skip_before(code, no, 1)?;
+            expression(code, names, no, d)
         }
         _ => assignment(code, names, node, d),
     }
@@ -301,25 +308,19 @@ fn several(code: &mut Vec<Instruction>, names: Names, node: &Node, d: u64) -> Re
             left,
             right,
         } => {
-            let next = sum(d, 1)?;
             expression(code, names, left, d)?;
-            expression(code, names, right, next)?;
-            operate(code, d, *operation)?;
-            Ok(())
+            next_operand(code, names, right, d)?;
+            operate(code, d, *operation)
         }
         Node::PointerDifference { size, left, right } => {
-            let next = sum(d, 1)?;
             expression(code, names, left, d)?;
-            expression(code, names, right, next)?;
-            end_difference(code, *size, d)?;
-            Ok(())
+            next_operand(code, names, right, d)?;
+            end_difference(code, *size, d)
         }
         Node::Comma(left, right) => {
-            let next = sum(d, 1)?;
             expression(code, names, left, d)?;
-            expression(code, names, right, next)?;
-            copy_down(code, d)?;
-            Ok(())
+            next_operand(code, names, right, d)?;
+            copy_down(code, d)
         }
         _ => branch(code, names, node, d),
     }

@@ -4,7 +4,7 @@ ghost use Rattle.std.specs.Prelude.{◌≡◌, ◌+◌, [], ◌∷◌, length, O
 ghost use Rattle.c_operations.specs.declared.operation.Operation.TheVariants as operations;
 ghost use Rattle.c_operations.specs.declared.operation.Pure.TheVariants as pures;
 ghost use Rattle.linear_code.specs.declared.slot.Slot.TheVariants.{Temporary};
-ghost use Rattle.linear_code.specs.declared.instruction.Instruction.TheVariants.{Information};
+ghost use Rattle.linear_code.specs.declared.instruction.Instruction.TheVariants.{Compute, Information};
 ghost use Rattle.c_checked.specs.Expression as tree;
 ghost use Rattle.ir_expressions.specs.Appended.{Appends, Places};
 ghost use Rattle.ir_expressions.specs.Expressions as spec;
@@ -24,6 +24,14 @@ pub fn put(code: &mut Vec<Instruction>, instruction: Instruction) -> Result<(), 
     ensures { OnOk result (Appends code.old code.new (instruction ∷ [])) }
 {
     code.push(instruction)?;
+    Ok(())
+}
+
+/// Several instructions more.
+pub fn put_all(code: &mut Vec<Instruction>, instructions: &[Instruction]) -> Result<(), AllocError>
+    ensures { OnOk result (Appends code.old code.new instructions.now) }
+{
+    code.extend_from_slice(instructions)?;
     Ok(())
 }
 
@@ -63,17 +71,30 @@ pub fn change(d: u64, operation: Operation) -> Instruction
     }
 }
 
-/// An operation on a temporary and the next one.
-pub fn combine(d: u64, operation: Operation) -> Result<Instruction, AllocError>
-    ensures { IfOk result (λ i. i ≡ spec.combine d operation) }
+/// An operation on two temporaries, to the first.
+pub fn combine(d: u64, other: u64, operation: Operation) -> Instruction
+    ensures { result ≡ Compute (Temporary d) operation (Temporary d) (Temporary other) }
 {
-    let next = sum(d, 1)?;
-    Ok(Instruction::Compute {
+    Instruction::Compute {
         to: Slot::Temporary(d),
         operation,
         first: Slot::Temporary(d),
-        second: Slot::Temporary(next),
-    })
+        second: Slot::Temporary(other),
+    }
+}
+
+/// A number to the next temporary, and an operation on a temporary and that one.
+pub fn operate_by(
+    code: &mut Vec<Instruction>,
+    d: u64,
+    number: u64,
+    operation: Operation,
+) -> Result<(), AllocError>
+    ensures { OnOk result (Appends code.old code.new
+        (spec.constant (d + 1) number ∷ spec.combine d operation ∷ [])) }
+{
+    let next = sum(d, 1)?;
+    put_all(code, &[constant(next, number), combine(d, next, operation)])
 }
 
 /// The low bits of a temporary, extended to a size.
@@ -110,9 +131,7 @@ pub fn convert(
             by,
         } => {
             put(code, extend(d, signedness, from, Size::Long))?;
-            code.push(constant(sum(d, 1)?, by))?;
-            code.push(combine(d, Operation::Pure(Pure::Multiply(Size::Long)))?)?;
-            Ok(())
+            operate_by(code, d, by, Operation::Pure(Pure::Multiply(Size::Long)))
         }
     }
 }
@@ -133,11 +152,7 @@ pub fn unary(code: &mut Vec<Instruction>, operation: Pure, d: u64) -> Result<(),
 {
     match operation {
         Pure::First => Ok(()),
-        _ => {
-            code.push(constant(sum(d, 1)?, 0))?;
-            code.push(combine(d, Operation::Pure(operation))?)?;
-            Ok(())
-        }
+        _ => operate_by(code, d, 0, Operation::Pure(operation)),
     }
 }
 
@@ -146,14 +161,16 @@ pub fn choose(code: &mut Vec<Instruction>, d: u64, zero: u64, other: u64) -> Res
     ensures { OnOk result (Places code.old code.new (λ at. spec.choice_code d at zero other)) }
 {
     let at = code.len() as u64;
-    code.push(Instruction::JumpIfZero {
-        slot: Slot::Temporary(d),
-        label: at + 3,
-    })?;
-    code.push(constant(d, other))?;
-    code.push(Instruction::Jump { label: at + 4 })?;
-    code.push(constant(d, zero))?;
-    Ok(())
+    let choice = [
+        Instruction::JumpIfZero {
+            slot: Slot::Temporary(d),
+            label: at + 3,
+        },
+        constant(d, other),
+        Instruction::Jump { label: at + 4 },
+        constant(d, zero),
+    ];
+    put_all(code, &choice)
 }
 
 /// The code of the exception that GetExceptionCode means.
@@ -197,21 +214,21 @@ fn load(
 ) -> Result<(), AllocError>
     ensures { OnOk result (Appends code.old code.new (spec.load_code access address to)) }
 {
-    code.push(Instruction::Compute {
+    let bytes = Instruction::Compute {
         to: Slot::Temporary(to),
         operation: Operation::Load(access.width),
         first: Slot::Temporary(address),
         second: Slot::Temporary(address),
-    })?;
-    code.push(change(
+    };
+    let value = change(
         to,
         Operation::Pure(Pure::Extend {
             signedness: access.signedness,
             from: access.width,
             size: size_of(access.width),
         }),
-    ))?;
-    Ok(())
+    );
+    put_all(code, &[bytes, value])
 }
 
 /// What is at a place that was located, to a temporary.
@@ -225,10 +242,7 @@ pub fn read(
         (spec.read_code (tree.lvalue place.now) address to)) }
 {
     match place {
-        Lvalue::Local(local) => {
-            code.push(copy(Slot::Temporary(to), Slot::Local(*local)))?;
-            Ok(())
-        }
+        Lvalue::Local(local) => put(code, copy(Slot::Temporary(to), Slot::Local(*local))),
         Lvalue::Global { access, .. } => load(code, *access, address, to),
         Lvalue::Indirection { access, .. } => load(code, *access, address, to),
         Lvalue::Element { access, .. } => load(code, *access, address, to),

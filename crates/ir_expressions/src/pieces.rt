@@ -9,10 +9,12 @@ ghost use Rattle.ir_expressions.specs.Appended.{Appends, Places};
 ghost use Rattle.ir_expressions.specs.Expressions as spec;
 ghost use Rattle.ir_expressions.specs.Pieces as pieces;
 
-use crate::instructions::{chosen, combine, constant, convert, copy, read, write};
-use c_checked::expression::{Conversion, Fixity, Lvalue};
+use crate::instructions::{
+    chosen, combine, constant, convert, copy, operate_by, put, put_all, read, write,
+};
+use c_checked::expression::{Conversion, Expr, Fixity, Lvalue};
 use c_operations::operation::{Operation, Pure, Signedness, Size};
-use ir_sizes::sizes::address_count;
+use ir_sizes::sizes::{address_count, expression_size};
 use ir_sizes::sums::sum;
 use linear_code::instruction::Instruction;
 use linear_code::slot::Slot;
@@ -28,16 +30,15 @@ pub fn after_place(place: &Lvalue, d: u64) -> Result<u64, AllocError>
 pub fn operate(code: &mut Vec<Instruction>, d: u64, operation: Operation) -> Result<(), AllocError>
     ensures { OnOk result (Appends code.old code.new (spec.combine d operation ∷ [])) }
 {
-    code.push(combine(d, operation)?)?;
-    Ok(())
+    let next = sum(d, 1)?;
+    put(code, combine(d, next, operation))
 }
 
 pub fn assign(code: &mut Vec<Instruction>, place: &Lvalue, d: u64) -> Result<(), AllocError>
     ensures { OnOk result (Appends code.old code.new (pieces.assigned (tree.lvalue place.now) d)) }
 {
     let from = after_place(place, d)?;
-    code.push(write(place, d, from, d))?;
-    Ok(())
+    put(code, write(place, d, from, d))
 }
 
 pub fn begin_compound(
@@ -67,17 +68,19 @@ pub fn end_compound(
     let old = after_place(place, d)?;
     operate(code, old, operation)?;
     convert(code, after, old)?;
-    code.push(write(place, d, old, d))?;
-    Ok(())
+    put(code, write(place, d, old, d))
 }
 
 pub fn end_difference(code: &mut Vec<Instruction>, size: u64, d: u64) -> Result<(), AllocError>
     ensures { OnOk result (Appends code.old code.new (pieces.difference_ended size d)) }
 {
     let next = sum(d, 1)?;
-    operate(code, d, Operation::Pure(Pure::Subtract(Size::Long)))?;
-    code.push(constant(next, size))?;
-    operate(code, d, Operation::Divide(Signedness::Signed, Size::Long))
+    let ended = [
+        combine(d, next, Operation::Pure(Pure::Subtract(Size::Long))),
+        constant(next, size),
+        combine(d, next, Operation::Divide(Signedness::Signed, Size::Long)),
+    ];
+    put_all(code, &ended)
 }
 
 /// A jump over so many instructions, itself among them, where the temporary is 0.
@@ -87,11 +90,8 @@ pub fn test(code: &mut Vec<Instruction>, d: u64, size: u64, more: u64) -> Result
 {
     let over = sum(size, more)?;
     let label = sum(code.len() as u64, over)?;
-    code.push(Instruction::JumpIfZero {
-        slot: Slot::Temporary(d),
-        label,
-    })?;
-    Ok(())
+    let slot = Slot::Temporary(d);
+    put(code, Instruction::JumpIfZero { slot, label })
 }
 
 /// A jump over so many instructions, itself among them.
@@ -100,8 +100,31 @@ pub fn skip(code: &mut Vec<Instruction>, size: u64, more: u64) -> Result<(), All
 {
     let over = sum(size, more)?;
     let label = sum(code.len() as u64, over)?;
-    code.push(Instruction::Jump { label })?;
-    Ok(())
+    put(code, Instruction::Jump { label })
+}
+
+/// A jump over an expression and so many instructions more, the jump among them, where the temporary
+/// is 0.
+pub fn test_before(
+    code: &mut Vec<Instruction>,
+    d: u64,
+    expr: &Expr,
+    more: u64,
+) -> Result<(), AllocError>
+    ensures { OnOk result (Places code.old code.new (λ at. JumpIfZero (Temporary d)
+        (at + (sizes.expression_size (tree.expression expr.now) + more)) ∷ [])) }
+{
+    let size = expression_size(expr)?;
+    test(code, d, size, more)
+}
+
+/// A jump over an expression and so many instructions more, the jump among them.
+pub fn skip_before(code: &mut Vec<Instruction>, expr: &Expr, more: u64) -> Result<(), AllocError>
+    ensures { OnOk result (Places code.old code.new (λ at. Jump
+        (at + (sizes.expression_size (tree.expression expr.now) + more)) ∷ [])) }
+{
+    let size = expression_size(expr)?;
+    skip(code, size, more)
 }
 
 pub fn copy_down(code: &mut Vec<Instruction>, d: u64) -> Result<(), AllocError>
@@ -109,8 +132,7 @@ pub fn copy_down(code: &mut Vec<Instruction>, d: u64) -> Result<(), AllocError>
         (spec.copy (Temporary d) (Temporary (d + 1)) ∷ [])) }
 {
     let next = sum(d, 1)?;
-    code.push(copy(Slot::Temporary(d), Slot::Temporary(next)))?;
-    Ok(())
+    put(code, copy(Slot::Temporary(d), Slot::Temporary(next)))
 }
 
 /// The end of `++` and `--`, with the new value converted: it comes to the place, and the value of
@@ -126,9 +148,12 @@ fn end_increment(
         (pieces.increment_ended (tree.lvalue place.now) fixity old d)) }
 {
     let new = sum(old, 1)?;
-    code.push(write(place, d, new, new))?;
-    code.push(copy(Slot::Temporary(d), Slot::Temporary(chosen(fixity, old)?)))?;
-    Ok(())
+    let from = chosen(fixity, old)?;
+    let ended = [
+        write(place, d, new, new),
+        copy(Slot::Temporary(d), Slot::Temporary(from)),
+    ];
+    put_all(code, &ended)
 }
 
 /// The new value of `++` and `--`, in the temporary after the old one.
@@ -144,10 +169,9 @@ fn next_value(
         (pieces.next_value before operation amount after old)) }
 {
     let new = sum(old, 1)?;
-    code.push(copy(Slot::Temporary(new), Slot::Temporary(old)))?;
+    put(code, copy(Slot::Temporary(new), Slot::Temporary(old)))?;
     convert(code, before, new)?;
-    code.push(constant(sum(old, 2)?, amount))?;
-    operate(code, new, operation)?;
+    operate_by(code, new, amount, operation)?;
     convert(code, after, new)
 }
 

@@ -156,16 +156,14 @@ fn try_funclets(
             let inner = except_names(names)?;
             statements_funclets(funclets, alloc, owner, names, body)?;
             filter_funclets(funclets, alloc, owner, filter_names(names), filter)?;
-            statements_funclets(funclets, alloc, owner, inner, handler)?;
-            Ok(())
+            statements_funclets(funclets, alloc, owner, inner, handler)
         }
         Stmt::TryFinally { body, number, last } => {
             let inner = finally_scope(names)?.names;
             statements_funclets(funclets, alloc, owner, names, body)?;
             let funclet = finally_funclet(alloc, owner, names, last)?;
             funclets.push(funclet)?;
-            statements_funclets(funclets, alloc, in_funclet(*number, owner), inner, last)?;
-            Ok(())
+            statements_funclets(funclets, alloc, in_funclet(*number, owner), inner, last)
         }
         _ => unreachable!(),
     }
@@ -197,8 +195,7 @@ fn statement_funclets(
             ..
         } => {
             statement_funclets(funclets, alloc, owner, names, then)?;
-            statement_funclets(funclets, alloc, owner, names, otherwise)?;
-            Ok(())
+            statement_funclets(funclets, alloc, owner, names, otherwise)
         }
         Stmt::For { body, .. } => statement_funclets(funclets, alloc, owner, names, body),
         Stmt::Do { body, .. } => statement_funclets(funclets, alloc, owner, names, body),

@@ -13,7 +13,7 @@ use crate::regions::statements_regions;
 use crate::statements::statements;
 use c_checked::checked::Checked;
 use c_checked::function::Function;
-use ir_expressions::instructions::constant;
+use ir_expressions::instructions::{constant, put_all};
 use ir_expressions::scope::{ExceptionSource, Names, Scope, Way};
 use ir_sizes::statement_sizes::{statements_notes, statements_size};
 use ir_sizes::sums::sum;
@@ -60,10 +60,10 @@ fn lower_function(alloc: Global, f: &Function) -> Result<IrFunction, AllocError>
     let locals = all_locals(f)?;
     let mut code = Vec::new(alloc);
     statements(&mut code, &scope, &f.body)?;
-    code.push(constant(0, 0))?;
-    code.push(Instruction::Return {
+    let returns = Instruction::Return {
         from: Slot::Temporary(0),
-    })?;
+    };
+    put_all(&mut code, &[constant(0, 0), returns])?;
     let mut regions = Vec::new(alloc);
     statements_regions(&mut regions, &f.body, 0)?;
     let body = body_with(locals, code, regions)?;

@@ -2,11 +2,14 @@
 
 ghost use Rattle.std.specs.Prelude.{◌≡◌, ◌+◌, ◌-◌, map, true, OnOk, IfOk};
 ghost use Rattle.linear_code.specs.declared.program.RegionKind.TheVariants as kinds;
+ghost use Rattle.c_checked.specs.Expression as tree;
 ghost use Rattle.c_checked.specs.Statement as statements;
+ghost use Rattle.ir_sizes.specs.Sizes.{expression_size, statements_size};
 ghost use Rattle.ir_sizes.specs.Kinds.{is_try, is_loop_or_try};
 ghost use Rattle.ir_expressions.specs.Appended.{AppendsRegions};
 ghost use Rattle.seh_ir.specs.Regions as spec;
 
+use c_checked::expression::Expr;
 use c_checked::statement::{Filter, Stmt};
 use ir_sizes::sizes::expression_size;
 use ir_sizes::statement_sizes::{
@@ -43,6 +46,21 @@ fn shifted(at: u64, size: u64, more: u64) -> Result<u64, AllocError>
     sum(sum(at, size)?, more)
 }
 
+/// The place after an expression at a place, and one instruction more.
+fn after_condition(at: u64, condition: &Expr) -> Result<u64, AllocError>
+    ensures { IfOk result (λ n. n ≡ at + expression_size (tree.expression condition.now) + 1) }
+{
+    shifted(at, expression_size(condition)?, 1)
+}
+
+/// The place after statements at a place, and one instruction more.
+fn after_body(at: u64, body: &[Stmt]) -> Result<u64, AllocError>
+    ensures { IfOk result (λ n. n ≡ at + statements_size
+        (statements.statements (map statements.statement body.now)) + 1) }
+{
+    shifted(at, statements_size(body)?, 1)
+}
+
 /// Those of statements that are placed at an instruction.
 #[cycle(regions)]
 pub fn statements_regions(
@@ -75,7 +93,7 @@ fn try_regions(regions: &mut Vec<Region>, stmt: &Stmt, at: u64) -> Result<(), Al
             filter,
             handler,
         } => {
-            let target = shifted(at, statements_size(body)?, 1)?;
+            let target = after_body(at, body)?;
             let block = sum(target, 1)?;
             statements_regions(regions, body, at)?;
             regions.push(Region {
@@ -83,11 +101,10 @@ fn try_regions(regions: &mut Vec<Region>, stmt: &Stmt, at: u64) -> Result<(), Al
                 end: target,
                 kind: except_kind(filter, target),
             })?;
-            statements_regions(regions, handler, block)?;
-            Ok(())
+            statements_regions(regions, handler, block)
         }
         Stmt::TryFinally { body, number, .. } => {
-            let end = shifted(at, statements_size(body)?, 1)?;
+            let end = after_body(at, body)?;
             statements_regions(regions, body, at)?;
             regions.push(Region {
                 begin: at,
@@ -116,8 +133,7 @@ fn loop_or_try_regions(regions: &mut Vec<Region>, stmt: &Stmt, at: u64) -> Resul
         } => {
             let begun = shifted(at, all_declared_size(declared)?, discarded_size(first)?)?;
             let place = sum(begun, condition_size(condition)?)?;
-            statement_regions(regions, body, place)?;
-            Ok(())
+            statement_regions(regions, body, place)
         }
         Stmt::Do { body, .. } => statement_regions(regions, body, at),
         _ => try_regions(regions, stmt, at),
@@ -138,20 +154,18 @@ fn statement_regions(regions: &mut Vec<Region>, stmt: &Stmt, at: u64) -> Result<
             then,
             otherwise: None,
         } => {
-            let first = shifted(at, expression_size(condition)?, 1)?;
-            statement_regions(regions, then, first)?;
-            Ok(())
+            let first = after_condition(at, condition)?;
+            statement_regions(regions, then, first)
         }
         Stmt::If {
             condition,
             then,
             otherwise: Some(otherwise),
         } => {
-            let first = shifted(at, expression_size(condition)?, 1)?;
+            let first = after_condition(at, condition)?;
             let second = shifted(first, statement_size(then)?, 1)?;
             statement_regions(regions, then, first)?;
-            statement_regions(regions, otherwise, second)?;
-            Ok(())
+            statement_regions(regions, otherwise, second)
         }
         Stmt::Return(_) => Ok(()),
         Stmt::Break => Ok(()),

@@ -1,6 +1,7 @@
 //! The code of statements.
 
-ghost use Rattle.std.specs.Prelude.{◌≡◌, ◌-◌, map, length, true, OnOk, option_map};
+ghost use Rattle.std.specs.Prelude.{◌≡◌, ◌-◌, [], ◌∷◌, map, length, true, OnOk, option_map};
+ghost use Rattle.linear_code.specs.declared.instruction.Instruction.TheVariants.{Separator};
 ghost use Rattle.c_checked.specs.Expression as tree;
 ghost use Rattle.c_checked.specs.Statement as statements;
 ghost use Rattle.ir_sizes.specs.Kinds.{is_loop_or_try};
@@ -11,7 +12,7 @@ use c_checked::expression::Expr;
 use c_checked::statement::{Declared, Stmt};
 use c_operations::operation::{Operation, Pure};
 use ir_expressions::expressions::expression;
-use ir_expressions::instructions::{ahead, constant, copy, put};
+use ir_expressions::instructions::{ahead, constant, copy, put, put_all};
 use ir_expressions::pieces::{skip, test};
 use ir_expressions::scope::{Names, Scope, Way, in_except, in_guarded, in_loop, in_try};
 use ir_sizes::sizes::expression_size;
@@ -27,32 +28,42 @@ fn here(code: &Vec<Instruction>) -> u64
     code.len() as u64
 }
 
+/// The first instruction to where `break` or `continue` lead.
+fn jump_first(way: Way) -> Instruction
+    ensures { result ∷ Separator ∷ [] ≡ spec.jump_code way }
+{
+    match way {
+        Way::Nowhere => Instruction::Separator,
+        Way::Jumps(label) => Instruction::Jump { label },
+        Way::Unwinds(label) => Instruction::LocalUnwind { label },
+    }
+}
+
 /// Two instructions to where `break` or `continue` lead.
 fn jump(code: &mut Vec<Instruction>, way: Way) -> Result<(), AllocError>
     ensures { OnOk result (Appends code.old code.new (spec.jump_code way)) }
 {
+    put_all(code, &[jump_first(way), Instruction::Separator])
+}
+
+/// The first instruction of the end of a `return`, with its number in the first temporary.
+fn return_first(way: Way) -> Instruction
+    ensures { result ∷ Separator ∷ [] ≡ spec.return_code way }
+{
     match way {
-        Way::Nowhere => code.push(Instruction::Separator)?,
-        Way::Jumps(label) => code.push(Instruction::Jump { label })?,
-        Way::Unwinds(label) => code.push(Instruction::LocalUnwind { label })?,
+        Way::Nowhere => Instruction::Separator,
+        Way::Jumps(_) => Instruction::Return {
+            from: Slot::Temporary(0),
+        },
+        Way::Unwinds(label) => Instruction::LocalUnwind { label },
     }
-    code.push(Instruction::Separator)?;
-    Ok(())
 }
 
 /// The end of a `return`, with its number in the first temporary.
 fn end_return(code: &mut Vec<Instruction>, way: Way) -> Result<(), AllocError>
     ensures { OnOk result (Appends code.old code.new (spec.return_code way)) }
 {
-    match way {
-        Way::Nowhere => code.push(Instruction::Separator)?,
-        Way::Jumps(_) => code.push(Instruction::Return {
-            from: Slot::Temporary(0),
-        })?,
-        Way::Unwinds(label) => code.push(Instruction::LocalUnwind { label })?,
-    }
-    code.push(Instruction::Separator)?;
-    Ok(())
+    put_all(code, &[return_first(way), Instruction::Separator])
 }
 
 fn leave(label: Option<u64>) -> Instruction
@@ -77,8 +88,7 @@ fn discarded(
         None => Ok(()),
         Some(e) => {
             expression(code, names, e, 0)?;
-            code.push(Instruction::Separator)?;
-            Ok(())
+            put(code, Instruction::Separator)
         }
     }
 }
@@ -107,8 +117,7 @@ fn leave_function(
         (spec.statement_code scope.now (statements.Return (option_map tree.expression expr.now)))) }
 {
     returned(code, scope.names, expr)?;
-    end_return(code, scope.exit)?;
-    Ok(())
+    end_return(code, scope.exit)
 }
 
 /// A condition, and a jump where it is 0.
@@ -125,11 +134,8 @@ fn tested(
         None => Ok(()),
         Some(e) => {
             expression(code, names, e, 0)?;
-            code.push(Instruction::JumpIfZero {
-                slot: Slot::Temporary(0),
-                label,
-            })?;
-            Ok(())
+            let slot = Slot::Temporary(0);
+            put(code, Instruction::JumpIfZero { slot, label })
         }
     }
 }
@@ -147,9 +153,8 @@ fn initialise(
         None => Ok(()),
         Some(e) => {
             expression(code, names, e, 0)?;
-            code.push(copy(Slot::Local(local), Slot::Temporary(0)))?;
-            code.push(Instruction::Separator)?;
-            Ok(())
+            let initialised = copy(Slot::Local(local), Slot::Temporary(0));
+            put_all(code, &[initialised, Instruction::Separator])
         }
     }
 }
@@ -165,8 +170,7 @@ fn declare(code: &mut Vec<Instruction>, names: Names, declared: &Declared) -> Re
         first: slot,
         second: slot,
     })?;
-    initialise(code, names, declared.local, &declared.value)?;
-    Ok(())
+    initialise(code, names, declared.local, &declared.value)
 }
 
 fn declare_all(
@@ -187,35 +191,34 @@ fn declare_all(
 fn call_finally(code: &mut Vec<Instruction>, number: u32) -> Result<(), AllocError>
     ensures { OnOk result (Appends code.old code.new (spec.finally_called (number - 1))) }
 {
-    code.push(Instruction::Separator)?;
-    code.push(Instruction::CallFinally {
+    let call = Instruction::CallFinally {
         funclet: number.saturating_sub(1) as u64,
-    })?;
-    code.push(Instruction::Separator)?;
-    Ok(())
+    };
+    put_all(
+        code,
+        &[Instruction::Separator, call, Instruction::Separator],
+    )
 }
 
 /// The end of the body of a `__try`, with the beginning of its `__except` block.
 fn land(code: &mut Vec<Instruction>, end: u64, local: u64) -> Result<(), AllocError>
     ensures { OnOk result (Appends code.old code.new (spec.landed end local)) }
 {
-    code.push(Instruction::Jump { label: end })?;
-    code.push(Instruction::Landing {
+    let landing = Instruction::Landing {
         to: Slot::Local(local),
-    })?;
-    Ok(())
+    };
+    put_all(code, &[Instruction::Jump { label: end }, landing])
 }
 
 /// The end of a `do`: its condition was evaluated.
 fn end_do(code: &mut Vec<Instruction>, end: u64, begin: u64) -> Result<(), AllocError>
     ensures { OnOk result (Appends code.old code.new (spec.repeated end begin)) }
 {
-    code.push(Instruction::JumpIfZero {
+    let ends = Instruction::JumpIfZero {
         slot: Slot::Temporary(0),
         label: end,
-    })?;
-    code.push(Instruction::Jump { label: begin })?;
-    Ok(())
+    };
+    put_all(code, &[ends, Instruction::Jump { label: begin }])
 }
 
 /// Statements, one after another.
@@ -251,8 +254,7 @@ fn when(
     let size = statement_size(then)?;
     expression(code, scope.names, condition, 0)?;
     test(code, 0, size, more)?;
-    statement(code, scope, then)?;
-    Ok(())
+    statement(code, scope, then)
 }
 
 #[cycle(statements)]
@@ -283,8 +285,7 @@ fn for_loop(
     statement(code, &in_loop(end, again, scope), body)?;
     put(code, Instruction::Separator)?;
     discarded(code, scope.names, next)?;
-    put(code, Instruction::Jump { label: iteration })?;
-    Ok(())
+    put(code, Instruction::Jump { label: iteration })
 }
 
 #[cycle(statements)]
@@ -307,8 +308,7 @@ fn do_loop(
     statement(code, &in_loop(end, again, scope), body)?;
     put(code, Instruction::Separator)?;
     expression(code, scope.names, condition, 0)?;
-    end_do(code, end, begin)?;
-    Ok(())
+    end_do(code, end, begin)
 }
 
 /// The body of a `__try` whose `__except` block has this size, with the beginning of that block.
@@ -327,8 +327,7 @@ fn tried(
     let both = sum(size, sum(block, 2)?)?;
     let end = ahead(code, both)?;
     statements(code, &in_try(end, scope), body)?;
-    land(code, end, scope.names.free)?;
-    Ok(())
+    land(code, end, scope.names.free)
 }
 
 /// A `__try` with a `__finally` block, whatever is in that block.
@@ -347,8 +346,7 @@ fn try_finally(
     let size = statements_size(body)?;
     let end = ahead(code, size)?;
     statements(code, &in_guarded(end, scope), body)?;
-    call_finally(code, number)?;
-    Ok(())
+    call_finally(code, number)
 }
 
 /// A loop (C11, 6.8.5) or a `__try`.
@@ -371,8 +369,7 @@ fn loop_or_try(code: &mut Vec<Instruction>, scope: &Scope, stmt: &Stmt) -> Resul
             let inner = in_except(scope)?;
             let block = statements_size(handler)?;
             tried(code, scope, body, block)?;
-            statements(code, &inner, handler)?;
-            Ok(())
+            statements(code, &inner, handler)
         }
         Stmt::TryFinally { body, number, .. } => try_finally(code, scope, body, *number),
         _ => unreachable!(),
@@ -393,16 +390,12 @@ fn statement(code: &mut Vec<Instruction>, scope: &Scope, stmt: &Stmt) -> Result<
             then,
             otherwise,
         } => match otherwise {
-            None => {
-                when(code, scope, then, condition, 1)?;
-                Ok(())
-            }
+            None => when(code, scope, then, condition, 1),
             Some(other) => {
                 let more = statement_size(other)?;
                 when(code, scope, then, condition, 2)?;
                 skip(code, more, 1)?;
-                statement(code, scope, other)?;
-                Ok(())
+                statement(code, scope, other)
             }
         },
         Stmt::Return(expr) => leave_function(code, scope, expr),

@@ -1,8 +1,11 @@
 use Rattle.std.specs.Prelude.{option_map}
+use Rattle.std.proofs.lemmas.Result.{on_ok_weaker}
 use Rattle.c_checked.specs.Expression.{expression}
 use Rattle.seh_ir.proofs.StatementCodes.{return_is}
 use Rattle.seh_ir.proofs.statements.leave_function.Goals as goal
 
 pub returns : goal.returns
 returns c =
-    return_is c.args.scope.now (option_map expression c.args.expr.now) c.args.code.now.items _ _ c.in_ok-returned.ensures c.in_ok-end_return.ensures
+    on_ok_weaker c.end_return.result
+    (λ h. return_is c.args.scope.now (option_map expression c.args.expr.now) c.args.code.now.items _ _ c.in_ok-returned.ensures h)
+    c.end_return.ensures
