@@ -1,16 +1,8 @@
-use crate::rows::{bytes_of, columns_of, number, place_of, put_fields};
-use pe_image::{ImageErr, ImageView};
-use std::alloc::{AllocError, Global};
+use crate::checks::{are, are_bytes, are_imports, is_refused};
+use crate::rows::{columns_of, number, place_of, put_at, put_fields};
+use pe_image::{ImageView, SectionView};
+use std::alloc::Global;
 use std::process::Abort;
-use std::test::Fail;
-use test_images::tables::put;
-
-/// Where the headers of [`image`] begin.
-const SIGNATURE: usize = 64;
-
-const OPTIONAL: usize = SIGNATURE + 24;
-
-const TABLE: usize = OPTIONAL + 240;
 
 /// An image of two sections, field by field: `.data` of one page with nothing stored, and `.text`
 /// with six bytes in 512 of raw data, whose others are `int3`.
@@ -46,98 +38,133 @@ table+4C     | 20 00 00 60
 400          | B8 07 00 00 00 C3 | mov eax, 7; ret
 ";
 
-fn image(rt: &impl Abort, alloc: Global) -> Result<Vec<u8>, AllocError> {
-    let mut out = vec![in alloc; 0; 0x400]?;
-    out.extend_from_slice(&[0xCC; 512])?;
-    put_fields(rt, alloc, &mut out, IMAGE)?;
-    Ok(out)
+fn image(rt: &impl Abort, alloc: Global) -> Vec<u8> {
+    let mut out = vec![in alloc; 0u8; 0x400].expect(rt, "memory");
+    out.extend_from_slice(&[0xCC; 512]).expect(rt, "memory");
+    put_fields(rt, alloc, &mut out, IMAGE);
+    out
 }
 
-/// The same with bytes put at an offset.
-fn edited(rt: &impl Abort, alloc: Global, at: usize, bytes: &[u8]) -> Result<Vec<u8>, AllocError> {
-    let mut out = image(rt, alloc)?;
-    put(&mut out, at, bytes);
-    Ok(out)
+/// The same with bytes put at a place.
+fn edited(rt: &impl Abort, alloc: Global, place: &str, bytes: &str) -> Vec<u8> {
+    let mut out = image(rt, alloc);
+    put_at(rt, alloc, &mut out, place, bytes);
+    out
 }
 
-#[test]
-fn reads_fields(rt: HostRuntime) -> Result<(), Fail> {
-    let bytes = image(&rt, rt.alloc())?;
-    let view = ImageView::read(rt.alloc(), &bytes)?;
-    assert_eq!(rt; view.base(), 0x1_4000_0000);
-    assert_eq!(rt; view.entry(), 0x2000);
-    assert_eq!(rt; view.size(), 0x3000);
+/// What is read of [`image`]: its base, entry point and size; address and size of its imports and
+/// of its exceptions; how many imports and sections it has.
+const FIELDS: &str = "140000000 2000 3000 1001 0 2003 C 0 2";
+
+/// Its sections: address, size, flags, and whether they may be read, written and executed; their
+/// bytes.
+const SECTIONS: &str = r"
+1000 1000 C0000040 1 1 0 |
+2000 6 60000020 1 0 1    | B8 07 00 00 00 C3
+";
+
+fn has_fields(rt: &impl Abort, view: &ImageView<'_>) {
     let imports = view.import_directory();
-    assert_eq!(rt; (imports.rva, imports.size), (0x1001, 0));
-    assert!(rt; view.imports().is_empty());
     let exceptions = view.exception_directory();
-    assert_eq!(rt; (exceptions.rva, exceptions.size), (0x2003, 12));
-    let sections = view.sections();
-    assert_eq!(rt; sections.len(), 2);
-    let data = &sections[0];
-    assert_eq!(rt;
-        (data.address(), data.size(), data.raw().len()),
-        (0x1000, 0x1000, 0)
-    );
-    assert!(rt; data.is_readable() && data.is_writable() && !data.is_executable());
-    let text = &sections[1];
-    assert_eq!(rt;
-        (text.address(), text.size(), text.flags()),
-        (0x2000, 6, 0x6000_0020)
-    );
-    assert_eq!(rt; text.raw(), [0xB8u8, 7, 0, 0, 0, 0xC3].as_slice());
-    assert!(rt; text.is_readable() && !text.is_writable() && text.is_executable());
-    Ok(())
+    let numbers = [
+        view.base(),
+        view.entry(),
+        view.size(),
+        imports.rva as u64,
+        imports.size as u64,
+        exceptions.rva as u64,
+        exceptions.size as u64,
+        view.imports().len() as u64,
+        view.sections().len() as u64,
+    ];
+    are(rt, &numbers, FIELDS);
+}
+
+fn is_section(rt: &impl Abort, alloc: Global, section: &SectionView<'_>, row: &str) {
+    let columns = columns_of(row);
+    let numbers = [
+        section.address(),
+        section.size(),
+        section.flags() as u64,
+        section.is_readable() as u64,
+        section.is_writable() as u64,
+        section.is_executable() as u64,
+    ];
+    are(rt, &numbers, columns[0]);
+    are_bytes(rt, alloc, section.raw(), columns[1]);
 }
 
 #[test]
-fn refuses_short_files(rt: HostRuntime) -> Result<(), Fail> {
-    let whole = image(&rt, rt.alloc())?;
-    for (len, at) in [
-        (0, 0),
-        (63, 0),
-        (64, 64),
-        (SIGNATURE + 23, 64),
-        (OPTIONAL + 111, OPTIONAL as u64),
-        (OPTIONAL + 239, OPTIONAL as u64 + 112),
-        (TABLE + 79, TABLE as u64),
-    ] {
-        let mut bytes = whole.clone()?;
-        bytes.truncate(len);
-        let answer = ImageView::read(rt.alloc(), &bytes).err();
-        assert_eq!(rt; answer, Some(ImageErr::Truncated { at }), "{len} bytes");
+fn reads_fields(rt: HostRuntime) {
+    let bytes = image(&rt, rt.alloc());
+    let view = ImageView::read(rt.alloc(), &bytes).expect(&rt, "an image");
+    has_fields(&rt, &view);
+    let mut rows = SECTIONS.lines().skip(1);
+    for section in view.sections() {
+        is_section(&rt, rt.alloc(), section, rows.next().unwrap_or("no row"));
     }
-    let mut bytes = whole.clone()?;
-    bytes.truncate(TABLE + 80);
-    let answer = ImageView::read(rt.alloc(), &bytes).err();
-    assert_eq!(rt; answer, Some(ImageErr::Layout { section: 1 }));
-    let answer = ImageView::read(rt.alloc(), &[0; 64]).err();
-    assert_eq!(rt; answer, Some(ImageErr::NotPe { at: 0 }));
-    Ok(())
+}
+
+/// Compares what an image is refused for with a text.
+fn answers(rt: &impl Abort, alloc: Global, bytes: &[u8], wanted: &str, row: &str) {
+    let answer = ImageView::read(alloc, bytes).err();
+    is_refused(rt, alloc, &answer, wanted, row);
+}
+
+/// Places at which the file ends, and the refusals: the last place is past the section table.
+const SHORT: &str = r"
+0            | Truncated { at: 0 }
+3F           | Truncated { at: 0 }
+40           | Truncated { at: 64 }
+signature+17 | Truncated { at: 64 }
+optional+6F  | Truncated { at: 88 }
+optional+EF  | Truncated { at: 200 }
+table+4F     | Truncated { at: 328 }
+table+50     | Layout { section: 1 }
+";
+
+#[test]
+fn refuses_short_files(rt: HostRuntime) {
+    for row in SHORT.lines().skip(1) {
+        let columns = columns_of(row);
+        let mut bytes = image(&rt, rt.alloc());
+        bytes.truncate(place_of(&rt, columns[0]));
+        answers(&rt, rt.alloc(), &bytes, columns[1], row);
+    }
+    answers(&rt, rt.alloc(), &[0; 64], "NotPe { at: 0 }", "zeros");
 }
 
 /// Edits of the image and their refusals, `NAME | PLACE | BYTES | REFUSAL`.
 const REFUSED: &str = r"
-MZ                    | 1            | 7A          | NotPe 0
-e_lfanew              | 3C           | E9 05 00 00 | Truncated 5E9
-e_lfanew past it      | 3C           | FF FF FF FF | Truncated FFFFFFFF
-signature             | signature+3  | 01          | NotPe 40
-Machine               | signature+4  | 4C 01       | Machine 14C
-optional size         | signature+14 | 6F          | Truncated 58
-Magic                 | optional     | 0B 01       | Magic 10B
-17 directories        | optional+6C  | 11          | Truncated C8
-all directories       | optional+6C  | FF FF FF FF | Truncated C8
-section count         | signature+6  | 1F          | Truncated 148
-optional size past it | signature+14 | FF FF       | Truncated 10057
-raw data              | table+38     | 01          | Layout 1
-raw pointer           | table+3C     | 01          | Layout 1
-raw data of the first | table+10     | 01          | Layout 0
-half a page           | table+35     | 28          | Layout 1
-same address          | table+35     | 10          | Layout 1
-one byte above        | table+8      | 01          | Layout 1
-image ends before     | optional+38  | 00 20       | Layout 1
-past the image        | table+30     | 01 10       | Layout 1
+MZ                    | 1            | 7A          | NotPe { at: 0 }
+e_lfanew              | 3C           | E9 05 00 00 | Truncated { at: 1513 }
+e_lfanew past it      | 3C           | FF FF FF FF | Truncated { at: 4294967295 }
+signature             | signature+3  | 01          | NotPe { at: 64 }
+Machine               | signature+4  | 4C 01       | Machine { found: 332 }
+optional size         | signature+14 | 6F          | Truncated { at: 88 }
+Magic                 | optional     | 0B 01       | Magic { found: 267 }
+17 directories        | optional+6C  | 11          | Truncated { at: 200 }
+all directories       | optional+6C  | FF FF FF FF | Truncated { at: 200 }
+section count         | signature+6  | 1F          | Truncated { at: 328 }
+optional size past it | signature+14 | FF FF       | Truncated { at: 65623 }
+raw data              | table+38     | 01          | Layout { section: 1 }
+raw pointer           | table+3C     | 01          | Layout { section: 1 }
+raw data of the first | table+10     | 01          | Layout { section: 0 }
+half a page           | table+35     | 28          | Layout { section: 1 }
+same address          | table+35     | 10          | Layout { section: 1 }
+one byte above        | table+8      | 01          | Layout { section: 1 }
+image ends before     | optional+38  | 00 20       | Layout { section: 1 }
+past the image        | table+30     | 01 10       | Layout { section: 1 }
 ";
+
+#[test]
+fn refuses_by_the_first_check(rt: HostRuntime) {
+    for row in REFUSED.lines().skip(1) {
+        let columns = columns_of(row);
+        let bytes = edited(&rt, rt.alloc(), columns[1], columns[2]);
+        answers(&rt, rt.alloc(), &bytes, columns[3], row);
+    }
+}
 
 /// Edits of the image, a range, and how many bytes are found there, or `-`:
 /// `NAME | PLACE | BYTES | RVA SIZE | COUNT`.
@@ -162,73 +189,55 @@ past it                | table+30    | 00    | 2000 201                         
 image ends in the page | optional+38 | 01 20 | 2000 6                            | 6
 ";
 
-/// The refusal that a column names.
-fn refusal_of(rt: &impl Abort, column: &str) -> Option<ImageErr> {
-    let (name, word) = column.split_once(' ')?;
-    let value = number(rt, word);
-    Some(match name {
-        "Truncated" => ImageErr::Truncated { at: value },
-        "NotPe" => ImageErr::NotPe { at: value },
-        "Machine" => ImageErr::Machine { found: value },
-        "Magic" => ImageErr::Magic { found: value },
-        "Layout" => ImageErr::Layout { section: value },
-        _ => panic!(rt; "no refusal: {column}"),
-    })
-}
-
-/// The image with the edit of a row.
-fn edited_by(rt: &impl Abort, alloc: Global, columns: &[&str; 5]) -> Result<Vec<u8>, AllocError> {
-    let bytes = bytes_of(rt, alloc, columns[2])?;
-    edited(rt, alloc, place_of(rt, columns[1]), &bytes)
+/// Compares how many bytes are found in a range with what a row says.
+fn finds(rt: &impl Abort, view: &ImageView<'_>, range: &str, count: &str, row: &str) {
+    let (rva, size) = range.split_once(' ').unwrap_or((range, "0"));
+    let found = view.bytes(number(rt, rva), number(rt, size));
+    let wanted = match count {
+        "-" => None,
+        count => Some(number(rt, count)),
+    };
+    assert_eq!(rt; found.map(|found| found.len() as u64), wanted, "{row}");
 }
 
 #[test]
-fn refuses_by_the_first_check(rt: HostRuntime) -> Result<(), Fail> {
-    for row in REFUSED.lines().skip(1) {
-        let columns = columns_of(row);
-        let bytes = edited_by(&rt, rt.alloc(), &columns)?;
-        let answer = ImageView::read(rt.alloc(), &bytes).err();
-        assert!(rt; answer.is_some(), "{row}");
-        assert_eq!(rt; answer, refusal_of(&rt, columns[3]), "{row}");
-    }
-    Ok(())
-}
-
-#[test]
-fn finds_what_is_stored(rt: HostRuntime) -> Result<(), Fail> {
+fn finds_what_is_stored(rt: HostRuntime) {
     for row in RANGES.lines().skip(1) {
         let columns = columns_of(row);
-        let bytes = edited_by(&rt, rt.alloc(), &columns)?;
-        let view = ImageView::read(rt.alloc(), &bytes)?;
-        let (rva, size) = columns[3].split_once(' ').unwrap_or((columns[3], "0"));
-        let found = view.bytes(number(&rt, rva), number(&rt, size));
-        let expected = match columns[4] {
-            "-" => None,
-            count => Some(number(&rt, count)),
-        };
-        assert_eq!(rt; found.map(|found| found.len() as u64), expected, "{row}");
+        let bytes = edited(&rt, rt.alloc(), columns[1], columns[2]);
+        let view = ImageView::read(rt.alloc(), &bytes).expect(&rt, "an image");
+        finds(&rt, &view, columns[3], columns[4], row);
     }
-    let bytes = image(&rt, rt.alloc())?;
-    let view = ImageView::read(rt.alloc(), &bytes)?;
-    assert_eq!(rt; view.bytes(0x2000, 2), Some([0xB8u8, 7].as_slice()));
-    Ok(())
 }
 
 #[test]
-fn counts_missing_directories_as_empty(rt: HostRuntime) -> Result<(), Fail> {
-    for (count, imports, exceptions) in [
-        (0, 0, 0),
-        (1, 0, 0),
-        (2, 0x1001, 0),
-        (3, 0x1001, 0),
-        (4, 0x1001, 12),
-    ] {
-        let bytes = edited(&rt, rt.alloc(), OPTIONAL + 108, &[count])?;
-        let view = ImageView::read(rt.alloc(), &bytes)?;
-        assert_eq!(rt; view.import_directory().rva, imports, "{count}");
-        assert_eq!(rt; view.exception_directory().size, exceptions, "{count}");
+fn finds_the_bytes_themselves(rt: HostRuntime) {
+    let bytes = image(&rt, rt.alloc());
+    let view = ImageView::read(rt.alloc(), &bytes).expect(&rt, "an image");
+    let found = view.bytes(0x2000, 2).unwrap_or(&[]);
+    are_bytes(&rt, rt.alloc(), found, "B8 07");
+}
+
+/// The byte of NumberOfRvaAndSizes, and the address of the imports and the size of the exceptions
+/// that are read.
+const COUNTS: &str = r"
+00 | 0 0
+01 | 0 0
+02 | 1001 0
+03 | 1001 0
+04 | 1001 C
+";
+
+#[test]
+fn counts_missing_directories_as_empty(rt: HostRuntime) {
+    for row in COUNTS.lines().skip(1) {
+        let columns = columns_of(row);
+        let bytes = edited(&rt, rt.alloc(), "optional+6C", columns[0]);
+        let view = ImageView::read(rt.alloc(), &bytes).expect(&rt, "an image");
+        let imports = view.import_directory().rva as u64;
+        let exceptions = view.exception_directory().size as u64;
+        are(&rt, &[imports, exceptions], columns[1]);
     }
-    Ok(())
 }
 
 /// A third section, at 0x3000, with two names of one library.
@@ -254,69 +263,53 @@ table+50    | '.rdata'
 table+58    | 74000000 00300000 74000000 0006
 ";
 
-/// Where the import directory lies in that section, an edit of the section, and the import that
-/// can't be read, or `-`: `NAME | DIRECTORY | AT | BYTES | INDEX`.
+/// Where the import directory lies in that section, an edit of the section, and the refusal:
+/// `NAME | DIRECTORY | AT | BYTES | REFUSAL`.
 const IMPORTING: &str = r"
-as it is                 | 0  | 0  |                         | -
-address table alone      | 0  | 0  | 00 00                   | -
-first by ordinal         | 0  | 2F | 80                      | 0
-second by ordinal        | 0  | 37 | 80                      | 1
-entry past all           | 0  | 34 | 01                      | 1
-hint past the end        | 0  | 30 | 73                      | 1
-name past the end        | 0  | 73 | 78                      | -
-no end of the name       | 0  | 30 | 70 30 00 00 00 00 00 00 | -
-slots that aren't stored | 0  | 10 | 00 10                   | 0
-second slot past the end | 0  | 10 | 6C 30                   | 1
-descriptor past the end  | 61 | 0  |                         | 0
+as it is                 | 00 | 0  |                         | -
+address table alone      | 00 | 0  | 00 00                   | -
+first by ordinal         | 00 | 2F | 80                      | ImportBad { index: 0 }
+second by ordinal        | 00 | 37 | 80                      | ImportBad { index: 1 }
+entry past all           | 00 | 34 | 01                      | ImportBad { index: 1 }
+hint past the end        | 00 | 30 | 73                      | ImportBad { index: 1 }
+name past the end        | 00 | 73 | 78                      | -
+no end of the name       | 00 | 30 | 70 30 00 00 00 00 00 00 | -
+slots that aren't stored | 00 | 10 | 00 10                   | ImportBad { index: 0 }
+second slot past the end | 00 | 10 | 6C 30                   | ImportBad { index: 1 }
+descriptor past the end  | 61 | 0  |                         | ImportBad { index: 0 }
 ";
 
-/// An image with that section, with bytes put at an offset of it, and its import directory at an
+/// Its imports with their slots.
+const NAMES: &str = r"
+put     | 3040
+protect | 3048
+";
+
+/// An image with that section, with bytes put at a place of it, and its import directory at an
 /// offset of it.
-fn importing(
-    rt: &impl Abort,
-    alloc: Global,
-    directory: u8,
-    at: usize,
-    bytes: &[u8],
-) -> Result<Vec<u8>, AllocError> {
-    let mut tables = vec![in alloc; 0; 0x74]?;
-    put_fields(rt, alloc, &mut tables, IMPORTS)?;
-    put(&mut tables, at, bytes);
-    let mut out = image(rt, alloc)?;
-    put_fields(rt, alloc, &mut out, THIRD)?;
-    put(&mut out, OPTIONAL + 120, &[directory]);
-    out.extend_from_slice(&tables)?;
-    Ok(out)
+fn importing(rt: &impl Abort, alloc: Global, directory: &str, place: &str, bytes: &str) -> Vec<u8> {
+    let mut tables = vec![in alloc; 0u8; 0x74].expect(rt, "memory");
+    put_fields(rt, alloc, &mut tables, IMPORTS);
+    put_at(rt, alloc, &mut tables, place, bytes);
+    let mut out = image(rt, alloc);
+    put_fields(rt, alloc, &mut out, THIRD);
+    put_at(rt, alloc, &mut out, "optional+78", directory);
+    out.extend_from_slice(&tables).expect(rt, "memory");
+    out
 }
 
 #[test]
-fn reads_imports(rt: HostRuntime) -> Result<(), Fail> {
+fn refuses_imports(rt: HostRuntime) {
     for row in IMPORTING.lines().skip(1) {
         let columns = columns_of(row);
-        let directory = (number(&rt, columns[1]) % 256) as u8;
-        let edit = bytes_of(&rt, rt.alloc(), columns[3])?;
-        let at = place_of(&rt, columns[2]);
-        let bytes = importing(&rt, rt.alloc(), directory, at, &edit)?;
-        let answer = ImageView::read(rt.alloc(), &bytes).err();
-        let refusal = match columns[4] {
-            "-" => None,
-            index => Some(ImageErr::ImportBad {
-                index: number(&rt, index),
-            }),
-        };
-        assert_eq!(rt; answer, refusal, "{row}");
+        let bytes = importing(&rt, rt.alloc(), columns[1], columns[2], columns[3]);
+        answers(&rt, rt.alloc(), &bytes, columns[4], row);
     }
-    let bytes = importing(&rt, rt.alloc(), 0, 0, &[])?;
-    let view = ImageView::read(rt.alloc(), &bytes)?;
-    let imports = view.imports();
-    assert_eq!(rt; imports.len(), 2);
-    assert_eq!(rt;
-        (imports[0].name(), imports[0].slot()),
-        (b"put".as_slice(), 0x3040)
-    );
-    assert_eq!(rt;
-        (imports[1].name(), imports[1].slot()),
-        (b"protect".as_slice(), 0x3048)
-    );
-    Ok(())
+}
+
+#[test]
+fn reads_imports(rt: HostRuntime) {
+    let bytes = importing(&rt, rt.alloc(), "00", "0", "");
+    let view = ImageView::read(rt.alloc(), &bytes).expect(&rt, "an image");
+    are_imports(&rt, view.imports(), 0, NAMES);
 }

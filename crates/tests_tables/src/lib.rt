@@ -2,6 +2,10 @@
 #![tactic(auto)]
 
 #[cfg(test)]
+mod checks;
+#[cfg(test)]
+mod entries;
+#[cfg(test)]
 mod headers;
 #[cfg(test)]
 mod rows;

@@ -1,7 +1,10 @@
 //! Readers of tables. A table of rows is one text, and each line after the first is a row, of
 //! columns between bars; numbers are in hexadecimal.
+//!
+//! Where no memory is left a reader ends the test, so that those who call it have one end, at which
+//! what they hold is dropped once.
 
-use std::alloc::{AllocError, Global};
+use std::alloc::Global;
 use std::process::Abort;
 use test_images::tables::put;
 
@@ -33,28 +36,38 @@ pub fn columns_of(row: &str) -> [&str; 5] {
     columns
 }
 
-/// The bytes that pairs of digits spell, or those of a text between quotes.
-pub fn bytes_of(rt: &impl Abort, alloc: Global, column: &str) -> Result<Vec<u8>, AllocError> {
-    let mut bytes = Vec::new(alloc);
-    if let Some(text) = column.strip_prefix('\'') {
-        let text = text.strip_suffix('\'').unwrap_or(text);
-        bytes.extend_from_slice(text.as_bytes())?;
-        return Ok(bytes);
-    }
+/// Appends the bytes that pairs of digits spell.
+pub fn push_bytes(rt: &impl Abort, out: &mut Vec<u8>, digits: &str) {
     let mut high = None;
-    for byte in column.bytes() {
+    for byte in digits.bytes() {
         if byte != b' ' {
             let low = digit(rt, byte);
             match high {
                 None => high = Some(low),
                 Some(first) => {
-                    bytes.push(first.wrapping_mul(16).wrapping_add(low))?;
+                    let value = first.wrapping_mul(16).wrapping_add(low);
+                    out.push(value).expect(rt, "memory");
                     high = None;
                 }
             }
         }
     }
-    Ok(bytes)
+    assert_eq!(rt; high, None, "{digits}");
+}
+
+/// The bytes that pairs of digits spell, or those of a text between quotes.
+pub fn bytes_of(rt: &impl Abort, alloc: Global, column: &str) -> Vec<u8> {
+    let mut bytes = Vec::new(alloc);
+    match column.strip_prefix('\'') {
+        None => push_bytes(rt, &mut bytes, column),
+        Some(text) => {
+            let text = text.strip_suffix('\'').unwrap_or(text);
+            bytes
+                .extend_from_slice(text.as_bytes())
+                .expect(rt, "memory");
+        }
+    }
+    bytes
 }
 
 /// A place in the file of an image: an offset, or `NAME+OFFSET` from a header, the directories, the
@@ -72,17 +85,16 @@ pub fn place_of(rt: &impl Abort, column: &str) -> usize {
     (start.wrapping_add(number(rt, offset)) % 65536) as usize
 }
 
+/// Puts the bytes of a column at the place that another one names.
+pub fn put_at(rt: &impl Abort, alloc: Global, out: &mut Vec<u8>, place: &str, bytes: &str) {
+    let field = bytes_of(rt, alloc, bytes);
+    put(out, place_of(rt, place), &field);
+}
+
 /// Puts the fields of a table, `PLACE | BYTES | NOTE`, at their places.
-pub fn put_fields(
-    rt: &impl Abort,
-    alloc: Global,
-    out: &mut Vec<u8>,
-    table: &str,
-) -> Result<(), AllocError> {
+pub fn put_fields(rt: &impl Abort, alloc: Global, out: &mut Vec<u8>, table: &str) {
     for row in table.lines().skip(1) {
         let columns = columns_of(row);
-        let field = bytes_of(rt, alloc, columns[1])?;
-        put(out, place_of(rt, columns[0]), &field);
+        put_at(rt, alloc, out, columns[0], columns[1]);
     }
-    Ok(())
 }

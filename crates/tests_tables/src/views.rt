@@ -1,23 +1,23 @@
-use crate::rows::bytes_of;
+use crate::rows::{columns_of, number, place_of, push_bytes};
 use pe_image::ImageView;
 use seh_io::plain::VecSink;
 use seh_io::planned::{MemSink, Plan};
 use std::alloc::Global;
 use std::process::Abort;
-use std::test::Fail;
 use table_view::view;
 use test_images::tables::{ENTRY, table_image};
 
-/// An entry with the info of the first bytes of a prologue `push rbx; sub rsp, 32`.
+/// The info of a function that begins with `push rbx; sub rsp, 32`.
 const INFO: [u8; 8] = [1, 5, 2, 0, 5, 0x32, 1, 0x30];
 
 /// What is shown of images. A part begins with a line `# NAME`; lines `info` have the bytes of the
-/// unwind infos and lines `table` those of the function table, which is [`ENTRY`] where no line has
-/// them. After a line `shows` comes what is shown. Of the part `codes` llvm-readobj prints these
-/// codes; in `refused entry` the second of three entries is refused.
+/// unwind infos and lines `table` those of the function table. After a line `shows` comes what is
+/// shown. Of the part `codes` llvm-readobj prints these codes; in `refused entry` the second of
+/// three entries is refused.
 const VIEWS: &str = r"
 # example
 info 01 05 02 00 05 32 01 30
+table 00200000 20200000 00300000
 shows
 entry 0 00002000 00002020 00003000
  bytes 0105020005320130
@@ -27,6 +27,7 @@ entry 0 00002000 00002020 00003000
 entries 1
 # codes
 info 01190985 19680800 15341300 11030901 16000260 0150
+table 00200000 20200000 00300000
 shows
 entry 0 00002000 00002020 00003000
  bytes 011909851968080015341300110309011600026001500000
@@ -42,6 +43,7 @@ entries 1
 info 19000000 00360000 03000000 00200000 10200000 18200000
 info 00000000 00200000 10200000 01000000 14200000 00200000
 info 20 20 00 00 1C 20 00 00 16 20
+table 00200000 20200000 00300000
 shows
 entry 0 00002000 00002020 00003000
  bytes 19000000
@@ -53,6 +55,7 @@ entry 0 00002000 00002020 00003000
 entries 1
 # chain
 info 21000000 00200000 10200000 10300000 01
+table 00200000 20200000 00300000
 shows
 entry 0 00002000 00002020 00003000
  bytes 21000000
@@ -61,6 +64,7 @@ entry 0 00002000 00002020 00003000
 entries 1
 # machine frame
 info 09 04 02 00 04 42 00 1A 0A 36
+table 00200000 20200000 00300000
 shows
 entry 0 00002000 00002020 00003000
  bytes 090402000442001a
@@ -85,11 +89,13 @@ entry 2 00002030 00002040 00003000
 entries 3
 # operand past the count
 info 01 07 01 00 07 01
+table 00200000 20200000 00300000
 shows
 refused 0 Op 0
 entries 1
 # chained to itself
 info 21000000 00200000 20200000 00300000
+table 00200000 20200000 00300000
 shows
 refused 0 ChainLong
 entries 1
@@ -118,53 +124,69 @@ shows
 entries 0
 ";
 
-/// Compares what is shown of the image of a part of a table.
-fn shows_part(rt: &impl Abort, alloc: Global, part: &str) -> Result<(), Fail> {
-    let (head, shown) = part.split_once("\nshows\n").unwrap_or((part, ""));
-    let mut infos = Vec::new(alloc);
-    let mut entries = Vec::new(alloc);
-    let mut is_given = false;
-    for line in head.lines() {
-        if let Some(words) = line.strip_prefix("info") {
-            let bytes = bytes_of(rt, alloc, words)?;
-            infos.extend_from_slice(&bytes)?;
-        } else if let Some(words) = line.strip_prefix("table") {
-            let bytes = bytes_of(rt, alloc, words)?;
-            entries.extend_from_slice(&bytes)?;
-            is_given = true;
+/// The bytes of the lines that begin with a word.
+fn bytes_after(rt: &impl Abort, alloc: Global, lines: &str, word: &str) -> Vec<u8> {
+    let mut bytes = Vec::new(alloc);
+    for line in lines.lines() {
+        if let Some(digits) = line.strip_prefix(word) {
+            push_bytes(rt, &mut bytes, digits);
         }
     }
-    if !is_given {
-        entries.extend_from_slice(&ENTRY)?;
-    }
-    let bytes = table_image(alloc, &infos, &entries)?;
-    let image = ImageView::read(alloc, &bytes)?;
+    bytes
+}
+
+/// Compares what is shown of an image's table with lines, of which the last has no end here.
+fn shows_lines(rt: &impl Abort, alloc: Global, bytes: &[u8], lines: &str, head: &str) {
+    let image = ImageView::read(alloc, bytes).expect(rt, "an image");
     let mut out = VecSink::new(alloc);
-    assert!(rt; view(&image, &mut out).is_ok(), "{head}");
-    let expected = format!(in alloc; "{}\n", shown.trim_end())?;
-    assert_eq!(rt; out.bytes.as_slice(), expected.as_bytes(), "{head}");
-    Ok(())
+    let answer = view(&image, &mut out);
+    assert!(rt; answer.is_ok(), "{head}");
+    let wanted = format!(in alloc; "{lines}\n").expect(rt, "memory");
+    assert_eq!(rt; out.bytes.as_slice(), wanted.as_bytes(), "{head}");
+}
+
+/// The same of the image of a part of a table.
+fn shows_part(rt: &impl Abort, alloc: Global, part: &str) {
+    let (head, lines) = part.split_once("\nshows\n").unwrap_or((part, ""));
+    let infos = bytes_after(rt, alloc, head, "info");
+    let entries = bytes_after(rt, alloc, head, "table");
+    let bytes = table_image(alloc, &infos, &entries).expect(rt, "memory");
+    shows_lines(rt, alloc, &bytes, lines.trim_end(), head);
 }
 
 #[test]
-fn shows(rt: HostRuntime) -> Result<(), Fail> {
+fn shows(rt: HostRuntime) {
     for part in VIEWS.split("\n# ").skip(1) {
-        shows_part(&rt, rt.alloc(), part)?;
+        shows_part(&rt, rt.alloc(), part);
     }
-    Ok(())
+}
+
+/// Which call of the sink fails, how many bytes the others take at most, and how many bytes were
+/// taken then: the second piece is refused, or the first after its first 10 bytes.
+const FAULTS: &str = r"
+2 | 1000 | 23
+2 | A    | A
+1 | 1    | 0
+";
+
+/// Compares how much of an image's view a sink has taken when it fails with what a row says.
+fn stops(rt: &impl Abort, alloc: Global, image: &ImageView<'_>, row: &str) {
+    let columns = columns_of(row);
+    let failing = [number(rt, columns[0])].to_vec(alloc).expect(rt, "memory");
+    let most = place_of(rt, columns[1]);
+    assert!(rt; 0 < most, "{row}");
+    let mut out = MemSink::new(Vec::new(alloc), Plan::new(failing, most));
+    let fault = view(image, &mut out).err().map(|fault| fault.taken);
+    let taken = number(rt, columns[2]);
+    assert_eq!(rt; fault, Some(taken), "{row}");
+    assert_eq!(rt; out.bytes.len() as u64, taken, "{row}");
 }
 
 #[test]
-fn stops_at_a_fault(rt: HostRuntime) -> Result<(), Fail> {
-    let bytes = table_image(rt.alloc(), &INFO, &ENTRY)?;
-    let image = ImageView::read(rt.alloc(), &bytes)?;
-    // The second piece is refused, or the first after its first 10 bytes.
-    for (failing, most, taken) in [(2, 4096, 35), (2, 10, 10), (1, 1, 0)] {
-        let plan = Plan::new([failing].to_vec(rt.alloc())?, most);
-        let mut out = MemSink::new(Vec::new(rt.alloc()), plan);
-        let fault = view(&image, &mut out).err().map(|fault| fault.taken);
-        assert_eq!(rt; fault, Some(taken));
-        assert_eq!(rt; out.bytes.len() as u64, taken);
+fn stops_at_a_fault(rt: HostRuntime) {
+    let bytes = table_image(rt.alloc(), &INFO, &ENTRY).expect(&rt, "memory");
+    let image = ImageView::read(rt.alloc(), &bytes).expect(&rt, "an image");
+    for row in FAULTS.lines().skip(1) {
+        stops(&rt, rt.alloc(), &image, row);
     }
-    Ok(())
 }

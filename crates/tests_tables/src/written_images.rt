@@ -1,8 +1,10 @@
-use crate::rows::put_fields;
+use crate::checks::{are, are_bytes, are_imports};
+use crate::rows::{bytes_of, columns_of, number, put_fields};
 use host_layout::imported::IMPORTED;
 use pe_image::ImageView;
 use pe_write::{Image, Sizes, slot_of, write};
-use std::test::Fail;
+use std::alloc::Global;
+use std::process::Abort;
 
 /// All bytes that aren't 0 in the headers and `.data` of the image of [`writes_five_sections`].
 const HEADERS: &str = r"
@@ -74,92 +76,96 @@ A00      | 01
 C00      | 00 20 00 00 07 20 00 00 00 40
 ";
 
-#[test]
-fn writes_five_sections(rt: HostRuntime) -> Result<(), Fail> {
-    let data = [1, 2, 3, 4].to_vec(rt.alloc())?;
-    let text = [0x90, 0xB8, 7, 0, 0, 0, 0xC3].to_vec(rt.alloc())?;
-    let xdata = [1, 0, 0, 0].to_vec(rt.alloc())?;
-    let pdata = [0, 0x20, 0, 0, 7, 0x20, 0, 0, 0, 0x40, 0, 0].to_vec(rt.alloc())?;
-    let image = Image::new(0x1000, data, text, 1, xdata, pdata);
-    let bytes = write(rt.alloc(), &image)?;
-    let mut expected = vec![in rt.alloc(); 0; 3584]?;
-    put_fields(&rt, rt.alloc(), &mut expected, HEADERS)?;
-    put_fields(&rt, rt.alloc(), &mut expected, SECTIONS)?;
-    put_fields(&rt, rt.alloc(), &mut expected, CONTENTS)?;
-    assert_eq!(rt; bytes.as_slice(), expected.as_slice());
-    Ok(())
+/// What is laid by these tables.
+fn laid(rt: &impl Abort, alloc: Global) -> Vec<u8> {
+    let mut out = vec![in alloc; 0u8; 3584].expect(rt, "memory");
+    put_fields(rt, alloc, &mut out, HEADERS);
+    put_fields(rt, alloc, &mut out, SECTIONS);
+    put_fields(rt, alloc, &mut out, CONTENTS);
+    out
+}
+
+/// The image of a row, `SIZE | DATA | TEXT | XDATA | PDATA`, of parts that take a page each at
+/// most, which begins so many bytes after the front of its code.
+fn image_of(rt: &impl Abort, alloc: Global, row: &str, entry: u32) -> Image {
+    let columns = columns_of(row);
+    let size = (number(rt, columns[0]) % 65536) as u32;
+    assert!(rt; size % 4096 == 0 && 4096 <= size && size <= 8192);
+    let data = bytes_of(rt, alloc, columns[1]);
+    let text = bytes_of(rt, alloc, columns[2]);
+    let xdata = bytes_of(rt, alloc, columns[3]);
+    let pdata = bytes_of(rt, alloc, columns[4]);
+    assert!(rt; data.len() <= 4096 && xdata.len() <= 4096 && pdata.len() <= 4096);
+    assert!(rt; (entry as usize) < text.len() && text.len() <= 4096);
+    Image::new(size, data, text, entry, xdata, pdata)
+}
+
+/// Its bytes as they are written.
+fn written(rt: &impl Abort, alloc: Global, row: &str, entry: u32) -> Vec<u8> {
+    let image = image_of(rt, alloc, row, entry);
+    write(alloc, &image).expect(rt, "memory")
 }
 
 #[test]
-fn reads_it_again(rt: HostRuntime) -> Result<(), Fail> {
-    let text = [0xB8, 7, 0, 0, 0, 0xC3].to_vec(rt.alloc())?;
-    let none = || Vec::new(rt.alloc());
-    let image = Image::new(0x2000, none(), text, 0, none(), none());
-    let bytes = write(rt.alloc(), &image)?;
-    let view = ImageView::read(rt.alloc(), &bytes)?;
-    assert_eq!(rt;
-        (view.base(), view.entry(), view.size()),
-        (0x1_4000_0000, 0x3000, 0x5000)
-    );
-    assert_eq!(rt; view.exception_directory().size, 0);
-    assert_eq!(rt; view.sections().len(), 5);
-    assert_eq!(rt;
-        view.bytes(0x3000, 6),
-        Some([0xB8u8, 7, 0, 0, 0, 0xC3].as_slice())
-    );
-    let names: [(&[u8], u64); 5] = [
-        (b"RaiseException", 0x4058),
-        (b"__C_specific_handler", 0x4060),
-        (b"_local_unwind", 0x4068),
-        (b"protect", 0x4070),
-        (b"put", 0x4078),
+fn writes_five_sections(rt: HostRuntime) {
+    let row = "1000 | 01020304 | 90 B8 07 00 00 00 C3 | 01000000 | 00200000 07200000 00400000";
+    let bytes = written(&rt, rt.alloc(), row, 1);
+    let wanted = laid(&rt, rt.alloc());
+    assert_eq!(rt; bytes.as_slice(), wanted.as_slice());
+}
+
+/// The names of the services, in their order, and where their slots lie in `.rdata`.
+const SERVICES: &str = r"
+RaiseException       | 58
+__C_specific_handler | 60
+_local_unwind        | 68
+protect              | 70
+put                  | 78
+";
+
+#[test]
+fn reads_it_again(rt: HostRuntime) {
+    let bytes = written(&rt, rt.alloc(), "2000 | | B8 07 00 00 00 C3", 0);
+    let view = ImageView::read(rt.alloc(), &bytes).expect(&rt, "an image");
+    let numbers = [
+        view.base(),
+        view.entry(),
+        view.size(),
+        view.exception_directory().size as u64,
+        view.sections().len() as u64,
     ];
-    assert_eq!(rt; view.imports().len(), 5);
-    for (import, (name, slot)) in view.imports().iter().zip(names) {
-        assert_eq!(rt; import.name(), name);
-        assert_eq!(rt; import.slot(), slot);
-    }
-    Ok(())
+    are(&rt, &numbers, "140000000 3000 5000 0 5");
+    let code = view.bytes(0x3000, 6).unwrap_or(&[]);
+    are_bytes(&rt, rt.alloc(), code, "B8 07 00 00 00 C3");
+    are_imports(&rt, view.imports(), 0x4000, SERVICES);
 }
 
 #[test]
-fn lays_sections(rt: HostRuntime) -> Result<(), Fail> {
+fn lays_sections(rt: HostRuntime) {
     let sizes = Sizes {
         data_size: 0x1001,
         text_size: 0x1000,
         xdata_size: 0,
         pdata_size: 12,
     };
-    assert_eq!(rt; sizes.text_at(), 0x3000);
-    assert_eq!(rt; sizes.rdata_at(), 0x4000);
-    assert_eq!(rt; sizes.xdata_at(), 0x5000);
-    assert_eq!(rt; sizes.pdata_at(), 0x5000);
-    assert_eq!(rt; sizes.end_at(), 0x6000);
-    let text = [0xC3].to_vec(rt.alloc())?;
-    let image = Image::new(
-        0x1000,
-        Vec::new(rt.alloc()),
-        text,
-        0,
-        Vec::new(rt.alloc()),
-        Vec::new(rt.alloc()),
-    );
-    assert_eq!(rt; image.sizes().rdata_at(), 0x3000);
-    Ok(())
+    let numbers = [
+        sizes.text_at(),
+        sizes.rdata_at(),
+        sizes.xdata_at(),
+        sizes.pdata_at(),
+        sizes.end_at(),
+    ];
+    are(&rt, &numbers, "3000 4000 5000 5000 6000");
+    let image = image_of(&rt, rt.alloc(), "1000 | | C3", 0);
+    are(&rt, &[image.sizes().rdata_at()], "3000");
 }
 
 #[test]
-fn names_services(rt: HostRuntime) -> Result<(), Fail> {
-    let services: [(&[u8], u32); 5] = [
-        (b"RaiseException", 88),
-        (b"__C_specific_handler", 96),
-        (b"_local_unwind", 104),
-        (b"protect", 112),
-        (b"put", 120),
-    ];
-    for (service, (name, slot)) in IMPORTED.iter().zip(services) {
-        assert_eq!(rt; service.name(), name);
-        assert_eq!(rt; slot_of(*service), slot);
+fn names_services(rt: HostRuntime) {
+    let mut rows = SERVICES.lines().skip(1);
+    for service in IMPORTED.iter() {
+        let columns = columns_of(rows.next().unwrap_or("no row"));
+        assert_eq!(rt; service.name(), columns[0].as_bytes());
+        are(&rt, &[slot_of(*service) as u64], columns[1]);
     }
-    Ok(())
 }

@@ -1,20 +1,69 @@
 //! Unwind infos and scope tables as they are written, and read again.
 
+ghost use Rattle.eh_tables.specs.Written.{CanBeWritten};
+
+use crate::checks::are_bytes;
+use crate::entries::reads;
+use crate::rows::{columns_of, number};
 use arrayvec::ArrayVec;
 use eh_tables::{
-    ScopeRecord, Tables, Trailer, UnwindCode, UnwindInfo, UnwindOperation, write_scopes,
-    write_unwind,
+    ScopeRecord, Trailer, UnwindCode, UnwindInfo, UnwindOperation, write_scopes, write_unwind,
 };
-use pe_image::ImageView;
 use std::alloc::Global;
 use std::process::Abort;
-use std::test::Fail;
-use test_images::tables::{ENTRY, table_image};
+
+/// The bytes of an info as it is written.
+fn written(rt: &impl Abort, alloc: Global, info: &UnwindInfo) -> Vec<u8>
+    requires { CanBeWritten info.now }
+{
+    let mut out = Vec::new(alloc);
+    write_unwind(info, &mut out).expect(rt, "memory");
+    out
+}
+
+/// The info of one allocation, at the end of the prologue.
+#[tactic(auto, using(crate::proofs::Allocations::few))]
+fn allocation(offset: u8, size: u32) -> UnwindInfo
+    ensures { CanBeWritten result }
+{
+    let mut codes = ArrayVec::new();
+    codes.push(UnwindCode {
+        offset,
+        operation: UnwindOperation::Allocate { size },
+    });
+    UnwindInfo {
+        prologue_size: offset,
+        frame_register: 0,
+        frame_offset: 0,
+        codes,
+        trailer: Trailer::Nothing,
+    }
+}
+
+/// Allocations and their infos, `OFFSET | SIZE | BYTES | NOTE`.
+const ALLOCATIONS: &str = r"
+4 | 28    | 01 04 01 00 04 42 00 00             | an odd count of slots is filled up
+7 | 88    | 01 07 02 00 07 01 11 00             | the smallest of two slots
+7 | 7FFF8 | 01 07 02 00 07 01 FF FF             | the largest of two
+7 | 80000 | 01 07 03 00 07 11 00 00 08 00 00 00 | the smallest of three
+";
 
 #[test]
-fn writes_infos(rt: HostRuntime) -> Result<(), Fail> {
-    // push rbx; sub rsp, 32
-    let mut out = Vec::new(rt.alloc());
+fn writes_allocations(rt: HostRuntime) {
+    for row in ALLOCATIONS.lines().skip(1) {
+        let columns = columns_of(row);
+        let offset = (number(&rt, columns[0]) % 256) as u8;
+        let size = (number(&rt, columns[1]) % 0x1_0000_0000) as u32;
+        let info = allocation(offset, size);
+        let bytes = written(&rt, rt.alloc(), &info);
+        are_bytes(&rt, rt.alloc(), &bytes, columns[2]);
+    }
+}
+
+/// The info of `push rbx; sub rsp, 32`.
+fn pushed() -> UnwindInfo
+    ensures { CanBeWritten result }
+{
     let mut codes = ArrayVec::new();
     codes.push(UnwindCode {
         offset: 5,
@@ -24,24 +73,26 @@ fn writes_infos(rt: HostRuntime) -> Result<(), Fail> {
         offset: 1,
         operation: UnwindOperation::Push { register: 3 },
     });
-    let info = UnwindInfo {
+    UnwindInfo {
         prologue_size: 5,
         frame_register: 0,
         frame_offset: 0,
         codes,
         trailer: Trailer::Nothing,
-    };
-    write_unwind(&info, &mut out)?;
-    let expected = [1u8, 5, 2, 0, 5, 0x32, 1, 0x30];
-    assert_eq!(rt; out.as_slice(), expected.as_slice());
-    Ok(())
+    }
 }
 
 #[test]
+fn writes_infos(rt: HostRuntime) {
+    let bytes = written(&rt, rt.alloc(), &pushed());
+    are_bytes(&rt, rt.alloc(), &bytes, "01 05 02 00 05 32 01 30");
+}
+
+/// The info of `push rbp; sub rsp, 288; lea rbp, [rsp + 128]`.
 #[tactic(auto, unfolding(pe_image::specs::Numbers::u16))]
-fn writes_frame_registers(rt: HostRuntime) -> Result<(), Fail> {
-    // push rbp; sub rsp, 288; lea rbp, [rsp + 128]
-    let mut out = Vec::new(rt.alloc());
+fn framed() -> UnwindInfo
+    ensures { CanBeWritten result }
+{
     let mut codes = ArrayVec::new();
     codes.push(UnwindCode {
         offset: 16,
@@ -55,104 +106,24 @@ fn writes_frame_registers(rt: HostRuntime) -> Result<(), Fail> {
         offset: 1,
         operation: UnwindOperation::Push { register: 5 },
     });
-    let info = UnwindInfo {
+    UnwindInfo {
         prologue_size: 16,
         frame_register: 5,
         frame_offset: 128,
         codes,
         trailer: Trailer::Nothing,
-    };
-    write_unwind(&info, &mut out)?;
-    let expected = [1u8, 0x10, 4, 0x85, 0x10, 3, 8, 1, 0x24, 0, 1, 0x50];
-    assert_eq!(rt; out.as_slice(), expected.as_slice());
-    Ok(())
+    }
 }
 
 #[test]
-fn pads_an_odd_count(rt: HostRuntime) -> Result<(), Fail> {
-    let mut out = Vec::new(rt.alloc());
-    let mut codes = ArrayVec::new();
-    codes.push(UnwindCode {
-        offset: 4,
-        operation: UnwindOperation::Allocate { size: 40 },
-    });
-    let info = UnwindInfo {
-        prologue_size: 4,
-        frame_register: 0,
-        frame_offset: 0,
-        codes,
-        trailer: Trailer::Nothing,
-    };
-    write_unwind(&info, &mut out)?;
-    let expected = [1u8, 4, 1, 0, 4, 0x42, 0, 0];
-    assert_eq!(rt; out.as_slice(), expected.as_slice());
-    Ok(())
-}
-
-#[test]
-#[tactic(auto, unfolding(pe_image::specs::Numbers::u16))]
-fn writes_large_allocations(rt: HostRuntime) -> Result<(), Fail> {
-    let mut out = Vec::new(rt.alloc());
-    let mut codes = ArrayVec::new();
-    codes.push(UnwindCode {
-        offset: 7,
-        operation: UnwindOperation::Allocate { size: 136 },
-    });
-    let info = UnwindInfo {
-        prologue_size: 7,
-        frame_register: 0,
-        frame_offset: 0,
-        codes,
-        trailer: Trailer::Nothing,
-    };
-    write_unwind(&info, &mut out)?;
-    let expected = [1u8, 7, 2, 0, 7, 1, 0x11, 0];
-    assert_eq!(rt; out.as_slice(), expected.as_slice());
-    Ok(())
-}
-
-#[test]
-#[tactic(auto, unfolding(pe_image::specs::Numbers::u16))]
-fn writes_the_largest_of_two_slots(rt: HostRuntime) -> Result<(), Fail> {
-    let mut out = Vec::new(rt.alloc());
-    let mut codes = ArrayVec::new();
-    codes.push(UnwindCode {
-        offset: 7,
-        operation: UnwindOperation::Allocate { size: 524280 },
-    });
-    let info = UnwindInfo {
-        prologue_size: 7,
-        frame_register: 0,
-        frame_offset: 0,
-        codes,
-        trailer: Trailer::Nothing,
-    };
-    write_unwind(&info, &mut out)?;
-    let expected = [1u8, 7, 2, 0, 7, 1, 0xFF, 0xFF];
-    assert_eq!(rt; out.as_slice(), expected.as_slice());
-    Ok(())
-}
-
-#[test]
-#[tactic(auto, unfolding(pe_image::specs::Numbers::u32))]
-fn writes_the_smallest_of_three_slots(rt: HostRuntime) -> Result<(), Fail> {
-    let mut out = Vec::new(rt.alloc());
-    let mut codes = ArrayVec::new();
-    codes.push(UnwindCode {
-        offset: 7,
-        operation: UnwindOperation::Allocate { size: 524288 },
-    });
-    let info = UnwindInfo {
-        prologue_size: 7,
-        frame_register: 0,
-        frame_offset: 0,
-        codes,
-        trailer: Trailer::Nothing,
-    };
-    write_unwind(&info, &mut out)?;
-    let expected = [1u8, 7, 3, 0, 7, 0x11, 0, 0, 8, 0, 0, 0];
-    assert_eq!(rt; out.as_slice(), expected.as_slice());
-    Ok(())
+fn writes_frame_registers(rt: HostRuntime) {
+    let bytes = written(&rt, rt.alloc(), &framed());
+    are_bytes(
+        &rt,
+        rt.alloc(),
+        &bytes,
+        "01 10 04 85 10 03 08 01 24 00 01 50",
+    );
 }
 
 const FRAME: UnwindCode = UnwindCode {
@@ -199,40 +170,11 @@ const MACHINE: UnwindCode = UnwindCode {
     operation: UnwindOperation::MachineFrame { info: 1 },
 };
 
-/// Compares what is read of an info, of a frame register 5 at 240 and a prologue of 40 bytes, with
-/// its codes.
-fn reads_codes(
-    rt: &impl Abort,
-    alloc: Global,
-    info: &[u8],
-    codes: &[UnwindCode],
-) -> Result<(), Fail> {
-    let bytes = table_image(alloc, info, &ENTRY)?;
-    let view = ImageView::read(alloc, &bytes)?;
-    let tables = Tables::read(&view)?;
-    assert_eq!(rt; tables.len(), 1);
-    let entry = tables.entry(0)?;
-    let own = entry.info();
-    assert_eq!(rt;
-        (
-            own.prologue_size(),
-            own.frame_register(),
-            own.frame_offset()
-        ),
-        (40, 5, 240)
-    );
-    let mut found = entry.codes();
-    for &code in codes {
-        assert_eq!(rt; found.next(), Some(code));
-    }
-    assert_eq!(rt; found.next(), None);
-    Ok(())
-}
-
-#[test]
+/// An info with a code of each operation.
 #[tactic(auto, unfolding(pe_image::specs::Numbers::u16, pe_image::specs::Numbers::u32))]
-fn reads_again_what_is_written(rt: HostRuntime) -> Result<(), Fail> {
-    let mut out = Vec::new(rt.alloc());
+fn of_all_codes() -> UnwindInfo
+    ensures { CanBeWritten result }
+{
     let mut codes = ArrayVec::new();
     codes.push(FRAME);
     codes.push(FAR_VECTOR);
@@ -241,19 +183,36 @@ fn reads_again_what_is_written(rt: HostRuntime) -> Result<(), Fail> {
     codes.push(ALLOCATION);
     codes.push(PUSH);
     codes.push(MACHINE);
-    let info = UnwindInfo {
+    UnwindInfo {
         prologue_size: 40,
         frame_register: 5,
         frame_offset: 240,
         codes,
         trailer: Trailer::Nothing,
-    };
-    write_unwind(&info, &mut out)?;
-    reads_codes(&rt, rt.alloc(), &out, info.codes.as_slice())
+    }
+}
+
+/// What is read of its bytes.
+const READ_AGAIN: &str = r"
+2020 0 28 5 F0 0 20
+(None, false, None)
+UnwindCode { offset: 40, operation: SetFrame }
+UnwindCode { offset: 36, operation: SaveVector { register: 15, offset: 1048576 } }
+UnwindCode { offset: 28, operation: Save { register: 12, offset: 524288 } }
+UnwindCode { offset: 16, operation: Save { register: 3, offset: 72 } }
+UnwindCode { offset: 12, operation: Allocate { size: 524288 } }
+UnwindCode { offset: 2, operation: Push { register: 15 } }
+UnwindCode { offset: 0, operation: MachineFrame { info: 1 } }
+";
+
+#[test]
+fn reads_again_what_is_written(rt: HostRuntime) {
+    let bytes = written(&rt, rt.alloc(), &of_all_codes());
+    reads(&rt, rt.alloc(), &bytes, READ_AGAIN);
 }
 
 #[test]
-fn writes_scope_tables(rt: HostRuntime) -> Result<(), Fail> {
+fn writes_scope_tables(rt: HostRuntime) {
     let mut out = Vec::new(rt.alloc());
     let row = ScopeRecord {
         begin: 0x10,
@@ -261,10 +220,7 @@ fn writes_scope_tables(rt: HostRuntime) -> Result<(), Fail> {
         handler_address: 1,
         jump_target: 0x30,
     };
-    write_scopes(&[row], &mut out)?;
-    let expected = [
-        1u8, 0, 0, 0, 0x10, 0, 0, 0, 0x20, 0, 0, 0, 1, 0, 0, 0, 0x30, 0, 0, 0,
-    ];
-    assert_eq!(rt; out.as_slice(), expected.as_slice());
-    Ok(())
+    write_scopes(&[row], &mut out).expect(&rt, "memory");
+    let wanted = "01000000 10000000 20000000 01000000 30000000";
+    are_bytes(&rt, rt.alloc(), &out, wanted);
 }
