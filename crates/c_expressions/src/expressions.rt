@@ -190,8 +190,13 @@ fn with_second(
     ensures faults { OnOk result (Adds worst.old worst.new
         (resolved_with context.now at operator a second.now)) }
 {
-    let b = resolve(alloc, context, worst, second)?;
-    rules::two(alloc, worst, at, operator, a, b)
+    match resolve(alloc, context, worst, second) {
+        Ok(b) => rules::two(alloc, worst, at, operator, a, b),
+        Err(failed) => {
+            drop(a);
+            Err(failed)
+        }
+    }
 }
 
 /// An expression with several operands.
@@ -251,9 +256,20 @@ fn conditional_or_assignment(
             no,
         } => {
             let c = resolve(alloc, context, worst, condition)?;
-            let a = resolve(alloc, context, worst, yes)?;
-            let b = resolve(alloc, context, worst, no)?;
-            rules::conditional(alloc, worst, *at, c, a, b)
+            match resolve(alloc, context, worst, yes) {
+                Ok(a) => match resolve(alloc, context, worst, no) {
+                    Ok(b) => rules::conditional(alloc, worst, *at, c, a, b),
+                    Err(failed) => {
+                        drop(c);
+                        drop(a);
+                        Err(failed)
+                    }
+                },
+                Err(failed) => {
+                    drop(c);
+                    Err(failed)
+                }
+            }
         }
         Expr::Assign {
             target,

@@ -136,9 +136,12 @@ pub fn numbered(walk: &mut Walk, answer: Option<Checked>) -> Result<Filter, Allo
 {
     match answer {
         None => Ok(Filter::Always),
-        Some(value) => {
-            let number = walk.next_number()?;
-            Ok(Filter::Funclet { number, value })
-        }
+        Some(value) => match walk.next_number() {
+            Ok(number) => Ok(Filter::Funclet { number, value }),
+            Err(failed) => {
+                drop(value);
+                Err(failed)
+            }
+        },
     }
 }

@@ -22,20 +22,20 @@ use Rattle.c_types.specs.Views.{typed_node}
 use Rattle.c_syntax.specs.Expression as trees
 use Rattle.c_syntax.specs.Expression.{Expression, node, expression, start}
 
-pub with_second-returns-clause-found : goal.with_second-returns-clause-found
-with_second-returns-clause-found t c =
+pub with_second-returns-in-Ok-clause-found : goal.with_second-returns-in-Ok-clause-found
+with_second-returns-in-Ok-clause-found t c =
     let jb = resolve_expression (names_of c.args.context.now) (expression c.args.second.now) in
     let rule = rule_2 c.args.at (rule_of_two c.args.operator) in
     IfOk-weaker c.two.result _ _
-    (λ r h. λ fs. h (fs ++ jb.faults) ∙ ap (λ o. (rule (fs ++ jb.faults) (option_map typed_node c.args.a) o).found) c.in_ok-b.ensures.found) c.two.ensures.found
+    (λ r h. λ fs. h (fs ++ jb.faults) ∙ ap (λ o. (rule (fs ++ jb.faults) (option_map typed_node c.args.a) o).found) c.in-Ok.ensures.found) c.two.ensures.found
 
-pub with_second-returns-clause-faults : goal.with_second-returns-clause-faults
-with_second-returns-clause-faults t c =
+pub with_second-returns-in-Ok-clause-faults : goal.with_second-returns-in-Ok-clause-faults
+with_second-returns-in-Ok-clause-faults t c =
     let jb = resolve_expression (names_of c.args.context.now) (expression c.args.second.now) in
     let rule = rule_2 c.args.at (rule_of_two c.args.operator) in
     on_ok_weaker c.two.result
-    (λ h. λ first fs k. h first (fs ++ jb.faults) (kept_more first (least_of c.args.worst.now) _ fs jb.faults k c.in_ok-b.ensures.faults)
-    ∙ ap (λ o. kept first (rule (fs ++ jb.faults) (option_map typed_node c.args.a) o).faults) c.in_ok-b.ensures.found) c.two.ensures.faults
+    (λ h. λ first fs k. h first (fs ++ jb.faults) (kept_more first (least_of c.args.worst.now) _ fs jb.faults k c.in-Ok.ensures.faults)
+    ∙ ap (λ o. kept first (rule (fs ++ jb.faults) (option_map typed_node c.args.a) o).faults) c.in-Ok.ensures.found) c.two.ensures.faults
 
 pub several-returns-in_ok-a-in-Index-clause-found : goal.several-returns-in_ok-a-in-Index-clause-found
 unfolding roll-Expr Carrier.roll
@@ -121,17 +121,17 @@ several-returns-in_ok-a-in-Comma-clause-faults t c =
     (λ h. h (least_of c.args.worst.now) ja.faults (rw c.deref-in-Comma.ensures at c.in_ok-a-in-Comma.ensures.faults) ∙ ap (λ o. kept (least_of c.args.worst.now) (rule o jb.found).faults) left)
     (rw c.deref-in-Comma-2.ensures at c.with_second-in-Comma.ensures.faults))
 
-pub conditional_or_assignment-returns-in_ok-b-in-Conditional-clause-faults : goal.conditional_or_assignment-returns-in_ok-b-in-Conditional-clause-faults
+pub conditional_or_assignment-returns-in-Ok-resolve-clause-faults : goal.conditional_or_assignment-returns-in-Ok-resolve-clause-faults
 unfolding roll-Expr Carrier.roll
-conditional_or_assignment-returns-in_ok-b-in-Conditional-clause-faults t c =
+conditional_or_assignment-returns-in-Ok-resolve-clause-faults t c =
     let x = c.in-Conditional in
     let s = names_of c.args.context.now in
     let q : expression c.args.e.now ≡ trees.Conditional (expression x.condition.value) x.at (expression x.yes.value) (expression x.no.value) = ap expression c.in-Conditional.is ∙ ap expression (rolls-Conditional x.condition x.at x.yes x.no) ∙ fold-roll-Expr Expression node (Conditional_F x.condition x.at x.yes x.no) in
     rw q
     (on_ok_weaker c.conditional.result
     (λ h. three (least_of c.args.worst.now) _ _ _ _ (resolve_expression s (expression x.condition.value)) (resolve_expression s (expression x.yes.value)) (resolve_expression s (expression x.no.value)) (rule_3 x.at conditional_of) _ _ _
-    (rw c.deref.ensures at c.in_ok-c-in-Conditional.ensures.faults) (rw c.deref-in-Conditional.ensures at c.in_ok-a-in-Conditional.ensures.faults) (rw c.deref-in-Conditional-2.ensures at c.in_ok-b-in-Conditional.ensures.faults)
-    (rw c.deref.ensures at c.in_ok-c-in-Conditional.ensures.found) (rw c.deref-in-Conditional.ensures at c.in_ok-a-in-Conditional.ensures.found) (rw c.deref-in-Conditional-2.ensures at c.in_ok-b-in-Conditional.ensures.found) h) c.conditional.ensures.faults)
+    (rw c.deref.ensures at c.in_ok-c-in-Conditional.ensures.faults) (rw c.deref-in-Conditional.ensures at c.in-Ok.ensures.faults) (rw c.deref-in-Ok.ensures at c.in-Ok-resolve.ensures.faults)
+    (rw c.deref.ensures at c.in_ok-c-in-Conditional.ensures.found) (rw c.deref-in-Conditional.ensures at c.in-Ok.ensures.found) (rw c.deref-in-Ok.ensures at c.in-Ok-resolve.ensures.found) h) c.conditional.ensures.faults)
 
 pub resolve_all-loop-e-preserved : goal.resolve_all-loop-e-preserved
 resolve_all-loop-e-preserved t c =
