@@ -66,6 +66,11 @@ pub record IsRefusedLoad (bytes : List ℕ) (e : LoadErr) : Type 0 where
 abbrev pub Quiet : Stream → Stream → Type 0
 Quiet out out' = out' ≡ out
 
+-- the sink had a fault, and has taken a part of a text from the front
+abbrev pub IsCutOff : List ℕ → Stream → Stream → Type 0
+IsCutOff text out out' =
+    Rose out.faults out'.faults × ((count : ℕ) × TookPart out.bytes text out'.bytes count)
+
 -- what comes of bytes that were read, from the sink before and after
 abbrev pub Judged : Type 1
 Judged = List ℕ → Stream → Stream → Result Outcome Refusal → Type 0
@@ -79,8 +84,7 @@ IsRunAnswer options bytes out out' (Err (refusals.Image e)) = ImageIsRefused byt
     × Quiet out out'
 IsRunAnswer options bytes out out' (Err (refusals.Load e)) = IsRefusedLoad bytes e × Quiet out out'
 IsRunAnswer options bytes out out' (Err refusals.WriteFault) =
-    Loads bytes × Rose out.faults out'.faults
-    × ((count : ℕ) × TookPart out.bytes (text_by options bytes) out'.bytes count)
+    Loads bytes × IsCutOff (text_by options bytes) out out'
 IsRunAnswer options bytes out out' answer = ⊥
 
 -- ---- showing
@@ -92,8 +96,7 @@ IsShowAnswer bytes out out' (Ok Viewed) =
     (image : Image) × IsImage bytes image × Grew out.bytes (view image) out'.bytes
 IsShowAnswer bytes out out' (Err (refusals.Image e)) = ImageIsRefused bytes e × Quiet out out'
 IsShowAnswer bytes out out' (Err refusals.WriteFault) =
-    (image : Image) × IsImage bytes image × Rose out.faults out'.faults
-    × ((count : ℕ) × TookPart out.bytes (view image) out'.bytes count)
+    (image : Image) × IsImage bytes image × IsCutOff (view image) out out'
 IsShowAnswer bytes out out' answer = ⊥
 
 -- ---- compiling
@@ -105,8 +108,7 @@ IsCompileAnswer text out out' (Ok Compiled) =
     (image : List ℕ) × IsCompiled text image × Grew out.bytes image out'.bytes
 IsCompileAnswer text out out' (Err (refusals.Text e)) = IsRefusedText text e × Quiet out out'
 IsCompileAnswer text out out' (Err refusals.WriteFault) =
-    (image : List ℕ) × IsCompiled text image × Rose out.faults out'.faults
-    × ((count : ℕ) × TookPart out.bytes image out'.bytes count)
+    (image : List ℕ) × IsCompiled text image × IsCutOff image out out'
 IsCompileAnswer text out out' (Err refusals.NoMemory) = Quiet out out'
 IsCompileAnswer text out out' answer = ⊥
 

@@ -1,8 +1,7 @@
 -- What comes of a text that is run as its meaning says.
 use Rattle.std.specs.Prelude.{◌≡◌, ◌⊎◌, ℕ, List, ◌++◌, Result, Ok, Err}
 use Rattle.seh_num.specs.Shown.{Shown}
-use Rattle.seh_io.specs.Streams.{Rose, Grew}
-use Rattle.seh_io.specs.Writer.{TookPart}
+use Rattle.seh_io.specs.Streams.{Grew}
 use Rattle.c_syntax.specs.Program.{ExternalDeclaration}
 use Rattle.c_checked.specs.Program.{Program}
 use Rattle.c_model.specs.Meaning as model
@@ -15,7 +14,7 @@ use Rattle.seh.specs.declared.outcome.Outcome.{Outcome}
 use Rattle.seh.specs.declared.outcome.Outcome.TheVariants.{Meant}
 use Rattle.seh.specs.declared.refusal.Refusal.{Refusal}
 use Rattle.seh.specs.declared.refusal.Refusal.TheVariants as refusals
-use Rattle.seh.specs.Answers.{text_limit, Quiet, Judged, IsInput, IsInputAnswer}
+use Rattle.seh.specs.Answers.{text_limit, Quiet, IsCutOff, Judged, IsInput, IsInputAnswer}
 use Rattle.seh.specs.Streams.{Stream}
 
 -- what a text means within the steps of the options, from their argument
@@ -46,8 +45,7 @@ IsMeaningAnswer options text out out' (Ok (Meant ended)) =
 IsMeaningAnswer options text out out' (Err (refusals.Text e)) = TextIsRefused text e
     × Quiet out out'
 IsMeaningAnswer options text out out' (Err refusals.WriteFault) =
-    (p : Program) × IsProgramOf text p × Rose out.faults out'.faults
-    × ((count : ℕ) × TookPart out.bytes (text_of options p) out'.bytes count)
+    (p : Program) × IsProgramOf text p × IsCutOff (text_of options p) out out'
 IsMeaningAnswer options text out out' (Err refusals.NoMemory) = TookMeaningFront options text out out'
 IsMeaningAnswer options text out out' answer = ⊥
 

@@ -10,9 +10,10 @@ use Rattle.host_layout.specs.declared.range.TheConstants.{FIRST_DATA}
 use Rattle.flat_memory.specs.declared.protection.Protection.{Protection}
 use Rattle.flat_memory.specs.declared.protection.Rights.TheVariants.{Nothing, ReadWrite}
 use Rattle.flat_memory.specs.Memory.{Memory}
+use Rattle.x64_memory.specs.declared.region.TheConstants.{ARENA}
 use Rattle.x64_memory.specs.Regions.{mapped, filled, covers}
 use Rattle.c_model.specs.Source.{data_end, is_data, plain_mode, first_memory}
-use Rattle.source_operations.specs.Regions.{arena, data_region, regions}
+use Rattle.source_operations.specs.Regions.{data_region, regions}
 
 same_mode : (b c : Bool) → cond b (plain_mode ReadWrite)
     (cond c (plain_mode Nothing) (plain_mode Nothing))
@@ -67,8 +68,8 @@ same_byte xs at a z zero_is =
 pub globals_mapped : (xs : List ℕ) → filled (mapped (regions (data_end xs))) FIRST_DATA xs
     ≡ first_memory xs
 globals_mapped xs = λ i. record {
-  protection = λ a. same_mode (is_data xs a) (covers arena a) i;
+  protection = λ a. same_mode (is_data xs a) (covers ARENA a) i;
   byte =
-      λ a. same_byte xs FIRST_DATA a (cond (is_data xs a) 0 (cond (covers arena a) 0 0))
-      (always_zero (is_data xs a) (covers arena a)) i;
+      λ a. same_byte xs FIRST_DATA a (cond (is_data xs a) 0 (cond (covers ARENA a) 0 0))
+      (always_zero (is_data xs a) (covers ARENA a)) i;
 }

@@ -5,11 +5,11 @@ ghost use Rattle.c_model.specs.Source as model;
 ghost use Rattle.x64_memory.specs.PageMaps.{memory_of};
 ghost use Rattle.source_operations.specs.Regions as specs;
 
-use host_layout::range::{ARENA_END, ARENA_START, FIRST_DATA, PAGE};
+use host_layout::range::{FIRST_DATA, PAGE};
 use seh_num::limit::MOST_GLOBALS;
 use std::alloc::{AllocError, Global};
 use x64_memory::page_map::PageMap;
-use x64_memory::region::Region;
+use x64_memory::region::{ARENA, Region};
 
 /// The end of the pages of the globals, of which there is one at least.
 pub fn data_end(globals: &[u8]) -> u64
@@ -23,13 +23,6 @@ pub fn data_end(globals: &[u8]) -> u64
 fn regions(data_end: u64) -> [Region; 2]
     ensures { result ≡ specs.regions data_end }
 {
-    let arena = Region {
-        start: ARENA_START,
-        end: ARENA_END,
-        read: false,
-        write: false,
-        execute: false,
-    };
     let data = Region {
         start: FIRST_DATA,
         end: data_end,
@@ -37,7 +30,7 @@ fn regions(data_end: u64) -> [Region; 2]
         write: true,
         execute: false,
     };
-    [arena, data]
+    [ARENA, data]
 }
 
 /// The memory that a program with these globals begins with. Only the system's memory can be

@@ -2,6 +2,7 @@ ghost use Rattle.std.specs.Prelude.{◌≡◌};
 ghost use Rattle.x64_memory.specs.Regions.{region_mode};
 
 use flat_memory::protection::{Protection, Rights};
+use host_layout::range::{ARENA_END, ARENA_START};
 
 /// Addresses from `start` to below `end` that are mapped with one protection.
 #[derive(Clone, Copy, Debug, PartialEq, Eq)]
@@ -17,6 +18,15 @@ pub struct Region {
     /// Whether they may be executed.
     pub execute: bool,
 }
+
+/// The arena, whose pages begin with no rights.
+pub const ARENA: Region = Region {
+    start: ARENA_START,
+    end: ARENA_END,
+    read: false,
+    write: false,
+    execute: false,
+};
 
 impl Region {
     /// What may be done with the region's bytes.

@@ -30,7 +30,8 @@ pub trait AddressSpace {
     /// length of the longest instruction (Intel manual, volume 2, "Instruction Format").
     fn fetch(&self, at: u64, into: &mut [u8; LONGEST_INSTRUCTION]) -> usize
         ensures count { result ≤ LONGEST_INSTRUCTION }
-        ensures bytes { take result into.new ≡ executable (memory self.now) LONGEST_INSTRUCTION at };
+        ensures bytes { take result into.new
+            ≡ executable (memory self.now) LONGEST_INSTRUCTION at };
 
     /// Sets what may be done with the page of the arena that holds an address, by the number of the
     /// rights: none (0), reading (1), reading and writing (2). False, and nothing changed, exactly

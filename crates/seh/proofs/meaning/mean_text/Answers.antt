@@ -23,8 +23,10 @@ returns-in-Err-Write g c =
     let e = c.in-Err-Write in (
       p,
       record { declarations = _; checked = c.in-Ok.ensures.found },
-      rose_of e.field-0 e.field-0-0 e.field-0-is _ _ e.ensures.cause,
-      (e.field-0-0, write_same c.args.options p _ same e.field-0 e.field-0-0 e.field-0-is _ _ e.ensures.part),
+      (
+        rose_of e.field-0 e.field-0-0 e.field-0-is _ _ e.ensures.cause,
+        (e.field-0-0, write_same c.args.options p _ same e.field-0 e.field-0-0 e.field-0-is _ _ e.ensures.part),
+      ),
     )
 
 pub returns : goal.returns
