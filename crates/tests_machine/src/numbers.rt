@@ -1,6 +1,6 @@
 ghost use Rattle.std.specs.Prelude.{◌≡◌, ◌<◌};
 
-use crate::rows::width_of;
+use crate::rows::{shows, width_of};
 use seh_num::division::{div_signed, div_unsigned};
 use seh_num::steps::Steps;
 use seh_num::width::Width;
@@ -69,8 +69,7 @@ fn signed_quotients(rt: HostRuntime) -> Result<(), Fail> {
             None => panic!(rt; "no row: {row}"),
             Some((width, dividend, divisor, want)) => {
                 let answer = div_signed(width, dividend, divisor);
-                let found = format!(in rt.alloc(); "{answer:?}")?;
-                assert_eq!(rt; found.as_str(), want, "{row}");
+                shows(&rt, rt.alloc(), &answer, want, row)?;
             }
         }
     }
@@ -93,8 +92,7 @@ fn unsigned_quotients(rt: HostRuntime) -> Result<(), Fail> {
             None => panic!(rt; "no row: {row}"),
             Some((width, dividend, divisor, want)) => {
                 let answer = div_unsigned(width, dividend, divisor);
-                let found = format!(in rt.alloc(); "{answer:?}")?;
-                assert_eq!(rt; found.as_str(), want, "{row}");
+                shows(&rt, rt.alloc(), &answer, want, row)?;
             }
         }
     }

@@ -2,8 +2,10 @@
 //! columns between bars.
 
 use seh_num::width::Width;
-use std::alloc::{AllocError, Global};
+use std::alloc::Global;
+use std::fmt::Debug;
 use std::process::Abort;
+use std::test::Fail;
 
 /// A number in hexadecimal.
 pub fn number(rt: &impl Abort, word: &str) -> u64 {
@@ -19,13 +21,26 @@ pub fn number(rt: &impl Abort, word: &str) -> u64 {
     value
 }
 
-/// The bytes that words spell.
-pub fn bytes_of(rt: &impl Abort, alloc: Global, words: &str) -> Result<Vec<u8>, AllocError> {
-    let mut bytes = Vec::new(alloc);
-    for word in words.split_ascii_whitespace() {
-        bytes.push((number(rt, word) % 256) as u8)?;
+/// Puts the bytes that words spell where there is room for them, and counts them.
+pub fn put_bytes(rt: &impl Abort, words: &str, room: &mut [u8]) -> usize {
+    let mut count = 0usize;
+    for (place, word) in room.iter_mut().zip(words.split_ascii_whitespace()) {
+        *place = (number(rt, word) % 256) as u8;
+        count = count.saturating_add(1);
     }
-    Ok(bytes)
+    count
+}
+
+/// Whether bytes are those that words spell.
+pub fn are_spelled(rt: &impl Abort, bytes: &[u8], words: &str) -> bool {
+    let mut words = words.split_ascii_whitespace();
+    for byte in bytes {
+        match words.next() {
+            Some(word) if number(rt, word) == u64::from(*byte) => (),
+            _ => return false,
+        }
+    }
+    words.next().is_none()
 }
 
 /// The width of so many bits.
@@ -37,4 +52,17 @@ pub fn width_of(word: &str) -> Option<Width> {
         "64" => Some(Width::W64),
         _ => None,
     }
+}
+
+/// Compares what `Debug` shows of a value.
+pub fn shows<T: Debug>(
+    rt: &impl Abort,
+    alloc: Global,
+    value: &T,
+    want: &str,
+    row: &str,
+) -> Result<(), Fail> {
+    let found = format!(in alloc; "{value:?}")?;
+    assert_eq!(rt; found.as_str(), want, "{row}");
+    Ok(())
 }

@@ -136,27 +136,13 @@ fn division_of(rt: &impl Abort, row: &str) -> Option<(Cpu, Result<Cpu, Stop>)> {
     Some((before, want))
 }
 
-/// Compares the effect of a row's code.
-fn has_effect(
-    rt: &impl Abort,
-    alloc: Global,
-    row: &str,
-    before: Cpu,
-    want: Result<Cpu, Stop>,
-) -> Result<(), Fail> {
-    let mut space = space(alloc)?;
-    let (code, _) = row.split_once('|').unwrap_or((row, ""));
-    let code = bytes_of(rt, alloc, code)?;
-    assert_eq!(rt; effect_of(before, &mut space, &code), Some(want), "{row}");
-    Ok(())
-}
-
 /// Compares the effects of the rows of a table.
 fn all_have_effects(rt: &impl Abort, alloc: Global, table: &str) -> Result<(), Fail> {
+    let mut space = space(rt, alloc)?;
     for row in table.lines().skip(1) {
         match states_of(rt, row) {
             None => panic!(rt; "no row: {row}"),
-            Some((before, after)) => has_effect(rt, alloc, row, before, Ok(after))?,
+            Some((before, after)) => has_effect(rt, &mut space, row, before, Ok(after)),
         }
     }
     Ok(())
@@ -179,10 +165,11 @@ fn other_registers(rt: HostRuntime) -> Result<(), Fail> {
 
 #[test]
 fn divisions(rt: HostRuntime) -> Result<(), Fail> {
+    let mut space = space(&rt, rt.alloc())?;
     for row in DIVISIONS.lines().skip(1) {
         match division_of(&rt, row) {
             None => panic!(rt; "no row: {row}"),
-            Some((before, want)) => has_effect(&rt, rt.alloc(), row, before, want)?,
+            Some((before, want)) => has_effect(&rt, &mut space, row, before, want),
         }
     }
     Ok(())
