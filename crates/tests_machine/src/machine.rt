@@ -1,4 +1,4 @@
-use crate::rows::{number, put_bytes, shows, width_of};
+use crate::rows::{column, number, number_at, put_bytes, same, shows, width_of, word, word_if};
 use host_layout::service::Service;
 use seh_num::event::Code;
 use seh_num::size::LONGEST_INSTRUCTION;
@@ -82,12 +82,9 @@ fn code_of(number: u64) -> Code {
 /// Puts the code of rows `PLACE | CODE` into the pages from 40000000h on.
 fn put_code(rt: &impl Abort, table: &str, pages: &mut [u8]) {
     for row in table.lines().skip(1) {
-        let mut columns = row.split('|');
-        if let (Some(at), Some(words)) = (columns.next(), columns.next()) {
-            let from = (number(rt, at.trim()) % 0x2000) as usize;
-            if let Some(room) = pages.get_mut(from..) {
-                let _ = put_bytes(rt, words, room);
-            }
+        let from = number(rt, column(rt, row, 0)) % 0x2000;
+        if let Some(room) = pages.get_mut(from as usize..) {
+            let _ = put_bytes(rt, column(rt, row, 1), room);
         }
     }
 }
@@ -122,29 +119,22 @@ const MERGES: &str = r"
 ";
 
 /// Compares what a row's width makes of R9. R8 beside it stays.
-fn merges_to(rt: &impl Abort, row: &str) -> Option<()> {
-    let (width, want) = row.split_once('|')?;
-    let width = width_of(width.trim())?;
-    let want = number(rt, want.trim());
+fn merges_to(rt: &impl Abort, row: &str, width: Width, want: u64) {
     let (old, value) = (0x1122_3344_5566_7788, 0x99AA_BBCC_DDEE_FF00);
     let mut cpu = cpu();
     cpu.set_register(Width::W64, Reg::R9, old);
     cpu.set_register(width, Reg::R9, value);
-    let r9 = cpu.register(Reg::R9);
-    let found = [
-        merge(width, old, value),
-        r9,
-        cpu.registers[9],
-        cpu.register(Reg::R8),
-    ];
-    assert_eq!(rt; found, [want, want, want, u64::MAX], "{row}");
-    Some(())
+    same(rt, merge(width, old, value), want, row);
+    same(rt, cpu.register(Reg::R9), want, row);
+    same(rt, cpu.register(Reg::R8), u64::MAX, row);
+    same(rt, cpu.registers[9], want, row);
 }
 
 #[test]
 fn merges(rt: HostRuntime) {
     for row in MERGES.lines().skip(1) {
-        assert_eq!(rt; merges_to(&rt, row), Some(()), "{row}");
+        let width = width_of(&rt, column(&rt, row, 0));
+        merges_to(&rt, row, width, number(&rt, column(&rt, row, 1)));
     }
 }
 
@@ -175,7 +165,6 @@ fn has_effect<S: AddressSpace>(
     before: Cpu,
     want: Result<Cpu, Stop>,
 ) {
-    let (words, _) = row.split_once('|').unwrap_or((row, ""));
-    let found = effect_of(rt, before, space, words);
-    assert_eq!(rt; found, Some(want), "{row}");
+    let found = effect_of(rt, before, space, column(rt, row, 0));
+    same(rt, found, Some(want), row);
 }

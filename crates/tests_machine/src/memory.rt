@@ -4,7 +4,7 @@ ghost use Rattle.flat_memory.specs.Memory.{loaded, after_store};
 ghost use Rattle.x64_memory.specs.PageMaps.{holds};
 ghost use Rattle.x64_memory.specs.Regions.{AreAscending, IsWholeRegion, HoldsArena, in_regions, mapped};
 
-use crate::rows::{are_spelled, number, width_of};
+use crate::rows::{are_spelled, column, number, number_at, same, width_of, word, word_if};
 use flat_memory::access::RefusedAccess;
 use seh_num::width::Width;
 use std::alloc::{AllocError, Global};
@@ -108,54 +108,60 @@ struct Row {
     want: Answer,
 }
 
-/// The access that the words after an address say.
-fn access_of(rt: &impl Abort, first: &str, second: Option<&str>) -> Option<Access> {
-    match second {
-        None => Some(Access::Load(width_of(first)?)),
-        Some(mode) if first == "mode" => Some(Access::Protect(mode.parse().ok()?)),
-        Some(value) => Some(Access::Store(width_of(first)?, number(rt, value))),
+/// The rights of a page, by their number.
+fn mode_of(rt: &impl Abort, word: &str) -> i32 {
+    match word.parse() {
+        Ok(mode) => mode,
+        Err(_) => panic!(rt; "no number: {word}"),
     }
 }
 
-/// The answer that a word says, and for a refusal the address after it.
-fn wanted(rt: &impl Abort, first: &str, second: Option<&str>, write: bool) -> Answer {
-    let Some(address) = second else {
-        return Ok(match first {
-            "done" | "no" => 0,
-            "yes" => 1,
-            _ => number(rt, first),
-        });
-    };
-    let address = number(rt, address);
-    Err(if first == "guard" {
-        RefusedAccess::Guard { address }
-    } else {
-        RefusedAccess::Fault { address, write }
+/// The access that the words of a row say.
+fn access_of(rt: &impl Abort, words: &str) -> Access {
+    let first = word(rt, words, 1);
+    match word_if(words, 2) {
+        None => Access::Load(width_of(rt, first)),
+        Some(mode) if first == "mode" => Access::Protect(mode_of(rt, mode)),
+        Some(value) => Access::Store(width_of(rt, first), number(rt, value)),
+    }
+}
+
+/// The answer that words say: one, or for a refusal one and the address after it.
+fn answer_in(rt: &impl Abort, words: &str, write: bool) -> Answer {
+    let first = word(rt, words, 0);
+    if first == "guard" {
+        let address = number_at(rt, words, 1);
+        return Err(RefusedAccess::Guard { address });
+    }
+    if first == "fault" {
+        let address = number_at(rt, words, 1);
+        return Err(RefusedAccess::Fault { address, write });
+    }
+    Ok(match first {
+        "done" | "no" => 0,
+        "yes" => 1,
+        _ => number(rt, first),
     })
 }
 
 /// What a row has.
-fn row_of(rt: &impl Abort, row: &str) -> Option<Row> {
-    let mut columns = row.split('|');
-    let mut words = columns.next()?.split_ascii_whitespace();
-    let at = number(rt, words.next()?);
-    let access = access_of(rt, words.next()?, words.next())?;
+fn row_of(rt: &impl Abort, row: &str) -> Row {
+    let words = column(rt, row, 0);
+    let access = access_of(rt, words);
     let write = matches!(access, Access::Store(..));
-    let mut words = columns.next()?.split_ascii_whitespace();
-    let want = wanted(rt, words.next()?, words.next(), write);
-    Some(Row { at, access, want })
+    Row {
+        at: number_at(rt, words, 0),
+        access,
+        want: answer_in(rt, column(rt, row, 1), write),
+    }
 }
 
 /// Compares the answers of a table's rows, one after another.
 fn all_answer<S: AddressSpace>(rt: &impl Abort, space: &mut S, table: &str) {
     for text in table.lines().skip(1) {
-        match row_of(rt, text) {
-            None => panic!(rt; "no row: {text}"),
-            Some(row) => {
-                let answer = answer_of(space, row.at, row.access);
-                assert_eq!(rt; answer, row.want, "{text}");
-            }
-        }
+        let row = row_of(rt, text);
+        let answer = answer_of(space, row.at, row.access);
+        same(rt, answer, row.want, text);
     }
 }
 
@@ -217,22 +223,14 @@ const BESIDE: &str = r"
 
 /// Puts a number where a row loads, which then answers as the row says.
 fn stores<S: AddressSpace>(rt: &impl Abort, space: &mut S, text: &str) {
-    match row_of(rt, text) {
-        Some(
-            Row {
-                at,
-                access: Access::Load(width),
-                want,
-            },
-        ) => {
-            let store = Access::Store(width, 0x1122_3344_5566_7788);
-            let may = answer_of(space, at, Access::MayStore(width));
-            let made = answer_of(space, at, store);
-            let after = answer_of(space, at, Access::Load(width));
-            assert_eq!(rt; [may, made, after], [Ok(0), Ok(0), want], "{text}");
-        }
-        _ => panic!(rt; "no row: {text}"),
+    let row = row_of(rt, text);
+    if let Access::Load(width) = row.access {
+        let made = Access::Store(width, 0x1122_3344_5566_7788);
+        let may = answer_of(space, row.at, Access::MayStore(width));
+        same(rt, may, Ok(0), text);
+        same(rt, answer_of(space, row.at, made), Ok(0), text);
     }
+    same(rt, answer_of(space, row.at, row.access), row.want, text);
 }
 
 #[test]
@@ -266,22 +264,14 @@ const GUARDED: &str = r"
 
 /// A refused store leaves what is loaded there.
 fn is_refused<S: AddressSpace>(rt: &impl Abort, space: &mut S, text: &str) {
-    match row_of(rt, text) {
-        Some(
-            Row {
-                at,
-                access: Access::Store(width, value),
-                want,
-            },
-        ) => {
-            let before = answer_of(space, at, Access::Load(Width::W8));
-            let may = space.may_store(at, width).map(|()| 0);
-            let made = answer_of(space, at, Access::Store(width, value));
-            let after = answer_of(space, at, Access::Load(Width::W8));
-            assert_eq!(rt; [may, made, after], [want, want, before], "{text}");
-        }
-        _ => panic!(rt; "no row: {text}"),
+    let row = row_of(rt, text);
+    let before = space.load(row.at, Width::W8);
+    if let Access::Store(width, _) = row.access {
+        let may = answer_of(space, row.at, Access::MayStore(width));
+        same(rt, may, row.want, text);
     }
+    same(rt, answer_of(space, row.at, row.access), row.want, text);
+    same(rt, space.load(row.at, Width::W8), before, text);
 }
 
 #[test]
@@ -310,9 +300,9 @@ FFFFFFFFFFFFFFFF |
 
 /// Compares what is fetched at a row's address with its bytes.
 fn fetches<S: AddressSpace>(rt: &impl Abort, space: &S, row: &str) {
-    let (at, words) = row.split_once(" |").unwrap_or((row, "no row"));
+    let words = column(rt, row, 1);
     let mut into = [255; 15];
-    let count = space.fetch(number(rt, at), &mut into);
+    let count = space.fetch(number(rt, column(rt, row, 0)), &mut into);
     assert!(rt;
         are_spelled(rt, &into[..count], words),
         "{row}: {count} of {into:?}"

@@ -43,15 +43,51 @@ pub fn are_spelled(rt: &impl Abort, bytes: &[u8], words: &str) -> bool {
     words.next().is_none()
 }
 
-/// The width of so many bits.
-pub fn width_of(word: &str) -> Option<Width> {
-    match word {
-        "8" => Some(Width::W8),
-        "16" => Some(Width::W16),
-        "32" => Some(Width::W32),
-        "64" => Some(Width::W64),
-        _ => None,
+/// The column after so many others.
+pub fn column<'a>(rt: &impl Abort, row: &'a str, index: usize) -> &'a str {
+    match row.split('|').nth(index) {
+        Some(text) => text.trim(),
+        None => panic!(rt; "no row: {row}"),
     }
+}
+
+/// The word after so many others; none where there are no more.
+pub fn word_if(text: &str, index: usize) -> Option<&str> {
+    text.split_ascii_whitespace().nth(index)
+}
+
+/// The word after so many others.
+pub fn word<'a>(rt: &impl Abort, text: &'a str, index: usize) -> &'a str {
+    match word_if(text, index) {
+        Some(word) => word,
+        None => panic!(rt; "too few words: {text}"),
+    }
+}
+
+/// The number that such a word is.
+pub fn number_at(rt: &impl Abort, text: &str, index: usize) -> u64 {
+    number(rt, word(rt, text, index))
+}
+
+/// The width of so many bits.
+pub fn width_of(rt: &impl Abort, word: &str) -> Width {
+    match word {
+        "8" => Width::W8,
+        "16" => Width::W16,
+        "32" => Width::W32,
+        "64" => Width::W64,
+        _ => panic!(rt; "no width: {word}"),
+    }
+}
+
+/// Compares two values, of a row or of what a note says.
+pub fn same<T: Copy + PartialEq + Debug>(rt: &impl Abort, found: T, want: T, note: &str) {
+    assert_eq!(rt; found, want, "{note}");
+}
+
+/// Compares bytes.
+pub fn same_bytes(rt: &impl Abort, found: &[u8], want: &[u8]) {
+    assert_eq!(rt; found, want);
 }
 
 /// Compares what `Debug` shows of a value.

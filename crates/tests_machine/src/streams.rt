@@ -1,6 +1,6 @@
 ghost use Rattle.std.specs.Prelude.{◌<◌};
 
-use crate::rows::number;
+use crate::rows::{column, number, same, same_bytes, word};
 use seh_io::plain::{SliceSource, VecSink};
 use seh_io::planned::{MemSink, MemSource, Plan};
 use seh_io::reading::{ReadErr, read_all};
@@ -53,8 +53,8 @@ fn is_written(
     text: &[u8],
 ) {
     let mut out = VecSink::new(alloc);
-    assert_eq!(rt; put_text(&mut out, trace, events, end), Ok(()));
-    assert_eq!(rt; out.bytes.as_slice(), text);
+    same(rt, put_text(&mut out, trace, events, end), Ok(()), "a text");
+    same_bytes(rt, &out.bytes, text);
 }
 
 #[test]
@@ -91,45 +91,51 @@ backward 4                 | stopped Backward 0000000000000004
 frame 5                    | stopped LostFrame 0000000000000005
 ";
 
-/// The end that words say.
-fn end_of(rt: &impl Abort, words: &str) -> Option<RunEnd> {
-    let (what, value) = words.split_once(' ')?;
-    let why = match what {
-        "exit" => return Some(RunEnd::Exit(value.parse().ok()?)),
-        "turns" => {
-            let turns = value.parse().ok()?;
-            return Some(RunEnd::OutOfTurns { turns });
-        }
-        "limit" => {
-            let address = number(rt, value);
-            return Some(RunEnd::StackLimit { address });
-        }
+/// Why a run was stopped, by a word.
+fn reason_of(rt: &impl Abort, word: &str) -> Reason {
+    match word {
         "illegal" => Reason::Illegal,
         "record" => Reason::BadRecord,
         "unreadable" => Reason::Unreadable,
         "backward" => Reason::Backward,
         "frame" => Reason::LostFrame,
-        _ => return None,
-    };
-    let address = number(rt, value);
-    Some(RunEnd::Stopped { why, address })
+        _ => panic!(rt; "no reason: {word}"),
+    }
 }
 
-/// Compares the line of a row's end.
-fn ends_with(rt: &impl Abort, alloc: Global, row: &str) -> Option<()> {
-    let (words, want) = row.split_once('|')?;
-    let end = end_of(rt, words.trim())?;
+/// The end that a word says, with the number after it.
+fn end_of(rt: &impl Abort, what: &str, value: &str) -> Option<RunEnd> {
+    match what {
+        "exit" => Some(RunEnd::Exit(value.parse().ok()?)),
+        "turns" => Some(RunEnd::OutOfTurns {
+            turns: value.parse().ok()?,
+        }),
+        "limit" => Some(RunEnd::StackLimit {
+            address: number(rt, value),
+        }),
+        _ => Some(RunEnd::Stopped {
+            why: reason_of(rt, what),
+            address: number(rt, value),
+        }),
+    }
+}
+
+/// Compares the line of an end.
+fn ends_with(rt: &impl Abort, alloc: Global, end: &RunEnd, want: &str) {
     let mut out = VecSink::new(alloc);
-    assert_eq!(rt; put_end(&mut out, &end), Ok(()));
-    let line = out.bytes.strip_suffix(b"\n");
-    assert_eq!(rt; line, Some(want.trim().as_bytes()), "{row}");
-    Some(())
+    same(rt, put_end(&mut out, end), Ok(()), want);
+    let line = out.bytes.strip_suffix(b"\n").unwrap_or(b"no line");
+    same_bytes(rt, line, want.as_bytes());
 }
 
 #[test]
 fn lines_of_ends(rt: HostRuntime) {
     for row in ENDS.lines().skip(1) {
-        assert_eq!(rt; ends_with(&rt, rt.alloc(), row), Some(()), "{row}");
+        let words = column(&rt, row, 0);
+        match end_of(&rt, word(&rt, words, 0), word(&rt, words, 1)) {
+            None => panic!(rt; "no end: {row}"),
+            Some(end) => ends_with(&rt, rt.alloc(), &end, column(&rt, row, 1)),
+        }
     }
 }
 
@@ -158,89 +164,87 @@ fn sink(alloc: Global, failing: &[u64], most: usize) -> Result<MemSink, AllocErr
 }
 
 /// Compares all that is read of a source.
-fn is_read<S: Source>(
-    rt: &impl Abort,
-    alloc: Global,
-    src: &mut S,
-    limit: u64,
-    want: Result<&[u8], ReadErr>,
-) {
+fn is_read<S: Source>(rt: &impl Abort, alloc: Global, src: &mut S, limit: u64, want: &[u8]) {
     match read_all(alloc, src, limit) {
-        Ok(bytes) => assert_eq!(rt; Ok(bytes.as_slice()), want),
-        Err(why) => assert_eq!(rt; Err(why), want),
+        Ok(bytes) => same_bytes(rt, &bytes, want),
+        Err(why) => panic!(rt; "not read: {why:?}"),
     }
 }
 
+/// Compares why a source isn't read.
+fn is_refused<S: Source>(rt: &impl Abort, alloc: Global, src: &mut S, limit: u64, want: ReadErr) {
+    same(
+        rt,
+        read_all(alloc, src, limit).err(),
+        Some(want),
+        "a refusal",
+    );
+}
+
 #[test]
-fn one_byte_a_call(rt: HostRuntime) -> Result<(), Fail> {
+fn one_byte_a_read(rt: HostRuntime) -> Result<(), Fail> {
     let mut src = source(rt.alloc(), &[], 1)?;
-    is_read(&rt, rt.alloc(), &mut src, 100, Ok(TEXT));
-    assert_eq!(rt; src.plan.calls, 9);
+    is_read(&rt, rt.alloc(), &mut src, 100, TEXT);
+    same(&rt, src.plan.calls, 9, "calls");
     Ok(())
 }
 
 #[test]
 fn one_byte_a_write(rt: HostRuntime) -> Result<(), Fail> {
     let mut out = sink(rt.alloc(), &[], 1)?;
-    assert_eq!(rt; put_all(&mut out, TEXT), Ok(()));
-    assert_eq!(rt; out.bytes.as_slice(), TEXT);
-    assert_eq!(rt; out.plan.calls, 8);
+    same(&rt, put_all(&mut out, TEXT), Ok(()), "a write");
+    same_bytes(&rt, &out.bytes, TEXT);
+    same(&rt, out.plan.calls, 8, "calls");
     Ok(())
 }
 
 #[test]
 fn first_read_fails(rt: HostRuntime) -> Result<(), Fail> {
     let mut src = source(rt.alloc(), &[1], 4096)?;
-    is_read(&rt, rt.alloc(), &mut src, 100, Err(ReadErr::Fault));
-    assert_eq!(rt; src.plan.faults, 1);
-    is_read(&rt, rt.alloc(), &mut src, 100, Ok(TEXT));
+    is_refused(&rt, rt.alloc(), &mut src, 100, ReadErr::Fault);
+    same(&rt, src.plan.faults, 1, "faults");
+    is_read(&rt, rt.alloc(), &mut src, 100, TEXT);
     Ok(())
 }
 
 #[test]
 fn third_read_fails(rt: HostRuntime) -> Result<(), Fail> {
     let mut src = source(rt.alloc(), &[3], 2)?;
-    is_read(&rt, rt.alloc(), &mut src, 100, Err(ReadErr::Fault));
-    assert_eq!(rt; src.given, 4);
+    is_refused(&rt, rt.alloc(), &mut src, 100, ReadErr::Fault);
+    same(&rt, src.given, 4, "bytes");
     let mut buf = [0; 3];
-    assert_eq!(rt; src.read(&mut buf), Ok(2));
-    assert_eq!(rt; buf, *b"ma\0");
+    same(&rt, src.read(&mut buf), Ok(2), "a read");
+    same(&rt, buf, *b"ma\0", "bytes");
     Ok(())
 }
 
 #[test]
 fn as_long_as_the_limit(rt: HostRuntime) {
     let text = [7; 5000];
-    is_read(
-        &rt,
-        rt.alloc(),
-        &mut SliceSource::new(&text),
-        5000,
-        Ok(&text),
-    );
+    is_read(&rt, rt.alloc(), &mut SliceSource::new(&text), 5000, &text);
     let mut src = SliceSource::new(&text);
-    let too_long = Err(ReadErr::TooLong { limit: 4998 });
-    is_read(&rt, rt.alloc(), &mut src, 4998, too_long);
-    assert_eq!(rt; src.rest.len(), 1);
-    is_read(&rt, rt.alloc(), &mut SliceSource::new(b""), 0, Ok(b""));
-    let too_long = Err(ReadErr::TooLong { limit: 0 });
-    is_read(&rt, rt.alloc(), &mut SliceSource::new(b"a"), 0, too_long);
+    let too_long = ReadErr::TooLong { limit: 4998 };
+    is_refused(&rt, rt.alloc(), &mut src, 4998, too_long);
+    same(&rt, src.rest.len(), 1, "bytes");
+    is_read(&rt, rt.alloc(), &mut SliceSource::new(b""), 0, b"");
+    let too_long = ReadErr::TooLong { limit: 0 };
+    is_refused(&rt, rt.alloc(), &mut SliceSource::new(b"a"), 0, too_long);
 }
 
 #[test]
 fn sink_that_takes_two_bytes(rt: HostRuntime) -> Result<(), Fail> {
     let mut out = sink(rt.alloc(), &[2], 2)?;
     let written = put_text(&mut out, false, &EVENTS[8..], &RunEnd::Exit(7));
-    assert_eq!(rt; written, Err(WriteFault { taken: 2 }));
-    assert_eq!(rt; out.bytes.as_slice(), b"14".as_slice());
-    assert_eq!(rt; out.plan.faults, 1);
+    same(&rt, written, Err(WriteFault { taken: 2 }), "a text");
+    same_bytes(&rt, &out.bytes, b"14");
+    same(&rt, out.plan.faults, 1, "faults");
     Ok(())
 }
 
 /// Compares what a sink has taken, in how many calls.
 fn has_taken(rt: &impl Abort, out: &MemSink, want: &[u8], calls: u64) {
-    assert_eq!(rt; out.bytes.as_slice(), want);
-    assert_eq!(rt; out.plan.calls, calls);
+    same_bytes(rt, &out.bytes, want);
+    same(rt, out.plan.calls, calls, "calls");
 }
 
 /// Gives a sink whose second call fails three events and an end.
@@ -250,7 +254,12 @@ fn takes_no_more(rt: &impl Abort, out: &mut MemSink) {
     lines.take(&Event::Put(2));
     assert!(rt; lines.failed);
     lines.take(&Event::Put(3));
-    assert_eq!(rt; lines.end(&RunEnd::Exit(0)), Err(WriteFault { taken: 2 }));
+    same(
+        rt,
+        lines.end(&RunEnd::Exit(0)),
+        Err(WriteFault { taken: 2 }),
+        "an end",
+    );
 }
 
 #[test]
@@ -258,9 +267,19 @@ fn nothing_after_a_fault(rt: HostRuntime) -> Result<(), Fail> {
     let mut out = sink(rt.alloc(), &[2], 4096)?;
     takes_no_more(&rt, &mut out);
     has_taken(&rt, &out, b"1\n", 2);
-    assert_eq!(rt; put_event(&mut out, false, &Event::Filter(1)), Ok(()));
+    same(
+        &rt,
+        put_event(&mut out, false, &Event::Filter(1)),
+        Ok(()),
+        "no line",
+    );
     has_taken(&rt, &out, b"1\n", 2);
-    assert_eq!(rt; put_event(&mut out, true, &Event::Filter(1)), Ok(()));
+    same(
+        &rt,
+        put_event(&mut out, true, &Event::Filter(1)),
+        Ok(()),
+        "a line",
+    );
     has_taken(&rt, &out, b"1\nfilter 1\n", 3);
     Ok(())
 }

@@ -15,25 +15,22 @@ FF 22            | - | 0
 ";
 
 /// The states before and after a row's jump.
-fn jump_of(rt: &impl Abort, row: &str) -> Option<(Cpu, Cpu)> {
-    let mut columns = row.split('|').skip(1);
+fn jump_of(rt: &impl Abort, row: &str) -> (Cpu, Cpu) {
     let mut before = cpu();
-    before.flags.zero = columns.next()? == " Z ";
+    before.flags.zero = column(rt, row, 1) == "Z";
     before.registers[1] = 0x1234;
     before.registers[2] = 0x4000_1000;
     let mut after = before;
-    after.rip = number(rt, columns.next()?.trim());
-    Some((before, after))
+    after.rip = number(rt, column(rt, row, 2));
+    (before, after)
 }
 
 #[test]
 fn jumps(rt: HostRuntime) -> Result<(), Fail> {
     let mut space = space(&rt, rt.alloc())?;
     for row in JUMPS.lines().skip(1) {
-        match jump_of(&rt, row) {
-            None => panic!(rt; "no row: {row}"),
-            Some((before, after)) => has_effect(&rt, &mut space, row, before, Ok(after)),
-        }
+        let (before, after) = jump_of(&rt, row);
+        has_effect(&rt, &mut space, row, before, Ok(after));
     }
     Ok(())
 }
@@ -50,31 +47,36 @@ const PUSHES: &str = r"
 E8 0 1 0 0 | call .+5+0x100 | 40000000 70001000 0    | 40000100 70000FF8 40000000
 ";
 
-/// RIP and RSP of a state, and the number on the stack.
-fn stack_of(rt: &impl Abort, words: &str) -> Option<(Cpu, u64)> {
-    let mut words = words.split_ascii_whitespace();
+/// A state by its RIP and RSP.
+fn stack_of(rt: &impl Abort, words: &str) -> Cpu {
     let mut state = cpu();
-    state.rip = number(rt, words.next()?);
-    state.registers[4] = number(rt, words.next()?);
-    Some((state, number(rt, words.next()?)))
+    state.rip = number_at(rt, words, 0);
+    state.registers[4] = number_at(rt, words, 1);
+    state
 }
 
 /// Compares what a row's instruction does to the stack.
-fn pushes<S: AddressSpace>(rt: &impl Abort, space: &mut S, row: &str) -> Option<()> {
-    let mut columns = row.split('|').skip(2);
-    let (before, stacked) = stack_of(rt, columns.next()?)?;
-    let (after, want) = stack_of(rt, columns.next()?)?;
-    assert_eq!(rt; space.store(STACKED, Width::W64, stacked), Ok(()), "{row}");
-    has_effect(rt, space, row, before, Ok(after));
-    assert_eq!(rt; space.load(STACKED, Width::W64), Ok(want), "{row}");
-    Some(())
+fn pushes<S: AddressSpace>(rt: &impl Abort, space: &mut S, row: &str) {
+    let words = column(rt, row, 2);
+    let answer = column(rt, row, 3);
+    let stored = space.store(STACKED, Width::W64, number_at(rt, words, 2));
+    same(rt, stored, Ok(()), row);
+    has_effect(
+        rt,
+        space,
+        row,
+        stack_of(rt, words),
+        Ok(stack_of(rt, answer)),
+    );
+    let found = space.load(STACKED, Width::W64);
+    same(rt, found, Ok(number_at(rt, answer, 2)), row);
 }
 
 #[test]
 fn pushes_and_pops(rt: HostRuntime) -> Result<(), Fail> {
     let mut space = space(&rt, rt.alloc())?;
     for row in PUSHES.lines().skip(1) {
-        assert_eq!(rt; pushes(&rt, &mut space, row), Some(()), "{row}");
+        pushes(&rt, &mut space, row);
     }
     Ok(())
 }
@@ -84,13 +86,18 @@ fn pops<S: AddressSpace>(rt: &impl Abort, space: &mut S) {
     let empty = cpu();
     let mut below = empty;
     below.registers[4] = STACKED;
-    assert_eq!(rt; space.store(STACKED, Width::W64, 0x7000_1000), Ok(()));
-    assert_eq!(rt; pop(below, space), Ok((0x7000_1000, empty)));
+    same(
+        rt,
+        space.store(STACKED, Width::W64, 0x7000_1000),
+        Ok(()),
+        "a store",
+    );
+    same(rt, pop(below, space), Ok((0x7000_1000, empty)), "a number");
     let stop = Stop::Fault {
         code: Code(0xC000_0005),
         access: Some((false, 0x7000_1000)),
     };
-    assert_eq!(rt; pop(empty, space), Err(stop));
+    same(rt, pop(empty, space), Err(stop), "an empty stack");
 }
 
 #[test]
@@ -122,7 +129,7 @@ fn contexts(rt: HostRuntime) {
         rip: 77,
         kept: [104, 103, 105, 106, 107, 112, 113, 114, 115],
     };
-    assert_eq!(rt; Context::of(&cpu), want);
+    same(&rt, Context::of(&cpu), want, "a context");
 }
 
 /// Addresses of the host's page, and the services there.
@@ -148,12 +155,11 @@ const SERVICES: &str = r"
 #[test]
 fn services(rt: HostRuntime) -> Result<(), Fail> {
     for row in SERVICES.lines().skip(1) {
-        let (at, want) = row.split_once(" | ").unwrap_or((row, "no row"));
-        let address = number(&rt, at);
+        let address = number(&rt, column(&rt, row, 0));
         let service = Service::at(address);
-        shows(&rt, rt.alloc(), &service, want, row)?;
+        shows(&rt, rt.alloc(), &service, column(&rt, row, 1), row)?;
         if let Some(service) = service {
-            assert_eq!(rt; service.address(), address, "{row}");
+            same(&rt, service.address(), address, row);
         }
     }
     Ok(())
@@ -197,11 +203,9 @@ const STEPS: &str = r"
 40000031 rsp 70001000
 ";
 
-/// What a row of steps has.
-fn step_of(rt: &impl Abort, row: &str) -> Option<(u64, Reg, u64)> {
-    let mut words = row.split(' ');
-    let rip = number(rt, words.next()?);
-    let register = match words.next()? {
+/// The register of a name.
+fn register_of(rt: &impl Abort, name: &str) -> Reg {
+    match name {
         "rax" => Reg::Rax,
         "rcx" => Reg::Rcx,
         "rdx" => Reg::Rdx,
@@ -209,28 +213,24 @@ fn step_of(rt: &impl Abort, row: &str) -> Option<(u64, Reg, u64)> {
         "rsp" => Reg::Rsp,
         "rsi" => Reg::Rsi,
         "r15" => Reg::R15,
-        _ => return None,
-    };
-    Some((rip, register, number(rt, words.next()?)))
+        _ => panic!(rt; "no register: {name}"),
+    }
 }
 
 /// Compares what one step comes to.
 fn steps_to<S: AddressSpace>(rt: &impl Abort, cpu: &mut Cpu, space: &mut S, row: &str) {
-    match step_of(rt, row) {
-        None => panic!(rt; "no row: {row}"),
-        Some((rip, register, want)) => {
-            assert_eq!(rt; step(cpu, space), StepOutcome::Next, "{row}");
-            assert_eq!(rt; [cpu.rip, cpu.register(register)], [rip, want], "{row}");
-        }
-    }
+    same(rt, step(cpu, space), StepOutcome::Next, row);
+    same(rt, cpu.rip, number_at(rt, row, 0), row);
+    let found = cpu.register(register_of(rt, word(rt, row, 1)));
+    same(rt, found, number_at(rt, row, 2), row);
 }
 
 /// Compares the numbers of 64 bits at the addresses of a table.
 fn all_hold<S: AddressSpace>(rt: &impl Abort, space: &S, table: &str) {
     for row in table.lines().skip(1) {
-        let (at, want) = row.split_once(" | ").unwrap_or((row, "no row"));
-        let found = space.load(number(rt, at), Width::W64);
-        assert_eq!(rt; found, Ok(number(rt, want)), "{row}");
+        let found = space.load(number(rt, column(rt, row, 0)), Width::W64);
+        let want = number(rt, column(rt, row, 1));
+        same(rt, found, Ok(want), row);
     }
 }
 
@@ -243,8 +243,8 @@ fn is_refused<S: AddressSpace>(
     row: &str,
 ) {
     let mut after = before;
-    assert_eq!(rt; step(&mut after, space), want, "{row}");
-    assert_eq!(rt; after, before, "{row}");
+    same(rt, step(&mut after, space), want, row);
+    same(rt, after, before, row);
 }
 
 /// What the routine leaves in memory.
@@ -270,8 +270,8 @@ fn steps_through_a_routine(rt: HostRuntime) -> Result<(), Fail> {
     let cpu = steps_through(&rt, &mut space);
     all_hold(&rt, &space, LEFT);
     // 80000003h + FFFFFFFDh carries; the product after it fits.
-    assert_eq!(rt; cpu.flags, flags(false, false, true, false));
-    assert_eq!(rt; cpu.rip, 0x4000_0031);
+    same(&rt, cpu.flags, flags(false, false, true, false), "flags");
+    same(&rt, cpu.rip, 0x4000_0031, "RIP");
     let want = violation(false, 0x7000_1000);
     is_refused(&rt, &mut space, cpu, want, "the stack is empty");
     Ok(())
@@ -331,30 +331,29 @@ const REFUSED: &str = r"
 7FF00011 1        70001000 | illegal 7FF00011       | between the services there is none
 ";
 
-/// The state before a refused step, and what the step comes to.
-fn refusal_of(rt: &impl Abort, row: &str) -> Option<(Cpu, StepOutcome)> {
-    let mut columns = row.split('|');
-    let mut words = columns.next()?.split_ascii_whitespace();
+/// The state before a refused step.
+fn refused_at(rt: &impl Abort, words: &str) -> Cpu {
     let mut before = cpu();
-    before.rip = number(rt, words.next()?);
-    before.set_register(Width::W64, Reg::Rax, number(rt, words.next()?));
-    before.set_register(Width::W64, Reg::Rsp, number(rt, words.next()?));
-    let mut words = columns.next()?.split_ascii_whitespace();
-    let what = words.next()?;
-    let address = number(rt, words.next()?);
-    let outcome = match what {
+    before.rip = number_at(rt, words, 0);
+    before.set_register(Width::W64, Reg::Rax, number_at(rt, words, 1));
+    before.set_register(Width::W64, Reg::Rsp, number_at(rt, words, 2));
+    before
+}
+
+/// What the step at an address comes to, by a word and the number after it.
+fn refusal_of(rt: &impl Abort, rip: u64, what: &str, address: u64) -> StepOutcome {
+    match what {
         "read" => violation(false, address),
         "write" => violation(true, address),
         "guard" => StepOutcome::Guard { address },
         "host" => StepOutcome::Host { address },
-        "illegal" if address == before.rip => StepOutcome::Illegal,
+        "illegal" if address == rip => StepOutcome::Illegal,
         "fault" => StepOutcome::Fault {
             code: code_of(address),
             access: None,
         },
-        _ => return None,
-    };
-    Some((before, outcome))
+        _ => panic!(rt; "no refusal: {what}"),
+    }
 }
 
 /// What the data hold after them, as before.
@@ -367,10 +366,11 @@ const KEPT: &str = r"
 fn refused_steps_change_nothing(rt: HostRuntime) -> Result<(), Fail> {
     let mut space = with_code(&rt, rt.alloc(), PIECES)?;
     for row in REFUSED.lines().skip(1) {
-        match refusal_of(&rt, row) {
-            None => panic!(rt; "no row: {row}"),
-            Some((before, want)) => is_refused(&rt, &mut space, before, want, row),
-        }
+        let before = refused_at(&rt, column(&rt, row, 0));
+        let words = column(&rt, row, 1);
+        let address = number_at(&rt, words, 1);
+        let want = refusal_of(&rt, before.rip, word(&rt, words, 0), address);
+        is_refused(&rt, &mut space, before, want, row);
     }
     all_hold(&rt, &space, KEPT);
     Ok(())
