@@ -1,4 +1,7 @@
-use command_line::reading::command_of;
+use crate::rows::shows;
+use command_line::command::Command;
+use command_line::reading::{WordsErr, command_of};
+use std::alloc::{AllocError, Global};
 use std::test::Fail;
 
 /// Lines of words, each with what it means.
@@ -17,18 +20,21 @@ exec --help | Err(Usage)
 help | Err(Usage)
 ";
 
+/// The command that the words of a line are.
+fn command_in(alloc: Global, line: &str) -> Result<Result<Command, WordsErr>, AllocError> {
+    let mut words = Vec::new(alloc);
+    for word in line.split(' ') {
+        words.push(String::from_str(alloc, word)?)?;
+    }
+    Ok(command_of(alloc, &words))
+}
+
 #[test]
 fn lines(rt: HostRuntime) -> Result<(), Fail> {
-    let alloc = rt.alloc();
     for row in LINES.lines().skip(1) {
         let (line, want) = row.split_once(" | ").unwrap_or((row, "no row"));
-        let mut words = Vec::new(alloc);
-        for word in line.split(' ') {
-            words.push(String::from_str(alloc, word)?)?;
-        }
-        let command = command_of(alloc, &words);
-        let found = format!(in alloc; "{command:?}")?;
-        assert_eq!(rt; found.as_str(), want, "{line}");
+        let command = command_in(rt.alloc(), line)?;
+        shows(&rt, rt.alloc(), &command, want, line)?;
     }
     Ok(())
 }

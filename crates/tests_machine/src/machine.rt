@@ -1,6 +1,7 @@
-use crate::rows::{bytes_of, number};
+use crate::rows::{column, number, number_at, put_bytes, same, shows, width_of, word, word_if};
 use host_layout::service::Service;
 use seh_num::event::Code;
+use seh_num::size::LONGEST_INSTRUCTION;
 use seh_num::width::Width;
 use std::alloc::{AllocError, Global};
 use std::process::Abort;
@@ -78,8 +79,28 @@ fn code_of(number: u64) -> Code {
     Code((number % 0x1_0000_0000) as u32)
 }
 
-fn space(alloc: Global) -> Result<PageMap, AllocError> {
-    PageMap::new(alloc, &REGIONS)
+/// Puts the code of rows `PLACE | CODE` into the pages from 40000000h on.
+fn put_code(rt: &impl Abort, table: &str, pages: &mut [u8]) {
+    for row in table.lines().skip(1) {
+        let from = number(rt, column(rt, row, 0)) % 0x2000;
+        if let Some(room) = pages.get_mut(from as usize..) {
+            let _ = put_bytes(rt, column(rt, row, 1), room);
+        }
+    }
+}
+
+/// Memory with the code of a table.
+fn with_code(rt: &impl Abort, alloc: Global, table: &str) -> Result<PageMap, AllocError> {
+    let mut pages = [0; 0x2000];
+    put_code(rt, table, &mut pages);
+    let mut space = PageMap::new(alloc, &REGIONS)?;
+    space.fill(0x4000_0000, &pages);
+    Ok(space)
+}
+
+/// Memory of zeros.
+fn space(rt: &impl Abort, alloc: Global) -> Result<PageMap, AllocError> {
+    with_code(rt, alloc, "")
 }
 
 fn violation(write: bool, address: u64) -> StepOutcome {
@@ -89,29 +110,61 @@ fn violation(write: bool, address: u64) -> StepOutcome {
     }
 }
 
+/// What is in R9 after 99AABBCCDDEEFF00h was put there over 1122334455667788h, by the width.
+const MERGES: &str = r"
+8  | 1122334455667700
+16 | 112233445566FF00
+32 | 00000000DDEEFF00
+64 | 99AABBCCDDEEFF00
+";
+
+/// Compares what a row's width makes of R9. R8 beside it stays.
+fn merges_to(rt: &impl Abort, row: &str, width: Width, want: u64) {
+    let (old, value) = (0x1122_3344_5566_7788, 0x99AA_BBCC_DDEE_FF00);
+    let mut cpu = cpu();
+    cpu.set_register(Width::W64, Reg::R9, old);
+    cpu.set_register(width, Reg::R9, value);
+    same(rt, merge(width, old, value), want, row);
+    same(rt, cpu.register(Reg::R9), want, row);
+    same(rt, cpu.register(Reg::R8), u64::MAX, row);
+    same(rt, cpu.registers[9], want, row);
+}
+
 #[test]
 fn merges(rt: HostRuntime) {
-    let (old, value) = (0x1122_3344_5566_7788, 0x99AA_BBCC_DDEE_FF00);
-    for (width, want) in [
-        (Width::W8, 0x1122_3344_5566_7700),
-        (Width::W16, 0x1122_3344_5566_FF00),
-        (Width::W32, 0x0000_0000_DDEE_FF00),
-        (Width::W64, 0x99AA_BBCC_DDEE_FF00),
-    ] {
-        assert_eq!(rt; merge(width, old, value), want, "{width:?}");
-        let mut cpu = cpu();
-        cpu.set_register(Width::W64, Reg::R9, old);
-        cpu.set_register(width, Reg::R9, value);
-        assert_eq!(rt; cpu.register(Reg::R9), want, "{width:?}");
-        assert_eq!(rt; cpu.register(Reg::R8), u64::MAX, "beside at {width:?}");
-        assert_eq!(rt; cpu.registers[9], want, "{width:?}");
+    for row in MERGES.lines().skip(1) {
+        let width = width_of(&rt, column(&rt, row, 0));
+        merges_to(&rt, row, width, number(&rt, column(&rt, row, 1)));
     }
 }
 
-/// The effect of the instruction that the leading bytes spell, where RIP is that of the next one.
-fn effect_of(cpu: Cpu, space: &mut PageMap, code: &[u8]) -> Option<Result<Cpu, Stop>> {
-    let (instr, len) = decode(code)?;
+/// The effect of the instruction that words spell, where RIP is that of the next one; none where
+/// they spell no instruction, or more than one.
+fn effect_of<S: AddressSpace>(
+    rt: &impl Abort,
+    cpu: Cpu,
+    space: &mut S,
+    words: &str,
+) -> Option<Result<Cpu, Stop>> {
+    let mut code = [0; LONGEST_INSTRUCTION];
+    let count = put_bytes(rt, words, &mut code);
+    let (instr, len) = decode(&code)?;
+    if len != count {
+        return None;
+    }
     let mut at = cpu;
     at.rip = cpu.rip.wrapping_sub(len as u64);
     Some(execute(at, space, &instr, len))
+}
+
+/// Compares the effect of the code in a row's first column.
+fn has_effect<S: AddressSpace>(
+    rt: &impl Abort,
+    space: &mut S,
+    row: &str,
+    before: Cpu,
+    want: Result<Cpu, Stop>,
+) {
+    let found = effect_of(rt, before, space, column(rt, row, 0));
+    same(rt, found, Some(want), row);
 }

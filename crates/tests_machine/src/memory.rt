@@ -1,10 +1,10 @@
 ghost use Rattle.std.specs.Prelude.{◌≡◌, ℕ, All, IfOk};
 ghost use Rattle.seh_num.specs.declared.width.Width.TheVariants.{W64};
 ghost use Rattle.flat_memory.specs.Memory.{loaded, after_store};
-ghost use Rattle.x64_memory.specs.PageMaps.{memory_of, holds};
+ghost use Rattle.x64_memory.specs.PageMaps.{holds};
 ghost use Rattle.x64_memory.specs.Regions.{AreAscending, IsWholeRegion, HoldsArena, in_regions, mapped};
 
-use crate::rows::{bytes_of, number, width_of};
+use crate::rows::{are_spelled, column, number, number_at, same, width_of, word, word_if};
 use flat_memory::access::RefusedAccess;
 use seh_num::width::Width;
 use std::alloc::{AllocError, Global};
@@ -62,8 +62,7 @@ const REGIONS: [Region; 6] = [
 ];
 
 fn space(alloc: Global) -> Result<PageMap, AllocError>
-    ensures memory { IfOk result (λ s. memory_of s ≡ mapped REGIONS) }
-    ensures holds { IfOk result (λ s. (a : ℕ) → holds s a ≡ in_regions REGIONS a) }
+    ensures { IfOk result (λ s. (a : ℕ) → holds s a ≡ in_regions REGIONS a) }
 {
     PageMap::new(alloc, &REGIONS)
 }
@@ -79,27 +78,91 @@ fn filled_space(alloc: Global) -> Result<PageMap, AllocError> {
     Ok(space)
 }
 
-fn fault<T>(address: u64, write: bool) -> Result<T, RefusedAccess> {
-    Err(RefusedAccess::Fault { address, write })
+/// What is asked of memory at an address.
+#[derive(Clone, Copy)]
+enum Access {
+    Load(Width),
+    MayStore(Width),
+    Store(Width, u64),
+    Protect(i32),
 }
 
-fn guard<T>(address: u64) -> Result<T, RefusedAccess> {
-    Err(RefusedAccess::Guard { address })
+/// The number that is loaded, 1 and 0 for yes and no, 0 where a store is made; or the refusal.
+type Answer = Result<u64, RefusedAccess>;
+
+fn answer_of<S: AddressSpace>(space: &mut S, at: u64, access: Access) -> Answer {
+    match access {
+        Access::Load(width) => space.load(at, width),
+        Access::MayStore(width) => space.may_store(at, width).map(|()| 0),
+        Access::Store(width, value) => space.store(at, width, value).map(|()| 0),
+        Access::Protect(mode) => Ok(u64::from(space.protect(at, mode))),
+    }
 }
 
-/// What a row `AT WIDTH | ANSWER` has: a number, or where a fault or an access of the guard is.
-fn load_of(rt: &impl Abort, row: &str) -> Option<(u64, Width, Result<u64, RefusedAccess>)> {
-    let mut columns = row.split('|');
-    let mut words = columns.next()?.split_ascii_whitespace();
-    let at = number(rt, words.next()?);
-    let width = width_of(words.next()?)?;
-    let mut words = columns.next()?.split_ascii_whitespace();
-    let want = match words.next()? {
-        "fault" => fault(number(rt, words.next()?), false),
-        "guard" => guard(number(rt, words.next()?)),
-        word => Ok(number(rt, word)),
-    };
-    Some((at, width, want))
+/// A row `AT WIDTH`, which is a load, `AT WIDTH NUMBER`, a store, or `AT mode NUMBER`, with its
+/// answer after a bar.
+#[derive(Clone, Copy)]
+struct Row {
+    at: u64,
+    access: Access,
+    want: Answer,
+}
+
+/// The rights of a page, by their number.
+fn mode_of(rt: &impl Abort, word: &str) -> i32 {
+    match word.parse() {
+        Ok(mode) => mode,
+        Err(_) => panic!(rt; "no number: {word}"),
+    }
+}
+
+/// The access that the words of a row say.
+fn access_of(rt: &impl Abort, words: &str) -> Access {
+    let first = word(rt, words, 1);
+    match word_if(words, 2) {
+        None => Access::Load(width_of(rt, first)),
+        Some(mode) if first == "mode" => Access::Protect(mode_of(rt, mode)),
+        Some(value) => Access::Store(width_of(rt, first), number(rt, value)),
+    }
+}
+
+/// The answer that words say: one, or for a refusal one and the address after it.
+fn answer_in(rt: &impl Abort, words: &str, write: bool) -> Answer {
+    let first = word(rt, words, 0);
+    if first == "guard" {
+        let address = number_at(rt, words, 1);
+        return Err(RefusedAccess::Guard { address });
+    }
+    if first == "fault" {
+        let address = number_at(rt, words, 1);
+        return Err(RefusedAccess::Fault { address, write });
+    }
+    Ok(match first {
+        "done" | "no" => 0,
+        "yes" => 1,
+        _ => number(rt, first),
+    })
+}
+
+/// What a row has.
+fn row_of(rt: &impl Abort, row: &str) -> Row {
+    let words = column(rt, row, 0);
+    let access = access_of(rt, words);
+    let write = matches!(access, Access::Store(..));
+    Row {
+        at: number_at(rt, words, 0),
+        access,
+        want: answer_in(rt, column(rt, row, 1), write),
+    }
+}
+
+/// Compares the answers of a table's rows, one after another.
+fn all_answer<S: AddressSpace>(rt: &impl Abort, space: &mut S, table: &str) {
+    for text in table.lines().skip(1) {
+        let row = row_of(rt, text);
+        let answer = answer_of(space, row.at, row.access);
+        same(rt, answer, row.want, text);
+    }
 }
 
 /// Loads of [`filled_space`].
@@ -131,13 +194,8 @@ FFFFFFFFFFFFFFFF 16 | fault FFFFFFFFFFFFFFFF
 
 #[test]
 fn loads_what_was_filled(rt: HostRuntime) -> Result<(), Fail> {
-    let space = filled_space(rt.alloc())?;
-    for row in LOADS.lines().skip(1) {
-        match load_of(&rt, row) {
-            None => panic!(rt; "no row: {row}"),
-            Some((at, width, want)) => assert_eq!(rt; space.load(at, width), want, "{row}"),
-        }
-    }
+    let mut space = filled_space(rt.alloc())?;
+    all_answer(&rt, &mut space, LOADS);
     Ok(())
 }
 
@@ -163,78 +221,66 @@ const BESIDE: &str = r"
 40003000 64 | 11
 ";
 
-/// Puts a number at each row's place, and loads it and what lies beside.
-fn stores<S: AddressSpace>(rt: &impl Abort, space: &mut S) {
-    for row in STORED.lines().skip(1) {
-        match load_of(rt, row) {
-            None => panic!(rt; "no row: {row}"),
-            Some((at, width, want)) => {
-                assert_eq!(rt; space.may_store(at, width), Ok(()), "{row}");
-                let stored = space.store(at, width, 0x1122_3344_5566_7788);
-                assert_eq!(rt; stored, Ok(()), "{row}");
-                assert_eq!(rt; space.load(at, width), want, "{row}");
-            }
-        }
+/// Puts a number where a row loads, which then answers as the row says.
+fn stores<S: AddressSpace>(rt: &impl Abort, space: &mut S, text: &str) {
+    let row = row_of(rt, text);
+    if let Access::Load(width) = row.access {
+        let made = Access::Store(width, 0x1122_3344_5566_7788);
+        let may = answer_of(space, row.at, Access::MayStore(width));
+        same(rt, may, Ok(0), text);
+        same(rt, answer_of(space, row.at, made), Ok(0), text);
     }
-    for row in BESIDE.lines().skip(1) {
-        match load_of(rt, row) {
-            None => panic!(rt; "no row: {row}"),
-            Some((at, width, want)) => assert_eq!(rt; space.load(at, width), want, "{row}"),
-        }
-    }
+    same(rt, answer_of(space, row.at, row.access), row.want, text);
 }
 
 #[test]
 fn loads_what_was_stored(rt: HostRuntime) -> Result<(), Fail> {
     let mut space = space(rt.alloc())?;
-    stores(&rt, &mut space);
+    for text in STORED.lines().skip(1) {
+        stores(&rt, &mut space, text);
+    }
+    all_answer(&rt, &mut space, BESIDE);
     Ok(())
 }
 
 /// Stores that are refused, by the first byte that may not be written.
 const REFUSED: &str = r"
-40000FF8 8  | 40000FF8
-40003FFF 16 | 40004000
-40003FFD 32 | 40004000
-40003FF9 64 | 40004000
-40001FFC 64 | 40001FFC
-20000000 64 | 20000000
-70000FFF 32 | 70001000
-FFFFFFFFFFFFFFFF 64 | FFFFFFFFFFFFFFFF
+40000FF8 8 0  | fault 40000FF8
+40003FFF 16 0 | fault 40004000
+40003FFD 32 0 | fault 40004000
+40003FF9 64 0 | fault 40004000
+40001FFC 64 0 | fault 40001FFC
+20000000 64 0 | fault 20000000
+70000FFF 32 0 | fault 70001000
+FFFFFFFFFFFFFFFF 64 0 | fault FFFFFFFFFFFFFFFF
+";
+
+/// The same by the guard. What lies below it stays.
+const GUARDED: &str = r"
+6FFEFFFC 64 FFFFFFFFFFFFFFFF | guard 6FFF0000
+6FFEFFFC 32                  | 0
+6FFFFFFF 8 1                 | guard 6FFFFFFF
 ";
 
 /// A refused store leaves what is loaded there.
-fn is_refused(
-    rt: &impl Abort,
-    space: &mut PageMap,
-    at: u64,
-    width: Width,
-    address: u64,
-    row: &str,
-) {
-    let before = space.load(at, Width::W8);
-    assert_eq!(rt; space.may_store(at, width), fault(address, true), "{row}");
-    assert_eq!(rt; space.store(at, width, 0), fault(address, true), "{row}");
-    assert_eq!(rt; space.load(at, Width::W8), before, "{row}");
+fn is_refused<S: AddressSpace>(rt: &impl Abort, space: &mut S, text: &str) {
+    let row = row_of(rt, text);
+    let before = space.load(row.at, Width::W8);
+    if let Access::Store(width, _) = row.access {
+        let may = answer_of(space, row.at, Access::MayStore(width));
+        same(rt, may, row.want, text);
+    }
+    same(rt, answer_of(space, row.at, row.access), row.want, text);
+    same(rt, space.load(row.at, Width::W8), before, text);
 }
 
 #[test]
 fn refused_stores_change_nothing(rt: HostRuntime) -> Result<(), Fail> {
     let mut space = filled_space(rt.alloc())?;
-    for row in REFUSED.lines().skip(1) {
-        match load_of(&rt, row) {
-            Some((at, width, Ok(address))) => {
-                is_refused(&rt, &mut space, at, width, address, row);
-            }
-            _ => panic!(rt; "no row: {row}"),
-        }
+    for text in REFUSED.lines().skip(1) {
+        is_refused(&rt, &mut space, text);
     }
-    assert_eq!(rt;
-        space.store(0x6FFE_FFFC, Width::W64, u64::MAX),
-        guard(0x6FFF_0000)
-    );
-    assert_eq!(rt; space.load(0x6FFE_FFFC, Width::W32), Ok(0));
-    assert_eq!(rt; space.store(0x6FFF_FFFF, Width::W8, 1), guard(0x6FFF_FFFF));
+    all_answer(&rt, &mut space, GUARDED);
     Ok(())
 }
 
@@ -252,72 +298,56 @@ const FETCHED: &str = r"
 FFFFFFFFFFFFFFFF |
 ";
 
+/// Compares what is fetched at a row's address with its bytes.
+fn fetches<S: AddressSpace>(rt: &impl Abort, space: &S, row: &str) {
+    let words = column(rt, row, 1);
+    let mut into = [255; 15];
+    let count = space.fetch(number(rt, column(rt, row, 0)), &mut into);
+    assert!(rt;
+        are_spelled(rt, &into[..count], words),
+        "{row}: {count} of {into:?}"
+    );
+}
+
 #[test]
 fn fetches_executable_bytes(rt: HostRuntime) -> Result<(), Fail> {
     let space = filled_space(rt.alloc())?;
     for row in FETCHED.lines().skip(1) {
-        let (at, want) = row.split_once(" |").unwrap_or((row, "no row"));
-        let want = bytes_of(&rt, rt.alloc(), want)?;
-        let mut into = [255; 15];
-        let count = space.fetch(number(&rt, at), &mut into);
-        assert_eq!(rt; &into[..count], want.as_slice(), "{row}");
+        fetches(&rt, &space, row);
     }
     Ok(())
 }
 
-/// Rights that are asked for, `PLACE MODE | ANSWER`.
+/// Rights of pages that are asked for, and accesses after it.
 const MODES: &str = r"
-20005FF0 3  | false
-20005FF0 -1 | false
-1FFFFFFF 2  | false
-20100000 2  | false
-40000000 2  | false
-20000000 2  | true
-200FFFFF 1  | true
-20005FF0 2  | true
+20005FF0 mode 3  | no
+20005FF0 mode -1 | no
+1FFFFFFF mode 2  | no
+20100000 mode 2  | no
+40000000 mode 2  | no
+20000000 mode 2  | yes
+200FFFFF mode 1  | yes
+20005FF0 mode 2  | yes
+40000000 8 1     | fault 40000000
+200FF000 8       | 0
+20005FF0 64 4D   | done
+20004FFF 8       | fault 20004FFF | the page that was asked for alone
+20005FFC 64 1    | fault 20006000
+20005000 mode 0  | yes            | the bytes outlive each mode
+20005FF0 64      | fault 20005FF0
+20005FFF mode 1  | yes
+20005FF0 64      | 4D
+20005FF0 64 4E   | fault 20005FF0
+20005FF0 mode 4  | no
+20005FF0 64      | 4D
 ";
-
-/// What a row of modes has.
-fn mode_of(rt: &impl Abort, row: &str) -> Option<(u64, i32, bool)> {
-    let (asked, answer) = row.split_once('|')?;
-    let mut words = asked.split_ascii_whitespace();
-    let place = number(rt, words.next()?);
-    Some((place, words.next()?.parse().ok()?, answer == " true"))
-}
 
 #[test]
 fn protects_pages_of_the_arena(rt: HostRuntime) -> Result<(), Fail> {
     let mut space = space(rt.alloc())?;
-    let (at, next) = (0x2000_5FF0, 0x2000_6000);
-    for row in MODES.lines().skip(1) {
-        match mode_of(&rt, row) {
-            None => panic!(rt; "no row: {row}"),
-            Some((place, mode, want)) => assert_eq!(rt; space.protect(place, mode), want, "{row}"),
-        }
-    }
-    assert_eq!(rt;
-        space.store(0x4000_0000, Width::W8, 1),
-        fault(0x4000_0000, true)
-    );
-    assert_eq!(rt; space.load(0x200F_F000, Width::W8), Ok(0));
-    assert_eq!(rt; space.store(at, Width::W64, 77), Ok(()));
-    // The page that was asked for alone.
-    assert_eq!(rt;
-        space.load(0x2000_4FFF, Width::W8),
-        fault(0x2000_4FFF, false)
-    );
-    assert_eq!(rt; space.store(0x2000_5FFC, Width::W64, 1), fault(next, true));
-    // The bytes outlive each mode.
-    assert!(rt; space.protect(0x2000_5000, 0));
-    assert_eq!(rt; space.load(at, Width::W64), fault(at, false));
-    assert!(rt; space.protect(0x2000_5FFF, 1));
-    assert_eq!(rt; space.load(at, Width::W64), Ok(77));
-    assert_eq!(rt; space.store(at, Width::W64, 78), fault(at, true));
-    assert!(rt; !space.protect(at, 4));
-    assert_eq!(rt; space.load(at, Width::W64), Ok(77));
+    all_answer(&rt, &mut space, MODES);
     // Nothing of the arena is executable.
-    let mut into = [0; 15];
-    assert_eq!(rt; space.fetch(at, &mut into), 0);
+    fetches(&rt, &space, "20005FF0 |");
     Ok(())
 }
 

@@ -1,6 +1,6 @@
 ghost use Rattle.std.specs.Prelude.{◌≡◌, ◌<◌};
 
-use crate::rows::width_of;
+use crate::rows::{column, shows, width_of, word, word_if};
 use seh_num::division::{div_signed, div_unsigned};
 use seh_num::steps::Steps;
 use seh_num::width::Width;
@@ -53,48 +53,46 @@ const UNSIGNED: &str = r"
 64 184467440737095516160 10 | Err(Overflow)
 ";
 
-/// What a row of signed numbers has.
-fn signed_of(row: &str) -> Option<(Width, i128, i64, &str)> {
-    let (numbers, want) = row.split_once(" | ")?;
-    let mut words = numbers.split(' ');
-    let width = width_of(words.next()?)?;
-    let dividend = words.next()?.parse().ok()?;
-    Some((width, dividend, words.next()?.parse().ok()?, want))
+/// The dividend and the divisor of a row of signed numbers.
+fn signed_of(words: &str) -> Option<(i128, i64)> {
+    let dividend = word_if(words, 1)?.parse().ok()?;
+    let divisor = word_if(words, 2)?.parse().ok()?;
+    Some((dividend, divisor))
 }
 
 #[test]
 fn signed_quotients(rt: HostRuntime) -> Result<(), Fail> {
     for row in SIGNED.lines().skip(1) {
-        match signed_of(row) {
+        let words = column(&rt, row, 0);
+        match signed_of(words) {
             None => panic!(rt; "no row: {row}"),
-            Some((width, dividend, divisor, want)) => {
+            Some((dividend, divisor)) => {
+                let width = width_of(&rt, word(&rt, words, 0));
                 let answer = div_signed(width, dividend, divisor);
-                let found = format!(in rt.alloc(); "{answer:?}")?;
-                assert_eq!(rt; found.as_str(), want, "{row}");
+                shows(&rt, rt.alloc(), &answer, column(&rt, row, 1), row)?;
             }
         }
     }
     Ok(())
 }
 
-/// What a row of unsigned numbers has.
-fn unsigned_of(row: &str) -> Option<(Width, u128, u64, &str)> {
-    let (numbers, want) = row.split_once(" | ")?;
-    let mut words = numbers.split(' ');
-    let width = width_of(words.next()?)?;
-    let dividend = words.next()?.parse().ok()?;
-    Some((width, dividend, words.next()?.parse().ok()?, want))
+/// The dividend and the divisor of a row of unsigned numbers.
+fn unsigned_of(words: &str) -> Option<(u128, u64)> {
+    let dividend = word_if(words, 1)?.parse().ok()?;
+    let divisor = word_if(words, 2)?.parse().ok()?;
+    Some((dividend, divisor))
 }
 
 #[test]
 fn unsigned_quotients(rt: HostRuntime) -> Result<(), Fail> {
     for row in UNSIGNED.lines().skip(1) {
-        match unsigned_of(row) {
+        let words = column(&rt, row, 0);
+        match unsigned_of(words) {
             None => panic!(rt; "no row: {row}"),
-            Some((width, dividend, divisor, want)) => {
+            Some((dividend, divisor)) => {
+                let width = width_of(&rt, word(&rt, words, 0));
                 let answer = div_unsigned(width, dividend, divisor);
-                let found = format!(in rt.alloc(); "{answer:?}")?;
-                assert_eq!(rt; found.as_str(), want, "{row}");
+                shows(&rt, rt.alloc(), &answer, column(&rt, row, 1), row)?;
             }
         }
     }

@@ -97,31 +97,32 @@ fn flags_named(letters: &str) -> Flags {
 }
 
 /// The states before and after that a row has.
-fn states_of(rt: &impl Abort, row: &str) -> Option<(Cpu, Cpu)> {
-    let mut columns = row.split('|').skip(2);
-    let mut words = columns.next()?.split_ascii_whitespace();
+fn states_of(rt: &impl Abort, row: &str) -> (Cpu, Cpu) {
+    let words = column(rt, row, 2);
+    let answer = column(rt, row, 3);
     let mut before = cpu();
-    before.registers[0] = number(rt, words.next()?);
-    before.registers[1] = number(rt, words.next()?);
-    before.flags = flags_named(words.next()?);
-    let mut words = columns.next()?.split_ascii_whitespace();
+    before.registers[0] = number_at(rt, words, 0);
+    before.registers[1] = number_at(rt, words, 1);
+    before.flags = flags_named(word(rt, words, 2));
     let mut after = before;
-    after.registers[0] = number(rt, words.next()?);
-    after.flags = flags_named(words.next()?);
-    Some((before, after))
+    after.registers[0] = number_at(rt, answer, 0);
+    after.flags = flags_named(word(rt, answer, 1));
+    (before, after)
 }
 
-/// The state before a division, and what it comes to. A fault changes nothing.
-fn division_of(rt: &impl Abort, row: &str) -> Option<(Cpu, Result<Cpu, Stop>)> {
-    let mut columns = row.split('|').skip(2);
-    let mut words = columns.next()?.split_ascii_whitespace();
+/// The state before a division.
+fn dividend_of(rt: &impl Abort, words: &str) -> Cpu {
     let mut before = cpu();
-    before.registers[2] = number(rt, words.next()?);
-    before.registers[0] = number(rt, words.next()?);
-    before.registers[1] = number(rt, words.next()?);
-    let mut words = columns.next()?.split_ascii_whitespace();
-    let first = number(rt, words.next()?);
-    let want = match words.next() {
+    before.registers[2] = number_at(rt, words, 0);
+    before.registers[0] = number_at(rt, words, 1);
+    before.registers[1] = number_at(rt, words, 2);
+    before
+}
+
+/// What a division comes to.
+fn quotient_of(rt: &impl Abort, before: Cpu, answer: &str) -> Result<Cpu, Stop> {
+    let first = number_at(rt, answer, 0);
+    match word_if(answer, 1) {
         None => Err(Stop::Fault {
             code: code_of(first),
             access: None,
@@ -132,32 +133,15 @@ fn division_of(rt: &impl Abort, row: &str) -> Option<(Cpu, Result<Cpu, Stop>)> {
             after.registers[2] = number(rt, remainder);
             Ok(after)
         }
-    };
-    Some((before, want))
-}
-
-/// Compares the effect of a row's code.
-fn has_effect(
-    rt: &impl Abort,
-    alloc: Global,
-    row: &str,
-    before: Cpu,
-    want: Result<Cpu, Stop>,
-) -> Result<(), Fail> {
-    let mut space = space(alloc)?;
-    let (code, _) = row.split_once('|').unwrap_or((row, ""));
-    let code = bytes_of(rt, alloc, code)?;
-    assert_eq!(rt; effect_of(before, &mut space, &code), Some(want), "{row}");
-    Ok(())
+    }
 }
 
 /// Compares the effects of the rows of a table.
 fn all_have_effects(rt: &impl Abort, alloc: Global, table: &str) -> Result<(), Fail> {
+    let mut space = space(rt, alloc)?;
     for row in table.lines().skip(1) {
-        match states_of(rt, row) {
-            None => panic!(rt; "no row: {row}"),
-            Some((before, after)) => has_effect(rt, alloc, row, before, Ok(after))?,
-        }
+        let (before, after) = states_of(rt, row);
+        has_effect(rt, &mut space, row, before, Ok(after));
     }
     Ok(())
 }
@@ -179,11 +163,11 @@ fn other_registers(rt: HostRuntime) -> Result<(), Fail> {
 
 #[test]
 fn divisions(rt: HostRuntime) -> Result<(), Fail> {
+    let mut space = space(&rt, rt.alloc())?;
     for row in DIVISIONS.lines().skip(1) {
-        match division_of(&rt, row) {
-            None => panic!(rt; "no row: {row}"),
-            Some((before, want)) => has_effect(&rt, rt.alloc(), row, before, want)?,
-        }
+        let before = dividend_of(&rt, column(&rt, row, 2));
+        let want = quotient_of(&rt, before, column(&rt, row, 3));
+        has_effect(&rt, &mut space, row, before, want);
     }
     Ok(())
 }

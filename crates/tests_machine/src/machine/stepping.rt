@@ -14,43 +14,104 @@ FF E1            | - | 1234
 FF 22            | - | 0
 ";
 
-/// The code of a row of jumps, and the states before and after it.
-fn jump_of<'a>(rt: &impl Abort, row: &'a str) -> Option<(&'a str, Cpu, Cpu)> {
-    let mut columns = row.split('|');
-    let code = columns.next()?;
+/// The states before and after a row's jump.
+fn jump_of(rt: &impl Abort, row: &str) -> (Cpu, Cpu) {
     let mut before = cpu();
-    before.flags.zero = columns.next()? == " Z ";
+    before.flags.zero = column(rt, row, 1) == "Z";
     before.registers[1] = 0x1234;
     before.registers[2] = 0x4000_1000;
     let mut after = before;
-    after.rip = number(rt, columns.next()?.trim());
-    Some((code, before, after))
-}
-
-/// Compares the effect of a row's jump.
-fn jumps_to(rt: &impl Abort, alloc: Global, space: &mut PageMap, row: &str) -> Result<(), Fail> {
-    match jump_of(rt, row) {
-        None => panic!(rt; "no row: {row}"),
-        Some((code, before, after)) => {
-            let code = bytes_of(rt, alloc, code)?;
-            assert_eq!(rt; effect_of(before, space, &code), Some(Ok(after)), "{row}");
-        }
-    }
-    Ok(())
+    after.rip = number(rt, column(rt, row, 2));
+    (before, after)
 }
 
 #[test]
 fn jumps(rt: HostRuntime) -> Result<(), Fail> {
-    let mut space = space(rt.alloc())?;
+    let mut space = space(&rt, rt.alloc())?;
     for row in JUMPS.lines().skip(1) {
-        jumps_to(&rt, rt.alloc(), &mut space, row)?;
+        let (before, after) = jump_of(&rt, row);
+        has_effect(&rt, &mut space, row, before, Ok(after));
     }
-    let mut called = cpu();
-    called.rip = 0x4000_0100;
-    called.registers[4] = 0x7000_0FF8;
-    let code = [0xE8, 0, 1, 0, 0];
-    assert_eq!(rt; effect_of(cpu(), &mut space, &code), Some(Ok(called)));
-    assert_eq!(rt; space.load(0x7000_0FF8, Width::W64), Ok(0x4000_0000));
+    Ok(())
+}
+
+/// The only word of the stack that these instructions touch.
+const STACKED: u64 = 0x7000_0FF8;
+
+/// What is pushed and popped: `CODE | INSTRUCTION | RIP RSP STACKED | RIP RSP STACKED`, before and
+/// after, with the number at 70000FF8h. PUSH RSP stores the old RSP, and POP RSP leaves what was
+/// popped.
+const PUSHES: &str = r"
+54         | push rsp       | 40000000 70001000 0    | 40000000 70000FF8 70001000
+5C         | pop rsp        | 40000000 70000FF8 1234 | 40000000 1234 1234
+E8 0 1 0 0 | call .+5+0x100 | 40000000 70001000 0    | 40000100 70000FF8 40000000
+";
+
+/// A state by its RIP and RSP.
+fn stack_of(rt: &impl Abort, words: &str) -> Cpu {
+    let mut state = cpu();
+    state.rip = number_at(rt, words, 0);
+    state.registers[4] = number_at(rt, words, 1);
+    state
+}
+
+/// Compares what a row's instruction does to the stack.
+fn pushes<S: AddressSpace>(rt: &impl Abort, space: &mut S, row: &str) {
+    let words = column(rt, row, 2);
+    let answer = column(rt, row, 3);
+    let stored = space.store(STACKED, Width::W64, number_at(rt, words, 2));
+    same(rt, stored, Ok(()), row);
+    has_effect(
+        rt,
+        space,
+        row,
+        stack_of(rt, words),
+        Ok(stack_of(rt, answer)),
+    );
+    let found = space.load(STACKED, Width::W64);
+    same(rt, found, Ok(number_at(rt, answer, 2)), row);
+}
+
+#[test]
+fn pushes_and_pops(rt: HostRuntime) -> Result<(), Fail> {
+    let mut space = space(&rt, rt.alloc())?;
+    for row in PUSHES.lines().skip(1) {
+        pushes(&rt, &mut space, row);
+    }
+    Ok(())
+}
+
+/// Compares what the function `pop` makes of a number on the stack, and of an empty stack.
+fn pops<S: AddressSpace>(rt: &impl Abort, space: &mut S) {
+    let empty = cpu();
+    let mut below = empty;
+    below.registers[4] = STACKED;
+    same(
+        rt,
+        space.store(STACKED, Width::W64, 0x7000_1000),
+        Ok(()),
+        "a store",
+    );
+    same(rt, pop(below, space), Ok((0x7000_1000, empty)), "a number");
+    let stop = Stop::Fault {
+        code: Code(0xC000_0005),
+        access: Some((false, 0x7000_1000)),
+    };
+    same(rt, pop(empty, space), Err(stop), "an empty stack");
+}
+
+#[test]
+fn pops_as_a_function(rt: HostRuntime) -> Result<(), Fail> {
+    let mut space = space(&rt, rt.alloc())?;
+    pops(&rt, &mut space);
+    Ok(())
+}
+
+#[test]
+fn no_instructions_to_run(rt: HostRuntime) -> Result<(), Fail> {
+    let mut space = space(&rt, rt.alloc())?;
+    has_effect(&rt, &mut space, "CC | int3", cpu(), Err(Stop::Illegal));
+    has_effect(&rt, &mut space, "0F 0B | ud2", cpu(), Err(Stop::Illegal));
     Ok(())
 }
 
@@ -68,54 +129,61 @@ fn contexts(rt: HostRuntime) {
         rip: 77,
         kept: [104, 103, 105, 106, 107, 112, 113, 114, 115],
     };
-    assert_eq!(rt; Context::of(&cpu), want);
+    same(&rt, Context::of(&cpu), want, "a context");
 }
 
+/// Addresses of the host's page, and the services there.
+const SERVICES: &str = r"
+7FF00000 | None
+7FF00010 | Some(Put)
+7FF00011 | None
+7FF00020 | Some(Protect)
+7FF00021 | None
+7FF00030 | Some(RaiseException)
+7FF00031 | None
+7FF00040 | Some(CSpecificHandler)
+7FF00041 | None
+7FF00050 | Some(LocalUnwind)
+7FF00051 | None
+7FF00060 | Some(FilterReturn)
+7FF00061 | None
+7FF00070 | Some(FinallyReturn)
+7FF00071 | None
+7FF00080 | None
+";
+
 #[test]
-fn services(rt: HostRuntime) {
-    for (service, address) in [
-        (Service::Put, 0x7FF0_0010),
-        (Service::Protect, 0x7FF0_0020),
-        (Service::RaiseException, 0x7FF0_0030),
-        (Service::CSpecificHandler, 0x7FF0_0040),
-        (Service::LocalUnwind, 0x7FF0_0050),
-        (Service::FilterReturn, 0x7FF0_0060),
-        (Service::FinallyReturn, 0x7FF0_0070),
-    ] {
-        assert_eq!(rt; service.address(), address, "{service:?}");
-        assert_eq!(rt; Service::at(address), Some(service), "at {address}");
-        assert_eq!(rt; Service::at(address + 1), None, "after {address}");
+fn services(rt: HostRuntime) -> Result<(), Fail> {
+    for row in SERVICES.lines().skip(1) {
+        let address = number(&rt, column(&rt, row, 0));
+        let service = Service::at(address);
+        shows(&rt, rt.alloc(), &service, column(&rt, row, 1), row)?;
+        if let Some(service) = service {
+            same(&rt, service.address(), address, row);
+        }
     }
-    assert_eq!(rt; Service::at(0x7FF0_0000), None);
-    assert_eq!(rt; Service::at(0x7FF0_0080), None);
+    Ok(())
 }
 
 /// A routine that calls the second of two returns, and a number after them.
-fn with_routine(alloc: Global) -> Result<PageMap, AllocError> {
-    let mut space = PageMap::new(alloc, &REGIONS)?;
-    space.fill(
-        0x4000_0000,
-        &[
-            0x48, 0xB8, 0x88, 0x77, 0x66, 0x55, 0x44, 0x33, 0x22, 0x11, // mov rax, number
-            0xB9, 0x03, 0x00, 0x00, 0x80, // mov ecx, 80000003h
-            0x66, 0xBA, 0x34, 0x12, // mov dx, 1234h
-            0x48, 0x89, 0x0B, // mov [rbx], rcx
-            0x48, 0x63, 0x33, // movsxd rsi, dword ptr [rbx]
-            0x48, 0x01, 0xC8, // add rax, rcx
-            0x29, 0xC8, // sub eax, ecx
-            0x83, 0x03, 0xFD, // add dword ptr [rbx], -3
-            0x48, 0x0F, 0xAF, 0x03, // imul rax, [rbx]
-            0x50, // push rax
-            0x41, 0x5F, // pop r15
-            0x48, 0x8B, 0x0D, 0x05, 0x00, 0x00, 0x00, // mov rcx, [rip + 5]
-            0xFF, 0xD7, // call rdi
-            0xC3, // ret
-            0xC3, // ret
-            0xCC, 0x08, 0x07, 0x06, 0x05, 0x04, 0x03, 0x02, 0x01,
-        ],
-    );
-    Ok(space)
-}
+const ROUTINE: &str = r"
+40000000 | 48 B8 88 77 66 55 44 33 22 11 | mov rax, 1122334455667788h
+4000000A | B9 03 00 00 80                | mov ecx, 80000003h
+4000000F | 66 BA 34 12                   | mov dx, 1234h
+40000013 | 48 89 0B                      | mov [rbx], rcx
+40000016 | 48 63 33                      | movsxd rsi, dword ptr [rbx]
+40000019 | 48 01 C8                      | add rax, rcx
+4000001C | 29 C8                         | sub eax, ecx
+4000001E | 83 03 FD                      | add dword ptr [rbx], -3
+40000021 | 48 0F AF 03                   | imul rax, [rbx]
+40000025 | 50                            | push rax
+40000026 | 41 5F                         | pop r15
+40000028 | 48 8B 0D 05 00 00 00          | mov rcx, [rip + 5]
+4000002F | FF D7                         | call rdi
+40000031 | C3                            | ret
+40000032 | C3                            | ret
+40000033 | CC 08 07 06 05 04 03 02 01    | a byte, and the number
+";
 
 /// RIP after each step, and a register with its value there.
 const STEPS: &str = r"
@@ -135,11 +203,9 @@ const STEPS: &str = r"
 40000031 rsp 70001000
 ";
 
-/// What a row of steps has.
-fn step_of(rt: &impl Abort, row: &str) -> Option<(u64, Reg, u64)> {
-    let mut words = row.split(' ');
-    let rip = number(rt, words.next()?);
-    let register = match words.next()? {
+/// The register of a name.
+fn register_of(rt: &impl Abort, name: &str) -> Reg {
+    match name {
         "rax" => Reg::Rax,
         "rcx" => Reg::Rcx,
         "rdx" => Reg::Rdx,
@@ -147,65 +213,91 @@ fn step_of(rt: &impl Abort, row: &str) -> Option<(u64, Reg, u64)> {
         "rsp" => Reg::Rsp,
         "rsi" => Reg::Rsi,
         "r15" => Reg::R15,
-        _ => return None,
-    };
-    Some((rip, register, number(rt, words.next()?)))
+        _ => panic!(rt; "no register: {name}"),
+    }
 }
 
-#[test]
-fn steps_through_a_routine(rt: HostRuntime) -> Result<(), Fail> {
-    let mut space = with_routine(rt.alloc())?;
+/// Compares what one step comes to.
+fn steps_to<S: AddressSpace>(rt: &impl Abort, cpu: &mut Cpu, space: &mut S, row: &str) {
+    same(rt, step(cpu, space), StepOutcome::Next, row);
+    same(rt, cpu.rip, number_at(rt, row, 0), row);
+    let found = cpu.register(register_of(rt, word(rt, row, 1)));
+    same(rt, found, number_at(rt, row, 2), row);
+}
+
+/// Compares the numbers of 64 bits at the addresses of a table.
+fn all_hold<S: AddressSpace>(rt: &impl Abort, space: &S, table: &str) {
+    for row in table.lines().skip(1) {
+        let found = space.load(number(rt, column(rt, row, 0)), Width::W64);
+        let want = number(rt, column(rt, row, 1));
+        same(rt, found, Ok(want), row);
+    }
+}
+
+/// A refused step leaves the registers as they are.
+fn is_refused<S: AddressSpace>(
+    rt: &impl Abort,
+    space: &mut S,
+    before: Cpu,
+    want: StepOutcome,
+    row: &str,
+) {
+    let mut after = before;
+    same(rt, step(&mut after, space), want, row);
+    same(rt, after, before, row);
+}
+
+/// What the routine leaves in memory.
+const LEFT: &str = r"
+40001000 | 80000000
+70000FF8 | 40000031
+";
+
+/// The steps of the routine, and the state after them.
+fn steps_through<S: AddressSpace>(rt: &impl Abort, space: &mut S) -> Cpu {
     let mut cpu = cpu();
     cpu.set_register(Width::W64, Reg::Rbx, 0x4000_1000);
     cpu.set_register(Width::W64, Reg::Rdi, 0x4000_0032);
     for row in STEPS.lines().skip(1) {
-        match step_of(&rt, row) {
-            None => panic!(rt; "no row: {row}"),
-            Some((rip, register, want)) => {
-                assert_eq!(rt; step(&mut cpu, &mut space), StepOutcome::Next, "{row}");
-                assert_eq!(rt; cpu.rip, rip, "{row}");
-                assert_eq!(rt; cpu.register(register), want, "{row}");
-            }
-        }
+        steps_to(rt, &mut cpu, space, row);
     }
-    assert_eq!(rt; space.load(0x4000_1000, Width::W64), Ok(0x8000_0000));
-    assert_eq!(rt; space.load(0x7000_0FF8, Width::W64), Ok(0x4000_0031));
+    cpu
+}
+
+#[test]
+fn steps_through_a_routine(rt: HostRuntime) -> Result<(), Fail> {
+    let mut space = with_code(&rt, rt.alloc(), ROUTINE)?;
+    let cpu = steps_through(&rt, &mut space);
+    all_hold(&rt, &space, LEFT);
     // 80000003h + FFFFFFFDh carries; the product after it fits.
-    assert_eq!(rt; cpu.flags, flags(false, false, true, false));
-    // The stack is empty.
+    same(&rt, cpu.flags, flags(false, false, true, false), "flags");
+    same(&rt, cpu.rip, 0x4000_0031, "RIP");
     let want = violation(false, 0x7000_1000);
-    assert_eq!(rt; step(&mut cpu, &mut space), want);
-    assert_eq!(rt; cpu.rip, 0x4000_0031);
+    is_refused(&rt, &mut space, cpu, want, "the stack is empty");
     Ok(())
 }
 
-/// Instructions that are refused by what the registers hold, and one at the end of the code.
-fn with_pieces(alloc: Global) -> Result<PageMap, AllocError> {
-    let mut space = PageMap::new(alloc, &REGIONS)?;
-    space.fill(
-        0x4000_0000,
-        &[
-            0x50, // push rax
-            0x48, 0x8B, 0x00, // mov rax, [rax]
-            0x48, 0x89, 0x00, // mov [rax], rax
-            0xFF, 0x10, // call [rax]
-            0x83, 0x00, 0x01, // add dword ptr [rax], 1
-            0x06, // no instruction in 64-bit mode
-            0xF7, 0x10, // not dword ptr [rax]
-            0x39, 0x00, // cmp [rax], eax
-            0xC1, 0x20, 0x00, // shl dword ptr [rax], 0
-            0x0F, 0x94, 0x00, // sete byte ptr [rax]
-            0xF7, 0x30, // div dword ptr [rax]
-            0xCC, // int3
-            0x0F, 0x0B, // ud2
-            0x41, 0xCC, // int3
-            0xFF, 0x20, // jmp [rax]
-        ],
-    );
-    // A mov whose number isn't executable, and a ret that isn't.
-    space.fill(0x4000_0FFF, &[0xB8, 0xC3]);
-    Ok(space)
-}
+/// Instructions that are refused by what the registers hold. The last ones are a mov whose number
+/// isn't executable, and a ret that isn't.
+const PIECES: &str = r"
+40000000 | 50       | push rax
+40000001 | 48 8B 00 | mov rax, [rax]
+40000004 | 48 89 00 | mov [rax], rax
+40000007 | FF 10    | call [rax]
+40000009 | 83 00 01 | add dword ptr [rax], 1
+4000000C | 06       | no instruction in 64-bit mode
+4000000D | F7 10    | not dword ptr [rax]
+4000000F | 39 00    | cmp [rax], eax
+40000011 | C1 20 00 | shl dword ptr [rax], 0
+40000014 | 0F 94 00 | sete byte ptr [rax]
+40000017 | F7 30    | div dword ptr [rax]
+40000019 | CC       | int3
+4000001A | 0F 0B    | ud2
+4000001C | 41 CC    | int3
+4000001E | FF 20    | jmp [rax]
+40000FFF | B8       | mov eax, number
+40001000 | C3       | ret
+";
 
 /// Steps that are refused: `RIP RAX RSP | WHAT WHERE | NOTE`, with the address that isn't read or
 /// written, or of the host's service, or RIP; for a fault with its code.
@@ -239,79 +331,47 @@ const REFUSED: &str = r"
 7FF00011 1        70001000 | illegal 7FF00011       | between the services there is none
 ";
 
-/// The state before a refused step, and what the step comes to.
-fn refusal_of(rt: &impl Abort, row: &str) -> Option<(Cpu, StepOutcome)> {
-    let mut columns = row.split('|');
-    let mut words = columns.next()?.split_ascii_whitespace();
+/// The state before a refused step.
+fn refused_at(rt: &impl Abort, words: &str) -> Cpu {
     let mut before = cpu();
-    before.rip = number(rt, words.next()?);
-    before.set_register(Width::W64, Reg::Rax, number(rt, words.next()?));
-    before.set_register(Width::W64, Reg::Rsp, number(rt, words.next()?));
-    let mut words = columns.next()?.split_ascii_whitespace();
-    let what = words.next()?;
-    let address = number(rt, words.next()?);
-    let outcome = match what {
+    before.rip = number_at(rt, words, 0);
+    before.set_register(Width::W64, Reg::Rax, number_at(rt, words, 1));
+    before.set_register(Width::W64, Reg::Rsp, number_at(rt, words, 2));
+    before
+}
+
+/// What the step at an address comes to, by a word and the number after it.
+fn refusal_of(rt: &impl Abort, rip: u64, what: &str, address: u64) -> StepOutcome {
+    match what {
         "read" => violation(false, address),
         "write" => violation(true, address),
         "guard" => StepOutcome::Guard { address },
         "host" => StepOutcome::Host { address },
-        "illegal" if address == before.rip => StepOutcome::Illegal,
+        "illegal" if address == rip => StepOutcome::Illegal,
         "fault" => StepOutcome::Fault {
             code: code_of(address),
             access: None,
         },
-        _ => return None,
-    };
-    Some((before, outcome))
+        _ => panic!(rt; "no refusal: {what}"),
+    }
 }
+
+/// What the data hold after them, as before.
+const KEPT: &str = r"
+40001000 | C3
+40001FF8 | 0
+";
 
 #[test]
 fn refused_steps_change_nothing(rt: HostRuntime) -> Result<(), Fail> {
-    let mut space = with_pieces(rt.alloc())?;
+    let mut space = with_code(&rt, rt.alloc(), PIECES)?;
     for row in REFUSED.lines().skip(1) {
-        match refusal_of(&rt, row) {
-            None => panic!(rt; "no row: {row}"),
-            Some((before, want)) => {
-                let mut after = before;
-                assert_eq!(rt; step(&mut after, &mut space), want, "{row}");
-                assert_eq!(rt; after, before, "{row}");
-            }
-        }
+        let before = refused_at(&rt, column(&rt, row, 0));
+        let words = column(&rt, row, 1);
+        let address = number_at(&rt, words, 1);
+        let want = refusal_of(&rt, before.rip, word(&rt, words, 0), address);
+        is_refused(&rt, &mut space, before, want, row);
     }
-    assert_eq!(rt; space.load(0x4000_1000, Width::W64), Ok(0xC3));
-    assert_eq!(rt; space.load(0x4000_1FF8, Width::W64), Ok(0));
-    Ok(())
-}
-
-#[test]
-fn pushes_and_pops(rt: HostRuntime) -> Result<(), Fail> {
-    let mut space = space(rt.alloc())?;
-    let before = cpu();
-    // The old RSP is stored.
-    // push rsp
-    let pushed = effect_of(before, &mut space, &[0x54]);
-    let mut below = before;
-    below.registers[4] = 0x7000_0FF8;
-    assert_eq!(rt; pushed, Some(Ok(below)));
-    assert_eq!(rt; space.load(0x7000_0FF8, Width::W64), Ok(0x7000_1000));
-    assert_eq!(rt; pop(below, &space), Ok((0x7000_1000, before)));
-    // POP RSP leaves what was popped.
-    assert_eq!(rt; space.store(0x7000_0FF8, Width::W64, 0x1234), Ok(()));
-    let mut popped = below;
-    popped.registers[4] = 0x1234;
-    // pop rsp
-    assert_eq!(rt; effect_of(below, &mut space, &[0x5C]), Some(Ok(popped)));
-    let stop = Stop::Fault {
-        code: Code(0xC000_0005),
-        access: Some((false, 0x7000_1000)),
-    };
-    assert_eq!(rt; pop(before, &space), Err(stop));
-    // int3 and ud2
-    for code in [[0xCC].as_slice(), [0x0F, 0x0B].as_slice()] {
-        assert_eq!(rt;
-            effect_of(cpu(), &mut space, code),
-            Some(Err(Stop::Illegal))
-        );
-    }
+    all_hold(&rt, &space, KEPT);
     Ok(())
 }
