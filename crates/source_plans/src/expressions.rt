@@ -5,7 +5,7 @@ ghost use Rattle.c_checked.specs.Expression as tree;
 ghost use Rattle.source_machine.specs.Frames as frames;
 ghost use Rattle.source_machine.specs.Plans as plans;
 ghost use Rattle.source_plans.specs.Views as views;
-ghost use Rattle.source_plans.specs.Kinds.{IsCompoundAssign, IsIncrement};
+ghost use Rattle.source_plans.specs.Kinds.{IsCompoundAssign, IsIncrement, IsOperator};
 ghost use Rattle.source_plans.specs.Views.{place_of, plan_of};
 
 use crate::frame::{
@@ -231,17 +231,12 @@ fn difference_plan<'p>(size: u64, left: &'p Expr, right: &'p Box<Expr>, place: P
     )
 }
 
-/// For an expression without its conversion.
-pub fn node_plan<'p>(alloc: Global, node: &'p Node, place: Place) -> Plan<'p>
+/// For an operator that changes no place: its first operand.
+fn operator_plan<'p>(node: &'p Node, place: Place) -> Plan<'p>
+    requires { IsOperator (tree.node node.now) }
     ensures { plan_of result ≡ plans.node_plan (tree.node node.now) (place_of place) }
 {
     match node {
-        Node::Constant { value, .. } => gives(*value),
-        Node::Read(target) => read_plan(target, place),
-        Node::AddressOf(target) => then(start(Task::Locate(target), place)),
-        Node::Assign { target, value } => assign_plan(target, value, place),
-        Node::CompoundAssign { .. } => compound_plan(node, place),
-        Node::Increment { .. } => increment_plan(node, place),
         Node::Unary {
             operation,
             operand: of,
@@ -257,6 +252,21 @@ pub fn node_plan<'p>(alloc: Global, node: &'p Node, place: Place) -> Plan<'p>
         Node::Or(left, right) => operand(OperandFrame::EvaluatesIfFalse(right, place), left, place),
         Node::Conditional { condition, yes, no } => conditional_plan(condition, yes, no, place),
         Node::Comma(left, right) => operand(OperandFrame::Discards(right, place), left, place),
+        _ => gives(0),
+    }
+}
+
+/// For an expression without its conversion.
+pub fn node_plan<'p>(alloc: Global, node: &'p Node, place: Place) -> Plan<'p>
+    ensures { plan_of result ≡ plans.node_plan (tree.node node.now) (place_of place) }
+{
+    match node {
+        Node::Constant { value, .. } => gives(*value),
+        Node::Read(target) => read_plan(target, place),
+        Node::AddressOf(target) => then(start(Task::Locate(target), place)),
+        Node::Assign { target, value } => assign_plan(target, value, place),
+        Node::CompoundAssign { .. } => compound_plan(node, place),
+        Node::Increment { .. } => increment_plan(node, place),
         Node::Call {
             function,
             arguments,
@@ -268,6 +278,7 @@ pub fn node_plan<'p>(alloc: Global, node: &'p Node, place: Place) -> Plan<'p>
         Node::ExceptionCode => gives(u64::from(place.exception.code)),
         Node::Information(field) => gives(field_of(*field, place.exception)),
         Node::AbnormalTermination => gives(of_test(place.abnormal)),
+        _ => operator_plan(node, place),
     }
 }
 
