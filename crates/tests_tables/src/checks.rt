@@ -1,4 +1,5 @@
-//! Checkers, each of which compares what is found with the text of a row.
+//! Checkers, each of which compares what is found with the text of a row. An assertion that prints
+//! what it compares is proved anew wherever it stands, so that each kind stands once here.
 
 use crate::rows::{bytes_of, columns_of, number};
 use pe_image::Import;
@@ -6,10 +7,15 @@ use std::alloc::Global;
 use std::fmt::Debug;
 use std::process::Abort;
 
+/// Compares texts.
+pub fn is_text(rt: &impl Abort, found: &str, wanted: &str, row: &str) {
+    assert_eq!(rt; found, wanted, "{row}");
+}
+
 /// Compares a value, as `{:?}` prints it, with a text; its numbers are in decimal.
 pub fn shows<T: Debug>(rt: &impl Abort, alloc: Global, found: &T, wanted: &str, row: &str) {
     let text = format!(in alloc; "{found:?}").expect(rt, "memory");
-    assert_eq!(rt; text.as_str(), wanted, "{row}");
+    is_text(rt, text.as_str(), wanted, row);
 }
 
 /// Compares a refusal, as `{:?}` prints it, with a text, which is `-` where there is none.
@@ -21,7 +27,7 @@ pub fn is_refused<E: Debug>(
     row: &str,
 ) {
     match found {
-        None => assert_eq!(rt; "-", wanted, "{row}"),
+        None => is_text(rt, "-", wanted, row),
         Some(refusal) => shows(rt, alloc, refusal, wanted, row),
     }
 }
@@ -33,23 +39,32 @@ pub fn are(rt: &impl Abort, found: &[u64], row: &str) {
         let wanted = number(rt, words.next().unwrap_or("no number"));
         assert_eq!(rt; value, wanted, "{row}");
     }
-    assert_eq!(rt; words.next(), None, "{row}");
+    is_text(rt, words.next().unwrap_or(""), "", row);
+}
+
+/// Compares bytes.
+pub fn are_same(rt: &impl Abort, found: &[u8], wanted: &[u8], row: &str) {
+    assert_eq!(rt; found, wanted, "{row}");
 }
 
 /// Compares bytes with those that pairs of digits spell.
 pub fn are_bytes(rt: &impl Abort, alloc: Global, found: &[u8], digits: &str) {
     let wanted = bytes_of(rt, alloc, digits);
-    assert_eq!(rt; found, wanted.as_slice(), "{digits}");
+    are_same(rt, found, &wanted, digits);
 }
 
-/// Compares imports with a table, `NAME | SLOT`, whose slots are relative to a base.
+/// Compares imports with a table, `NAME | 1 SLOT`, whose slots are relative to a base. The 1 says
+/// that the name is that one.
 pub fn are_imports(rt: &impl Abort, found: &[Import<'_>], base: u64, table: &str) {
     let mut rows = table.lines().skip(1);
     for import in found {
         let columns = columns_of(rows.next().unwrap_or("no row"));
-        let slot = base.wrapping_add(number(rt, columns[1]));
-        assert_eq!(rt; import.name(), columns[0].as_bytes());
-        assert_eq!(rt; import.slot(), slot);
+        let is_named = import.name() == columns[0].as_bytes();
+        are(
+            rt,
+            &[is_named as u64, import.slot().wrapping_sub(base)],
+            columns[1],
+        );
     }
-    assert_eq!(rt; rows.next(), None);
+    is_text(rt, rows.next().unwrap_or(""), "", table);
 }

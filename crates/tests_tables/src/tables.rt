@@ -1,7 +1,7 @@
 ghost use Rattle.std.specs.Prelude.{◌≡◌, ◌≤◌, ◌<◌, length};
 ghost use Rattle.eh_tables.specs.Tables.{TablesAreWhole};
 
-use crate::checks::{is_refused, shows};
+use crate::checks::{are, is_refused, shows};
 use crate::entries::reads;
 use crate::rows::{bytes_of, columns_of, number, put_at};
 use eh_tables::{RuntimeFunction, Tables, read_again, write_pdata};
@@ -212,8 +212,8 @@ fn finds_nothing_without_entries(rt: HostRuntime) {
     let bytes = table_image(rt.alloc(), &[], &[]).expect(&rt, "memory");
     let view = ImageView::read(rt.alloc(), &bytes).expect(&rt, "an image");
     let tables = Tables::read(&view).expect(&rt, "a table");
-    assert_eq!(rt; tables.len(), 0);
-    assert!(rt; tables.lookup(0x2000).is_none());
+    let is_none = tables.lookup(0x2000).is_none() as u64;
+    are(&rt, &[tables.len(), is_none], "0 1");
 }
 
 /// Where the entry begins that holds an address, and the steps of the search. The number of steps

@@ -1,3 +1,4 @@
+use crate::checks::{are, are_same};
 use crate::rows::{columns_of, number, place_of, push_bytes};
 use pe_image::ImageView;
 use seh_io::plain::VecSink;
@@ -139,10 +140,10 @@ fn bytes_after(rt: &impl Abort, alloc: Global, lines: &str, word: &str) -> Vec<u
 fn shows_lines(rt: &impl Abort, alloc: Global, bytes: &[u8], lines: &str, head: &str) {
     let image = ImageView::read(alloc, bytes).expect(rt, "an image");
     let mut out = VecSink::new(alloc);
-    let answer = view(&image, &mut out);
-    assert!(rt; answer.is_ok(), "{head}");
+    let is_shown = view(&image, &mut out).is_ok();
+    are(rt, &[is_shown as u64], "1");
     let wanted = format!(in alloc; "{lines}\n").expect(rt, "memory");
-    assert_eq!(rt; out.bytes.as_slice(), wanted.as_bytes(), "{head}");
+    are_same(rt, &out.bytes, wanted.as_bytes(), head);
 }
 
 /// The same of the image of a part of a table.
@@ -162,11 +163,12 @@ fn shows(rt: HostRuntime) {
 }
 
 /// Which call of the sink fails, how many bytes the others take at most, and how many bytes were
-/// taken then: the second piece is refused, or the first after its first 10 bytes.
+/// taken then, by the fault and by the sink: the second piece is refused, or the first after its
+/// first 10 bytes.
 const FAULTS: &str = r"
-2 | 1000 | 23
-2 | A    | A
-1 | 1    | 0
+2 | 1000 | 23 23
+2 | A    | A A
+1 | 1    | 0 0
 ";
 
 /// Compares how much of an image's view a sink has taken when it fails with what a row says.
@@ -174,12 +176,15 @@ fn stops(rt: &impl Abort, alloc: Global, image: &ImageView<'_>, row: &str) {
     let columns = columns_of(row);
     let failing = [number(rt, columns[0])].to_vec(alloc).expect(rt, "memory");
     let most = place_of(rt, columns[1]);
-    assert!(rt; 0 < most, "{row}");
+    if most == 0 {
+        panic!(rt; "no bytes at a call");
+    }
     let mut out = MemSink::new(Vec::new(alloc), Plan::new(failing, most));
-    let fault = view(image, &mut out).err().map(|fault| fault.taken);
-    let taken = number(rt, columns[2]);
-    assert_eq!(rt; fault, Some(taken), "{row}");
-    assert_eq!(rt; out.bytes.len() as u64, taken, "{row}");
+    let taken = match view(image, &mut out) {
+        Ok(()) => u64::MAX,
+        Err(fault) => fault.taken,
+    };
+    are(rt, &[taken, out.bytes.len() as u64], columns[2]);
 }
 
 #[test]

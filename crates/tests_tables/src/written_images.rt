@@ -1,4 +1,4 @@
-use crate::checks::{are, are_bytes, are_imports};
+use crate::checks::{are, are_bytes, are_imports, are_same};
 use crate::rows::{bytes_of, columns_of, number, put_fields};
 use host_layout::imported::IMPORTED;
 use pe_image::ImageView;
@@ -90,13 +90,19 @@ fn laid(rt: &impl Abort, alloc: Global) -> Vec<u8> {
 fn image_of(rt: &impl Abort, alloc: Global, row: &str, entry: u32) -> Image {
     let columns = columns_of(row);
     let size = (number(rt, columns[0]) % 65536) as u32;
-    assert!(rt; size % 4096 == 0 && 4096 <= size && size <= 8192);
+    if size % 4096 != 0 || size < 4096 || size > 8192 {
+        panic!(rt; "no size of data");
+    }
     let data = bytes_of(rt, alloc, columns[1]);
     let text = bytes_of(rt, alloc, columns[2]);
     let xdata = bytes_of(rt, alloc, columns[3]);
     let pdata = bytes_of(rt, alloc, columns[4]);
-    assert!(rt; data.len() <= 4096 && xdata.len() <= 4096 && pdata.len() <= 4096);
-    assert!(rt; (entry as usize) < text.len() && text.len() <= 4096);
+    if data.len() > 4096 || text.len() > 4096 || xdata.len() > 4096 || pdata.len() > 4096 {
+        panic!(rt; "more than a page");
+    }
+    if entry as usize >= text.len() {
+        panic!(rt; "no code");
+    }
     Image::new(size, data, text, entry, xdata, pdata)
 }
 
@@ -111,16 +117,16 @@ fn writes_five_sections(rt: HostRuntime) {
     let row = "1000 | 01020304 | 90 B8 07 00 00 00 C3 | 01000000 | 00200000 07200000 00400000";
     let bytes = written(&rt, rt.alloc(), row, 1);
     let wanted = laid(&rt, rt.alloc());
-    assert_eq!(rt; bytes.as_slice(), wanted.as_slice());
+    are_same(&rt, &bytes, &wanted, row);
 }
 
 /// The names of the services, in their order, and where their slots lie in `.rdata`.
 const SERVICES: &str = r"
-RaiseException       | 58
-__C_specific_handler | 60
-_local_unwind        | 68
-protect              | 70
-put                  | 78
+RaiseException       | 1 58
+__C_specific_handler | 1 60
+_local_unwind        | 1 68
+protect              | 1 70
+put                  | 1 78
 ";
 
 #[test]
@@ -165,7 +171,11 @@ fn names_services(rt: HostRuntime) {
     let mut rows = SERVICES.lines().skip(1);
     for service in IMPORTED.iter() {
         let columns = columns_of(rows.next().unwrap_or("no row"));
-        assert_eq!(rt; service.name(), columns[0].as_bytes());
-        are(&rt, &[slot_of(*service) as u64], columns[1]);
+        let is_named = service.name() == columns[0].as_bytes();
+        are(
+            &rt,
+            &[is_named as u64, slot_of(*service) as u64],
+            columns[1],
+        );
     }
 }
