@@ -1,7 +1,6 @@
 //! What no row of the opcode table spells.
 
-use crate::words::bytes_of;
-use std::test::Fail;
+use crate::words::code_of;
 use x64_instr::decoding::decode;
 
 /// How many bytes are one spelling as a whole.
@@ -97,13 +96,12 @@ B0 01
 
 // No leading bytes of them are a spelling.
 #[test]
-fn no_row_spells_them(rt: HostRuntime) -> Result<(), Fail> {
+fn no_row_spells_them(rt: HostRuntime) {
     for table in [PREFIXES, ROWS] {
         for words in table.lines().skip(1) {
-            let bytes = bytes_of(rt.alloc(), words)?;
-            assert_eq!(rt; bytes.len(), words.split(' ').count(), "{words}");
-            assert_eq!(rt; decode(&bytes), None, "{words}");
+            let code = code_of(words);
+            assert_eq!(rt; code.count(), words.split(' ').count(), "{words}");
+            assert!(rt; decode(code.front(code.count())).is_none(), "{words}");
         }
     }
-    Ok(())
 }

@@ -3,7 +3,7 @@
 //! A row is `BYTES | ASSEMBLY | INSTRUCTION`, the bytes in hexadecimal and the instruction as its
 //! `Debug` shows it, where a number below 0 is shown modulo 2^64.
 
-use crate::words::bytes_of;
+use crate::words::code_of;
 use arrayvec::ArrayVec;
 use seh_num::size::LONGEST_INSTRUCTION;
 use std::alloc::Global;
@@ -22,36 +22,47 @@ fn columns_of(row: &str) -> Option<(&str, &str)> {
     Some((words, columns.next()?))
 }
 
-/// The instruction that bytes spell, also with others after them, and that no part of them does.
-fn read(rt: &impl Abort, alloc: Global, bytes: &[u8], row: &str) -> Result<Instr, Fail> {
-    let Some((instr, count)) = decode(bytes) else {
+/// Compares what the leading bytes spell.
+fn reads(rt: &impl Abort, bytes: &[u8], want: Option<(Instr, usize)>, row: &str) {
+    assert_eq!(rt; decode(bytes), want, "{row}");
+}
+
+/// The instruction that words spell, also with a byte after them, and that no part of them does.
+fn read(rt: &impl Abort, words: &str, row: &str) -> Instr {
+    let code = code_of(words);
+    let Some((instr, count)) = decode(code.front(code.count())) else {
         panic!(rt; "no instruction: {row}")
     };
-    assert_eq!(rt; count, bytes.len(), "{row}");
-    for len in 0..bytes.len() {
-        assert_eq!(rt; decode(&bytes[..len]), None, "{row}");
+    assert_eq!(rt; count, code.count(), "{row}");
+    for len in 0..count {
+        reads(rt, code.front(len), None, row);
     }
-    let mut more = bytes.to_vec(alloc)?;
-    more.push(0xC3)?;
-    assert_eq!(rt; decode(&more), Some((instr, count)), "{row}");
-    Ok(instr)
+    let mut more = code;
+    more.push(0xC3);
+    reads(rt, more.front(more.count()), Some((instr, count)), row);
+    instr
+}
+
+/// Compares the chosen spelling of an instruction.
+fn is_chosen(rt: &impl Abort, instr: &Instr, words: &str, row: &str) {
+    let code = code_of(words);
+    let mut into: ArrayVec<u8, LONGEST_INSTRUCTION> = ArrayVec::new();
+    assert!(rt; is_encodable(instr));
+    encode(instr, &mut into);
+    assert_eq!(rt; into.as_slice(), code.front(code.count()), "{row}");
 }
 
 /// Compares what a row's bytes spell, and whether they are also the chosen spelling.
-fn is_spelled(rt: &impl Abort, alloc: Global, row: &str, is_chosen: bool) -> Result<(), Fail> {
+fn is_spelled(rt: &impl Abort, alloc: Global, row: &str, chosen: bool) -> Result<(), Fail> {
     let Some((words, want)) = columns_of(row) else {
         panic!(rt; "no row: {row}")
     };
-    let bytes = bytes_of(alloc, words)?;
-    let instr = read(rt, alloc, &bytes, row)?;
+    let instr = read(rt, words, row);
+    if chosen {
+        is_chosen(rt, &instr, words, row);
+    }
     let found = format!(in alloc; "{instr:?}")?;
     assert_eq!(rt; found.as_str(), want, "{row}");
-    if is_chosen {
-        let mut into: ArrayVec<u8, LONGEST_INSTRUCTION> = ArrayVec::new();
-        assert!(rt; is_encodable(&instr));
-        encode(&instr, &mut into);
-        assert_eq!(rt; into.as_slice(), bytes.as_slice(), "{row}");
-    }
     Ok(())
 }
 
