@@ -1,6 +1,5 @@
 -- Lines that are written out.
-use Rattle.std.specs.Prelude.{true, false, List, [], ◌∷◌, pos, codes}
-use Rattle.clap.specs.Words.{Text}
+use Rattle.std.specs.Prelude.{true, false, [], ◌∷◌, pos, codes}
 use Rattle.command_line.specs.declared.command.Command.TheVariants.{Compile, Exec, Run, Meaning, Show}
 use Rattle.command_line.specs.Lines.{IsLine}
 

@@ -3,11 +3,11 @@
 ghost use Rattle.std.specs.Prelude.{◌≡◌, ℕ, ◌^◌, ◌<◌, [], None, Err, false, IfOk, IfErr, IfSome, map, option_map};
 ghost use Rattle.std.specs.Fmt.{decimal};
 ghost use Rattle.std.specs.String.{string_bytes};
-ghost use Rattle.clap.specs.Words.{app_of, fault_of, found_of, rows_of, subcommand_of, subcommand_rows_of};
+ghost use Rattle.clap.specs.Words.{app_of, with_subcommand, fault_of, found_of, rows_of, subcommand_of, subcommand_rows_of};
 ghost use Rattle.clap.specs.declared.builder.command.Command.TheViews.{out-Command};
 ghost use Rattle.command_line.specs.declared.command.Command.{Command};
 ghost use Rattle.command_line.specs.declared.command.RunOptions.{RunOptions};
-ghost use Rattle.command_line.specs.Lines.{seh_app, run_app_named, HasOptions, IsLine, IsNoLine, IsNumber, IsNamedBy};
+ghost use Rattle.command_line.specs.Lines.{bare_app, seh_app, run_app_named, HasOptions, IsLine, IsNoLine, IsNumber, IsNamedBy};
 
 use crate::command::{Command, RunOptions};
 use clap::error::ErrorKind;
@@ -52,39 +52,59 @@ fn run_command<'a>(alloc: Global, name: &'a str) -> Result<clap::Command<'a>, Al
     ensures app { IfOk result (λ c. app_of c ≡ run_app_named name.entry.now) }
     ensures local { IfOk result (λ c. (out-Command c).has_globals ≡ false) }
 {
-    let turns = Arg::new(alloc, "turns")
-        .long("turns")
-        .action(ArgAction::Set);
-    let argument = Arg::new(alloc, "arg").long("arg").action(ArgAction::Set);
-    let trace = Arg::new(alloc, "trace")
-        .long("trace")
-        .action(ArgAction::SetTrue);
     clap::Command::new(alloc, name)
-        .arg(turns)?
-        .arg(argument)?
-        .arg(trace)
+        .arg(
+            Arg::new(alloc, "turns")
+                .long("turns")
+                .action(ArgAction::Set),
+        )?
+        .arg(Arg::new(alloc, "arg").long("arg").action(ArgAction::Set))?
+        .arg(
+            Arg::new(alloc, "trace")
+                .long("trace")
+                .action(ArgAction::SetTrue),
+        )
 }
 
-/// All commands.
-fn program<'a>(alloc: Global) -> Result<clap::Command<'a>, AllocError>
-    ensures { IfOk result (λ c. app_of c ≡ seh_app) }
+/// A command with one more below it, which takes the options of a run.
+fn with_run<'a>(
+    alloc: Global,
+    command: clap::Command<'a>,
+    name: &'a str,
+) -> Result<clap::Command<'a>, AllocError>
+    ensures { IfOk result (λ c. app_of c
+        ≡ with_subcommand (app_of command.entry) (run_app_named name.entry.now).top) }
 {
-    let compile = clap::Command::new(alloc, "compile");
-    let show = clap::Command::new(alloc, "show");
-    let exec = run_command(alloc, "exec")?;
-    let run = run_command(alloc, "run")?;
-    let meaning = run_command(alloc, "meaning")?;
+    match run_command(alloc, name) {
+        Ok(run) => command.subcommand(run),
+        Err(failed) => {
+            drop(command);
+            Err(failed)
+        }
+    }
+}
+
+/// The program's own command, with none below it.
+fn bare<'a>(alloc: Global) -> clap::Command<'a>
+    ensures { app_of result ≡ bare_app }
+{
     clap::Command::new(alloc, "seh")
         .no_binary_name(true)
         .disable_help_flag(true)
         .disable_help_subcommand(true)
         .disable_version_flag(true)
         .subcommand_required(true)
-        .subcommand(compile)?
-        .subcommand(show)?
-        .subcommand(exec)?
-        .subcommand(run)?
-        .subcommand(meaning)
+}
+
+/// All commands.
+fn program<'a>(alloc: Global) -> Result<clap::Command<'a>, AllocError>
+    ensures { IfOk result (λ c. app_of c ≡ seh_app) }
+{
+    let compiling = bare(alloc).subcommand(clap::Command::new(alloc, "compile"))?;
+    let showing = compiling.subcommand(clap::Command::new(alloc, "show"))?;
+    let executing = with_run(alloc, showing, "exec")?;
+    let running = with_run(alloc, executing, "run")?;
+    with_run(alloc, running, "meaning")
 }
 
 /// What `clap` makes of the words.

@@ -1,4 +1,4 @@
-use Rattle.std.proofs.Common.{◌≡◌, ◌<◌, ◌^◌, ◌∙◌, ℕ, List, Option, Some, None, codes, Bool, false, sym, ap, subst, arith, ℤ, pos, to_z, w64, option_map}
+use Rattle.std.proofs.Common.{◌∙◌, ℕ, List, Option, codes, Bool, false, sym, ap, subst, arith}
 use Rattle.std.proofs.lemmas.Int.{ints}
 use Rattle.std.specs.Option.{option_map_or}
 use Rattle.std.specs.Str.{bytes_eq}
