@@ -9,7 +9,7 @@ ghost use Rattle.c_interpret.specs.Texts as texts;
 use crate::run::run_program;
 use c_checked::checked::Checked;
 use c_model::ended::Ended;
-use seh_io::line::Line;
+use seh_io::line::{ADDRESS_DIGITS, CODE_DIGITS, Line};
 use seh_io::receiver::Lines;
 use seh_io::sink::Sink;
 use std::alloc::Global;
@@ -35,11 +35,11 @@ fn ended_line(ended: &Ended) -> Line
         }
         Ended::Unhandled(code) => {
             line.text(b"unhandled ");
-            line.hexadecimal(8, u64::from(code.0));
+            line.hexadecimal(CODE_DIGITS, u64::from(code.0));
         }
         Ended::Undefined { address } => {
             line.text(b"undefined ");
-            line.hexadecimal(16, address);
+            line.hexadecimal(ADDRESS_DIGITS, address);
         }
         Ended::Deep { depth } => {
             line.text(b"deep ");

@@ -1,3 +1,4 @@
+pub mod Lengths
 pub mod Streams
 pub mod Reading
 pub mod Text

@@ -11,18 +11,18 @@ use Rattle.seh_num.specs.declared.end.Reason.TheVariants.{Illegal, BadRecord, Un
 use Rattle.seh_num.specs.declared.end.RunEnd.{RunEnd}
 use Rattle.seh_num.specs.declared.end.RunEnd.TheVariants.{Exit, Unhandled, StackLimit, OutOfTurns, Stopped}
 use Rattle.seh_num.specs.declared.code.TheConstants.{ACCESS_VIOLATION}
+use Rattle.seh_io.specs.declared.line.TheConstants.{CODE_DIGITS, ADDRESS_DIGITS}
 
 -- the last digits of a number in base 16, so many, in upper case
 unfoldable pub hexadecimal : ℕ → ℕ → List ℕ
 hexadecimal zero n = []
 hexadecimal (suc k) n = hexadecimal k (n / 16) ++ digit_glyph true (n % 16) ∷ []
 
--- a code's number has 8 digits, an address 16
 abbrev pub code_text : Code → List ℕ
-code_text code = hexadecimal 8 code.0
+code_text code = hexadecimal CODE_DIGITS code.0
 
 abbrev pub address_text : ℕ → List ℕ
-address_text address = hexadecimal 16 address
+address_text address = hexadecimal ADDRESS_DIGITS address
 
 abbrev pub flag_text : Bool → List ℕ
 flag_text true = codes "1"

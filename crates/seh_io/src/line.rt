@@ -2,25 +2,37 @@
 
 ghost use Rattle.std.specs.Prelude.{◌≡◌, ◌+◌, ◌≤◌, ◌<◌, ◌*◌, ◌^◌, [], ◌∷◌, ◌++◌, length, true};
 ghost use Rattle.std.specs.Fmt.{decimal, signed_decimal, digit_glyph};
+ghost use Rattle.seh_io.specs.declared.line.TheConstants.{LONGEST_LINE, ADDRESS_DIGITS};
+ghost use Rattle.seh_io.specs.Lengths.{longest_decimal};
 ghost use Rattle.seh_io.specs.Text.{hexadecimal, ended};
 
 use arrayvec::ArrayVec;
 use std::marker::Model;
 
-/// A piece of text of at most 64 bytes, which lie in the value itself.
+/// The most bytes of a line.
+pub const LONGEST_LINE: usize = 64;
+
+/// How many digits of base 16 show the code of an exception, which has 32 bits.
+pub const CODE_DIGITS: u32 = 8;
+
+/// How many digits of base 16 show an address.
+pub const ADDRESS_DIGITS: u32 = 16;
+
+/// A piece of text of at most `LONGEST_LINE` bytes, which lie in the value itself.
 #[derive(Drop)]
 pub struct Line {
-    bytes: ArrayVec<u8, 64>,
+    bytes: ArrayVec<u8, LONGEST_LINE>,
 }
 
 impl Model for Line {
     ghost use Rattle.std.specs.Prelude.{ℕ, ◌≤◌, List, length, true};
+    ghost use Rattle.seh_io.specs.declared.line.TheConstants.{LONGEST_LINE};
 
     ghost Value = { List ℕ };
 
     ghost view = { λ line. line.bytes.items };
 
-    ghost invariant = { λ line. length line.bytes.items ≤ 64 };
+    ghost invariant = { λ line. length line.bytes.items ≤ LONGEST_LINE };
 }
 
 impl Line {
@@ -36,13 +48,13 @@ impl Line {
     /// The bytes of the line.
     pub fn as_bytes(&self) -> &[u8]
         ensures value { result.now ≡ self.now }
-        ensures fits { length result.now ≤ 64 }
+        ensures fits { length result.now ≤ LONGEST_LINE }
     {
         self.bytes.as_slice()
     }
 
     fn push(&mut self, byte: u8)
-        requires { length self.old < 64 }
+        requires { length self.old < LONGEST_LINE }
         ensures { self.new ≡ self.old ++ byte ∷ [] }
     {
         self.bytes.push(byte);
@@ -50,7 +62,7 @@ impl Line {
 
     /// Adds these bytes.
     pub fn text(&mut self, text: &[u8])
-        requires { length self.old + length text.now ≤ 64 }
+        requires { length self.old + length text.now ≤ LONGEST_LINE }
         ensures value { self.new ≡ self.old ++ text.now }
         ensures len { length self.new ≡ length self.old + length text.now }
     {
@@ -60,18 +72,18 @@ impl Line {
 
     /// Adds a number in decimal digits, as few as show it.
     pub fn natural(&mut self, n: u64)
-        requires { length self.old + 20 ≤ 64 }
+        requires { length self.old + longest_decimal ≤ LONGEST_LINE }
         ensures value { self.new ≡ self.old ++ decimal n }
-        ensures len { length self.new ≤ length self.old + 20 }
+        ensures len { length self.new ≤ length self.old + longest_decimal }
     {
         self.digits_of(n);
     }
 
     /// Adds a number in decimal digits, with a `-` before one below 0.
     pub fn integer(&mut self, n: i64)
-        requires { length self.old + 20 ≤ 64 }
+        requires { length self.old + longest_decimal ≤ LONGEST_LINE }
         ensures value { self.new ≡ self.old ++ signed_decimal n }
-        ensures len { length self.new ≤ length self.old + 20 }
+        ensures len { length self.new ≤ length self.old + longest_decimal }
     {
         if n < 0 {
             self.push(b'-');
@@ -80,7 +92,7 @@ impl Line {
     }
 
     fn digits_of(&mut self, n: u64)
-        requires { length self.old + length (decimal n) ≤ 64 }
+        requires { length self.old + length (decimal n) ≤ LONGEST_LINE }
         ensures { self.new ≡ self.old ++ decimal n }
     {
         if n >= 10 {
@@ -91,8 +103,8 @@ impl Line {
 
     /// Adds the last digits of a number in base 16, so many, in upper case.
     pub fn hexadecimal(&mut self, digits: u32, n: u64)
-        requires digits { digits ≤ 16 }
-        requires room { length self.old + digits ≤ 64 }
+        requires digits { digits ≤ ADDRESS_DIGITS }
+        requires room { length self.old + digits ≤ LONGEST_LINE }
         ensures value { self.new ≡ self.old ++ hexadecimal digits n }
         ensures len { length self.new ≡ length self.old + digits }
     {
@@ -103,7 +115,7 @@ impl Line {
 
     /// Ends the line by a line feed.
     pub fn end(&mut self)
-        requires { length self.old < 64 }
+        requires { length self.old < LONGEST_LINE }
         ensures { self.new ≡ ended self.old }
     {
         self.push(b'\n');

@@ -2,9 +2,11 @@
 
 ghost use Rattle.std.specs.Prelude.{◌≡◌, ◌+◌, ◌<◌, ◌≤◌, ◌++◌, length, take, OnOk, OnErr, IfErr};
 ghost use Rattle.seh_io.specs.Streams.{Rose, Grew};
+ghost use Rattle.seh_io.specs.Lengths.{longest_access, longest_reason};
+ghost use Rattle.seh_io.specs.declared.line.TheConstants.{LONGEST_LINE, CODE_DIGITS, ADDRESS_DIGITS};
 ghost use Rattle.seh_io.specs.Text.{line, end_line, text, flag_text, code_text, address_text, access_text, reason_text, event_text};
 
-use crate::line::Line;
+use crate::line::{ADDRESS_DIGITS, CODE_DIGITS, Line};
 use crate::sink::Sink;
 use crate::writing::{WriteFault, put_all};
 use seh_num::code::ACCESS_VIOLATION;
@@ -12,23 +14,23 @@ use seh_num::end::{Reason, RunEnd};
 use seh_num::event::{Code, Event};
 
 fn put_code(line: &mut Line, code: Code)
-    requires { length line.old + 8 ≤ 64 }
+    requires { length line.old + CODE_DIGITS ≤ LONGEST_LINE }
     ensures value { line.new ≡ line.old ++ code_text code }
-    ensures len { length line.new ≡ length line.old + 8 }
+    ensures len { length line.new ≡ length line.old + CODE_DIGITS }
 {
-    line.hexadecimal(8, u64::from(code.0));
+    line.hexadecimal(CODE_DIGITS, u64::from(code.0));
 }
 
 fn put_address(line: &mut Line, address: u64)
-    requires { length line.old + 16 ≤ 64 }
+    requires { length line.old + ADDRESS_DIGITS ≤ LONGEST_LINE }
     ensures value { line.new ≡ line.old ++ address_text address }
-    ensures len { length line.new ≡ length line.old + 16 }
+    ensures len { length line.new ≡ length line.old + ADDRESS_DIGITS }
 {
-    line.hexadecimal(16, address);
+    line.hexadecimal(ADDRESS_DIGITS, address);
 }
 
 fn put_flag(line: &mut Line, flag: bool)
-    requires { length line.old + 1 ≤ 64 }
+    requires { length line.old + 1 ≤ LONGEST_LINE }
     ensures value { line.new ≡ line.old ++ flag_text flag }
     ensures len { length line.new ≡ length line.old + 1 }
 {
@@ -36,9 +38,9 @@ fn put_flag(line: &mut Line, flag: bool)
 }
 
 fn put_access(line: &mut Line, access: Option<(bool, u64)>)
-    requires { length line.old + 23 ≤ 64 }
+    requires { length line.old + longest_access ≤ LONGEST_LINE }
     ensures value { line.new ≡ line.old ++ access_text access }
-    ensures len { length line.new ≤ length line.old + 23 }
+    ensures len { length line.new ≤ length line.old + longest_access }
 {
     if let Some((write, address)) = access {
         line.text(if write { b" write " } else { b" read " });
@@ -47,9 +49,9 @@ fn put_access(line: &mut Line, access: Option<(bool, u64)>)
 }
 
 fn put_reason(line: &mut Line, why: Reason)
-    requires { length line.old + 10 ≤ 64 }
+    requires { length line.old + longest_reason ≤ LONGEST_LINE }
     ensures value { line.new ≡ line.old ++ reason_text why }
-    ensures len { length line.new ≤ length line.old + 10 }
+    ensures len { length line.new ≤ length line.old + longest_reason }
 {
     match why {
         Reason::Illegal => line.text(b"Illegal"),
@@ -62,7 +64,7 @@ fn put_reason(line: &mut Line, why: Reason)
 
 fn raise_text(code: Code, flag: bool, access: Option<(bool, u64)>) -> Line
     ensures value { result ≡ Rattle.seh_io.specs.Text.raise_text code flag access }
-    ensures fits { length result < 64 }
+    ensures fits { length result < LONGEST_LINE }
 {
     let mut line = Line::new();
     line.text(b"raise ");
@@ -78,7 +80,7 @@ fn raise_text(code: Code, flag: bool, access: Option<(bool, u64)>) -> Line
 /// What a trace shows of an event.
 fn event_text(event: &Event) -> Line
     ensures value { result ≡ event_text event.now }
-    ensures fits { length result < 64 }
+    ensures fits { length result < LONGEST_LINE }
 {
     let mut line = Line::new();
     match *event {
