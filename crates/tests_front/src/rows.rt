@@ -103,6 +103,17 @@ fn found_of(alloc: Global, reader: Reader, row: &str) -> Result<String, AllocErr
     }
 }
 
+/// Compares what is reported of a row's text with the row.
+fn as_wanted(rt: &impl Abort, alloc: Global, reader: Reader, row: &str) -> Result<(), Fail> {
+    let Some((text, wanted)) = row.split_once(" => ") else {
+        assert!(rt; false, "no row: {row}");
+        return Ok(());
+    };
+    let found = found_of(alloc, reader, text)?;
+    assert_eq!(rt; found.as_str(), wanted, "of {text}");
+    Ok(())
+}
+
 /// Compares what is reported of each text of some tables with its row.
 pub fn all_as_wanted(
     rt: &impl Abort,
@@ -112,13 +123,7 @@ pub fn all_as_wanted(
 ) -> Result<(), Fail> {
     for table in tables {
         for row in table.lines().skip(1) {
-            match row.split_once(" => ") {
-                None => assert!(rt; false, "no row: {row}"),
-                Some((text, wanted)) => {
-                    let found = found_of(alloc, reader, text)?;
-                    assert_eq!(rt; found.as_str(), wanted, "of {text}");
-                }
-            }
+            as_wanted(rt, alloc, reader, row)?;
         }
     }
     Ok(())

@@ -12,13 +12,15 @@ use c_syntax::limit::MOST_STATEMENTS;
 use std::alloc::{AllocError, Global};
 use std::test::Fail;
 
-/// The three numbers that a row begins with.
+/// The three numbers that a row begins with; 0 for a word that is none.
 fn given_of(words: &str) -> Option<(u64, Left)> {
-    let mut words = words.split(' ');
-    let room = words.next()?.parse().ok()?;
-    let locals = words.next()?.parse().ok()?;
-    let funclets = words.next()?.parse().ok()?;
-    Some((room, Left { locals, funclets }))
+    let (room, words) = words.split_once(' ')?;
+    let (locals, funclets) = words.split_once(' ')?;
+    let left = Left {
+        locals: locals.parse().unwrap_or(0),
+        funclets: funclets.parse().unwrap_or(0),
+    };
+    Some((room.parse().unwrap_or(0), left))
 }
 
 /// How many items there are, and what is left of the counts of locals and funclets; or the refusal.

@@ -25,23 +25,22 @@ pub fn token_of(alloc: Global, text: &[u8], tokens: &[Token]) -> Result<String, 
     }
 }
 
-/// A token: what it is, and where it starts and ends.
-fn part_of(alloc: Global, token: Token) -> Result<String, AllocError> {
+/// A token after a separator: what it is, and where it starts and ends.
+fn part_of(alloc: Global, separator: &str, token: Token) -> Result<String, AllocError> {
     let kind = kind_of(alloc, token.kind)?;
-    format!(in alloc; "{kind} {} {}", token.start, token.end)
+    format!(in alloc; "{separator}{kind} {} {}", token.start, token.end)
 }
 
 /// The tokens of a text, each with where it starts and ends.
 pub fn tokens_of(alloc: Global, tokens: &[Token]) -> Result<String, AllocError> {
+    if tokens.is_empty() {
+        return String::from_str(alloc, "no tokens");
+    }
     let mut found = String::new(alloc);
     for token in tokens {
-        if !found.is_empty() {
-            found.push_str(", ")?;
-        }
-        found.push_str(&part_of(alloc, *token)?)?;
-    }
-    if found.is_empty() {
-        found.push_str("no tokens")?;
+        let separator = if found.is_empty() { "" } else { ", " };
+        let part = part_of(alloc, separator, *token)?;
+        found.push_str(&part)?;
     }
     Ok(found)
 }
@@ -317,20 +316,18 @@ fn characters_have_their_numbers(rt: HostRuntime) {
     }
 }
 
+/// Whether a byte begins no token, alone, after another token, and before a quote.
+fn begins_no_token(alloc: Global, byte: u8) -> bool {
+    no_token_at(alloc, &[byte], 0)
+        && no_token_at(alloc, &[b'a', b' ', byte], 2)
+        && no_token_at(alloc, &[byte, b'\''], 0)
+}
+
 #[test]
 fn bytes_begin_no_token(rt: HostRuntime) {
-    let alloc = rt.alloc();
     for byte in 0..=255u8 {
         if is_bad(byte) {
-            assert!(rt; no_token_at(alloc, &[byte], 0), "of {byte}");
-            assert!(rt;
-                no_token_at(alloc, &[b'a', b' ', byte], 2),
-                "of {byte} after a"
-            );
-            assert!(rt;
-                no_token_at(alloc, &[byte, b'\''], 0),
-                "of {byte} before a quote"
-            );
+            assert!(rt; begins_no_token(rt.alloc(), byte), "of {byte}");
         }
     }
 }
