@@ -4,8 +4,10 @@
 #[cfg(test)]
 mod dispatched;
 #[cfg(test)]
-mod ends;
+mod images;
 #[cfg(test)]
 mod one_section;
 #[cfg(test)]
 mod records;
+#[cfg(test)]
+mod shown;
