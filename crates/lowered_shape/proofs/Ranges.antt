@@ -1,13 +1,12 @@
 -- Each region of a body is a range of its instructions.
-use Rattle.std.proofs.Common.{◌≡◌, ℕ, ◌+◌, ◌-◌, ◌<◌, ◌≤◌, List, [], ◌∷◌, ◌++◌, length, map, Option, None, arith, length-append}
+use Rattle.std.proofs.Common.{ℕ, ◌+◌, ◌-◌, ◌<◌, ◌≤◌, List, [], ◌∷◌, ◌++◌, length, map, None, arith, length-append}
 use Rattle.std.specs.List.{AllByRecursion}
-use Rattle.c_checked.specs.Expression.{Expression}
 use Rattle.c_checked.specs.Statement.{Filter, Always, Funclet, Statement, Declare, Block, Evaluate, If, IfElse, For, DoWhile, Return, Break, Continue, Leave, TryExcept, TryFinally, Statements, Empty, Then}
-use Rattle.c_checked.specs.Program.{Function, Program}
+use Rattle.c_checked.specs.Program.{Function}
 use Rattle.linear_code.specs.declared.instruction.Instruction.TheVariants as instructions
 use Rattle.linear_code.specs.declared.slot.Slot.TheVariants.{Local, Temporary}
 use Rattle.linear_code.specs.declared.program.Region.{Region}
-use Rattle.linear_code.specs.Program.{LinearFunction, LinearFunclet, LinearProgram}
+use Rattle.linear_code.specs.Program.{LinearFunction, LinearFunclet}
 use Rattle.ir_sizes.specs.Sizes.{expression_size, discarded_size, condition_size, all_declared_size, statement_size, statements_size}
 use Rattle.ir_expressions.specs.declared.scope.Names.{Names}
 use Rattle.seh_ir.specs.declared.funclets.Owner.{Owner}
@@ -16,9 +15,9 @@ use Rattle.ir_expressions.specs.Expressions.{constant}
 use Rattle.seh_ir.specs.Statements.{statements_code}
 use Rattle.seh_ir.specs.Regions.{statement_regions, statements_regions}
 use Rattle.seh_ir.specs.Funclets.{filter_funclets, finally_funclet, in_funclet, statement_funclets, statements_funclets}
-use Rattle.seh_ir.specs.Lowered.{all_locals, scope_of, lowered_function, lowered_funclets, all_funclets, lowered}
+use Rattle.seh_ir.specs.Lowered.{all_locals, scope_of, lowered_function, lowered_funclets, all_funclets}
 use Rattle.seh_ir.proofs.StatementCodes.{statements_length}
-use Rattle.program_tables.specs.Ranges.{IsRange, HasRanges, HasRegions}
+use Rattle.program_tables.specs.Ranges.{IsRange, HasRanges}
 use Rattle.lowered_shape.specs.Laws.{LoweredHasRegions}
 
 -- between two places

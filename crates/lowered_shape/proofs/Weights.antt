@@ -1,18 +1,18 @@
 -- Sums over the regions of a program are sums over its `__try` statements.
-use Rattle.std.proofs.Common.{◌≡◌, ℕ, ◌+◌, ◌-◌, List, [], ◌∷◌, ◌++◌, length, map, Option, None, refl, sym, ap, ◌∙◌, arith}
+use Rattle.std.proofs.Common.{◌≡◌, ℕ, ◌+◌, ◌-◌, List, [], ◌∷◌, ◌++◌, map, None, refl, arith}
 use Rattle.c_checked.specs.Statement.{Filter, Always, Funclet, Statement, Declare, Block, Evaluate, If, IfElse, For, DoWhile, Return, Break, Continue, Leave, TryExcept, TryFinally, Statements, Empty, Then}
 use Rattle.c_checked.specs.Program.{Function, Program}
 use Rattle.linear_code.specs.declared.program.Region.{Region}
 use Rattle.linear_code.specs.declared.program.RegionKind.{RegionKind}
 use Rattle.linear_code.specs.declared.program.RegionKind.TheVariants as kinds
-use Rattle.linear_code.specs.Program.{LinearBody, LinearFunction, LinearFunclet, LinearProgram}
+use Rattle.linear_code.specs.Program.{LinearFunclet}
 use Rattle.ir_sizes.specs.Sizes.{expression_size, discarded_size, condition_size, all_declared_size, statement_size, statements_size}
 use Rattle.ir_expressions.specs.declared.scope.Names.{Names}
 use Rattle.seh_ir.specs.declared.funclets.Owner.{Owner}
 use Rattle.ir_expressions.specs.Scope.{except_names, filter_names, finally_names}
 use Rattle.seh_ir.specs.Regions.{except_kind, region, statement_regions, statements_regions}
 use Rattle.seh_ir.specs.Funclets.{filter_funclets, finally_funclet, in_funclet, statement_funclets, statements_funclets}
-use Rattle.seh_ir.specs.Lowered.{all_locals, scope_of, lowered_function, lowered_funclets, all_funclets, lowered}
+use Rattle.seh_ir.specs.Lowered.{all_locals, scope_of, lowered_function, all_funclets, lowered}
 use Rattle.program_link.specs.Fits.{function_bodies, funclet_bodies}
 use Rattle.program_shape.specs.Rows.{regions_in, regions}
 use Rattle.lowered_shape.specs.Tries.{Try, Accepts, Asks, Finishes, with_filter, tries_in, tries, tries_of, all_tries}
