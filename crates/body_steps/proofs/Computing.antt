@@ -9,7 +9,7 @@ use Rattle.host_model.specs.declared.funclet.Funclet.{Funclet}
 use Rattle.c_operations.specs.declared.operation.Operation.{Operation}
 use Rattle.c_operations.specs.declared.operation.Operation.TheVariants as operations
 use Rattle.c_operations.specs.declared.operation.Pure.TheVariants.{Constant}
-use Rattle.c_operations.specs.Performed.{Outcome, Gives, performed}
+use Rattle.c_operations.specs.Performed.{OperationResult, Gives, performed}
 use Rattle.c_model.specs.Source.{is_reserved}
 use Rattle.linear_code.specs.declared.slot.Slot.{Slot}
 use Rattle.linear_code.specs.declared.slot.Slot.TheVariants.{Local, Temporary}
@@ -82,7 +82,7 @@ module _ (t : Functions) (fs : List Funclet) (program : LinearProgram) (p : Imag
   abbrev now : BodyState
   now = slots t fs program p q image roomy s c b counted
 
-  abbrev pub outcome_here : Operation → Slot → Slot → Outcome
+  abbrev pub outcome_here : Operation → Slot → Slot → OperationResult
   outcome_here o first second = performed (is_reserved program.globals) o (now.slots first) (now.slots second) c.store.memory
 
   -- linear code makes the same operation on the same numbers

@@ -30,7 +30,7 @@ use Rattle.c_checked.specs.Program.{Program, Function}
 
 -- what is around a part of a program: the functions; the sizes of the function's parameters and
 -- locals; whether GetExceptionCode, GetExceptionInformation and AbnormalTermination mean something
-pub record Scope : Type 0 where
+pub record TypingContext : Type 0 where
   pub functions : List Function
   pub sizes : List Size
   pub code : Bool
@@ -148,17 +148,17 @@ result_size (Some f) = f.returns
 
 -- ---- expressions: their sizes
 
-abbrev pub lvalue_size : Scope → Lvalue → Option Size
+abbrev pub lvalue_size : TypingContext → Lvalue → Option Size
 lvalue_size s (Local x) = slice_get s.sizes x
 lvalue_size s (Global access a) = Some (size_in_memory access.width)
 lvalue_size s (Indirection access e) = Some (size_in_memory access.width)
 lvalue_size s (Element access e i) = Some (size_in_memory access.width)
 
 abbrev mutual
-  pub expression_size : Scope → Expression → Option Size
+  pub expression_size : TypingContext → Expression → Option Size
   expression_size s (On n c) = size_after c (node_size s n)
 
-  pub node_size : Scope → Node → Option Size
+  pub node_size : TypingContext → Node → Option Size
   node_size s (nodes.Constant z n) = Some z
   node_size s (nodes.Read p) = lvalue_size s p
   node_size s (nodes.AddressOf p) = Some Long
@@ -179,7 +179,7 @@ abbrev mutual
   node_size s (nodes.Information f) = Some (information_size f)
   node_size s nodes.AbnormalTermination = Some Int
 
-abbrev pub argument_sizes : Scope → Arguments → List (Option Size)
+abbrev pub argument_sizes : TypingContext → Arguments → List (Option Size)
 argument_sizes s Done = []
 argument_sizes s (Next e es) = expression_size s e ∷ argument_sizes s es
 
@@ -211,10 +211,10 @@ change_fits place before o amount after =
 -- ---- expressions: whether they are sound
 
 abbrev mutual
-  pub expression_sound : Scope → Expression → Bool
+  pub expression_sound : TypingContext → Expression → Bool
   expression_sound s (On n c) = node_sound s n && can_convert c (node_size s n)
 
-  pub node_sound : Scope → Node → Bool
+  pub node_sound : TypingContext → Node → Bool
   node_sound s (nodes.Constant z n) = constant_fits z n
   node_sound s (nodes.Read p) = lvalue_sound s p
   node_sound s (nodes.AddressOf p) = lvalue_sound s p && is_in_memory p
@@ -252,7 +252,7 @@ abbrev mutual
   node_sound s (nodes.Information f) = s.information
   node_sound s nodes.AbnormalTermination = s.abnormal
 
-  pub lvalue_sound : Scope → Lvalue → Bool
+  pub lvalue_sound : TypingContext → Lvalue → Bool
   lvalue_sound s (Local x) = nat_lt x (length s.sizes)
   lvalue_sound s (Global access a) = nat_lt a (2 ^ 64)
   lvalue_sound s (Indirection access e) = expression_sound s e && is_size Long (expression_size s e)
@@ -260,7 +260,7 @@ abbrev mutual
       expression_sound s e && expression_sound s i && is_size Long
       (expression_size s e) && is_size Long (expression_size s i)
 
-  pub arguments_sound : Scope → Arguments → Bool
+  pub arguments_sound : TypingContext → Arguments → Bool
   arguments_sound s Done = true
   arguments_sound s (Next e es) = expression_sound s e && arguments_sound s es
 
@@ -269,32 +269,32 @@ abbrev mutual
 -- where a statement is, beside its scope: what its function returns; whether a loop, a `__try`
 -- body and the function can be left from here
 pub record Inside : Type 0 where
-  pub scope : Scope
+  pub scope : TypingContext
   pub returns : Option Size
   pub loop : Bool
   pub body : Bool
   pub function : Bool
 
-abbrev pub optional_sound : Scope → Option Expression → Bool
+abbrev pub optional_sound : TypingContext → Option Expression → Bool
 optional_sound s None = true
 optional_sound s (Some e) = expression_sound s e
 
-abbrev pub condition_sound : Scope → Expression → Bool
+abbrev pub condition_sound : TypingContext → Expression → Bool
 condition_sound s e = expression_sound s e && is_number (expression_size s e)
 
-abbrev pub test_sound : Scope → Option Expression → Bool
+abbrev pub test_sound : TypingContext → Option Expression → Bool
 test_sound s None = true
 test_sound s (Some e) = condition_sound s e
 
-abbrev pub value_fits : Scope → Option Size → Option Expression → Bool
+abbrev pub value_fits : TypingContext → Option Size → Option Expression → Bool
 value_fits s size None = true
 value_fits s size (Some e) = expression_sound s e && same_sizes (expression_size s e) size
 
-abbrev pub declared_sound : Scope → Declared → Bool
+abbrev pub declared_sound : TypingContext → Declared → Bool
 declared_sound s d =
     nat_lt d.local (length s.sizes) && value_fits s (slice_get s.sizes d.local) d.value
 
-abbrev pub all_declared_sound : Scope → List Declared → Bool
+abbrev pub all_declared_sound : TypingContext → List Declared → Bool
 all_declared_sound s [] = true
 all_declared_sound s (d ∷ ds) = declared_sound s d && all_declared_sound s ds
 
@@ -304,7 +304,7 @@ result_sound i (Some e) =
     expression_sound i.scope e && is_number i.returns && same_sizes
     (expression_size i.scope e) i.returns
 
-abbrev pub filter_sound : Scope → Filter → Bool
+abbrev pub filter_sound : TypingContext → Filter → Bool
 filter_sound s Always = true
 filter_sound s (Funclet k e) =
     let t = record s { code = true; information = true }

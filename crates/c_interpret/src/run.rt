@@ -19,11 +19,11 @@ use seh_io::receiver::Events;
 use seh_num::extension::wrap;
 use seh_num::width::Width;
 use source_operations::memory::{data_end, first_memory};
-use source_plans::frame::{Action, Callee, Finish, Next, Outcome};
+use source_plans::frame::{Action, Callee, Completion, Finish, Next};
 use source_plans::place::{NO_EXCEPTION, Place};
 use source_steps::activations::Activations;
 use source_steps::calls::low_signed;
-use source_steps::machine::{Machine, Step};
+use source_steps::machine::{Machine, MachineStep};
 use std::alloc::{AllocError, Global};
 
 /// How the run ended, if it is over.
@@ -51,7 +51,7 @@ fn turn<'p, V: Events>(
         (views.next_of next.entry) to.old machine.new (views.next_of after) to.new) }
     ensures nothing { OnErr result (V.took to.old [] to.new) }
 {
-    let Step { next, shown } = machine.step(alloc, program, data_end, next)?;
+    let MachineStep { next, shown } = machine.step(alloc, program, data_end, next)?;
     match shown {
         None => Ok(next),
         Some(event) => {
@@ -124,7 +124,7 @@ fn end_of(finish: Finish) -> Option<Ended>
     ensures { result ≡ runs.end_of (views.finish_of finish) }
 {
     match finish {
-        Finish::Gave(Outcome::Value(value)) => Some(Ended::Exit(low_signed(value))),
+        Finish::Gave(Completion::Value(value)) => Some(Ended::Exit(low_signed(value))),
         Finish::Gave(_) => None,
         Finish::Ended(ended) => Some(ended),
         Finish::OutOfSteps => None,

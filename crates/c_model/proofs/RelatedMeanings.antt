@@ -38,7 +38,7 @@ Related R f g = (task : Task) (context : Context) → Go R (f task context) (g t
 module _ (R : Relation) (program : Program) (f g : Does) (alike : Related R f g) where
   -- ---- expressions
 
-  tried_go : (o : Operation) (x y : ℕ) (context : Context) (p : performing.Outcome)
+  tried_go : (o : Operation) (x y : ℕ) (context : Context) (p : performing.OperationResult)
       → Go R (λ st. tried f o x y context st p) (λ st. tried g o x y context st p)
   tried_go o x y context (performing.Gives v m) =
       λ a st l n. give R (Value v) a (set_memory st m) l n

@@ -90,7 +90,7 @@ raised code flags = record { code = low W32 code; flag = nat_eq (flags % 2) 1; a
 -- ---- operations that may fault
 
 -- a fault is raised, and where that is continued the operation is made again on the same operands
-abbrev pub tried : Does → Operation → ℕ → ℕ → Context → State → performing.Outcome → Outcome
+abbrev pub tried : Does → Operation → ℕ → ℕ → Context → State → performing.OperationResult → Outcome
 tried does o a b context st (performing.Gives v memory) = Gives (Value v) (set_memory st memory)
 tried does o a b context st (performing.Raises code access) =
     and_then (does (Raise (record { code = code.0; flag = false; access = access })) context st)

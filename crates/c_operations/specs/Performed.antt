@@ -19,62 +19,62 @@ use Rattle.c_operations.specs.Numbers.{width, result_of}
 -- what an operation comes to: a number, and the memory after it; a fault with its access (whether
 -- it is a write, and the address), where memory is unchanged; or an access to a reserved byte, of
 -- which the language says nothing
-pub data Outcome : Type 0 where
-  Gives : ℕ → Memory → Outcome
-  Raises : Code → Option (Bool × ℕ) → Outcome
-  Undefined : ℕ → Outcome
+pub data OperationResult : Type 0 where
+  Gives : ℕ → Memory → OperationResult
+  Raises : Code → Option (Bool × ℕ) → OperationResult
+  Undefined : ℕ → OperationResult
 
 -- ---- division and its faults
 
-abbrev pub fault_of : DivFault → Outcome
+abbrev pub fault_of : DivFault → OperationResult
 fault_of faults.Zero = Raises INTEGER_DIVIDE_BY_ZERO None
 fault_of faults.Overflow = Raises INTEGER_OVERFLOW None
 
-abbrev pub signed_part : (ℤ × ℤ → ℤ) → Width → Memory → Result (ℤ × ℤ) DivFault → Outcome
+abbrev pub signed_part : (ℤ × ℤ → ℤ) → Width → Memory → Result (ℤ × ℤ) DivFault → OperationResult
 signed_part part w m (Ok x) = Gives (wrapped w (part x)) m
 signed_part part w m (Err e) = fault_of e
 
-abbrev pub unsigned_part : (ℕ × ℕ → ℕ) → Memory → Result (ℕ × ℕ) DivFault → Outcome
+abbrev pub unsigned_part : (ℕ × ℕ → ℕ) → Memory → Result (ℕ × ℕ) DivFault → OperationResult
 unsigned_part part m (Ok x) = Gives (part x) m
 unsigned_part part m (Err e) = fault_of e
 
-abbrev pub quotient : Signedness → Width → ℕ → ℕ → Memory → Outcome
+abbrev pub quotient : Signedness → Width → ℕ → ℕ → Memory → OperationResult
 quotient Signed w a b m = signed_part (λ x. x.0) w m (divided_signed w (signed w a) (signed w b))
 quotient Unsigned w a b m = unsigned_part (λ x. x.0) m (divided_unsigned w (low w a) (low w b))
 
-abbrev pub remainder : Signedness → Width → ℕ → ℕ → Memory → Outcome
+abbrev pub remainder : Signedness → Width → ℕ → ℕ → Memory → OperationResult
 remainder Signed w a b m = signed_part (λ x. x.1) w m (divided_signed w (signed w a) (signed w b))
 remainder Unsigned w a b m = unsigned_part (λ x. x.1) m (divided_unsigned w (low w a) (low w b))
 
 -- ---- accesses: an access is undefined at its first reserved byte, else an access violation at its
 -- first byte that may not be accessed
 
-abbrev pub unless_reserved : Option ℕ → Outcome → Outcome
+abbrev pub unless_reserved : Option ℕ → OperationResult → OperationResult
 unless_reserved None outcome = outcome
 unless_reserved (Some a) outcome = Undefined a
 
-abbrev pub unless_refused : Bool → Option ℕ → Outcome → Outcome
+abbrev pub unless_refused : Bool → Option ℕ → OperationResult → OperationResult
 unless_refused write None outcome = outcome
 unless_refused write (Some a) outcome = Raises ACCESS_VIOLATION (Some (write, a))
 
-abbrev pub accessed : (ℕ → Bool) → Bool → (ℕ → Bool) → ℕ → ℕ → Outcome → Outcome
+abbrev pub accessed : (ℕ → Bool) → Bool → (ℕ → Bool) → ℕ → ℕ → OperationResult → OperationResult
 accessed reserved write may n at outcome =
     unless_reserved (first_refused (λ a. not (reserved a)) n at)
     (unless_refused write (first_refused may n at) outcome)
 
-abbrev pub load : (ℕ → Bool) → Width → ℕ → Memory → Outcome
+abbrev pub load : (ℕ → Bool) → Width → ℕ → Memory → OperationResult
 load reserved w at m =
     accessed reserved false (may_read m) (bytes_of w) at
     (Gives (low w (number_at m.byte (bytes_of w) at)) m)
 
-abbrev pub store : (ℕ → Bool) → Width → ℕ → ℕ → Memory → Outcome
+abbrev pub store : (ℕ → Bool) → Width → ℕ → ℕ → Memory → OperationResult
 store reserved w at v m =
     accessed reserved true (may_write m) (bytes_of w) at
     (Gives v (with_bytes m (with_number m.byte (bytes_of w) at (low w v))))
 
 -- ---- operations on two operands of 64 bits
 
-abbrev pub performed : (ℕ → Bool) → Operation → ℕ → ℕ → Memory → Outcome
+abbrev pub performed : (ℕ → Bool) → Operation → ℕ → ℕ → Memory → OperationResult
 performed reserved (operations.Pure p) a b m = Gives (result_of p a b) m
 performed reserved (operations.Divide s z) a b m = quotient s (width z) a b m
 performed reserved (operations.Remainder s z) a b m = remainder s (width z) a b m

@@ -33,7 +33,7 @@ use std::alloc::Global;
 
 /// A program. It is within the limits, and has no more nodes than its text has bytes.
 #[derive(Drop)]
-pub struct Program {
+pub struct TranslationUnit {
     /// Its external declarations, in their order.
     pub external_declarations: Vec<ExternalDeclaration>,
     /// How many bytes its text has.
@@ -163,7 +163,7 @@ fn external_declaration<'a>(
 }
 
 /// The program that all tokens are (C11, 6.9), within the limits.
-pub fn parse(alloc: Global, text: &[u8], tokens: &[Token]) -> Result<Program, ParseErr>
+pub fn parse(alloc: Global, text: &[u8], tokens: &[Token]) -> Result<TranslationUnit, ParseErr>
     // The tokens are the text's.
     requires tokens { IsTokens text.now tokens.now }
     // They are the program.
@@ -197,7 +197,7 @@ pub fn parse(alloc: Global, text: &[u8], tokens: &[Token]) -> Result<Program, Pa
         counts = less;
         rest = following;
     }
-    Ok(Program {
+    Ok(TranslationUnit {
         external_declarations,
         length: text.len() as u64,
     })

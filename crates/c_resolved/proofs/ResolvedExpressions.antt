@@ -16,7 +16,7 @@ use Rattle.c_checked.specs.declared.expression.Fixity.TheVariants.{Postfix, Pref
 use Rattle.c_checked.specs.Expression as nodes
 use Rattle.c_checked.specs.Expression.{Arguments, Done, Next}
 use Rattle.c_checked.specs.Program.{Function}
-use Rattle.c_checked.specs.Sound.{Scope, are_sizes, constant_fits, argument_sizes, arguments_sound, call_fits}
+use Rattle.c_checked.specs.Sound.{TypingContext, are_sizes, constant_fits, argument_sizes, arguments_sound, call_fits}
 use Rattle.c_checked.specs.Sound as sound
 use Rattle.c_lex.specs.declared.token.IntegerType.{IntegerType}
 use Rattle.c_lex.specs.declared.token.IntegerType.TheVariants as integers
@@ -63,45 +63,45 @@ no_fault fs e h = subst HasFault e h
 
 -- ---- what is found is good; where nothing is found, there is a fault
 
-abbrev pub FoundOr : Scope → Option TypedNode → List FaultAt → Type 0
+abbrev pub FoundOr : TypingContext → Option TypedNode → List FaultAt → Type 0
 FoundOr S None fs = HasFault fs
 FoundOr S (Some t) fs = IsGood S t
 
-abbrev pub IsSettled : Scope → ResolvedExpression → Type 0
+abbrev pub IsSettled : TypingContext → ResolvedExpression → Type 0
 IsSettled S j = FoundOr S j.found j.faults
 
-found_before : (S : Scope) (o : Option TypedNode) (fs gs : List FaultAt) → FoundOr S o fs → FoundOr S o (fs ++ gs)
+found_before : (S : TypingContext) (o : Option TypedNode) (fs gs : List FaultAt) → FoundOr S o fs → FoundOr S o (fs ++ gs)
 found_before S None fs gs h = fault_before fs gs h
 found_before S (Some t) fs gs h = h
 
-found_after : (S : Scope) (o : Option TypedNode) (fs gs : List FaultAt) → FoundOr S o gs → FoundOr S o (fs ++ gs)
+found_after : (S : TypingContext) (o : Option TypedNode) (fs gs : List FaultAt) → FoundOr S o gs → FoundOr S o (fs ++ gs)
 found_after S None fs gs h = fault_after fs gs h
 found_after S (Some t) fs gs h = h
 
-ruled_settled : (S : Scope) (at : ℕ) (f : Fault) (fs : List FaultAt) (o : Option TypedNode) → GoodIf S o → IsSettled S (ruled at f fs o)
+ruled_settled : (S : TypingContext) (at : ℕ) (f : Fault) (fs : List FaultAt) (o : Option TypedNode) → GoodIf S o → IsSettled S (ruled at f fs o)
 ruled_settled S at f fs None g = fault_after fs (fault_at at f) tt
 ruled_settled S at f fs (Some t) g = g
 
-rule_1_settled : (S : Scope) (at : ℕ) (rule : TypedNode → Option TypedNode) (fs : List FaultAt) (o : Option TypedNode) → FoundOr S o fs → ((a : TypedNode) → IsGood S a → GoodIf S (rule a)) → IsSettled S (rule_1 at rule fs o)
+rule_1_settled : (S : TypingContext) (at : ℕ) (rule : TypedNode → Option TypedNode) (fs : List FaultAt) (o : Option TypedNode) → FoundOr S o fs → ((a : TypedNode) → IsGood S a → GoodIf S (rule a)) → IsSettled S (rule_1 at rule fs o)
 rule_1_settled S at rule fs None h r = h
 rule_1_settled S at rule fs (Some a) h r = ruled_settled S at TypeClash fs (rule a) (r a h)
 
-rule_2_settled : (S : Scope) (at : ℕ) (rule : TypedNode → TypedNode → Option TypedNode) (fs : List FaultAt) (o p : Option TypedNode) → FoundOr S o fs → FoundOr S p fs
+rule_2_settled : (S : TypingContext) (at : ℕ) (rule : TypedNode → TypedNode → Option TypedNode) (fs : List FaultAt) (o p : Option TypedNode) → FoundOr S o fs → FoundOr S p fs
     → ((a b : TypedNode) → IsGood S a → IsGood S b → GoodIf S (rule a b)) → IsSettled S (rule_2 at rule fs o p)
 rule_2_settled S at rule fs None p h k r = h
 rule_2_settled S at rule fs (Some a) p h k r = rule_1_settled S at (rule a) fs p k (λ b g. r a b h g)
 
-rule_3_settled : (S : Scope) (at : ℕ) (rule : TypedNode → TypedNode → TypedNode → Option TypedNode) (fs : List FaultAt) (o p q : Option TypedNode) → FoundOr S o fs → FoundOr S p fs → FoundOr S q fs
+rule_3_settled : (S : TypingContext) (at : ℕ) (rule : TypedNode → TypedNode → TypedNode → Option TypedNode) (fs : List FaultAt) (o p q : Option TypedNode) → FoundOr S o fs → FoundOr S p fs → FoundOr S q fs
     → ((a b c : TypedNode) → IsGood S a → IsGood S b → IsGood S c → GoodIf S (rule a b c)) → IsSettled S (rule_3 at rule fs o p q)
 rule_3_settled S at rule fs None p q h k l r = h
 rule_3_settled S at rule fs (Some a) p q h k l r = rule_2_settled S at (rule a) fs p q k l (λ b c g i. r a b c h g i)
 
-given_that_settled : (S : Scope) (b : Bool) (at : ℕ) (f : Fault) (fs : List FaultAt) (j : ResolvedExpression) → (b ≡ true → IsSettled S j) → IsSettled S (given_that b at f fs j)
+given_that_settled : (S : TypingContext) (b : Bool) (at : ℕ) (f : Fault) (fs : List FaultAt) (j : ResolvedExpression) → (b ≡ true → IsSettled S j) → IsSettled S (given_that b at f fs j)
 given_that_settled S true at f fs j h = h refl
 given_that_settled S false at f fs j h = fault_after fs (fault_at at f) tt
 
 -- two expressions, under one rule
-rule_of_two : (S : Scope) (at : ℕ) (rule : TypedNode → TypedNode → Option TypedNode) (a b : ResolvedExpression) → IsSettled S a → IsSettled S b → ((x y : TypedNode) → IsGood S x → IsGood S y → GoodIf S (rule x y))
+rule_of_two : (S : TypingContext) (at : ℕ) (rule : TypedNode → TypedNode → Option TypedNode) (a b : ResolvedExpression) → IsSettled S a → IsSettled S b → ((x y : TypedNode) → IsGood S x → IsGood S y → GoodIf S (rule x y))
     → IsSettled S (rule_2 at rule (a.faults ++ b.faults) a.found b.found)
 rule_of_two S at rule a b g h r =
     rule_2_settled S at rule (a.faults ++ b.faults) a.found b.found (found_before S a.found a.faults b.faults g) (found_after S b.found a.faults b.faults h) r
@@ -126,7 +126,7 @@ MeaningFits fs zs None = Unit {0}
 MeaningFits fs zs (Some e) = EntityFits fs zs e
 
 -- what names mean fits the scope of the checked program
-pub record NamesFit (S : Scope) (s : Names) : Type 0 where
+pub record NamesFit (S : TypingContext) (s : Names) : Type 0 where
   pub entities : (n : Identifier) → MeaningFits S.functions S.sizes (s.entity n)
   pub code : s.code ≡ true → S.code ≡ true
   pub information : s.information ≡ true → S.information ≡ true
@@ -138,7 +138,7 @@ low_fits : (z : Size) (n : ℕ) → constant_fits z (low (width z) n) ≡ true
 low_fits sizes.Int n = lt-ltb (n % 2 ^ 32) (2 ^ 32) (omega arith)
 low_fits sizes.Long n = lt-ltb (n % 2 ^ 64) (2 ^ 64) (omega arith)
 
-constant_good : (S : Scope) (t : CType) (n : ℕ) → is_scalar t ≡ true → IsGood S (constant t n)
+constant_good : (S : TypingContext) (t : CType) (n : ℕ) → is_scalar t ≡ true → IsGood S (constant t n)
 constant_good S t n h = typed_good S t (nodes.Constant (size_of t) (low (width (size_of t)) n)) h (low_fits (size_of t) n) refl
 
 integer_scalar_type : (of : IntegerType) → is_scalar (plain (integer_base of)) ≡ true
@@ -147,7 +147,7 @@ integer_scalar_type integers.Unsigned = refl
 integer_scalar_type integers.LongLong = refl
 integer_scalar_type integers.UnsignedLongLong = refl
 
-literal_good : (S : Scope) (l : Literal) → IsGood S (literal l)
+literal_good : (S : TypingContext) (l : Literal) → IsGood S (literal l)
 literal_good S (literals.Integer n of) =
     let h = integer_scalar_type of in
     let g = constant_good S (plain (integer_base of)) n h in
@@ -157,14 +157,14 @@ literal_good S (literals.CharacterConstant c) = constant_good S int (wrapped W32
 within : (zs : List Size) (x : ℕ) (z : Size) → slice_get zs x ≡ Some z → nat_lt x (length zs) ≡ true
 within zs x z h = lt-ltb x (length zs) (slice_get_within zs x z h)
 
-name_settled : (S : Scope) (at : ℕ) (e : Option Entity) → MeaningFits S.functions S.sizes e → IsSettled S (name at e)
+name_settled : (S : TypingContext) (at : ℕ) (e : Option Entity) → MeaningFits S.functions S.sizes e → IsSettled S (name at e)
 name_settled S at (Some (LocalVariable x t)) h = typed_good S t (nodes.Read (nodes.Local x)) h.1 (within S.sizes x (size_of t) h.0) h.0
 name_settled S at (Some (GlobalVariable a t)) h = typed_good S t (nodes.Read (nodes.Global (access_of t) a)) h.1 h.0 (ap (λ z. Some z) (size_in_memory_is (width_of t)))
 name_settled S at (Some (GlobalArray a t)) h = constant_good S (pointer_to t) a (pointer_scalar (pointer_to t) (pointer_to_pointer t))
 name_settled S at (Some (BuiltInConstant n)) h = constant_good S int n refl
 name_settled S at other h = tt
 
-field_settled : (S : Scope) (f : Field) → S.information ≡ true → IsSettled S (field f)
+field_settled : (S : TypingContext) (f : Field) → S.information ≡ true → IsSettled S (field f)
 field_settled S record_fields.Code h = typed_good S unsigned (nodes.Information fields.ExceptionCode) refl h refl
 field_settled S record_fields.Flags h = typed_good S unsigned (nodes.Information fields.ExceptionFlags) refl h refl
 field_settled S record_fields.Count h = typed_good S unsigned (nodes.Information fields.NumberParameters) refl h refl
@@ -221,7 +221,7 @@ addressable_node : (o : UnaryOperator) (a : TypedNode) → Addressable o (Some a
 addressable_node unary.AddressOf a h = h
 addressable_node other a h = tt
 
-unary_settled : (S : Scope) (at : ℕ) (o : UnaryOperator) (fs : List FaultAt) (x : Option TypedNode) → FoundOr S x fs → Addressable o x → IsSettled S (rule_1 at (unary_of o) fs x)
+unary_settled : (S : TypingContext) (at : ℕ) (o : UnaryOperator) (fs : List FaultAt) (x : Option TypedNode) → FoundOr S x fs → Addressable o x → IsSettled S (rule_1 at (unary_of o) fs x)
 unary_settled S at o fs None g h = g
 unary_settled S at o fs (Some a) g h = ruled_settled S at TypeClash fs (unary_of o a) (unary_good S o a g (addressable_node o a h))
 
@@ -231,24 +231,24 @@ abbrev wanted_size : Wanted → Size
 wanted_size (OfType t) = size_of t
 wanted_size ZeroLiteral = sizes.Int
 
-passed_has : (S : Scope) (w : Wanted) (a : TypedNode) → IsGood S a → fits w a ≡ true → HasSize S (passed w a) (wanted_size w)
+passed_has : (S : TypingContext) (w : Wanted) (a : TypedNode) → IsGood S a → fits w a ≡ true → HasSize S (passed w a) (wanted_size w)
 passed_has S (OfType t) a g h = as_type_has S a t g (can_become_scalar t a g.zero h).0
 passed_has S ZeroLiteral a g h = as_type_has S a int g (g.zero h)
 
 -- arguments of these sizes are passed, or there is a fault
-abbrev PassedOr : Scope → List Size → Option Arguments → List FaultAt → Type 0
+abbrev PassedOr : TypingContext → List Size → Option Arguments → List FaultAt → Type 0
 PassedOr S zs None fs = HasFault fs
 PassedOr S zs (Some es) fs = (arguments_sound S es ≡ true) × (are_sizes zs (argument_sizes S es) ≡ true)
 
 abbrev rest_of : Option Arguments → List FaultAt → Passed
 rest_of o fs = record { found = o; faults = fs }
 
-before_settled : (S : Scope) (e : nodes.Expression) (z : Size) (zs : List Size) (fs : List FaultAt) (o : Option Arguments) (gs : List FaultAt) → HasSize S e z → PassedOr S zs o gs
+before_settled : (S : TypingContext) (e : nodes.Expression) (z : Size) (zs : List Size) (fs : List FaultAt) (o : Option Arguments) (gs : List FaultAt) → HasSize S e z → PassedOr S zs o gs
     → PassedOr S (z ∷ zs) (before fs e (rest_of o gs)).found (fs ++ gs)
 before_settled S e z zs fs None gs h p = fault_after fs gs p
 before_settled S e z zs fs (Some es) gs h p = (and_true h.sound p.0, and_true (has_size S e z h) p.1)
 
-pass_settled : (S : Scope) (w : Wanted) (at : ℕ) (fs : List FaultAt) (o : Option TypedNode) (rest : Passed) (zs : List Size) → FoundOr S o fs → PassedOr S zs rest.found rest.faults
+pass_settled : (S : TypingContext) (w : Wanted) (at : ℕ) (fs : List FaultAt) (o : Option TypedNode) (rest : Passed) (zs : List Size) → FoundOr S o fs → PassedOr S zs rest.found rest.faults
     → PassedOr S (wanted_size w ∷ zs) (pass w at fs o rest).found (pass w at fs o rest).faults
 pass_settled S w at fs None rest zs g p = fault_before fs rest.faults g
 pass_settled S w at fs (Some a) rest zs g p = by_fit (fits w a) refl
@@ -257,11 +257,11 @@ pass_settled S w at fs (Some a) rest zs g p = by_fit (fits w a) refl
     by_fit true e = before_settled S (passed w a) (wanted_size w) zs fs rest.found rest.faults (passed_has S w a g e) p
     by_fit false e = fault_before (fs ++ fault_at at TypeClash) rest.faults (fault_after fs (fault_at at TypeClash) tt)
 
-abbrev pub AllSettled : Scope → List Argument → Type 0
+abbrev pub AllSettled : TypingContext → List Argument → Type 0
 AllSettled S [] = Unit {0}
 AllSettled S (a ∷ more) = IsSettled S a.resolved × AllSettled S more
 
-pass_all_settled : (S : Scope) (ws : List Wanted) (args : List Argument) → length ws ≡ length args → AllSettled S args → PassedOr S (map wanted_size ws) (pass_all ws args).found (pass_all ws args).faults
+pass_all_settled : (S : TypingContext) (ws : List Wanted) (args : List Argument) → length ws ≡ length args → AllSettled S args → PassedOr S (map wanted_size ws) (pass_all ws args).found (pass_all ws args).faults
 pass_all_settled S [] [] e g = (refl, refl)
 pass_all_settled S [] (a ∷ more) e g = absurd (omega arith)
 pass_all_settled S (w ∷ ws) [] e g = absurd (omega arith)
@@ -269,12 +269,12 @@ pass_all_settled S (w ∷ ws) (a ∷ more) e g =
     let same : length ws ≡ length more = omega arith in
     pass_settled S w a.at a.resolved.faults a.resolved.found (pass_all ws more) (map wanted_size ws) g.0 (pass_all_settled S ws more same g.1)
 
-called_settled : (S : Scope) (t : CType) (make : Arguments → nodes.Node) (zs : List Size) (o : Option Arguments) (fs : List FaultAt) → PassedOr S zs o fs
+called_settled : (S : TypingContext) (t : CType) (make : Arguments → nodes.Node) (zs : List Size) (o : Option Arguments) (fs : List FaultAt) → PassedOr S zs o fs
     → ((es : Arguments) → arguments_sound S es ≡ true → are_sizes zs (argument_sizes S es) ≡ true → IsGood S (typed t (make es))) → IsSettled S (called t make (rest_of o fs))
 called_settled S t make zs None fs p h = p
 called_settled S t make zs (Some es) fs p h = h es p.0 p.1
 
-call_with_settled : (S : Scope) (at : ℕ) (ws : List Wanted) (t : CType) (make : Arguments → nodes.Node) (args : List Argument) → AllSettled S args
+call_with_settled : (S : TypingContext) (at : ℕ) (ws : List Wanted) (t : CType) (make : Arguments → nodes.Node) (args : List Argument) → AllSettled S args
     → ((es : Arguments) → arguments_sound S es ≡ true → are_sizes (map wanted_size ws) (argument_sizes S es) ≡ true → IsGood S (typed t (make es))) → IsSettled S (call_with at ws t make args)
 call_with_settled S at ws t make args g h =
     given_that_settled S (nat_eq (length ws) (length args)) at ArgCount (faults_of args) (called t make (pass_all ws args)) λ e.
@@ -285,7 +285,7 @@ wanted_types : (ps : List CType) → map wanted_size (map OfType ps) ≡ map siz
 wanted_types [] = refl
 wanted_types (p ∷ ps) = ap (λ zs. size_of p ∷ zs) (wanted_types ps)
 
-user_good : (S : Scope) (f : ℕ) (t : CType) (ps : List CType) (es : Arguments) → FunctionFits S.functions f t ps → arguments_sound S es ≡ true → are_sizes (map wanted_size (map OfType ps)) (argument_sizes S es) ≡ true
+user_good : (S : TypingContext) (f : ℕ) (t : CType) (ps : List CType) (es : Arguments) → FunctionFits S.functions f t ps → arguments_sound S es ≡ true → are_sizes (map wanted_size (map OfType ps)) (argument_sizes S es) ≡ true
     → IsGood S (typed t (nodes.Call f es))
 user_good S f t ps es fit p q =
     record {
@@ -296,19 +296,19 @@ user_good S f t ps es fit p q =
       zero = λ z. absurd (cc);
     }
 
-built_in_good : (S : Scope) (k : BuiltIn) (es : Arguments) → arguments_sound S es ≡ true → are_sizes (map wanted_size (built_in_wants k)) (argument_sizes S es) ≡ true → IsGood S (typed (built_in_result k) (nodes.CallBuiltIn k es))
+built_in_good : (S : TypingContext) (k : BuiltIn) (es : Arguments) → arguments_sound S es ≡ true → are_sizes (map wanted_size (built_in_wants k)) (argument_sizes S es) ≡ true → IsGood S (typed (built_in_result k) (nodes.CallBuiltIn k es))
 built_in_good S Put es p q = record { sound = and_true p q; sized = refl; zero = λ z. absurd (cc) }
 built_in_good S Protect es p q = record { sound = and_true p q; sized = refl; zero = λ z. absurd (cc) }
 built_in_good S RaiseException es p q = record { sound = and_true p q; sized = refl; zero = λ z. absurd (cc) }
 
 -- a call that has a meaning in some places alone, whose node has no arguments
-only_where_settled : (S : Scope) (b : Bool) (at : ℕ) (f : Fault) (ws : List Wanted) (t : CType) (n : nodes.Node) (args : List Argument) → AllSettled S args → (b ≡ true → IsGood S (typed t n))
+only_where_settled : (S : TypingContext) (b : Bool) (at : ℕ) (f : Fault) (ws : List Wanted) (t : CType) (n : nodes.Node) (args : List Argument) → AllSettled S args → (b ≡ true → IsGood S (typed t n))
     → IsSettled S (only_where b at f (call_with at ws t (λ es. n) args))
 only_where_settled S b at f ws t n args g h =
     let r = call_with at ws t (λ es. n) args in
     given_that_settled S b at f r.faults r λ e. call_with_settled S at ws t (λ es. n) args g (λ es p q. h e)
 
-call_settled : (S : Scope) (s : Names) → NamesFit S s → (at : ℕ) (e : Option Entity) (args : List Argument) → MeaningFits S.functions S.sizes e → AllSettled S args → IsSettled S (call s at e args)
+call_settled : (S : TypingContext) (s : Names) → NamesFit S s → (at : ℕ) (e : Option Entity) (args : List Argument) → MeaningFits S.functions S.sizes e → AllSettled S args → IsSettled S (call s at e args)
 call_settled S s fit at (Some (UserFunction f t ps)) args h g = call_with_settled S at (map OfType ps) t (nodes.Call f) args g (λ es p q. user_good S f t ps es h p q)
 call_settled S s fit at (Some (BuiltInFunction k)) args h g = call_with_settled S at (built_in_wants k) (built_in_result k) (nodes.CallBuiltIn k) args g (λ es p q. built_in_good S k es p q)
 call_settled S s fit at (Some CodeFunction) args h g =
@@ -319,16 +319,16 @@ call_settled S s fit at other args h g = tt
 
 -- ---- expressions
 
-changed_settled : (S : Scope) (o : Option Arithmetic) (at value_at : ℕ) (a b : ResolvedExpression) → IsSettled S a → IsSettled S b → IsSettled S (changed o at value_at a b)
+changed_settled : (S : TypingContext) (o : Option Arithmetic) (at value_at : ℕ) (a b : ResolvedExpression) → IsSettled S a → IsSettled S b → IsSettled S (changed o at value_at a b)
 changed_settled S None at value_at a b g h = rule_of_two S value_at assigned a b g h (assigned_good S)
 changed_settled S (Some o) at value_at a b g h = rule_of_two S at (compound_assigned o) a b g h (compound_assigned_good S o)
 
-incremented_settled : (S : Scope) (lvalue : Bool) (first at : ℕ) (m : Fixity) (o : Increment) (j : ResolvedExpression) → IsSettled S j
+incremented_settled : (S : TypingContext) (lvalue : Bool) (first at : ℕ) (m : Fixity) (o : Increment) (j : ResolvedExpression) → IsSettled S j
     → IsSettled S (given_that lvalue first NotLvalue j.faults (rule_1 at (incremented m o) j.faults j.found))
 incremented_settled S lvalue first at m o j g =
     given_that_settled S lvalue first NotLvalue j.faults (rule_1 at (incremented m o) j.faults j.found) λ e. rule_1_settled S at (incremented m o) j.faults j.found g (incremented_good S m o)
 
-conditional_settled : (S : Scope) (at : ℕ) (c a b : ResolvedExpression) → IsSettled S c → IsSettled S a → IsSettled S b
+conditional_settled : (S : TypingContext) (at : ℕ) (c a b : ResolvedExpression) → IsSettled S c → IsSettled S a → IsSettled S b
     → IsSettled S (rule_3 at conditional_of (c.faults ++ a.faults ++ b.faults) c.found a.found b.found)
 conditional_settled S at c a b f g h =
     rule_3_settled S at conditional_of (c.faults ++ a.faults ++ b.faults) c.found a.found b.found
@@ -337,7 +337,7 @@ conditional_settled S at c a b f g h =
     (found_after S b.found (c.faults ++ a.faults) b.faults h) (conditional_good S)
 
 mutual
-  pub settled : (S : Scope) (s : Names) → NamesFit S s → (e : Expression) → IsSettled S (resolve_expression s e)
+  pub settled : (S : TypingContext) (s : Names) → NamesFit S s → (e : Expression) → IsSettled S (resolve_expression s e)
   settled S s fit (trees.Constant at l) = literal_good S l
   settled S s fit (trees.Variable n) = name_settled S n.start (s.entity n) (fit.entities n)
   settled S s fit (trees.Information at f) = given_that_settled S s.information at InfoOutsideFilter [] (field f) (λ e. field_settled S f (fit.information e))
@@ -361,6 +361,6 @@ mutual
       (λ h. changed_settled S o at (start b) x y (settled S s fit a) (settled S s fit b))
   settled S s fit (trees.Comma a at b) = rule_of_two S at comma_of (resolve_expression s a) (resolve_expression s b) (settled S s fit a) (settled S s fit b) (comma_good S)
 
-  all_settled : (S : Scope) (s : Names) → NamesFit S s → (es : trees.Arguments) → AllSettled S (resolve_arguments s es)
+  all_settled : (S : TypingContext) (s : Names) → NamesFit S s → (es : trees.Arguments) → AllSettled S (resolve_arguments s es)
   all_settled S s fit trees.Done = tt
   all_settled S s fit (trees.Next e es) = (settled S s fit e, all_settled S s fit es)

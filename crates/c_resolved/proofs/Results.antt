@@ -16,7 +16,7 @@ use Rattle.c_checked.specs.declared.expression.Conversion.TheVariants.{Kept}
 use Rattle.c_checked.specs.declared.expression.Fixity.{Fixity}
 use Rattle.c_checked.specs.Expression as nodes
 use Rattle.c_checked.specs.Expression.{Expression, Lvalue}
-use Rattle.c_checked.specs.Sound.{Scope, is_number, both, same_sizes, can_convert, size_after, constant_fits, amount_fits, change_fits, unary_takes, takes, is_in_memory, node_size, node_sound, lvalue_size, expression_size, expression_sound}
+use Rattle.c_checked.specs.Sound.{TypingContext, is_number, both, same_sizes, can_convert, size_after, constant_fits, amount_fits, change_fits, unary_takes, takes, is_in_memory, node_size, node_sound, lvalue_size, expression_size, expression_sound}
 use Rattle.c_syntax.specs.declared.expression.Base.TheVariants.{LongLong}
 use Rattle.c_syntax.specs.declared.expression.CType.{CType}
 use Rattle.c_syntax.specs.declared.operator.Arithmetic.{Arithmetic}
@@ -66,7 +66,7 @@ takes_shift arithmetic.ShiftRight s sizes.Long y h = refl
 takes_shift o s z y h = absurd (cc)
 
 -- the right operand is of a size that the operation takes
-right_has : (S : Scope) (o : Arithmetic) (t : CType) (b : TypedNode) → IsGood S b → is_scalar b.type ≡ true → (x : Bool) → is_shift o ≡ x
+right_has : (S : TypingContext) (o : Arithmetic) (t : CType) (b : TypedNode) → IsGood S b → is_scalar b.type ≡ true → (x : Bool) → is_shift o ≡ x
     → (y : Size) × HasSize S (if x then as_is b else as_type t b) y × (takes (operation_in o t) (Some (size_of t)) (Some y) ≡ Some (size_of t))
 right_has S o t b g h true e = (size_of b.type, as_is_has S b g h, takes_shift o (sort_of t) (size_of t) (size_of b.type) e)
 right_has S o t b g h false e = (size_of t, as_type_has S b t g h, takes_alike o (sort_of t) (size_of t))
@@ -78,7 +78,7 @@ working_scalar o a b h k = by_shift (is_shift o)
     by_shift true = promoted_scalar a h
     by_shift false = common_scalar a b h k
 
-pub integers_good : (S : Scope) (o : Arithmetic) (a b : TypedNode) → IsGood S a → IsGood S b → GoodIf S (on_integers o a b)
+pub integers_good : (S : TypingContext) (o : Arithmetic) (a b : TypedNode) → IsGood S a → IsGood S b → GoodIf S (on_integers o a b)
 integers_good S o a b g h =
     let t = working_type o a.type b.type in
     only_if_good S (is_integer a.type && is_integer b.type) (typed t (nodes.Binary (operation_in o t) (as_type t a) (right_operand o t b))) λ e.
@@ -94,18 +94,18 @@ sized_is_pointer : (t : CType) → is_sized_pointer t ≡ true → is_pointer t 
 sized_is_pointer t h = and_left (is_pointer t) (not (is_void_pointer t)) h
 
 -- of two operands of 64 bits
-long_has : (S : Scope) (o : Arithmetic) (e f : Expression) → HasSize S e sizes.Long → HasSize S f sizes.Long
+long_has : (S : TypingContext) (o : Arithmetic) (e f : Expression) → HasSize S e sizes.Long → HasSize S f sizes.Long
     → (node_sound S (nodes.Binary (long_operation o) e f) ≡ true) × (node_size S (nodes.Binary (long_operation o) e f) ≡ Some sizes.Long)
 long_has S o e f p q = binary_has S (long_operation o) e f sizes.Long sizes.Long sizes.Long p q (takes_alike o signs.Unsigned sizes.Long)
 
 -- a pointer and an index
-pointed_has : (S : Scope) (p i : TypedNode) → IsGood S p → IsGood S i → (is_sized_pointer p.type && is_integer i.type) ≡ true
+pointed_has : (S : TypingContext) (p i : TypedNode) → IsGood S p → IsGood S i → (is_sized_pointer p.type && is_integer i.type) ≡ true
     → (is_pointer p.type ≡ true) × HasSize S (as_is p) sizes.Long × HasSize S (as_index p.type i) sizes.Long
 pointed_has S p i g h e =
     let pointer = sized_is_pointer p.type (and_left (is_sized_pointer p.type) (is_integer i.type) e) in
     (pointer, pointer_has S p g pointer, as_index_has S p.type i h (integer_scalar i.type (and_right (is_sized_pointer p.type) (is_integer i.type) e)))
 
-moved_good : (S : Scope) (o : Arithmetic) (p i : TypedNode) → IsGood S p → IsGood S i → (is_sized_pointer p.type && is_integer i.type) ≡ true → IsGood S (moved o p i)
+moved_good : (S : TypingContext) (o : Arithmetic) (p i : TypedNode) → IsGood S p → IsGood S i → (is_sized_pointer p.type && is_integer i.type) ≡ true → IsGood S (moved o p i)
 moved_good S o p i g h e =
     let r = pointed_has S p i g h e in
     let n = long_has S o (as_is p) (as_index p.type i) r.1 r.2 in
@@ -114,13 +114,13 @@ moved_good S o p i g h e =
 abbrev index_first : TypedNode → TypedNode → TypedNode
 index_first i p = typed p.type (nodes.Binary (long_operation arithmetic.Add) (as_index p.type i) (as_is p))
 
-index_first_good : (S : Scope) (p i : TypedNode) → IsGood S p → IsGood S i → (is_sized_pointer p.type && is_integer i.type) ≡ true → IsGood S (index_first i p)
+index_first_good : (S : TypingContext) (p i : TypedNode) → IsGood S p → IsGood S i → (is_sized_pointer p.type && is_integer i.type) ≡ true → IsGood S (index_first i p)
 index_first_good S p i g h e =
     let r = pointed_has S p i g h e in
     let n = long_has S arithmetic.Add (as_index p.type i) (as_is p) r.2 r.1 in
     pointer_good S p.type (nodes.Binary (long_operation arithmetic.Add) (as_index p.type i) (as_is p)) r.0 n.0 n.1
 
-sum_good : (S : Scope) (a b : TypedNode) → IsGood S a → IsGood S b → GoodIf S (sum a b)
+sum_good : (S : TypingContext) (a b : TypedNode) → IsGood S a → IsGood S b → GoodIf S (sum a b)
 sum_good S a b g h =
     if_good S (is_pointer a.type) _ _
     (λ p. only_if_good S (is_sized_pointer a.type && is_integer b.type) (moved arithmetic.Add a b) (λ e. moved_good S arithmetic.Add a b g h e))
@@ -128,7 +128,7 @@ sum_good S a b g h =
     (λ q. only_if_good S (is_sized_pointer b.type && is_integer a.type) (index_first a b) (λ e. index_first_good S b a h g e))
     (λ q. integers_good S arithmetic.Add a b g h))
 
-apart_good : (S : Scope) (a b : TypedNode) → IsGood S a → IsGood S b → is_pointer a.type ≡ true → is_pointer b.type ≡ true
+apart_good : (S : TypingContext) (a b : TypedNode) → IsGood S a → IsGood S b → is_pointer a.type ≡ true → is_pointer b.type ≡ true
     → IsGood S (typed (plain LongLong) (nodes.PointerDifference (bytes_in (pointed a.type)) (as_is a) (as_is b)))
 apart_good S a b g h p q =
     let x = pointer_has S a g p in
@@ -136,7 +136,7 @@ apart_good S a b g h p q =
     typed_good S (plain LongLong) (nodes.PointerDifference (bytes_in (pointed a.type)) (as_is a) (as_is b)) refl
     (and_true (and_true (and_true (and_true x.sound y.sound) (has_size S (as_is a) sizes.Long x)) (has_size S (as_is b) sizes.Long y)) (bytes_divide (width_of (pointed a.type)))) refl
 
-difference_good : (S : Scope) (a b : TypedNode) → IsGood S a → IsGood S b → GoodIf S (difference a b)
+difference_good : (S : TypingContext) (a b : TypedNode) → IsGood S a → IsGood S b → GoodIf S (difference a b)
 difference_good S a b g h =
     if_good S (is_pointer a.type && is_pointer b.type) _ _
     (λ p. only_if_good S (is_sized_pointer a.type && same_type a.type b.type) (typed (plain LongLong) (nodes.PointerDifference (bytes_in (pointed a.type)) (as_is a) (as_is b)))
@@ -145,7 +145,7 @@ difference_good S a b g h =
     (λ q. only_if_good S (is_sized_pointer a.type && is_integer b.type) (moved arithmetic.Subtract a b) (λ e. moved_good S arithmetic.Subtract a b g h e))
     (λ q. integers_good S arithmetic.Subtract a b g h))
 
-arithmetic_good : (S : Scope) (o : Arithmetic) (a b : TypedNode) → IsGood S a → IsGood S b → GoodIf S (arithmetic_of o a b)
+arithmetic_good : (S : TypingContext) (o : Arithmetic) (a b : TypedNode) → IsGood S a → IsGood S b → GoodIf S (arithmetic_of o a b)
 arithmetic_good S arithmetic.Add a b g h = sum_good S a b g h
 arithmetic_good S arithmetic.Subtract a b g h = difference_good S a b g h
 arithmetic_good S o a b g h = integers_good S o a b g h
@@ -156,13 +156,13 @@ takes_compared : (r : Relation) (s : Signedness) (z : Size) → takes (operation
 takes_compared r s sizes.Int = refl
 takes_compared r s sizes.Long = refl
 
-compared_good : (S : Scope) (c : Comparison) (t : CType) (a b : TypedNode) → IsGood S a → IsGood S b → is_scalar a.type ≡ true → is_scalar b.type ≡ true → IsGood S (compared c t a b)
+compared_good : (S : TypingContext) (c : Comparison) (t : CType) (a b : TypedNode) → IsGood S a → IsGood S b → is_scalar a.type ≡ true → is_scalar b.type ≡ true → IsGood S (compared c t a b)
 compared_good S c t a b g h p q =
     let o = operations.Pure (pures.Compare (relation_of c) (sort_of t) (size_of t)) in
     let n = binary_has S o (as_type t a) (as_type t b) (size_of t) (size_of t) sizes.Int (as_type_has S a t g p) (as_type_has S b t h q) (takes_compared (relation_of c) (sort_of t) (size_of t)) in
     typed_good S int (nodes.Binary o (as_type t a) (as_type t b)) refl n.0 n.1
 
-comparison_good : (S : Scope) (c : Comparison) (a b : TypedNode) → IsGood S a → IsGood S b → GoodIf S (comparison_of c a b)
+comparison_good : (S : TypingContext) (c : Comparison) (a b : TypedNode) → IsGood S a → IsGood S b → GoodIf S (comparison_of c a b)
 comparison_good S c a b g h =
     if_good S (is_pointer a.type || is_pointer b.type) _ _
     (λ p. only_if_good S (are_comparable a b) (compared c void_pointer a b) (λ e. let r = comparable_scalar a b g.zero h.zero e in compared_good S c void_pointer a b g h r.0 r.1))
@@ -171,14 +171,14 @@ comparison_good S c a b g h =
 
 -- ---- `&&` and `||`
 
-both_scalar : (S : Scope) (a b : TypedNode) → IsGood S a → IsGood S b → (is_scalar a.type && is_scalar b.type) ≡ true
+both_scalar : (S : TypingContext) (a b : TypedNode) → IsGood S a → IsGood S b → (is_scalar a.type && is_scalar b.type) ≡ true
     → (expression_sound S (as_is a) && expression_sound S (as_is b) && both (expression_size S (as_is a)) (expression_size S (as_is b))) ≡ true
 both_scalar S a b g h e =
     let p = as_is_has S a g (and_left (is_scalar a.type) (is_scalar b.type) e) in
     let q = as_is_has S b h (and_right (is_scalar a.type) (is_scalar b.type) e) in
     and_true (and_true p.sound q.sound) (and_true (has_number S (as_is a) (size_of a.type) p) (has_number S (as_is b) (size_of b.type) q))
 
-pub binary_good : (S : Scope) (o : BinaryOperator) (a b : TypedNode) → IsGood S a → IsGood S b → GoodIf S (binary_of o a b)
+pub binary_good : (S : TypingContext) (o : BinaryOperator) (a b : TypedNode) → IsGood S a → IsGood S b → GoodIf S (binary_of o a b)
 binary_good S (binary.Arithmetic o) a b g h = arithmetic_good S o a b g h
 binary_good S (binary.Comparison c) a b g h = comparison_good S c a b g h
 binary_good S binary.LogicalAnd a b g h =
@@ -195,20 +195,20 @@ takes_itself : (z : Size) → (unary_takes (pures.Negate z) (Some z) ≡ Some z)
 takes_itself sizes.Int = (refl, refl)
 takes_itself sizes.Long = (refl, refl)
 
-unary_has : (S : Scope) (o : Pure) (e : Expression) (y z : Size) → HasSize S e y → unary_takes o (Some y) ≡ Some z → (node_sound S (nodes.Unary o e) ≡ true) × (node_size S (nodes.Unary o e) ≡ Some z)
+unary_has : (S : TypingContext) (o : Pure) (e : Expression) (y z : Size) → HasSize S e y → unary_takes o (Some y) ≡ Some z → (node_sound S (nodes.Unary o e) ≡ true) × (node_size S (nodes.Unary o e) ≡ Some z)
 unary_has S o e y z p h =
     let size : unary_takes o (expression_size S e) ≡ Some z = ap (unary_takes o) p.size ∙ h in
     (and_true p.sound (ap is_number size), size)
 
 -- an operator on a promoted integer
-promoted_good : (S : Scope) (o : Pure) (a : TypedNode) → IsGood S a → IsChange o (size_of (promoted a.type)) → GoodIf S (only_if (is_integer a.type) (typed (promoted a.type) (nodes.Unary o (as_is a))))
+promoted_good : (S : TypingContext) (o : Pure) (a : TypedNode) → IsGood S a → IsChange o (size_of (promoted a.type)) → GoodIf S (only_if (is_integer a.type) (typed (promoted a.type) (nodes.Unary o (as_is a))))
 promoted_good S o a g c =
     only_if_good S (is_integer a.type) (typed (promoted a.type) (nodes.Unary o (as_is a))) λ e.
     let h = resized S (as_is a) (size_of a.type) (size_of (promoted a.type)) (sym (promoted_size a.type e)) (as_is_has S a g (integer_scalar a.type e)) in
     let n = unary_has S o (as_is a) (size_of (promoted a.type)) (size_of (promoted a.type)) h c in
     typed_good S (promoted a.type) (nodes.Unary o (as_is a)) (promoted_scalar a.type e) n.0 n.1
 
-indirection_good : (S : Scope) (a : TypedNode) → IsGood S a → GoodIf S (unary_of unary.Indirection a)
+indirection_good : (S : TypingContext) (a : TypedNode) → IsGood S a → GoodIf S (unary_of unary.Indirection a)
 indirection_good S a g =
     let place = nodes.Indirection (access_of (pointed a.type)) (as_is a) in
     only_if_good S (is_sized_pointer a.type) (typed (pointed a.type) (nodes.Read place)) λ e.
@@ -220,7 +220,7 @@ abbrev pub IsInMemory : Option Lvalue → Type 0
 IsInMemory None = Unit {0}
 IsInMemory (Some p) = is_in_memory p ≡ true
 
-address_good : (S : Scope) (t : CType) (n : nodes.Node) → node_sound S n ≡ true → IsInMemory (lvalue_of n) → GoodIf S (address t (lvalue_of n))
+address_good : (S : TypingContext) (t : CType) (n : nodes.Node) → node_sound S n ≡ true → IsInMemory (lvalue_of n) → GoodIf S (address t (lvalue_of n))
 address_good S t (nodes.Read p) sound h = pointer_good S (pointer_to t) (nodes.AddressOf p) (pointer_to_pointer t) (and_true sound h) refl
 address_good S t other sound h = tt
 
@@ -228,7 +228,7 @@ abbrev pub IsAddressable : UnaryOperator → TypedNode → Type 0
 IsAddressable unary.AddressOf a = IsInMemory (lvalue_of a.node)
 IsAddressable other a = Unit {0}
 
-pub unary_good : (S : Scope) (o : UnaryOperator) (a : TypedNode) → IsGood S a → IsAddressable o a → GoodIf S (unary_of o a)
+pub unary_good : (S : TypingContext) (o : UnaryOperator) (a : TypedNode) → IsGood S a → IsAddressable o a → GoodIf S (unary_of o a)
 unary_good S unary.Plus a g m = promoted_good S pures.First a g refl
 unary_good S unary.Minus a g m = promoted_good S (pures.Negate (size_of (promoted a.type))) a g (takes_itself (size_of (promoted a.type))).0
 unary_good S unary.Complement a g m = promoted_good S (pures.Not (size_of (promoted a.type))) a g (takes_itself (size_of (promoted a.type))).1
@@ -239,13 +239,13 @@ unary_good S unary.LogicalNot a g m =
 unary_good S unary.Indirection a g m = indirection_good S a g
 unary_good S unary.AddressOf a g m = address_good S a.type a.node g.sound m
 
-pub cast_good : (S : Scope) (t : CType) (a : TypedNode) → IsGood S a → GoodIf S (cast_of t a)
+pub cast_good : (S : TypingContext) (t : CType) (a : TypedNode) → IsGood S a → GoodIf S (cast_of t a)
 cast_good S t a g =
     only_if_good S (is_scalar t && is_scalar a.type) (typed t (nodes.Unary pures.First (as_type t a))) λ e.
     let n = unary_has S pures.First (as_type t a) (size_of t) (size_of t) (as_type_has S a t g (and_right (is_scalar t) (is_scalar a.type) e)) refl in
     typed_good S t (nodes.Unary pures.First (as_type t a)) (and_left (is_scalar t) (is_scalar a.type) e) n.0 n.1
 
-pub element_good : (S : Scope) (a i : TypedNode) → IsGood S a → IsGood S i → GoodIf S (element_of a i)
+pub element_good : (S : TypingContext) (a i : TypedNode) → IsGood S a → IsGood S i → GoodIf S (element_of a i)
 element_good S a i g h =
     let place = nodes.Element (access_of (pointed a.type)) (as_is a) (as_index a.type i) in
     only_if_good S (is_sized_pointer a.type && is_integer i.type) (typed (pointed a.type) (nodes.Read place)) λ e.
@@ -256,7 +256,7 @@ element_good S a i g h =
 
 -- ---- changes of a place
 
-pub assigned_good : (S : Scope) (a b : TypedNode) → IsGood S a → IsGood S b → GoodIf S (assigned a b)
+pub assigned_good : (S : TypingContext) (a b : TypedNode) → IsGood S a → IsGood S b → GoodIf S (assigned a b)
 assigned_good S a b g h =
     if_good S (can_become a.type b) _ _
     (λ e.
@@ -276,7 +276,7 @@ change_has place amount before after o x y z p q b s t c u =
     (and_true (and_true (ap (can_convert before) p ∙ b) (ap is_number result)) (ap (can_convert after) result ∙ c))
     (alike_sizes (size_after after (takes o (size_after before place) amount)) place x (ap (size_after after) result ∙ u) p)
 
-moved_place_good : (S : Scope) (o : Arithmetic) (a b : TypedNode) → IsGood S a → IsGood S b → (is_sized_pointer a.type && is_integer b.type) ≡ true
+moved_place_good : (S : TypingContext) (o : Arithmetic) (a b : TypedNode) → IsGood S a → IsGood S b → (is_sized_pointer a.type && is_integer b.type) ≡ true
     → GoodIf S (with_lvalue (lvalue_of a.node) (λ p. typed a.type (nodes.CompoundAssign p Kept (long_operation o) (as_index a.type b) Kept)))
 moved_place_good S o a b g h e =
     let r = pointed_has S a b g h e in
@@ -287,7 +287,7 @@ moved_place_good S o a b g h e =
     (change_has (lvalue_size S p) (expression_size S (as_index a.type b)) Kept Kept (long_operation o) sizes.Long sizes.Long sizes.Long sized r.2.size refl refl (takes_alike o signs.Unsigned sizes.Long) refl refl))
     sized)
 
-worked_place_good : (S : Scope) (o : Arithmetic) (a b : TypedNode) → IsGood S a → IsGood S b → is_integer a.type ≡ true → is_integer b.type ≡ true
+worked_place_good : (S : TypingContext) (o : Arithmetic) (a b : TypedNode) → IsGood S a → IsGood S b → is_integer a.type ≡ true → is_integer b.type ≡ true
     → (t : CType) → GoodIf S (with_lvalue (lvalue_of a.node) (λ p. typed a.type (nodes.CompoundAssign p (conversion a.type t) (operation_in o t) (right_operand o t b) (conversion t a.type))))
 worked_place_good S o a b g h p q t =
     let scalar = integer_scalar a.type p in
@@ -305,7 +305,7 @@ additive_parts : (x y z : Bool) → (x && y && z) ≡ true → (y && z) ≡ true
 additive_parts true y z h = h
 additive_parts false y z h = absurd (cc)
 
-pub compound_assigned_good : (S : Scope) (o : Arithmetic) (a b : TypedNode) → IsGood S a → IsGood S b → GoodIf S (compound_assigned o a b)
+pub compound_assigned_good : (S : TypingContext) (o : Arithmetic) (a b : TypedNode) → IsGood S a → IsGood S b → GoodIf S (compound_assigned o a b)
 compound_assigned_good S o a b g h =
     if_good S (is_pointer a.type) _ _
     (λ p. if_good S (is_additive o && is_sized_pointer a.type && is_integer b.type) _ _
@@ -315,7 +315,7 @@ compound_assigned_good S o a b g h =
     (λ e. worked_place_good S o a b g h (and_left (is_integer a.type) (is_integer b.type) e) (and_right (is_integer a.type) (is_integer b.type) e) (working_type o a.type b.type))
     (λ e. tt))
 
-increment_place_good : (S : Scope) (m : Fixity) (o : Operation) (n : ℕ) (after : Conversion) (y : Size) (a : TypedNode) → IsGood S a → is_scalar a.type ≡ true → size_of a.type ≡ y
+increment_place_good : (S : TypingContext) (m : Fixity) (o : Operation) (n : ℕ) (after : Conversion) (y : Size) (a : TypedNode) → IsGood S a → is_scalar a.type ≡ true → size_of a.type ≡ y
     → takes o (Some y) (Some y) ≡ Some y → can_convert after (Some y) ≡ true → size_after after (Some y) ≡ Some (size_of a.type) → constant_fits y n ≡ true
     → GoodIf S (with_lvalue (lvalue_of a.node) (λ p. typed a.type (nodes.Increment m p Kept o n after)))
 increment_place_good S m o n after y a g scalar same t c u small =
@@ -327,7 +327,7 @@ increment_place_good S m o n after y a g scalar same t c u small =
     (ap (λ z. amount_fits z n) (sized ∙ ap (λ z. Some z) same) ∙ small))
     sized)
 
-pub incremented_good : (S : Scope) (m : Fixity) (i : Increment) (a : TypedNode) → IsGood S a → GoodIf S (incremented m i a)
+pub incremented_good : (S : TypingContext) (m : Fixity) (i : Increment) (a : TypedNode) → IsGood S a → GoodIf S (incremented m i a)
 incremented_good S m i a g =
     if_good S (is_pointer a.type) _ _
     (λ p. if_good S (is_sized_pointer a.type) _ _
@@ -368,7 +368,7 @@ same_type_pointer : (a b : CType) → same_type a b ≡ true → is_pointer a �
 same_type_pointer a b h p = ap (nat_lt 0) (sym (eqb-true a.pointers b.pointers (and_left (nat_eq a.pointers b.pointers) (same_base a.base b.base) h))) ∙ p
 
 -- the other is of the pointer's type, or a literal 0
-other_scalar : (S : Scope) (a b : TypedNode) → IsGood S b → is_pointer a.type ≡ true → (same_type a.type b.type || b.zero) ≡ true → is_scalar b.type ≡ true
+other_scalar : (S : TypingContext) (a b : TypedNode) → IsGood S b → is_pointer a.type ≡ true → (same_type a.type b.type || b.zero) ≡ true → is_scalar b.type ≡ true
 other_scalar S a b h p e = by_same (same_type a.type b.type) refl b.zero refl e
   where
     by_same : (x : Bool) → same_type a.type b.type ≡ x → (z : Bool) → b.zero ≡ z → (x || z) ≡ true → is_scalar b.type ≡ true
@@ -376,7 +376,7 @@ other_scalar S a b h p e = by_same (same_type a.type b.type) refl b.zero refl e
     by_same false s true y e = h.zero y
     by_same false s false y e = absurd (cc)
 
-branches : (S : Scope) (a b : TypedNode) → IsGood S a → IsGood S b → BranchesIf (branch_type a b) a b
+branches : (S : TypingContext) (a b : TypedNode) → IsGood S a → IsGood S b → BranchesIf (branch_type a b) a b
 branches S a b g h =
     let u = a.type in
     let v = b.type in
@@ -402,10 +402,10 @@ branches S a b g h =
     scalar_branches void_pointer a b refl (pointer_scalar u (and_left (is_pointer u) (is_pointer v) p)) (pointer_scalar v (and_right (is_pointer u) (is_pointer v) p)))
     (λ n. tt)))))
 
-void_branch : (S : Scope) (a : TypedNode) → IsGood S a → is_void a.type ≡ true → expression_size S (as_is a) ≡ None
+void_branch : (S : TypingContext) (a : TypedNode) → IsGood S a → is_void a.type ≡ true → expression_size S (as_is a) ≡ None
 void_branch S a g h = g.sized ∙ void_size a.type h
 
-chosen_good : (S : Scope) (c a b : TypedNode) (t : CType) → IsGood S c → IsGood S a → IsGood S b → is_scalar c.type ≡ true → AreBranches t a b → IsGood S (typed t (nodes.Conditional (as_is c) (as_branch t a) (as_branch t b)))
+chosen_good : (S : TypingContext) (c a b : TypedNode) (t : CType) → IsGood S c → IsGood S a → IsGood S b → is_scalar c.type ≡ true → AreBranches t a b → IsGood S (typed t (nodes.Conditional (as_is c) (as_branch t a) (as_branch t b)))
 chosen_good S c a b t f g h s r = by_void (is_void t) refl
   where
     condition : HasSize S (as_is c) (size_of c.type)
@@ -430,12 +430,12 @@ chosen_good S c a b t f g h s r = by_void (is_void t) refl
         (alike_sizes (expression_size S (as_type t a)) (expression_size S (as_type t b)) (size_of t) p.size q.size))
         p.size
 
-chosen_if : (S : Scope) (c a b : TypedNode) (o : Option CType) → IsGood S c → IsGood S a → IsGood S b → is_scalar c.type ≡ true → BranchesIf o a b → GoodIf S (chosen c a b o)
+chosen_if : (S : TypingContext) (c a b : TypedNode) (o : Option CType) → IsGood S c → IsGood S a → IsGood S b → is_scalar c.type ≡ true → BranchesIf o a b → GoodIf S (chosen c a b o)
 chosen_if S c a b None f g h s r = tt
 chosen_if S c a b (Some t) f g h s r = chosen_good S c a b t f g h s r
 
-pub conditional_good : (S : Scope) (c a b : TypedNode) → IsGood S c → IsGood S a → IsGood S b → GoodIf S (conditional_of c a b)
+pub conditional_good : (S : TypingContext) (c a b : TypedNode) → IsGood S c → IsGood S a → IsGood S b → GoodIf S (conditional_of c a b)
 conditional_good S c a b f g h = if_good S (is_scalar c.type) _ _ (λ s. chosen_if S c a b (branch_type a b) f g h s (branches S a b g h)) (λ s. tt)
 
-pub comma_good : (S : Scope) (a b : TypedNode) → IsGood S a → IsGood S b → GoodIf S (comma_of a b)
+pub comma_good : (S : TypingContext) (a b : TypedNode) → IsGood S a → IsGood S b → GoodIf S (comma_of a b)
 comma_good S a b g h = record { sound = and_true (as_is_sound S a g) (as_is_sound S b h); sized = h.sized; zero = λ z. absurd (cc) }

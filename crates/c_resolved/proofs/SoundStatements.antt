@@ -65,14 +65,14 @@ is_near Nowhere = false
 is_near Beyond = false
 is_near Near = true
 
-abbrev pub scope_of : List Function → List Size → Environment → sound.Scope
+abbrev pub scope_of : List Function → List Size → Environment → sound.TypingContext
 scope_of fs zs a = record { functions = fs; sizes = zs; code = a.code; information = false; abnormal = a.abnormal }
 
 -- what is around a statement of the checked program
 abbrev pub inside_of : List Function → List Size → Environment → Inside
 inside_of fs zs a = record { scope = scope_of fs zs a; returns = result_size a.returns; loop = is_near a.loop; body = is_near a.body; function = is_near a.function }
 
-abbrev filter_scope : List Function → List Size → Environment → sound.Scope
+abbrev filter_scope : List Function → List Size → Environment → sound.TypingContext
 filter_scope fs zs a = record (scope_of fs zs a) { code = true; information = true }
 
 names_fit : (fs : List Function) (zs : List Size) (a : Environment) (block : Scope) → ScopeFits fs zs block → ScopeFits fs zs a.outer → NamesFit (scope_of fs zs a) (names_at a block)
@@ -92,38 +92,38 @@ filter_names_fit fs zs a block h k = record { entities = (names_fit fs zs a bloc
 abbrev expression_of : Option TypedNode → List FaultAt → ResolvedExpression
 expression_of o fs = record { found = o; faults = fs }
 
-any_sound : (S : sound.Scope) (o : Option TypedNode) (fs : List FaultAt) → FoundOr S o fs → (any (expression_of o fs)).faults ≡ [] → expression_sound S (any (expression_of o fs)).value ≡ true
+any_sound : (S : sound.TypingContext) (o : Option TypedNode) (fs : List FaultAt) → FoundOr S o fs → (any (expression_of o fs)).faults ≡ [] → expression_sound S (any (expression_of o fs)).value ≡ true
 any_sound S None fs g e = absurd (no_fault fs e g)
 any_sound S (Some t) fs g e = as_is_sound S t g
 
-condition_holds : (S : sound.Scope) (at : ℕ) (o : Option TypedNode) (fs : List FaultAt) → FoundOr S o fs → (condition at (expression_of o fs)).faults ≡ [] → condition_sound S (condition at (expression_of o fs)).value ≡ true
+condition_holds : (S : sound.TypingContext) (at : ℕ) (o : Option TypedNode) (fs : List FaultAt) → FoundOr S o fs → (condition at (expression_of o fs)).faults ≡ [] → condition_sound S (condition at (expression_of o fs)).value ≡ true
 condition_holds S at None fs g e = absurd (no_fault fs e g)
 condition_holds S at (Some t) fs g e =
     let p = as_is_has S t g (holds (is_scalar t.type) at TypeClash (none_in_both fs _ e).1) in
     and_true p.sound (has_number S (as_is t) (size_of t.type) p)
 
 -- a value of a type, which has values
-to_type_has : (S : sound.Scope) (type : CType) (at : ℕ) (o : Option TypedNode) (fs : List FaultAt) → FoundOr S o fs → (to_type type at (expression_of o fs)).faults ≡ []
+to_type_has : (S : sound.TypingContext) (type : CType) (at : ℕ) (o : Option TypedNode) (fs : List FaultAt) → FoundOr S o fs → (to_type type at (expression_of o fs)).faults ≡ []
     → HasSize S (to_type type at (expression_of o fs)).value (size_of type) × (is_scalar type ≡ true)
 to_type_has S type at None fs g e = absurd (no_fault fs e g)
 to_type_has S type at (Some t) fs g e =
     let s = can_become_scalar type t g.zero (holds (can_become type t) at TypeClash (none_in_both fs _ e).1) in
     (as_type_has S t type g s.0, s.1)
 
-to_answer_has : (S : sound.Scope) (at : ℕ) (o : Option TypedNode) (fs : List FaultAt) → FoundOr S o fs → (to_answer at (expression_of o fs)).faults ≡ [] → HasSize S (to_answer at (expression_of o fs)).value sizes.Int
+to_answer_has : (S : sound.TypingContext) (at : ℕ) (o : Option TypedNode) (fs : List FaultAt) → FoundOr S o fs → (to_answer at (expression_of o fs)).faults ≡ [] → HasSize S (to_answer at (expression_of o fs)).value sizes.Int
 to_answer_has S at None fs g e = absurd (no_fault fs e g)
 to_answer_has S at (Some t) fs g e = as_type_has S t int g (integer_scalar t.type (holds (is_integer t.type) at TypeClash (none_in_both fs _ e).1))
 
-optional_any : (S : sound.Scope) (s : Names) → NamesFit S s → (o : Option Expression) → (optional (λ e. any (resolve_expression s e)) o).faults ≡ [] → optional_sound S (optional (λ e. any (resolve_expression s e)) o).value ≡ true
+optional_any : (S : sound.TypingContext) (s : Names) → NamesFit S s → (o : Option Expression) → (optional (λ e. any (resolve_expression s e)) o).faults ≡ [] → optional_sound S (optional (λ e. any (resolve_expression s e)) o).value ≡ true
 optional_any S s fit None h = refl
 optional_any S s fit (Some e) h = let j = resolve_expression s e in any_sound S j.found j.faults (settled S s fit e) h
 
-optional_condition : (S : sound.Scope) (s : Names) → NamesFit S s → (at : ℕ) (o : Option Expression) → (optional (λ e. condition at (resolve_expression s e)) o).faults ≡ []
+optional_condition : (S : sound.TypingContext) (s : Names) → NamesFit S s → (at : ℕ) (o : Option Expression) → (optional (λ e. condition at (resolve_expression s e)) o).faults ≡ []
     → test_sound S (optional (λ e. condition at (resolve_expression s e)) o).value ≡ true
 optional_condition S s fit at None h = refl
 optional_condition S s fit at (Some e) h = let j = resolve_expression s e in condition_holds S at j.found j.faults (settled S s fit e) h
 
-optional_value : (S : sound.Scope) (s : Names) → NamesFit S s → (type : CType) (size : Option Size) → size ≡ Some (size_of type) → (o : Option Expression)
+optional_value : (S : sound.TypingContext) (s : Names) → NamesFit S s → (type : CType) (size : Option Size) → size ≡ Some (size_of type) → (o : Option Expression)
     → (optional (λ e. to_type type (start e) (resolve_expression s e)) o).faults ≡ [] → value_fits S size (optional (λ e. to_type type (start e) (resolve_expression s e)) o).value ≡ true
 optional_value S s fit type size same None h = refl
 optional_value S s fit type size same (Some e) h =
@@ -217,7 +217,7 @@ returned_sound : (fs : List Function) (zs : List Size) (a : Environment) (block 
 returned_sound fs zs a block h k at None none = ap (same_sizes None) (void_size a.returns (holds (is_void a.returns) at TypeClash none))
 returned_sound fs zs a block h k at (Some e) none = by_void (is_void a.returns) refl none
   where
-    S : sound.Scope
+    S : sound.TypingContext
     S = scope_of fs zs a
 
     j : ResolvedExpression
@@ -243,7 +243,7 @@ filter_resolves : (fs : List Function) (zs : List Size) (a : Environment) (block
     → filter_sound (scope_of fs zs a) (resolve_filter a block e number).filter ≡ true
 filter_resolves fs zs a block h k e number none = if_both {A = ResolvedFilter} (λ r. r.faults ≡ [] → filter_sound (scope_of fs zs a) r.filter ≡ true) (always a block e) _ _ (λ t none. refl) (λ t none. asked none) none
   where
-    S : sound.Scope
+    S : sound.TypingContext
     S = filter_scope fs zs a
 
     j : ResolvedExpression
@@ -272,7 +272,7 @@ last_sound : (fs : List Function) (zs : List Size) (a : Environment) (last : che
     → statements_sound (record (inside_of fs zs a) { scope = record (scope_of fs zs a) { abnormal = true }; loop = is_near (past_finally a.loop); body = is_near (past_finally a.body); function = false }) last ≡ true
     → statements_sound (record (inside_of fs zs a) { scope = record (scope_of fs zs a) { abnormal = true }; loop = false; body = false; function = false }) last ≡ true
 last_sound fs zs a last h =
-    let scope : sound.Scope = record (scope_of fs zs a) { abnormal = true } in
+    let scope : sound.TypingContext = record (scope_of fs zs a) { abnormal = true } in
     let at : Bool → Bool → Inside = λ x y. record { scope = scope; returns = result_size a.returns; loop = x; body = y; function = false } in
     subst (λ y. statements_sound (at false y) last ≡ true) (past_not_near a.body) (subst (λ x. statements_sound (at x (is_near (past_finally a.body))) last ≡ true) (past_not_near a.loop) h)
 

@@ -9,7 +9,7 @@ ghost use Rattle.c_text.specs.Texts.{semantic};
 use c_check::check::{CheckErr, check};
 use c_checked::checked::Checked;
 use c_lex::lexing::{LexErr, lex};
-use c_parse::program::{Program, parse};
+use c_parse::program::{TranslationUnit, parse};
 use c_parse_expr::refusal::ParseErr;
 use c_resolved::fault::Fault;
 use std::alloc::Global;
@@ -32,7 +32,7 @@ pub enum TextErr {
 #[derive(Drop)]
 pub struct Accepted {
     /// As it was read.
-    pub program: Program,
+    pub program: TranslationUnit,
     /// As it was checked.
     pub checked: Checked,
 }
@@ -71,7 +71,7 @@ fn semantic(error: CheckErr) -> TextErr
 }
 
 /// The program within the limits that a text is.
-fn read(alloc: Global, text: &[u8]) -> Result<Program, TextErr>
+fn read(alloc: Global, text: &[u8]) -> Result<TranslationUnit, TextErr>
     ensures found { IfOk result (λ p. IsProgramText text.now
         (map external_declaration p.external_declarations.items)) }
     ensures refused { IfErr result (λ e. TextIsRefused text.now e) }

@@ -14,7 +14,7 @@ use Rattle.c_model.specs.State.{Exception, Result, Value, Normal, Returned, Cont
 use Rattle.c_model.specs.Tasks as tasks
 use Rattle.c_model.specs.Tasks.{Handler, Task}
 use Rattle.source_machine.specs.Frames as frames
-use Rattle.source_machine.specs.Frames.{Place, Callee, Frame, Operand, Assignment, InStatement, Sequel, Body, EndsCall, Lands, Finishes, Next, Over, Give, Start, Begin, Plan, Then, Push}
+use Rattle.source_machine.specs.Frames.{Place, Callee, ContinuationFrame, Operand, Assignment, InStatement, Sequel, Body, EndsCall, Lands, Finishes, Next, Over, Give, Start, Begin, Plan, Then, Push}
 use Rattle.source_machine.specs.Plans.{operand_plan, assignment_plan, in_statement_plan, sequel_plan, body_plan}
 use Rattle.source_machine.specs.Machine.{Machine, follow, unless_deep, begun, fetched, put, operated, entered, built_in, called, asked_by, asked, searched, target_landed, landed, finished, left_call, after_value, after_normal, after_body, resumed, given, outside, done, is_deep, with_local}
 
@@ -66,7 +66,7 @@ module _ (l : ℕ) where
   finish m k last p LeftTry = refl
   finish m k last p how = refl
 
-  resume : (m : Machine) (f : Frame) (how : Result) → resumed (with_left l m) f how ≡ with_left l (resumed m f how)
+  resume : (m : Machine) (f : ContinuationFrame) (how : Result) → resumed (with_left l m) f how ≡ with_left l (resumed m f how)
   resume m (Operand f) how = value m (operand_plan f) how
   resume m (Assignment f) how = value m (assignment_plan f) how
   resume m (InStatement f) how = value m (in_statement_plan f) how
@@ -76,7 +76,7 @@ module _ (l : ℕ) where
   resume m (Lands held block p) how = land m held block p how
   resume m (Finishes k last p) how = finish m k last p how
 
-  give : (m : Machine) (how : Result) (fs : List Frame) → given (with_left l m) how fs ≡ with_left l (given m how fs)
+  give : (m : Machine) (how : Result) (fs : List ContinuationFrame) → given (with_left l m) how fs ≡ with_left l (given m how fs)
   give m how [] = refl
   give m how (f ∷ fs) = resume (record m { handlers = outside f m.handlers; stack = fs }) f how
 
@@ -104,7 +104,7 @@ module _ (l : ℕ) where
   puts m (Indirection access _) a v p = refl
   puts m (Element access _ _) a v p = refl
 
-  operate : (m : Machine) (o : Operation) (a b : ℕ) (p : Place) (x : performing.Outcome) → operated (with_left l m) o a b p x ≡ with_left l (operated m o a b p x)
+  operate : (m : Machine) (o : Operation) (a b : ℕ) (p : Place) (x : performing.OperationResult) → operated (with_left l m) o a b p x ≡ with_left l (operated m o a b p x)
   operate m o a b p (performing.Gives v memory) = refl
   operate m o a b p (performing.Raises code access) = refl
   operate m o a b p (performing.Undefined a') = refl

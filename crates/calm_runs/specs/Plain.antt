@@ -3,13 +3,13 @@ use Rattle.std.specs.Prelude.{◌≡◌, ℕ, Bool, true, false, ◌&&◌, List,
 use Rattle.c_checked.specs.Program.{Program}
 use Rattle.c_model.specs.Tasks as tasks
 use Rattle.source_machine.specs.Frames as frames
-use Rattle.source_machine.specs.Frames.{Frame, InStatement, Sequel, Next, Begin}
+use Rattle.source_machine.specs.Frames.{ContinuationFrame, InStatement, Sequel, Next, Begin}
 use Rattle.source_machine.specs.Machine.{Machine}
 use Rattle.source_machine.specs.Runs.{first, after}
 
 -- a filter runs where its end is waited for; a `__finally` block with flag 1 runs where the result
 -- waits that it has interrupted
-abbrev pub is_inside : List Frame → Bool
+abbrev pub is_inside : List ContinuationFrame → Bool
 is_inside [] = false
 is_inside (InStatement frames.EndsFilter ∷ fs) = true
 is_inside (Sequel (frames.GivesResult how) ∷ fs) = true

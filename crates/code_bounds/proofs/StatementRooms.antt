@@ -10,7 +10,7 @@ use Rattle.linear_code.specs.declared.program.RegionKind.TheVariants as kinds
 use Rattle.linear_code.specs.Program.{LinearBody, LinearFunclet}
 use Rattle.seh_ir.specs.declared.funclets.Owner.{Owner}
 use Rattle.ir_expressions.specs.declared.scope.Names.{Names}
-use Rattle.ir_expressions.specs.declared.scope.Scope.{Scope}
+use Rattle.ir_expressions.specs.declared.scope.LoweringContext.{LoweringContext}
 use Rattle.ir_expressions.specs.declared.scope.Way.{Way}
 use Rattle.ir_expressions.specs.declared.scope.Way.TheVariants.{Nowhere, Jumps, Unwinds}
 use Rattle.ir_sizes.specs.Sizes.{expression_size, discarded_size, condition_size, declared_size, all_declared_size, statement_size, statements_size}
@@ -84,14 +84,14 @@ filtered owner names (Funclet k e) = let a = expression_bound names e 0 0 in ome
 
 -- ---- statements: the code is placed at one instruction, and the regions at another
 
-abbrev Bound : Scope → ℕ → ℕ → Owner → Names → Statement → Type 0
+abbrev Bound : LoweringContext → ℕ → ℕ → Owner → Names → Statement → Type 0
 Bound scope at from owner names s = code_room (statement_code scope s at) + 16 * length (statement_regions s from) + funclets_room (statement_funclets owner names s) ≤ statement_room s
 
-abbrev Bounds : Scope → ℕ → ℕ → Owner → Names → Statements → Type 0
+abbrev Bounds : LoweringContext → ℕ → ℕ → Owner → Names → Statements → Type 0
 Bounds scope at from owner names ss = code_room (statements_code scope ss at) + 16 * length (statements_regions ss from) + funclets_room (statements_funclets owner names ss) ≤ statements_room ss
 
 mutual
-  statement_bound : (scope : Scope) (at from : ℕ) (owner : Owner) (names : Names) (s : Statement) → Bound scope at from owner names s
+  statement_bound : (scope : LoweringContext) (at from : ℕ) (owner : Owner) (names : Names) (s : Statement) → Bound scope at from owner names s
   statement_bound scope at from owner names (Declare d) = let a = declared_bound scope.names d at in omega arith
   statement_bound scope at from owner names (Block ss) = statements_bound scope at from owner names ss
   statement_bound scope at from owner names (Evaluate e) = let a = discarded scope.names e at in omega arith
@@ -159,7 +159,7 @@ mutual
       let b = statements_bound inner 0 0 owner' names' last in
       omega (arith, room_append (statements_code guarded body at) (instructions.Separator ∷ instructions.CallFinally (k - 1) ∷ instructions.Separator ∷ []), length-append (statements_regions body from) (region from (from + statements_size body + 1) (kinds.Finally (k - 1)) ∷ []), funclets_append (statements_funclets owner names body) (finally_funclet owner names last ∷ statements_funclets owner' names' last), room_append (statements_code inner last 0) (instructions.Return (Local names.free) ∷ []))
 
-  pub statements_bound : (scope : Scope) (at from : ℕ) (owner : Owner) (names : Names) (ss : Statements) → Bounds scope at from owner names ss
+  pub statements_bound : (scope : LoweringContext) (at from : ℕ) (owner : Owner) (names : Names) (ss : Statements) → Bounds scope at from owner names ss
   statements_bound scope at from owner names Empty = omega arith
   statements_bound scope at from owner names (Then s ss) =
       let a = statement_bound scope at from owner names s in

@@ -19,10 +19,10 @@ use Rattle.frame_rules.specs.Prologue.{bytes, items, codes_onto}
 use Rattle.frame_rules.specs.Plan.{FramePlan, allocation_then, allocating, instructions_of, spelled_by, turned, steps_of}
 use Rattle.frame_rules.specs.Plan as rules
 use Rattle.frame_rules.specs.Bytes.{spell, prologue_code}
-use Rattle.frame_layout.specs.declared.frame.Frame.{Frame}
+use Rattle.frame_layout.specs.declared.frame.FrameLayout.{FrameLayout}
 use Rattle.frame_layout.specs.Layout.{plan_of, taking_size, Describes}
 
-abbrev pub of_size : ℕ → Frame
+abbrev pub of_size : ℕ → FrameLayout
 of_size n = record { kept = 0; temporaries = 0; locals = 0; size = n }
 
 abbrev pub plan : ℕ → ℕ → FramePlan
@@ -97,7 +97,7 @@ info_by probe n none =
 abbrev code_at : ℕ → ℕ → UnwindCode
 code_at offset n = record { offset = offset; operation = Allocate n }
 
-pub describes : (frame : Frame) (size : ℕ) (codes : ArrayVec UnwindCode) → 0 < frame.size → size ≡ taking_size frame.size → codes.items ≡ code_at size frame.size ∷ []
+pub describes : (frame : FrameLayout) (size : ℕ) (codes : ArrayVec UnwindCode) → 0 < frame.size → size ≡ taking_size frame.size → codes.items ≡ code_at size frame.size ∷ []
     → (probe : ℕ) → Describes (record { prologue_size = size; frame_register = 0; frame_offset = 0; codes = codes; trailer = Nothing }) (rules.unwind_of spell (plan_of frame probe))
 describes frame size codes some is are probe =
     let n = frame.size in

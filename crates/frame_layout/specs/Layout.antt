@@ -10,7 +10,7 @@ use Rattle.frame_rules.specs.Prologue.{bytes}
 use Rattle.frame_rules.specs.Plan as rules
 use Rattle.frame_rules.specs.Bytes.{spell, prologue_code}
 use Rattle.frame_layout.specs.declared.frame.Facts.{Facts}
-use Rattle.frame_layout.specs.declared.frame.Frame.{Frame}
+use Rattle.frame_layout.specs.declared.frame.FrameLayout.{FrameLayout}
 use Rattle.template_code.specs.declared.layout.TheConstants.{LARGEST_FRAME}
 
 abbrev pub words : Facts → ℕ
@@ -24,7 +24,7 @@ FitsFrame f = 8 * (4 + words f + 2) ≤ LARGEST_FRAME
 abbrev pub allocation : ℕ → ℕ
 allocation n = 8 * (n + (n + 1) % 2)
 
-abbrev pub frame_of : Facts → Frame
+abbrev pub frame_of : Facts → FrameLayout
 frame_of f = record {
   kept = 8 * (4 + f.passed);
   temporaries = 8 * (4 + f.passed + f.kept);
@@ -34,7 +34,7 @@ frame_of f = record {
 
 -- what a frame is to be: home space and the parts one after another below its end, and RSP a
 -- multiple of 16 where it is so before the return address is pushed
-pub record IsLaidOut (f : Facts) (frame : Frame) : Type 0 where
+pub record IsLaidOut (f : Facts) (frame : FrameLayout) : Type 0 where
   pub passed : 32 + 8 * f.passed ≤ frame.kept
   pub kept : frame.kept + 8 * f.kept ≤ frame.temporaries
   pub temporaries : frame.temporaries + 8 * f.temporaries ≤ frame.locals
@@ -43,7 +43,7 @@ pub record IsLaidOut (f : Facts) (frame : Frame) : Type 0 where
 
 -- a frame without saved registers and without a frame register, with the displacement of the call
 -- of `__chkstk`
-abbrev pub plan_of : Frame → ℕ → FramePlan
+abbrev pub plan_of : FrameLayout → ℕ → FramePlan
 plan_of frame probe =
     record { pushes = []; size = frame.size; frame = 0; distance = 0; saves = []; probe = probe }
 
@@ -62,7 +62,7 @@ pub record Describes (u : UnwindInfo) (i : Info) : Type 0 where
   pub trailer : u.trailer ≡ Nothing
 
 -- the info of a frame, with what follows its codes
-abbrev pub info_of : Frame → Trailer → UnwindInfo
+abbrev pub info_of : FrameLayout → Trailer → UnwindInfo
 info_of f trailer = record {
   prologue_size = taking_size f.size;
   frame_register = 0;

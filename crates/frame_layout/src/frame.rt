@@ -29,7 +29,7 @@ pub struct Facts {
 /// is kept, the temporaries, the locals, and where RSP wouldn't be a multiple of 16 at a call, one
 /// word more; the return address is above it. Distances are from RSP, in bytes.
 #[derive(Clone, Copy, Debug, PartialEq, Eq)]
-pub struct Frame {
+pub struct FrameLayout {
     /// Where what is kept begins.
     pub kept: u64,
     /// Where the temporaries begin.
@@ -41,7 +41,7 @@ pub struct Frame {
 }
 
 /// The frame of a function.
-pub fn plan(facts: &Facts) -> Frame
+pub fn plan(facts: &Facts) -> FrameLayout
     requires { FitsFrame facts.now }
     ensures frame { result ≡ frame_of facts.now }
     ensures laid_out { IsLaidOut facts.now result }
@@ -52,7 +52,7 @@ pub fn plan(facts: &Facts) -> Frame
     let temporaries = kept + facts.kept;
     let locals = temporaries + facts.temporaries;
     let words = locals + facts.locals;
-    Frame {
+    FrameLayout {
         kept: WORD * kept,
         temporaries: WORD * temporaries,
         locals: WORD * locals,

@@ -8,7 +8,7 @@ ghost use Rattle.frame_rules.specs.Plan as rules;
 ghost use Rattle.frame_rules.specs.Bytes.{prologue_code, spell};
 ghost use Rattle.frame_layout.specs.Layout.{plan_of, info_of, Describes, taking_size};
 
-use crate::frame::Frame;
+use crate::frame::FrameLayout;
 use arrayvec::ArrayVec;
 use eh_tables::{Trailer, UnwindCode, UnwindInfo, UnwindOperation};
 use host_layout::range::PAGE;
@@ -35,7 +35,7 @@ fn change_rsp(operation: Operation, from: Operand) -> Instr
 
 /// The prologue of a frame. A frame of more than a page is taken after `__chkstk`, which is `probe`
 /// bytes after the end of its call, has touched its pages.
-pub fn prologue(frame: &Frame, probe: u64) -> ArrayVec<Instr, 16>
+pub fn prologue(frame: &FrameLayout, probe: u64) -> ArrayVec<Instr, 16>
     requires some { 0 < frame.now.size }
     requires fits { frame.now.size < 2 ^ 31 }
     requires near { is_signed Width.W32 Width.W64 probe ≡ true }
@@ -58,7 +58,7 @@ pub fn prologue(frame: &Frame, probe: u64) -> ArrayVec<Instr, 16>
 }
 
 /// The epilogue of a frame.
-pub fn epilogue(frame: &Frame) -> ArrayVec<Instr, 16>
+pub fn epilogue(frame: &FrameLayout) -> ArrayVec<Instr, 16>
     requires { 0 < frame.now.size }
     ensures { (probe : ℕ) → result.items ≡ rules.epilogue (plan_of frame.now probe) }
 {
@@ -83,7 +83,7 @@ fn prologue_size(size: u64) -> u8
 }
 
 /// What unwinding needs to know of the prologue of a frame.
-pub fn unwind_of(frame: &Frame) -> UnwindInfo
+pub fn unwind_of(frame: &FrameLayout) -> UnwindInfo
     requires some { 0 < frame.now.size }
     requires fits { frame.now.size < 2 ^ 31 }
     ensures value { result ≡ info_of frame.now Trailer.Nothing }

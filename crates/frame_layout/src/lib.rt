@@ -1,9 +1,9 @@
 //! The frames of compiled functions (Microsoft x64 ABI, "x64 stack usage" and "Prolog and
 //! epilog").
 //!
-//! [`plan`] lays out a [`Frame`] by what a function needs of it; [`prologue`] and [`epilogue`] are
-//! the instructions that take it and give it back, and [`unwind_of`] what unwinding needs to know
-//! of them. No call takes memory.
+//! [`plan`] lays out a [`FrameLayout`] by what a function needs of it; [`prologue`] and
+//! [`epilogue`] are the instructions that take it and give it back, and [`unwind_of`] what
+//! unwinding needs to know of them. No call takes memory.
 //!
 //! Proved: they keep the rules of `frame_rules`, and no frame is larger than `LARGEST_FRAME`. Begin
 //! with `specs/Layout.antt`.
@@ -12,5 +12,5 @@
 mod frame;
 mod instructions;
 
-pub use frame::{Facts, Frame, plan};
+pub use frame::{Facts, FrameLayout, plan};
 pub use instructions::{epilogue, prologue, unwind_of};

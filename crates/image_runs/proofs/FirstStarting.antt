@@ -4,7 +4,7 @@ use Rattle.std.proofs.lemmas.List.{get_or-take}
 use Rattle.flat_memory.specs.Memory.{Memory, next, number_at}
 use Rattle.virtual_unwind.specs.Undone.{word}
 use Rattle.host_model.specs.Loading.{first_cpu, mapped, start}
-use Rattle.pe_write.specs.Program.{Program, image_of, sizes_of, text_at}
+use Rattle.pe_write.specs.Program.{ImageContents, image_of, sizes_of, text_at}
 use Rattle.linear_code.specs.Program.{LinearProgram}
 use Rattle.program_link.specs.Routines.{RoutineView, routines}
 use Rattle.program_link.specs.Text.{bounds}
@@ -34,7 +34,7 @@ zeros byte (suc n) a lt h =
     omega arith
 
 module _ (program : LinearProgram) (c : HasWholeImage program) where
-  abbrev p : Program
+  abbrev p : ImageContents
   p = linked program
 
   abbrev rs : List RoutineView

@@ -16,7 +16,7 @@ use Rattle.linear_code.specs.declared.slot.Slot.TheVariants.{Local, Temporary}
 use Rattle.linear_code.specs.declared.instruction.Instruction.TheVariants as instructions
 use Rattle.linear_code.specs.Program.{LinearBody, LinearProgram}
 use Rattle.linear_machine.specs.Frames.{BodyName, body_of}
-use Rattle.frame_layout.specs.declared.frame.Frame.{Frame}
+use Rattle.frame_layout.specs.declared.frame.FrameLayout.{FrameLayout}
 use Rattle.frame_layout.specs.Layout.{taking_size}
 use Rattle.template_code.specs.declared.layout.Layout.{Layout}
 use Rattle.template_code.specs.Bytes.{spelled, sizes}
@@ -92,7 +92,7 @@ module _ (p : LinearProgram) (m : Memory) (x : Placed) (number : ℕ) (from : Sl
 
 -- ---- frames
 
-framed_of : (o : Option Frame) → is_leaf o ≡ false → (f : Frame) × (o ≡ Some f)
+framed_of : (o : Option FrameLayout) → is_leaf o ≡ false → (f : FrameLayout) × (o ≡ Some f)
 framed_of (Some f) e = (f, refl)
 framed_of None e = absurd (false≢true (sym e))
 
@@ -113,7 +113,7 @@ module _ (p : LinearProgram) (c : HasWholeImage p) (m : Memory) (name : BodyName
   at_return : (from : Slot) → slice_get b.code label ≡ Some (instructions.Return from) → slice_get x.routine.body.code label ≡ Some (instructions.Return from)
   at_return from there = ap (λ (d : LinearBody). slice_get d.code label) (place p c name b is).body ∙ there
 
-  frame_there : (f : Frame) → x.routine.frame ≡ Some f → (first : HasItem m x rva) → k.rip ≡ image_base + rva → rsp k + f.size + 8 < 2 ^ 64 → word m (rsp k + f.size) ≡ Ok back → FrameIsAt (functions_of p) m k (stack_frame p x f back)
+  frame_there : (f : FrameLayout) → x.routine.frame ≡ Some f → (first : HasItem m x rva) → k.rip ≡ image_base + rva → rsp k + f.size + 8 < 2 ^ 64 → word m (rsp k + f.size) ≡ Ok back → FrameIsAt (functions_of p) m k (stack_frame p x f back)
   frame_there f framed first at room' returns = frame_at p m (place p c name b is).index x f k rva back c.fits c.ranges (place p c name b is).at framed first at kept room' returns
 
   leaf_there : x.routine.frame ≡ None → k.rip ≡ image_base + rva → rsp k + 8 < 2 ^ 64 → word m (rsp k) ≡ Ok back → rva < end_of x → LeafIsAt (functions_of p) m k back

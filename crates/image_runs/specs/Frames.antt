@@ -7,7 +7,7 @@ use Rattle.host_layout.specs.declared.imported.ImportedService.{ImportedService}
 use Rattle.c_checked.specs.Program.{Program}
 use Rattle.linear_code.specs.Program.{LinearProgram}
 use Rattle.seh_ir.specs.Lowered.{lowered}
-use Rattle.frame_layout.specs.declared.frame.Frame.{Frame}
+use Rattle.frame_layout.specs.declared.frame.FrameLayout.{FrameLayout}
 use Rattle.program_link.specs.Fits.{FitsProgram}
 use Rattle.program_link.specs.Text.{thunk_at, check_stack_at}
 use Rattle.program_tables.specs.Placed.{Placed, end_of, site_of, placed}
@@ -20,7 +20,7 @@ use Rattle.program_frames.specs.Laws.{FindsCaller, IsInRange}
 -- function; in the thunk of a service; in `__chkstk`
 pub record FindsCallers (p : LinearProgram) : Type 0 where
   pub functions :
-      (index : ℕ) (x : Placed) (f : Frame) (e s : State) (distance : ℕ)
+      (index : ℕ) (x : Placed) (f : FrameLayout) (e s : State) (distance : ℕ)
       → slice_get (placed p) index ≡ Some x → x.routine.frame ≡ Some f
       → IsEntry f.size e → HasText s.memory p
       → s.cpu.rip ≡ image_base + x.begin + distance → IsInFunction (function_of p x f) e s distance

@@ -22,7 +22,7 @@ use Rattle.linear_code.specs.declared.instruction.Instruction.{Instruction}
 use Rattle.linear_code.specs.declared.instruction.Instruction.TheVariants as instructions
 use Rattle.linear_code.specs.Program.{LinearBody, LinearProgram}
 use Rattle.linear_machine.specs.Frames.{BodyName, body_of}
-use Rattle.frame_layout.specs.declared.frame.Frame.{Frame}
+use Rattle.frame_layout.specs.declared.frame.FrameLayout.{FrameLayout}
 use Rattle.frame_layout.specs.Layout.{taking_size}
 use Rattle.template_code.specs.declared.layout.Layout.{Layout}
 use Rattle.template_code.specs.Bytes.{spelled, size, sizes}
@@ -102,7 +102,7 @@ module _ (program : LinearProgram) (c : HasWholeImage program) (name : BodyName)
 
   -- ---- with one
 
-  module _ (f : Frame) (framed : x.routine.frame ≡ Some f) where
+  module _ (f : FrameLayout) (framed : x.routine.frame ≡ Some f) where
     abbrev e : Entry
     e = tables.entry_of (site_of program) x f
 
@@ -248,7 +248,7 @@ module _ (program : LinearProgram) (c : HasWholeImage program) (name : BodyName)
         let e : at + sizes done ≡ image_base + (x.begin + sizes making + sizes done) = omega arith in
         subst (λ n. IsExecutableAt m n (chosen item)) e (executable_split m (at + sizes done) (chosen item) (spelled left) rest).0
 
-    pub argument_found : HasProgram t (funclets_of program) program (plan_of program) (sites_of program) m → (o : Option Frame) → x.routine.frame ≡ o → FindsReturn t m (image_base + argument_at) (size_of o)
+    pub argument_found : HasProgram t (funclets_of program) program (plan_of program) (sites_of program) m → (o : Option FrameLayout) → x.routine.frame ≡ o → FindsReturn t m (image_base + argument_at) (size_of o)
     argument_found has None none = leaf_at none argument_at (omega arith) argument_high
     argument_found has (Some f) framed =
         let size = ap (λ o. sizes (texts.frame_code x.begin check o)) framed ∙ prologue_sizes f _ (near f framed).0 in
@@ -302,7 +302,7 @@ module _ (program : LinearProgram) (c : HasWholeImage program) (name : BodyName)
       ends_size zero k e = absurd (omega arith)
       ends_size (suc n) k e = refl
 
-      framed_return : (f : Frame) → x.routine.frame ≡ Some f → (done left : List Instr) → fetching ≡ done ++ left → FindsReturn t m (image_base + (template_at x label + sizes done)) f.size
+      framed_return : (f : FrameLayout) → x.routine.frame ≡ Some f → (done left : List Instr) → fetching ≡ done ++ left → FindsReturn t m (image_base + (template_at x label + sizes done)) f.size
       framed_return f framed done [] parts =
           let some = (near f framed).0 in
           let l = least f framed in
@@ -333,11 +333,11 @@ module _ (program : LinearProgram) (c : HasWholeImage program) (name : BodyName)
           let some = epilogue_some y.frame in
           leaf_at none (template_at x label + sizes done) (omega arith) (omega (arith, ap sizes parts, sizes_append done left))
 
-      pub return_found : (o : Option Frame) → x.routine.frame ≡ o → (done left : List Instr) → fetching ≡ done ++ left → FindsReturn t m (image_base + (template_at x label + sizes done)) (size_of o)
+      pub return_found : (o : Option FrameLayout) → x.routine.frame ≡ o → (done left : List Instr) → fetching ≡ done ++ left → FindsReturn t m (image_base + (template_at x label + sizes done)) (size_of o)
       return_found None none done left parts = leaf_return none done left parts
       return_found (Some f) framed done left parts = framed_return f framed done left parts
 
-      pub end_found : (o : Option Frame) → x.routine.frame ≡ o → (k : ℕ) → y.frame ≡ suc k → FindsReturn t m (image_base + (template_at x label + sizes fetching + size (give_back y.frame))) 0
+      pub end_found : (o : Option FrameLayout) → x.routine.frame ≡ o → (k : ℕ) → y.frame ≡ suc k → FindsReturn t m (image_base + (template_at x label + sizes fetching + size (give_back y.frame))) 0
       unfolding size
       end_found None none k e = absurd (let z = sized program index x at_index ∙ ap size_of none in omega arith)
       end_found (Some f) framed k e =

@@ -16,7 +16,7 @@ use Rattle.host_layout.specs.declared.imported.ImportedService.{ImportedService}
 use Rattle.host_layout.specs.declared.imported.ImportedService.TheVariants as imports
 use Rattle.pe_write.specs.ImportTables.{name_of, import_tables, slot_of}
 use Rattle.pe_write.specs.ImportTables as importing
-use Rattle.pe_write.specs.Program.{Program, image_of, sections_of, imports_of, sizes_of, rdata_at, end_at}
+use Rattle.pe_write.specs.Program.{ImageContents, image_of, sections_of, imports_of, sizes_of, rdata_at, end_at}
 use Rattle.pe_write.proofs.Programs.{listed}
 use Rattle.host_model.specs.Loading.{section_of, mode_in, stored_byte, with_slots, mapped}
 use Rattle.host_model.specs.Slots.{SlotsAreApart}
@@ -74,7 +74,7 @@ unfolding size modrm
 check_stack_size = refl
 
 module _ (program : LinearProgram) (c : HasWholeImage program) where
-  abbrev p : Program
+  abbrev p : ImageContents
   p = linked program
 
   abbrev m : Memory

@@ -14,7 +14,7 @@ use Rattle.pe_image.specs.Image.{Section, Image}
 use Rattle.pe_image.specs.Imports.{Import}
 use Rattle.pe_image.specs.Imports as importing
 use Rattle.pe_write.specs.ImportTables.{services, imported, import_tables}
-use Rattle.pe_write.specs.Program.{Program, CanBeImage, image_of, sections_of, imports_of, parts_of, sizes_of, text_at, rdata_at, xdata_at, pdata_at, end_at, data_section, text_section, rdata_section, xdata_section, pdata_section}
+use Rattle.pe_write.specs.Program.{ImageContents, CanBeImage, image_of, sections_of, imports_of, parts_of, sizes_of, text_at, rdata_at, xdata_at, pdata_at, end_at, data_section, text_section, rdata_section, xdata_section, pdata_section}
 use Rattle.pe_image.specs.Numbers.{zeros}
 use Rattle.pe_write.specs.Written.{raw_size, raw_data, written, dos_header, file_header, standard_fields, windows_fields, directories, table_of}
 use Rattle.pe_write.proofs.Programs.{listed}
@@ -35,11 +35,11 @@ use Rattle.host_layout.specs.declared.limit.TheConstants.{MOST_IMAGE}
 
 -- ---- the bytes of sections
 
-written_raw : (p : Program) → AllBytes (written (parts_of p)) → AllBytes (flat_map raw_data (parts_of p).sections)
+written_raw : (p : ImageContents) → AllBytes (written (parts_of p)) → AllBytes (flat_map raw_data (parts_of p).sections)
 unfolding written
 written_raw p h = bytes_back (dos_header ++ file_header (parts_of p) ++ standard_fields (parts_of p) ++ windows_fields (parts_of p) ++ directories (parts_of p) ++ table_of (parts_of p)) (flat_map raw_data (parts_of p).sections) h
 
-raws : (p : Program) → AllBytes (written (parts_of p)) → AllByRecursion (λ (s : Section). AllBytes s.raw) (sections_of p)
+raws : (p : ImageContents) → AllBytes (written (parts_of p)) → AllByRecursion (λ (s : Section). AllBytes s.raw) (sections_of p)
 unfolding raw_data
 raws p h =
     let all = written_raw p h in
@@ -70,7 +70,7 @@ or_none true b e = absurd (false≢true (sym e))
 or_none false b e = (refl, e)
 
 module _ (program : LinearProgram) (c : HasWholeImage program) where
-  abbrev pub p : Program
+  abbrev pub p : ImageContents
   p = linked program
 
   abbrev pub image : Image

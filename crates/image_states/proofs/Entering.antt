@@ -16,7 +16,7 @@ use Rattle.linear_code.specs.declared.program.FuncletKind.TheVariants.{Filter, F
 use Rattle.linear_code.specs.Program.{LinearBody, LinearFunction, LinearFunclet, LinearProgram}
 use Rattle.linear_machine.specs.Frames.{BodyName, FunctionBody, FuncletBody, function_body, funclet_body, body_of}
 use Rattle.frame_rules.specs.Plan.{allocating}
-use Rattle.frame_layout.specs.declared.frame.Frame.{Frame}
+use Rattle.frame_layout.specs.declared.frame.FrameLayout.{FrameLayout}
 use Rattle.frame_layout.proofs.Sizes.{code_is}
 use Rattle.template_code.specs.declared.layout.Layout.{Layout}
 use Rattle.template_code.specs.Jumps.{distance}
@@ -54,7 +54,7 @@ making_same n at check at' check' false e f lt =
     ap (λ (i : Instr). instrs.Move W32 (places.Register Rax) (operands.Immediate n) ∷ i ∷ instrs.Arithmetic arithmetic.Sub W64 (places.Register Rsp) (operands.Register Rax) ∷ [])
     (call_moved image_base (omega arith) (at + 10) check (at' + 10) check' (omega arith) f (omega arith))
 
-pub frame_same : (o : Option Frame) (size at check at' check' : ℕ) → size ≡ size_of o → IsFrameNear o → at' ≡ image_base + at → check' ≡ image_base + check → at + 10 < 2 ^ 48 → frame_code size at' check' (is_leaf o) ≡ texts.frame_code at check o
+pub frame_same : (o : Option FrameLayout) (size at check at' check' : ℕ) → size ≡ size_of o → IsFrameNear o → at' ≡ image_base + at → check' ≡ image_base + check → at + 10 < 2 ^ 48 → frame_code size at' check' (is_leaf o) ≡ texts.frame_code at check o
 frame_same None size at check at' check' s near e f lt = refl
 frame_same (Some g) size at check at' check' s near e f lt =
     ap (λ (n : ℕ). making n at' check' (leb n 4096)) s

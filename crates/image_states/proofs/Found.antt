@@ -17,7 +17,7 @@ use Rattle.linear_code.specs.declared.slot.Slot.{Slot}
 use Rattle.linear_code.specs.declared.instruction.Instruction.TheVariants as instructions
 use Rattle.linear_code.specs.Program.{LinearBody, LinearProgram}
 use Rattle.linear_machine.specs.Frames.{BodyName, body_of}
-use Rattle.frame_layout.specs.declared.frame.Frame.{Frame}
+use Rattle.frame_layout.specs.declared.frame.FrameLayout.{FrameLayout}
 use Rattle.frame_layout.proofs.Sizes.{takes_thirteen}
 use Rattle.template_code.specs.Bytes.{size, sizes}
 use Rattle.template_code.specs.Slots.{fetch}
@@ -50,7 +50,7 @@ use Rattle.x64_code.specs.Near.{IsNear}
 -- ---- where no entry is
 
 -- past all routines
-past_entry : (s : SiteView) (rva : ℕ) (x : Placed) (o : Option Frame) (es : List Entry) → end_of x ≤ rva → holding rva (tables.entry_if s x o ++ es) ≡ holding rva es
+past_entry : (s : SiteView) (rva : ℕ) (x : Placed) (o : Option FrameLayout) (es : List Entry) → end_of x ≤ rva → holding rva (tables.entry_if s x o ++ es) ≡ holding rva es
 past_entry s rva x None es le = refl
 past_entry s rva x (Some f) es le = ap (entry_or (holding rva es) (tables.entry_of s x f)) (and_right (leb x.begin rva) (ltb rva (end_of x)) (le-ltb rva (end_of x) le))
 
@@ -136,7 +136,7 @@ module _ (program : LinearProgram) (c : HasWholeImage program) where
         let l = label_inside program c name b is 1 in
         omega arith
 
-    entry_found : (m : Memory) (o : Option Frame) → x.routine.frame ≡ o → (is_leaf o ≡ true → 0 < length b.code) → FindsReturn (functions_of program) m begin 0
+    entry_found : (m : Memory) (o : Option FrameLayout) → x.routine.frame ≡ o → (is_leaf o ≡ true → 0 < length b.code) → FindsReturn (functions_of program) m begin 0
     entry_found m None none some =
         let z : image_base + (x.begin + 0) ≡ begin = omega (arith, begin_is) in
         let lt = body_some (some refl) in
@@ -148,7 +148,7 @@ module _ (program : LinearProgram) (c : HasWholeImage program) where
         let four = few.0 in
         subst (λ a. FindsReturn (functions_of program) m a 0) z (making_at program c name b is m f framed 0 (omega arith))
 
-    probe_found : (m : Memory) (f : Frame) → x.routine.frame ≡ Some f → 4096 < x.routine.layout.frame → FindsReturn (functions_of program) m (begin + 5) 0 × FindsReturn (functions_of program) m (begin + 10) 0
+    probe_found : (m : Memory) (f : FrameLayout) → x.routine.frame ≡ Some f → 4096 < x.routine.layout.frame → FindsReturn (functions_of program) m (begin + 5) 0 × FindsReturn (functions_of program) m (begin + 10) 0
     probe_found m f framed large =
         let same = frame_is ∙ ap size_of framed in
         let n = takes_thirteen f.size (omega arith) in

@@ -17,7 +17,7 @@ use Rattle.linear_code.specs.declared.instruction.Instruction.{Instruction}
 use Rattle.linear_code.specs.declared.instruction.Instruction.TheVariants as instructions
 use Rattle.linear_code.specs.Program.{LinearBody, LinearProgram}
 use Rattle.linear_machine.specs.Frames.{BodyName, body_of}
-use Rattle.frame_layout.specs.declared.frame.Frame.{Frame}
+use Rattle.frame_layout.specs.declared.frame.FrameLayout.{FrameLayout}
 use Rattle.frame_layout.specs.Layout.{taking_size}
 use Rattle.template_code.specs.Bytes.{spelled, sizes}
 use Rattle.x64_templates.specs.Placed.{IsCodeAt}
@@ -52,15 +52,15 @@ returns i h = absurd h
 
 -- ---- frames
 
-pub framed_of : (o : Option Frame) → is_leaf o ≡ false → (f : Frame) × (o ≡ Some f)
+pub framed_of : (o : Option FrameLayout) → is_leaf o ≡ false → (f : FrameLayout) × (o ≡ Some f)
 framed_of (Some f) e = (f, refl)
 framed_of None e = absurd (false≢true (sym e))
 
-pub leaf_of : (o : Option Frame) → is_leaf o ≡ true → o ≡ None
+pub leaf_of : (o : Option FrameLayout) → is_leaf o ≡ true → o ≡ None
 leaf_of (Some f) e = absurd (false≢true e)
 leaf_of None e = refl
 
-same_size : (o : Option Frame) → (or_none o).size ≡ size_of o
+same_size : (o : Option FrameLayout) → (or_none o).size ≡ size_of o
 same_size (Some f) = refl
 same_size None = refl
 

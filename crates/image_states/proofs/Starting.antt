@@ -4,7 +4,7 @@ use Rattle.std.specs.Prelude.{option_map}
 use Rattle.std.proofs.lemmas.Bool.{le-leb, lt-ltb, le-ltb}
 use Rattle.pe_image.specs.Image.{Section, Image}
 use Rattle.pe_image.specs.Imports.{Import}
-use Rattle.pe_write.specs.Program.{Program, image_of, sections_of, sizes_of, text_at, end_at}
+use Rattle.pe_write.specs.Program.{ImageContents, image_of, sections_of, sizes_of, text_at, end_at}
 use Rattle.pe_write.proofs.Programs.{listed}
 use Rattle.eh_tables.specs.Answer.{Table}
 use Rattle.eh_tables.specs.Tables.{Entry}
@@ -29,7 +29,7 @@ none_of : (t p i e : Option LoadErr) → t ≡ None → p ≡ None → i ≡ Non
 none_of t p i e h1 h2 h3 h4 = rw (h1, h2, h3, h4) refl
 
 module _ (program : LinearProgram) (c : HasWholeImage program) where
-  abbrev p : Program
+  abbrev p : ImageContents
   p = linked program
 
   abbrev image : Image

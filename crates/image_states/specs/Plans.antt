@@ -21,7 +21,7 @@ use Rattle.linear_code.specs.Program.{LinearProgram}
 use Rattle.linear_machine.specs.Frames as linear
 use Rattle.linear_machine.specs.Frames.{BodyName, FunctionBody, FuncletBody, body_of, Resumption, AfterCall, SameOperation}
 use Rattle.linear_machine.specs.Run.{instruction_in}
-use Rattle.frame_layout.specs.declared.frame.Frame.{Frame}
+use Rattle.frame_layout.specs.declared.frame.FrameLayout.{FrameLayout}
 use Rattle.template_code.specs.declared.layout.Layout.{Layout}
 use Rattle.template_code.specs.Bytes.{sizes}
 use Rattle.template_code.specs.Slots.{operands_code}
@@ -85,14 +85,14 @@ routine_of program name = or_nowhere (routine_if program name)
 -- ---- frames
 
 -- a routine without a frame is a leaf function
-abbrev pub is_leaf : Option Frame → Bool
+abbrev pub is_leaf : Option FrameLayout → Bool
 is_leaf (Some f) = false
 is_leaf None = true
 
-abbrev pub no_frame : Frame
+abbrev pub no_frame : FrameLayout
 no_frame = record { kept = 0; temporaries = 0; locals = 0; size = 0 }
 
-abbrev pub or_none : Option Frame → Frame
+abbrev pub or_none : Option FrameLayout → FrameLayout
 or_none (Some f) = f
 or_none None = no_frame
 

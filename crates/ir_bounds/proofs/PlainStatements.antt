@@ -21,7 +21,7 @@ use Rattle.seh_ir.specs.declared.funclets.Owner.{Owner}
 use Rattle.ir_expressions.specs.declared.scope.Names.{Names}
 use Rattle.ir_expressions.specs.declared.scope.Way.{Way}
 use Rattle.ir_expressions.specs.declared.scope.Way.TheVariants.{Nowhere, Jumps, Unwinds}
-use Rattle.ir_expressions.specs.declared.scope.Scope.{Scope}
+use Rattle.ir_expressions.specs.declared.scope.LoweringContext.{LoweringContext}
 use Rattle.ir_expressions.specs.Scope.{except_names, filter_names, finally_names, finally_scope, in_loop, in_try, in_except, in_guarded}
 use Rattle.seh_ir.specs.Slots.{temporaries_in, passed_in}
 use Rattle.ir_expressions.specs.Expressions.{copy, expression_code}
@@ -65,7 +65,7 @@ module _ (program : Program) (linear : LinearProgram) (most n own : ℕ) (wide :
 
   -- ---- expressions in statements
 
-  module _ (s : sound.Scope) (knows : Knows program own false s) (names : Names) (among : NamesAmong n names) where
+  module _ (s : sound.TypingContext) (knows : Knows program own false s) (names : Names) (among : NamesAmong n names) where
     value_good : (e : Expression) (at : ℕ) → expression_sound s e ≡ true → 7 * expression_nesting e + 8 ≤ most → expression_reads e ≤ 15 → AllGood most n (expression_code names e 0 at)
     value_good e at ok le r = expression_good most n program own false wide few names among e 0 at (expression_fits program own false s knows e ok) (omega arith) r
 
@@ -119,7 +119,7 @@ module _ (program : Program) (linear : LinearProgram) (most n own : ℕ) (wide :
   finally_among names a lt = record { source = a.source; flag = lt }
 
   mutual
-    pub statement_good : (s : Statement) (i : Inside) (knows : Knows program own false i.scope) (scope : Scope) (among : NamesAmong n scope.names) (at : ℕ) → statement_sound i s ≡ true
+    pub statement_good : (s : Statement) (i : Inside) (knows : Knows program own false i.scope) (scope : LoweringContext) (among : NamesAmong n scope.names) (at : ℕ) → statement_sound i s ≡ true
         → scope.names.free + statement_notes s ≤ n → 7 * most_of_statement expression_nesting s + 8 ≤ most → most_of_statement expression_reads s ≤ 15 → AllGood most n (statement_code scope s at)
     statement_good (Declare d) i k scope a at ok room le r = declared_good i.scope k scope.names a d at ok le r
     statement_good (Block ss) i k scope a at ok room le r = statements_good ss i k scope a at ok room le r
@@ -180,7 +180,7 @@ module _ (program : Program) (linear : LinearProgram) (most n own : ℕ) (wide :
         (statements_good body (record i { body = true }) k inner a at (both_left _ _ ok) (omega arith) (omega arith) (omega arith))
         ((omega arith, omega arith, tt), ((omega arith, omega arith, tt), ((omega arith, omega arith, tt), tt)))
 
-    pub statements_good : (ss : Statements) (i : Inside) (knows : Knows program own false i.scope) (scope : Scope) (among : NamesAmong n scope.names) (at : ℕ) → statements_sound i ss ≡ true
+    pub statements_good : (ss : Statements) (i : Inside) (knows : Knows program own false i.scope) (scope : LoweringContext) (among : NamesAmong n scope.names) (at : ℕ) → statements_sound i ss ≡ true
         → scope.names.free + statements_notes ss ≤ n → 7 * most_of expression_nesting ss + 8 ≤ most → most_of expression_reads ss ≤ 15 → AllGood most n (statements_code scope ss at)
     statements_good Empty i k scope a at ok room le r = tt
     statements_good (Then s ss) i k scope a at ok room le r =

@@ -4,7 +4,7 @@ use Rattle.ir_expressions.specs.declared.scope.ExceptionSource.TheVariants.{NoEx
 use Rattle.ir_expressions.specs.declared.scope.Names.{Names}
 use Rattle.ir_expressions.specs.declared.scope.Way.{Way}
 use Rattle.ir_expressions.specs.declared.scope.Way.TheVariants.{Nowhere, Jumps, Unwinds}
-use Rattle.ir_expressions.specs.declared.scope.Scope.{Scope}
+use Rattle.ir_expressions.specs.declared.scope.LoweringContext.{LoweringContext}
 
 -- in an `__except` block, in a filter, and in a `__finally` block
 abbrev pub except_names : Names → Names
@@ -23,7 +23,7 @@ unwound (Jumps label) = Unwinds label
 unwound (Unwinds label) = Unwinds label
 
 -- in a function whose first free local and exit are these
-abbrev pub function_scope : ℕ → ℕ → Scope
+abbrev pub function_scope : ℕ → ℕ → LoweringContext
 function_scope free exit =
     record {
       names = record { exception = NoException; abnormal = None; free = free };
@@ -34,7 +34,7 @@ function_scope free exit =
     }
 
 -- in a `__finally` block, out of which nothing leads
-abbrev pub finally_scope : Names → Scope
+abbrev pub finally_scope : Names → LoweringContext
 finally_scope names =
     record {
       names = finally_names names;
@@ -44,7 +44,7 @@ finally_scope names =
       leave = None;
     }
 
-abbrev pub in_loop : ℕ → ℕ → Scope → Scope
+abbrev pub in_loop : ℕ → ℕ → LoweringContext → LoweringContext
 in_loop end next s =
     record {
       names = s.names;
@@ -55,7 +55,7 @@ in_loop end next s =
     }
 
 -- in the body of a `__try` with an `__except`, and in that block
-abbrev pub in_try : ℕ → Scope → Scope
+abbrev pub in_try : ℕ → LoweringContext → LoweringContext
 in_try end s =
     record {
       names = s.names;
@@ -65,7 +65,7 @@ in_try end s =
       leave = Some end;
     }
 
-abbrev pub in_except : Scope → Scope
+abbrev pub in_except : LoweringContext → LoweringContext
 in_except s =
     record {
       names = except_names s.names;
@@ -76,7 +76,7 @@ in_except s =
     }
 
 -- in the body of a `__try` with a `__finally`
-abbrev pub in_guarded : ℕ → Scope → Scope
+abbrev pub in_guarded : ℕ → LoweringContext → LoweringContext
 in_guarded end s =
     record {
       names = s.names;

@@ -39,7 +39,7 @@ pub enum Way {
 
 /// The names; where `return`, `break`, `continue` and `__leave` lead.
 #[derive(Clone, Copy)]
-pub struct Scope {
+pub struct LoweringContext {
     /// What names mean here.
     pub names: Names,
     /// Where `return` leads: the end of the function.
@@ -76,11 +76,11 @@ pub fn filter_names(names: Names) -> Names
 }
 
 /// What is around the statements of a `__finally` block.
-pub fn finally_scope(names: Names) -> Result<Scope, AllocError>
+pub fn finally_scope(names: Names) -> Result<LoweringContext, AllocError>
     ensures { IfOk result (λ s. s ≡ spec.finally_scope names) }
 {
     let free = sum(names.free, 1)?;
-    Ok(Scope {
+    Ok(LoweringContext {
         names: Names {
             exception: names.exception,
             abnormal: Some(names.free),
@@ -105,10 +105,10 @@ fn unwound(way: Way) -> Way
 }
 
 /// What is around the body of a loop.
-pub fn in_loop(end: u64, next: u64, scope: &Scope) -> Scope
+pub fn in_loop(end: u64, next: u64, scope: &LoweringContext) -> LoweringContext
     ensures { result ≡ spec.in_loop end next scope.now }
 {
-    Scope {
+    LoweringContext {
         names: scope.names,
         exit: scope.exit,
         loop_end: Way::Jumps(end),
@@ -118,10 +118,10 @@ pub fn in_loop(end: u64, next: u64, scope: &Scope) -> Scope
 }
 
 /// What is around the body of a `__try` with an `__except`.
-pub fn in_try(end: u64, scope: &Scope) -> Scope
+pub fn in_try(end: u64, scope: &LoweringContext) -> LoweringContext
     ensures { result ≡ spec.in_try end scope.now }
 {
-    Scope {
+    LoweringContext {
         names: scope.names,
         exit: scope.exit,
         loop_end: scope.loop_end,
@@ -131,11 +131,11 @@ pub fn in_try(end: u64, scope: &Scope) -> Scope
 }
 
 /// What is around an `__except` block.
-pub fn in_except(scope: &Scope) -> Result<Scope, AllocError>
+pub fn in_except(scope: &LoweringContext) -> Result<LoweringContext, AllocError>
     ensures { IfOk result (λ s. s ≡ spec.in_except scope.now) }
 {
     let names = except_names(scope.names)?;
-    Ok(Scope {
+    Ok(LoweringContext {
         names,
         exit: scope.exit,
         loop_end: scope.loop_end,
@@ -145,10 +145,10 @@ pub fn in_except(scope: &Scope) -> Result<Scope, AllocError>
 }
 
 /// What is around the body of a `__try` with a `__finally`.
-pub fn in_guarded(end: u64, scope: &Scope) -> Scope
+pub fn in_guarded(end: u64, scope: &LoweringContext) -> LoweringContext
     ensures { result ≡ spec.in_guarded end scope.now }
 {
-    Scope {
+    LoweringContext {
         names: scope.names,
         exit: unwound(scope.exit),
         loop_end: unwound(scope.loop_end),

@@ -24,7 +24,7 @@ use Rattle.linear_runs.proofs.Stretch.{at, Site, conf, Way, Never, To, Out, Ways
 use Rattle.linear_runs.proofs.Joining.{then_value, claim_kept}
 use Rattle.linear_runs.proofs.Walks.{Around, around_part, IsExcept, except_left, lands}
 use Rattle.ir_expressions.specs.declared.scope.Names.{Names}
-use Rattle.ir_expressions.specs.declared.scope.Scope.{Scope}
+use Rattle.ir_expressions.specs.declared.scope.LoweringContext.{LoweringContext}
 use Rattle.ir_expressions.specs.declared.scope.ExceptionSource.TheVariants.{OfFilter}
 use Rattle.ir_expressions.specs.declared.scope.Way.TheVariants.{Nowhere, Jumps, Unwinds}
 use Rattle.ir_expressions.specs.declared.scope.Way as jumps
@@ -68,13 +68,13 @@ exit_part linear b rs hi hi' (Jumps label) le f = let a = f.0 in (omega arith, f
 exit_part linear b rs hi hi' (Unwinds label) le f = omega arith
 
 -- a part of a body is inside its regions, and its ways out lead outside
-pub record Inner (linear : LinearProgram) (b : BodyName) (scope : Scope) (rs : List Region) (lo hi : ℕ) : Type 0 where
+pub record Inner (linear : LinearProgram) (b : BodyName) (scope : LoweringContext) (rs : List Region) (lo hi : ℕ) : Type 0 where
   pub around : Around rs lo hi
   pub exit : ExitFits linear b rs hi scope.exit
   pub loop_end : JumpFits rs hi scope.loop_end
   pub loop_next : JumpFits rs hi scope.loop_next
 
-pub inner_part : (linear : LinearProgram) (b : BodyName) (scope : Scope) (rs : List Region) (lo hi lo' hi' : ℕ) → lo ≤ lo' → hi' ≤ hi → Inner linear b scope rs lo hi → Inner linear b scope rs lo' hi'
+pub inner_part : (linear : LinearProgram) (b : BodyName) (scope : LoweringContext) (rs : List Region) (lo hi lo' hi' : ℕ) → lo ≤ lo' → hi' ≤ hi → Inner linear b scope rs lo hi → Inner linear b scope rs lo' hi'
 inner_part linear b scope rs lo hi lo' hi' l h f = record {
   around = around_part rs lo hi lo' hi' l h f.around;
   exit = exit_part linear b rs hi hi' scope.exit h f.exit;
@@ -118,7 +118,7 @@ module _ (program : Program) (linear : LinearProgram) (pace body : ℕ) where
   leave_way context site None = Never
   leave_way context site (Some label) = To (λ st store. at (conf context site label [] st store))
 
-  abbrev pub statement_ways : Scope → Context → Site → Kept → ℕ → Ways
+  abbrev pub statement_ways : LoweringContext → Context → Site → Kept → ℕ → Ways
   statement_ways scope context site kept done = record {
     context = context;
     site = site;
@@ -148,21 +148,21 @@ module _ (program : Program) (linear : LinearProgram) (pace body : ℕ) where
 
   -- what is claimed of each kind of task of statements, inside at most n others
   pub record BodyRuns (n : ℕ) : Type 0 where
-    pub run : (s : Statement) (scope : Scope) (z : Shape) (shapes : List Shape) (context : Context) (site : Site) (base : Store) (pc : ℕ) (st : State) (store : Store)
+    pub run : (s : Statement) (scope : LoweringContext) (z : Shape) (shapes : List Shape) (context : Context) (site : Site) (base : Store) (pc : ℕ) (st : State) (store : Store)
         → st.steps_left ≤ n → statement_weight s + body + 4 ≤ pace → Placed program linear pace body z.own site.body scope s site.regions pc → Inner linear site.body scope site.regions pc (pc + statement_size s)
         → Surroundings scope.names z shapes context site base (statement_notes s) → Stays scope.names shapes context base st store → st.held ≡ site.held
         → Claim linear pace (at (conf context site pc [] st store)) st (price 0 0 (statement_weight s) (statement_weight s)) (statement_ways scope context site (Stays scope.names shapes context base) (pc + statement_size s)) (within program n (Run s) context st)
-    pub for_run : (c next : Option Expression) (s : Statement) (scope : Scope) (z : Shape) (shapes : List Shape) (context : Context) (site : Site) (base : Store) (pc : ℕ) (st : State) (store : Store)
+    pub for_run : (c next : Option Expression) (s : Statement) (scope : LoweringContext) (z : Shape) (shapes : List Shape) (context : Context) (site : Site) (base : Store) (pc : ℕ) (st : State) (store : Store)
         → st.steps_left ≤ n → 1 + optional_weight c + statement_weight s + optional_weight next + body + 4 ≤ pace → ForPlaced program linear pace body z.own site.body scope c next s site.regions pc → Inner linear site.body scope site.regions pc (for_end c next s pc)
         → Surroundings scope.names z shapes context site base (statement_notes s) → Stays scope.names shapes context base st store → st.held ≡ site.held
         → Claim linear pace (at (conf context site pc [] st store)) st (price 0 0 (1 + optional_weight c + statement_weight s + optional_weight next) (1 + optional_weight c + statement_weight s + optional_weight next))
         (statement_ways scope context site (Stays scope.names shapes context base) (for_end c next s pc)) (within program n (ForIteration c next s) context st)
-    pub do_run : (s : Statement) (c : Expression) (scope : Scope) (z : Shape) (shapes : List Shape) (context : Context) (site : Site) (base : Store) (pc : ℕ) (st : State) (store : Store)
+    pub do_run : (s : Statement) (c : Expression) (scope : LoweringContext) (z : Shape) (shapes : List Shape) (context : Context) (site : Site) (base : Store) (pc : ℕ) (st : State) (store : Store)
         → st.steps_left ≤ n → 1 + statement_weight s + expression_weight c + body + 4 ≤ pace → DoPlaced program linear pace body z.own site.body scope s c site.regions pc → Inner linear site.body scope site.regions pc (do_end s c pc)
         → Surroundings scope.names z shapes context site base (statement_notes s) → Stays scope.names shapes context base st store → st.held ≡ site.held
         → Claim linear pace (at (conf context site pc [] st store)) st (price 0 0 (1 + statement_weight s + expression_weight c) (1 + statement_weight s + expression_weight c))
         (statement_ways scope context site (Stays scope.names shapes context base) (do_end s c pc)) (within program n (DoIteration s c) context st)
-    pub try_run : (ss : Statements) (scope : Scope) (z : Shape) (shapes : List Shape) (context : Context) (site : Site) (base : Store) (pc : ℕ) (st : State) (store : Store)
+    pub try_run : (ss : Statements) (scope : LoweringContext) (z : Shape) (shapes : List Shape) (context : Context) (site : Site) (base : Store) (pc : ℕ) (st : State) (store : Store)
         → st.steps_left ≤ n → 1 + statements_weight ss + body + 4 ≤ pace → AllPlaced program linear pace body z.own site.body scope ss site.regions pc → Inner linear site.body scope site.regions pc (pc + statements_size ss)
         → Surroundings scope.names z shapes context site base (statements_notes ss) → Stays scope.names shapes context base st store → st.held ≡ site.held
         → Claim linear pace (at (conf context site pc [] st store)) st (price 0 0 (1 + statements_weight ss) (1 + statements_weight ss)) (statement_ways scope context site (Stays scope.names shapes context base) (pc + statements_size ss)) (within program n (TryBody ss) context st)

@@ -20,7 +20,7 @@ use Rattle.linear_machine.specs.Run.{exec}
 use Rattle.linear_runs.proofs.Stretch.{Part, at, Site, conf, Ways, Price, price, Join, Arrives, Claim, first_ways, joins}
 use Rattle.linear_runs.proofs.Joining.{Passes, Joined, more, after, arrives_more, targets_more, finishes_more, stops_more}
 use Rattle.linear_runs.proofs.SingleTurns.{first, stepped, still, fetch, prefix_self}
-use Rattle.ir_expressions.specs.declared.scope.Scope.{Scope}
+use Rattle.ir_expressions.specs.declared.scope.LoweringContext.{LoweringContext}
 use Rattle.ir_expressions.specs.declared.scope.Way.TheVariants.{Nowhere, Jumps, Unwinds}
 use Rattle.ir_expressions.specs.declared.scope.Way as jumps
 use Rattle.ir_expressions.specs.Scope as scopes
@@ -63,7 +63,7 @@ module _ (program : Program) (linear : LinearProgram) (pace body : ℕ) where
   normal_then s t w st p q r (Gives (End None) mid) j l a b = let lr = j.turns in stops_more linear pace s st mid p.turns p.extra p.out r.turns r.extra r.out (omega arith) j.first_out a
 
   module _ (roomy : 4 ≤ pace) (n : ℕ) (ih : Runs program linear pace body n) (bih : BodyRuns program linear pace body n) where
-    module _ (scope : Scope) (z : Shape) (shapes : List Shape) (context : Context) (site : Site) (base : Store) where
+    module _ (scope : LoweringContext) (z : Shape) (shapes : List Shape) (context : Context) (site : Site) (base : Store) where
       abbrev pub Ks : State → Store → Type 0
       Ks = Stays program linear pace body scope.names shapes context base
 

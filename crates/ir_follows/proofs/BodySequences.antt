@@ -12,7 +12,7 @@ use Rattle.linear_machine.specs.Frames.{Store}
 use Rattle.linear_runs.proofs.Stretch.{at, Site, conf, Ways, Price, price, Claim, joins}
 use Rattle.linear_runs.proofs.Joining.{then_normal}
 use Rattle.linear_runs.proofs.SingleTurns.{still, prefix_self}
-use Rattle.ir_expressions.specs.declared.scope.Scope.{Scope}
+use Rattle.ir_expressions.specs.declared.scope.LoweringContext.{LoweringContext}
 use Rattle.ir_sizes.specs.Sizes.{statement_size, statements_size, statements_notes, statement_notes}
 use Rattle.ir_follows.specs.Weights.{statement_weight, statements_weight}
 use Rattle.ir_follows.proofs.Stores.{Shape}
@@ -26,7 +26,7 @@ pub max_right : (a b : ℕ) → b ≤ max a b
 max_right a b = omega arith
 
 module _ (program : Program) (linear : LinearProgram) (pace body : ℕ) (n : ℕ) (bih : BodyRuns program linear pace body n) where
-  module _ (scope : Scope) (z : Shape) (shapes : List Shape) (context : Context) (site : Site) (base : Store) where
+  module _ (scope : LoweringContext) (z : Shape) (shapes : List Shape) (context : Context) (site : Site) (base : Store) where
     abbrev Ks : State → Store → Type 0
     Ks = Stays program linear pace body scope.names shapes context base
 

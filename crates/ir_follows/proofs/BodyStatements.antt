@@ -18,7 +18,7 @@ use Rattle.linear_machine.specs.Frames.{BodyName, Store, set_local}
 use Rattle.linear_runs.proofs.Stretch.{at, Site, conf, Ways, Price, price, found, joins}
 use Rattle.linear_runs.proofs.Joining.{more, then_normal}
 use Rattle.linear_runs.proofs.SingleTurns.{chosen}
-use Rattle.ir_expressions.specs.declared.scope.Scope.{Scope}
+use Rattle.ir_expressions.specs.declared.scope.LoweringContext.{LoweringContext}
 use Rattle.ir_expressions.specs.Scope.{except_names, in_try, in_except, in_guarded}
 use Rattle.ir_sizes.specs.Sizes.{expression_size, discarded_size, declared_size, all_declared_size, returned_size, statement_size, statements_size, statement_notes, statements_notes}
 use Rattle.seh_ir.specs.Regions.{except_kind, region}
@@ -38,11 +38,11 @@ use Rattle.ir_follows.proofs.Tries.{inside_except, inside_finally, within_region
 use Rattle.ir_follows.proofs.TryEnds.{except_ends}
 use Rattle.ir_follows.proofs.FinallyEnds.{finally_ends}
 
-inner_except : (linear : LinearProgram) (b : BodyName) (scope : Scope) (rs : List Region) (lo hi : ℕ) → Inner linear b scope rs lo hi → Inner linear b (in_except scope) rs lo hi
+inner_except : (linear : LinearProgram) (b : BodyName) (scope : LoweringContext) (rs : List Region) (lo hi : ℕ) → Inner linear b scope rs lo hi → Inner linear b (in_except scope) rs lo hi
 inner_except linear b scope rs lo hi f = record { around = f.around; exit = f.exit; loop_end = f.loop_end; loop_next = f.loop_next }
 
 module _ (program : Program) (linear : LinearProgram) (pace body : ℕ) (roomy : 4 ≤ pace) (n : ℕ) (ih : Runs program linear pace body n) (bih : BodyRuns program linear pace body n) where
-  module _ (scope : Scope) (z : Shape) (shapes : List Shape) (context : Context) (site : Site) (base : Store) where
+  module _ (scope : LoweringContext) (z : Shape) (shapes : List Shape) (context : Context) (site : Site) (base : Store) where
     abbrev W : ℕ → Ways
     W = S program linear pace body roomy n ih bih scope z shapes context site base
 

@@ -17,7 +17,7 @@ use Rattle.linear_runs.proofs.Stretch.{at, Site, conf, Ways, Price, price, joins
 use Rattle.linear_runs.proofs.Joining.{more}
 use Rattle.linear_runs.proofs.SingleTurns.{chosen}
 use Rattle.linear_runs.proofs.Walks.{Around, around_part, holds_yes}
-use Rattle.ir_expressions.specs.declared.scope.Scope.{Scope}
+use Rattle.ir_expressions.specs.declared.scope.LoweringContext.{LoweringContext}
 use Rattle.ir_expressions.specs.Scope as scopes
 use Rattle.ir_sizes.specs.Sizes.{expression_size, discarded_size, condition_size, statement_size, statement_notes}
 use Rattle.ir_expressions.specs.Expressions.{expression_code}
@@ -36,7 +36,7 @@ lands_around [] lo hi label a l h = tt
 lands_around (r ∷ rs) lo hi label a l h = let x = a.0 in inl (holds_yes r label (omega arith) (omega arith))
 
 -- the body of a loop
-inside_loop : (linear : LinearProgram) (b : BodyName) (scope : Scope) (rs : List Region) (lo hi start again : ℕ) → lo ≤ start → start ≤ again → again ≤ hi → Inner linear b scope rs lo hi → Inner linear b (scopes.in_loop hi again scope) rs start again
+inside_loop : (linear : LinearProgram) (b : BodyName) (scope : LoweringContext) (rs : List Region) (lo hi start again : ℕ) → lo ≤ start → start ≤ again → again ≤ hi → Inner linear b scope rs lo hi → Inner linear b (scopes.in_loop hi again scope) rs start again
 inside_loop linear b scope rs lo hi start again l m h f = record {
   around = around_part rs lo hi start again l h f.around;
   exit = exit_part linear b rs hi again scope.exit h f.exit;
@@ -45,7 +45,7 @@ inside_loop linear b scope rs lo hi start again l m h f = record {
 }
 
 module _ (program : Program) (linear : LinearProgram) (pace body : ℕ) (roomy : 4 ≤ pace) (n : ℕ) (ih : Runs program linear pace body n) (bih : BodyRuns program linear pace body n) where
-  module _ (scope : Scope) (z : Shape) (shapes : List Shape) (context : Context) (site : Site) (base : Store) where
+  module _ (scope : LoweringContext) (z : Shape) (shapes : List Shape) (context : Context) (site : Site) (base : Store) where
     abbrev W : ℕ → Ways
     W = S program linear pace body roomy n ih bih scope z shapes context site base
 

@@ -26,7 +26,7 @@ use Rattle.linear_runs.proofs.Joining.{more, after, reaches_after, targets_more,
 use Rattle.linear_runs.proofs.SingleTurns.{onto, still, stepped, first, fetch, prefix_self}
 use Rattle.linear_runs.proofs.Walks.{Outward, starts}
 use Rattle.ir_expressions.specs.declared.scope.Names.{Names}
-use Rattle.ir_expressions.specs.declared.scope.Scope.{Scope}
+use Rattle.ir_expressions.specs.declared.scope.LoweringContext.{LoweringContext}
 use Rattle.ir_expressions.specs.declared.scope.Way.TheVariants.{Nowhere, Jumps}
 use Rattle.ir_expressions.specs.declared.scope.Way.TheVariants.{Unwinds as UnwindsTo}
 use Rattle.ir_expressions.specs.Scope.{in_guarded}
@@ -65,7 +65,7 @@ module _ (program : Program) (linear : LinearProgram) (pace body : ℕ) where
       ap (λ o. with_some c.events (flag_of o) (λ x. deeper 2 held c.store c.events (next (begin_finally (k - 1) x flag held below c)))) f.1
       ∙ ap (λ kd. with_some c.events (flag_in kd) (λ x. deeper 2 held c.store c.events (next (begin_finally (k - 1) x flag held below c)))) f.2
 
-  module _ (n : ℕ) (bih : BodyRuns program linear pace body n) (k : ℕ) (last : Statements) (begin end hi : ℕ) (forth : begin ≤ end + 1) (le : end + 1 < hi) (scope : Scope) (z : Shape) (shapes : List Shape) (context : Context) (site : Site) (base : Store)
+  module _ (n : ℕ) (bih : BodyRuns program linear pace body n) (k : ℕ) (last : Statements) (begin end hi : ℕ) (forth : begin ≤ end + 1) (le : end + 1 < hi) (scope : LoweringContext) (z : Shape) (shapes : List Shape) (context : Context) (site : Site) (base : Store)
       (placed : FinallyPlaced program linear pace body z.own scope.names k last) (standing : Surroundings program linear pace body scope.names z shapes context site base (1 + statements_notes last)) (light : 1 + statements_weight last + body + 4 ≤ pace) where
     abbrev R : Region
     R = region begin (end + 1) (regions.Finally (k - 1))

@@ -24,7 +24,7 @@ use Rattle.linear_runs.proofs.Joining.{more, reaches_after, reaches_more, finish
 use Rattle.linear_runs.proofs.SingleTurns.{stepped, fetch, prefix_self, sooner, deep_claim}
 use Rattle.linear_runs.proofs.Walks.{handlers_below, leaves}
 use Rattle.ir_expressions.specs.declared.scope.Names.{Names}
-use Rattle.ir_expressions.specs.declared.scope.Scope.{Scope}
+use Rattle.ir_expressions.specs.declared.scope.LoweringContext.{LoweringContext}
 use Rattle.ir_expressions.specs.declared.scope.Way.TheVariants.{Nowhere, Jumps}
 use Rattle.ir_sizes.specs.Sizes.{statements_size, statements_notes}
 use Rattle.ir_expressions.specs.Expressions.{constant}
@@ -108,7 +108,7 @@ module _ (program : Program) (linear : LinearProgram) (pace body : ℕ) where
 
   -- ---- the end of a call
 
-  module _ (k : ℕ) (lf : LinearFunction) (scope : Scope) (new : Shape) (shapes : List Shape) (context : Context) (site : Site) (base : Store) (pc : ℕ) (temps : List ℕ) (m : ℕ) (store : Store) (locals : List ℕ)
+  module _ (k : ℕ) (lf : LinearFunction) (scope : LoweringContext) (new : Shape) (shapes : List Shape) (context : Context) (site : Site) (base : Store) (pc : ℕ) (temps : List ℕ) (m : ℕ) (store : Store) (locals : List ℕ)
       (same_m : m ≡ length shapes) (same : length store.activations ≡ length shapes) (walked : regions_at linear site.body pc ≡ site.regions) (kept : NotesKept everywhere shapes base store) where
     abbrev callee : Context
     callee = record { handlers = context.handlers; activation = m; exception = no_exception; abnormal = false }

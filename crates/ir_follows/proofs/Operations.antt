@@ -72,7 +72,7 @@ module _ (program : Program) (linear : LinearProgram) (pace body : ℕ) (same_gl
 
     -- ---- operations
 
-    operated : (o : Operation) (x y to first second a b : ℕ) (after : ℕ → List ℕ) (pc : ℕ) (temps : List ℕ) (st : State) (store : Store) (e : ℕ) (out : performing.Outcome) → performed (is_reserved program.globals) o x y st.memory ≡ out
+    operated : (o : Operation) (x y to first second a b : ℕ) (after : ℕ → List ℕ) (pc : ℕ) (temps : List ℕ) (st : State) (store : Store) (e : ℕ) (out : performing.OperationResult) → performed (is_reserved program.globals) o x y st.memory ≡ out
         → is_constant o ≡ false → st.steps_left ≤ n → e + 1 ≤ pace → HasAt linear site.body site.regions pc (Compute (Temporary to) o (Temporary first) (Temporary second) ∷ []) → Operands temps to first second a b after
         → SameOperation' program linear pace body o x y a b → K st store → st.held ≡ site.held
         → Claim linear pace (at (conf context site pc temps st store)) st (price 1 e 0 e) (W (λ v st store. at (conf context site (pc + 1) (after v) st store))) (tried (within program n) o x y context st out)

@@ -18,7 +18,7 @@ use Rattle.linear_runs.proofs.Stretch.{Part, Site, Picked, Kept, Price, found, A
 use Rattle.linear_runs.proofs.Walks.{BlockAt, IsExcept, around_part}
 use Rattle.ir_expressions.specs.declared.scope.Names.{Names}
 use Rattle.ir_expressions.specs.declared.scope.ExceptionSource.{ExceptionSource}
-use Rattle.ir_expressions.specs.declared.scope.Scope.{Scope}
+use Rattle.ir_expressions.specs.declared.scope.LoweringContext.{LoweringContext}
 use Rattle.ir_expressions.specs.declared.scope.ExceptionSource.TheVariants.{NoException, OfFilter, KeptIn}
 use Rattle.ir_expressions.specs.declared.scope.Way.TheVariants.{Nowhere, Jumps, Unwinds}
 use Rattle.ir_expressions.specs.Scope.{except_names, filter_names, finally_names, in_try, in_except, in_guarded}
@@ -65,7 +65,7 @@ exit_over linear b r rs hi hi' (Jumps label) le f = let a = f.0 in omega arith
 exit_over linear b r rs hi hi' (Unwinds label) le f = omega arith
 
 -- the body of a `__try` from lo up to hi', whose region ends after that
-pub inside_except : (linear : LinearProgram) (b : BodyName) (scope : Scope) (filter : Filter) (target done : ℕ) (rs : List Region) (lo hi hi' : ℕ) → hi' < target → target ≤ hi → Inner linear b scope rs lo hi
+pub inside_except : (linear : LinearProgram) (b : BodyName) (scope : LoweringContext) (filter : Filter) (target done : ℕ) (rs : List Region) (lo hi hi' : ℕ) → hi' < target → target ≤ hi → Inner linear b scope rs lo hi
     → Inner linear b (in_try done scope) (region lo target (except_kind filter target) ∷ rs) lo hi'
 inside_except linear b scope filter target done rs lo hi hi' l h f =
     let r = region lo target (except_kind filter target) in
@@ -77,7 +77,7 @@ inside_except linear b scope filter target done rs lo hi hi' l h f =
       loop_next = jump_in r rs hi hi' scope.loop_next (omega arith) e f.loop_next;
     }
 
-pub inside_finally : (linear : LinearProgram) (b : BodyName) (scope : Scope) (k end done : ℕ) (rs : List Region) (lo hi hi' : ℕ) → hi' < end → end ≤ hi → Inner linear b scope rs lo hi
+pub inside_finally : (linear : LinearProgram) (b : BodyName) (scope : LoweringContext) (k end done : ℕ) (rs : List Region) (lo hi hi' : ℕ) → hi' < end → end ≤ hi → Inner linear b scope rs lo hi
     → Inner linear b (in_guarded done scope) (region lo end (regions.Finally k) ∷ rs) lo hi'
 inside_finally linear b scope k end done rs lo hi hi' l h f =
     let r = region lo end (regions.Finally k) in
@@ -260,7 +260,7 @@ module _ (program : Program) (linear : LinearProgram) (pace body : ℕ) where
   leave_same s st end p context hs exc site kept kept' None h a = a
   leave_same s st end p context hs exc site kept kept' (Some label) h a = record { store = a.store; fits = h end a.store a.fits; same = a.same; reaches = a.reaches }
 
-  pub block_claim : (s : Part) (st : State) (p : Price) (scope : Scope) (context : Context) (hs : List Handler) (exc : Exception) (site : Site) (kept kept' : Kept) (done : ℕ) (o : Outcome) → ((st : State) (store : Store) → kept st store → kept' st store)
+  pub block_claim : (s : Part) (st : State) (p : Price) (scope : LoweringContext) (context : Context) (hs : List Handler) (exc : Exception) (site : Site) (kept kept' : Kept) (done : ℕ) (o : Outcome) → ((st : State) (store : Store) → kept st store → kept' st store)
       → Claim linear pace s st p (statement_ways program linear pace body (in_except scope) (elsewhere context hs exc) site kept done) o → Claim linear pace s st p (statement_ways program linear pace body scope context site kept' done) o
   block_claim s st p scope context hs exc site kept kept' done (Gives (Value x) end) h a = absurd a
   block_claim s st p scope context hs exc site kept kept' done (Gives Normal end) h a = record { store = a.store; fits = h end a.store a.fits; same = a.same; reaches = a.reaches }

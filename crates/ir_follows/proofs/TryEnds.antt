@@ -23,7 +23,7 @@ use Rattle.linear_runs.proofs.Joining.{after, reaches_after, reaches_more, arriv
 use Rattle.linear_runs.proofs.SingleTurns.{onto, stepped, first, fetch, prefix_self, sooner}
 use Rattle.linear_runs.proofs.Walks.{Around, Inside, Outward, FindsRegions, finds_own, picked_less, picked_inside, skips, lands}
 use Rattle.ir_expressions.specs.declared.scope.Names.{Names}
-use Rattle.ir_expressions.specs.declared.scope.Scope.{Scope}
+use Rattle.ir_expressions.specs.declared.scope.LoweringContext.{LoweringContext}
 use Rattle.ir_expressions.specs.declared.scope.Way.TheVariants.{Nowhere, Jumps, Unwinds}
 use Rattle.ir_expressions.specs.Scope.{in_try}
 use Rattle.ir_expressions.specs.declared.scope.Way as jumps
@@ -90,7 +90,7 @@ module _ (program : Program) (linear : LinearProgram) (pace body : ℕ) where
     landing_turn free exc st store k has = fetch linear pace (landed_at exc st store) (Landing (Local free)) k has.0
 
     -- the end of a `__try` with an `__except`
-    pub except_ends : (done x y lo free : ℕ) (names : Names) (scope : Scope) (z : Shape) (shapes : List Shape) (base : Store) (notes : ℕ) (s : Part) (from : State) (pc : ℕ) (o : Outcome) (go : Exception → State → Outcome)
+    pub except_ends : (done x y lo free : ℕ) (names : Names) (scope : LoweringContext) (z : Shape) (shapes : List Shape) (base : Store) (notes : ℕ) (s : Part) (from : State) (pc : ℕ) (o : Outcome) (go : Exception → State → Outcome)
         → Inner linear site.body scope site.regions lo hi → length (found linear pace context site) ≡ length context.handlers → HasAt linear site.body (R ∷ site.regions) pc (Jump done ∷ []) → HasAt linear site.body site.regions target (Landing (Local free) ∷ [])
         → ((exc : Exception) (st : State) (store : Store) → st.steps_left ≤ from.steps_left → kept st store → st.held ≡ site.held
         → Claim linear pace (at (conf context site (target + 1) [] st (set_local store context.activation free exc.code))) st (price 0 0 y y) (statement_ways program linear pace body scope context site kept done) (go exc st))

@@ -15,7 +15,7 @@ use Rattle.linear_code.specs.Program.{LinearProgram, LinearFunction, LinearFuncl
 use Rattle.linear_machine.specs.Frames.{BodyName, FunctionBody, FuncletBody}
 use Rattle.ir_expressions.specs.declared.scope.Names.{Names}
 use Rattle.ir_expressions.specs.declared.scope.Way.{Way}
-use Rattle.ir_expressions.specs.declared.scope.Scope.{Scope}
+use Rattle.ir_expressions.specs.declared.scope.LoweringContext.{LoweringContext}
 use Rattle.ir_expressions.specs.declared.scope.Way.TheVariants.{Nowhere, Jumps, Unwinds}
 use Rattle.ir_expressions.specs.Scope.{filter_names, finally_scope, in_loop, in_try, in_except, in_guarded}
 use Rattle.ir_sizes.specs.Sizes.{expression_size, discarded_size, condition_size, declared_size, all_declared_size, returned_size, statement_size, statements_size}
@@ -139,7 +139,7 @@ module _ (program : Program) (linear : LinearProgram) (pace body own : ℕ) wher
       DeclaredPlaced b names d rs at × AllDeclaredPlaced b names ds rs (at + declared_size d)
 
   abbrev mutual
-    pub Placed : BodyName → Scope → Statement → List Region → ℕ → Type 0
+    pub Placed : BodyName → LoweringContext → Statement → List Region → ℕ → Type 0
     Placed b scope (Declare d) rs at = DeclaredPlaced b scope.names d rs at
     Placed b scope (Block ss) rs at = AllPlaced b scope ss rs at
     Placed b scope (Evaluate e) rs at =
@@ -213,12 +213,13 @@ module _ (program : Program) (linear : LinearProgram) (pace body own : ℕ) wher
         (HasAt linear (FuncletBody (k - 1)) [] (statements_size last)
         (Return (Local scope.names.free) ∷ [])))
 
-    pub AllPlaced : BodyName → Scope → Statements → List Region → ℕ → Type 0
+    pub AllPlaced : BodyName → LoweringContext → Statements → List Region → ℕ → Type 0
     AllPlaced b scope Empty rs at = Unit {0}
     AllPlaced b scope (Then s ss) rs at =
         Placed b scope s rs at × AllPlaced b scope ss rs (at + statement_size s)
 
-  abbrev pub ForPlaced : BodyName → Scope → Option Expression → Option Expression → Statement
+  abbrev pub ForPlaced : BodyName → LoweringContext → Option Expression → Option Expression
+      → Statement
       → List Region → ℕ → Type 0
   ForPlaced b scope c next s rs at =
       let start = at + condition_size c in
@@ -231,7 +232,8 @@ module _ (program : Program) (linear : LinearProgram) (pace body own : ℕ) wher
       (HasAt linear b rs (again + 1) (discarded_code scope.names next (again + 1)))
       (HasAt linear b rs (again + 1 + discarded_size next) (Jump at ∷ []))
 
-  abbrev pub DoPlaced : BodyName → Scope → Statement → Expression → List Region → ℕ → Type 0
+  abbrev pub DoPlaced : BodyName → LoweringContext → Statement → Expression → List Region → ℕ
+      → Type 0
   DoPlaced b scope s c rs at = Placed b scope (DoWhile s c) rs at
 
   abbrev pub FinallyPlaced : Names → ℕ → Statements → Type 0

@@ -22,7 +22,7 @@ use Rattle.seh_ir.specs.declared.funclets.Owner.{Owner}
 use Rattle.ir_expressions.specs.declared.scope.Names.{Names}
 use Rattle.ir_expressions.specs.declared.scope.Way.{Way}
 use Rattle.ir_expressions.specs.declared.scope.Way.TheVariants.{Nowhere, Jumps, Unwinds}
-use Rattle.ir_expressions.specs.declared.scope.Scope.{Scope}
+use Rattle.ir_expressions.specs.declared.scope.LoweringContext.{LoweringContext}
 use Rattle.ir_expressions.specs.Scope.{except_names, filter_names, finally_names, unwound, finally_scope, in_loop, in_try, in_except, in_guarded}
 use Rattle.ir_sizes.specs.Sizes.{expression_size, discarded_size, condition_size, declared_size, all_declared_size, returned_size, statement_size, statements_size}
 use Rattle.ir_expressions.specs.Expressions.{expression_code}
@@ -47,23 +47,23 @@ unwound_way (Unwinds label) h = tt
 
 module _ (program : Program) (linear : LinearProgram) (pace most own : ℕ) where
   -- what is sound in one scope is lowered in the other
-  pub record Alike (i : Inside) (scope : Scope) : Type 0 where
+  pub record Alike (i : Inside) (scope : LoweringContext) : Type 0 where
     pub knows : Knows program own false i.scope
     pub exits : i.function ≡ true → IsWay scope.exit
     pub ends : i.loop ≡ true → IsWay scope.loop_end
     pub again : i.loop ≡ true → IsWay scope.loop_next
     pub leaves : i.body ≡ true → IsPlace scope.leave
 
-  loop_alike : (i : Inside) (scope : Scope) (end again : ℕ) → Alike i scope → Alike (record i { loop = true }) (in_loop end again scope)
+  loop_alike : (i : Inside) (scope : LoweringContext) (end again : ℕ) → Alike i scope → Alike (record i { loop = true }) (in_loop end again scope)
   loop_alike i scope end again a = record { knows = a.knows; exits = a.exits; ends = λ h. tt; again = λ h. tt; leaves = a.leaves }
 
-  try_alike : (i : Inside) (scope : Scope) (end : ℕ) → Alike i scope → Alike (record i { body = true }) (in_try end scope)
+  try_alike : (i : Inside) (scope : LoweringContext) (end : ℕ) → Alike i scope → Alike (record i { body = true }) (in_try end scope)
   try_alike i scope end a = record { knows = a.knows; exits = a.exits; ends = a.ends; again = a.again; leaves = λ h. tt }
 
-  except_alike : (i : Inside) (scope : Scope) → Alike i scope → Alike (record i { scope = record i.scope { code = true } }) (in_except scope)
+  except_alike : (i : Inside) (scope : LoweringContext) → Alike i scope → Alike (record i { scope = record i.scope { code = true } }) (in_except scope)
   except_alike i scope a = record { knows = record { functions = a.knows.functions; sizes = a.knows.sizes; information = a.knows.information }; exits = a.exits; ends = a.ends; again = a.again; leaves = a.leaves }
 
-  guarded_alike : (i : Inside) (scope : Scope) (end : ℕ) → Alike i scope → Alike (record i { body = true }) (in_guarded end scope)
+  guarded_alike : (i : Inside) (scope : LoweringContext) (end : ℕ) → Alike i scope → Alike (record i { body = true }) (in_guarded end scope)
   guarded_alike i scope end a = record {
     knows = a.knows;
     exits = λ h. unwound_way scope.exit (a.exits h);
@@ -75,7 +75,7 @@ module _ (program : Program) (linear : LinearProgram) (pace most own : ℕ) wher
   abbrev in_finally : Inside → Inside
   in_finally i = record { scope = record i.scope { abnormal = true }; returns = i.returns; loop = false; body = false; function = false }
 
-  finally_alike : (i : Inside) (scope : Scope) (names : Names) → Alike i scope → Alike (in_finally i) (finally_scope names)
+  finally_alike : (i : Inside) (scope : LoweringContext) (names : Names) → Alike i scope → Alike (in_finally i) (finally_scope names)
   finally_alike i scope names a = record {
     knows = record { functions = a.knows.functions; sizes = a.knows.sizes; information = a.knows.information };
     exits = λ h. absurd (cc);
@@ -86,15 +86,15 @@ module _ (program : Program) (linear : LinearProgram) (pace most own : ℕ) wher
 
   -- ---- expressions in statements
 
-  optional_fits : (s : sound.Scope) (k : Knows program own false s) (e : Option Expression) → optional_sound s e ≡ true → OptionalFits program linear pace most own e
+  optional_fits : (s : sound.TypingContext) (k : Knows program own false s) (e : Option Expression) → optional_sound s e ≡ true → OptionalFits program linear pace most own e
   optional_fits s k None h = tt
   optional_fits s k (Some e) h = expression_fits program own false s k e h
 
-  test_fits : (s : sound.Scope) (k : Knows program own false s) (e : Option Expression) → test_sound s e ≡ true → OptionalFits program linear pace most own e
+  test_fits : (s : sound.TypingContext) (k : Knows program own false s) (e : Option Expression) → test_sound s e ≡ true → OptionalFits program linear pace most own e
   test_fits s k None h = tt
   test_fits s k (Some e) h = expression_fits program own false s k e (both_left _ _ h)
 
-  value_optional : (s : sound.Scope) (k : Knows program own false s) (z : Option Size) (e : Option Expression) → value_fits s z e ≡ true → OptionalFits program linear pace most own e
+  value_optional : (s : sound.TypingContext) (k : Knows program own false s) (z : Option Size) (e : Option Expression) → value_fits s z e ≡ true → OptionalFits program linear pace most own e
   value_optional s k z None h = tt
   value_optional s k z (Some e) h = expression_fits program own false s k e (both_left _ _ h)
 
@@ -112,7 +112,7 @@ module _ (program : Program) (linear : LinearProgram) (pace most own : ℕ) wher
     code_is_at rs pc [] h c = tt
     code_is_at rs pc (i ∷ is) h c = (ap (λ o. instruction_in o pc) there ∙ h.0, c pc (omega arith) (omega arith), code_is_at rs (pc + 1) is h.1 (λ q lo hi. c q (omega arith) (omega arith)))
 
-    declared_placed : (s : sound.Scope) (k : Knows program own false s) (names : Names) (d : Declared) (rs : List Region) (at : ℕ) → declared_sound s d ≡ true
+    declared_placed : (s : sound.TypingContext) (k : Knows program own false s) (names : Names) (d : Declared) (rs : List Region) (at : ℕ) → declared_sound s d ≡ true
         → IsSegmentAt lb.code at (declared_code names d at) → Plain rs at (at + declared_size d) → DeclaredPlaced program linear pace most own b names d rs at
     declared_placed s k names d rs at ok h c =
         let n = declared_length names d at in (
@@ -121,7 +121,7 @@ module _ (program : Program) (linear : LinearProgram) (pace most own : ℕ) wher
           code_is_at rs at (declared_code names d at) h (λ q lo hi. c q lo (omega arith)),
         )
 
-    all_declared_placed : (s : sound.Scope) (k : Knows program own false s) (names : Names) (ds : List Declared) (rs : List Region) (at : ℕ) → all_declared_sound s ds ≡ true
+    all_declared_placed : (s : sound.TypingContext) (k : Knows program own false s) (names : Names) (ds : List Declared) (rs : List Region) (at : ℕ) → all_declared_sound s ds ≡ true
         → IsSegmentAt lb.code at (all_declared_code names ds at) → Plain rs at (at + all_declared_size ds) → AllDeclaredPlaced program linear pace most own b names ds rs at
     all_declared_placed s k names [] rs at ok h c = tt
     all_declared_placed s k names (d ∷ ds) rs at ok h c =
@@ -157,7 +157,7 @@ module _ (program : Program) (linear : LinearProgram) (pace most own : ℕ) wher
   module _ (quick : most + most + 4 ≤ pace) where
     -- ---- filters
 
-    filter_placed : (i : Inside) (scope : Scope) → Alike i scope → (owner : Owner) (f : Filter) (j : ℕ) → filter_sound i.scope f ≡ true → filter_weight f ≤ most
+    filter_placed : (i : Inside) (scope : LoweringContext) → Alike i scope → (owner : Owner) (f : Filter) (j : ℕ) → filter_sound i.scope f ≡ true → filter_weight f ≤ most
         → IsSegmentAt linear.funclets j (filter_funclets owner (filter_names scope.names) f) → count_up (j + 1) (filter_funclet f) ≡ true → FilterPlaced program linear pace most own scope.names f
     filter_placed i scope a owner Always j ok light h n = tt
     filter_placed i scope a owner (Funclet k e) j ok light h n =
@@ -177,7 +177,7 @@ module _ (program : Program) (linear : LinearProgram) (pace most own : ℕ) wher
     -- ---- statements
 
     mutual
-      pub place : (s : Statement) (b : BodyName) (lb : LinearBody) → body_of linear b ≡ Some lb → (i : Inside) (scope : Scope) → Alike i scope → (owner : Owner) (rs : List Region) (at j : ℕ)
+      pub place : (s : Statement) (b : BodyName) (lb : LinearBody) → body_of linear b ≡ Some lb → (i : Inside) (scope : LoweringContext) → Alike i scope → (owner : Owner) (rs : List Region) (at j : ℕ)
           → statement_sound i s ≡ true → statement_weight s ≤ most → IsSegmentAt lb.code at (statement_code scope s at) → Cover b rs at (at + statement_size s) (statement_regions s at)
           → IsSegmentAt linear.funclets j (statement_funclets owner scope.names s) → count_up (j + 1) (funclets_in s) ≡ true → Placed program linear pace most own b scope s rs at
       place (Declare d) b lb there i scope a owner rs at j ok light h c f n = declared_placed b lb there i.scope a.knows scope.names d rs at ok h c
@@ -385,7 +385,7 @@ module _ (program : Program) (linear : LinearProgram) (pace most own : ℕ) wher
             };
           }
 
-      pub place_all : (ss : Statements) (b : BodyName) (lb : LinearBody) → body_of linear b ≡ Some lb → (i : Inside) (scope : Scope) → Alike i scope → (owner : Owner) (rs : List Region) (at j : ℕ)
+      pub place_all : (ss : Statements) (b : BodyName) (lb : LinearBody) → body_of linear b ≡ Some lb → (i : Inside) (scope : LoweringContext) → Alike i scope → (owner : Owner) (rs : List Region) (at j : ℕ)
           → statements_sound i ss ≡ true → statements_weight ss ≤ most → IsSegmentAt lb.code at (statements_code scope ss at) → Cover b rs at (at + statements_size ss) (statements_regions ss at)
           → IsSegmentAt linear.funclets j (statements_funclets owner scope.names ss) → count_up (j + 1) (funclets ss) ≡ true → AllPlaced program linear pace most own b scope ss rs at
       place_all Empty b lb there i scope a owner rs at j ok light h c f n = tt

@@ -14,7 +14,7 @@ use Rattle.c_checked.specs.declared.expression.Conversion.{Conversion}
 use Rattle.c_checked.specs.Expression as nodes
 use Rattle.c_checked.specs.Expression.{Expression, On, Node, Lvalue, Local, Global, Indirection, Element, Arguments, Done, Next}
 use Rattle.c_checked.specs.Program.{Program, Function}
-use Rattle.c_checked.specs.Sound.{Scope, is_number, are_sizes, size_after, unary_takes, takes, built_in_takes, constant_fits, amount_fits, change_fits, call_fits, expression_size, lvalue_size, argument_sizes, expression_sound, node_sound, lvalue_sound, arguments_sound}
+use Rattle.c_checked.specs.Sound.{TypingContext, is_number, are_sizes, size_after, unary_takes, takes, built_in_takes, constant_fits, amount_fits, change_fits, call_fits, expression_size, lvalue_size, argument_sizes, expression_sound, node_sound, lvalue_sound, arguments_sound}
 use Rattle.linear_machine.specs.Instructions.{is_constant, count_of}
 use Rattle.ir_expressions.specs.Expressions.{argument_count}
 use Rattle.ir_follows.specs.Fits.{IsCalled, ExpressionFits, LvalueFits, ArgumentsFit, NodeFits}
@@ -56,7 +56,7 @@ change_reads place before o amount after h = reads o (size_after before place) a
 
 -- ---- calls
 
-counted : (s : Scope) (zs : List Size) (es : Arguments) → are_sizes zs (argument_sizes s es) ≡ true → argument_count es ≡ length zs
+counted : (s : TypingContext) (zs : List Size) (es : Arguments) → are_sizes zs (argument_sizes s es) ≡ true → argument_count es ≡ length zs
 counted s [] Done h = refl
 counted s [] (Next e es) h = absurd (cc)
 counted s (z ∷ zs) Done h = absurd (cc)
@@ -67,19 +67,19 @@ built_in_count Put = refl
 built_in_count Protect = refl
 built_in_count RaiseException = refl
 
-called : (program : Program) (s : Scope) (f : ℕ) (es : Arguments) (o : Option Function) → slice_get program.functions f ≡ o → call_fits o (argument_sizes s es) ≡ true → IsCalled program f (argument_count es)
+called : (program : Program) (s : TypingContext) (f : ℕ) (es : Arguments) (o : Option Function) → slice_get program.functions f ≡ o → call_fits o (argument_sizes s es) ≡ true → IsCalled program f (argument_count es)
 called program s f es None e h = absurd (cc)
 called program s f es (Some function) e h = record { function = function; there = e; takes = counted s function.parameters es h }
 
 -- ---- expressions, where so many locals are, and where an exception's fields may be read or may not
 
 module _ (program : Program) (own : ℕ) (info : Bool) where
-  pub record Knows (s : Scope) : Type 0 where
+  pub record Knows (s : TypingContext) : Type 0 where
     pub functions : s.functions ≡ program.functions
     pub sizes : length s.sizes ≡ own
     pub information : s.information ≡ info
 
-  module _ (s : Scope) (k : Knows s) where
+  module _ (s : TypingContext) (k : Knows s) where
     mutual
       pub expression_fits : (e : Expression) → expression_sound s e ≡ true → ExpressionFits program own info e
       expression_fits (On n c) h = node_fits n (both_left _ _ h)

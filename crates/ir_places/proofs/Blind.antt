@@ -23,7 +23,7 @@ use Rattle.seh_ir.specs.declared.funclets.Owner.{Owner}
 use Rattle.ir_expressions.specs.declared.scope.Names.{Names}
 use Rattle.ir_expressions.specs.declared.scope.Way.{Way}
 use Rattle.ir_expressions.specs.declared.scope.Way.TheVariants.{Nowhere, Jumps, Unwinds}
-use Rattle.ir_expressions.specs.declared.scope.Scope.{Scope}
+use Rattle.ir_expressions.specs.declared.scope.LoweringContext.{LoweringContext}
 use Rattle.ir_expressions.specs.Scope.{except_names, filter_names, finally_names, finally_scope, in_loop, in_try, in_except, in_guarded}
 use Rattle.ir_expressions.specs.Expressions.{constant, copy, expression_code}
 use Rattle.seh_ir.specs.Statements.{jump_code, return_code, leave_code, discarded_code, returned_code, condition_code, initialiser_code, declared_code, all_declared_code, landed, repeated, statement_code, statements_code}
@@ -71,7 +71,7 @@ filters_fine owner names (Funclet number e) = (tt, tt)
 module _ (program : Program) (own : ℕ) where
   -- ---- expressions in statements
 
-  module _ (s : sound.Scope) (knows : Knows program own false s) (names : Names) (outside : IsOutside names.exception) where
+  module _ (s : sound.TypingContext) (knows : Knows program own false s) (names : Names) (outside : IsOutside names.exception) where
     value_blind : (e : Expression) (at : ℕ) → expression_sound s e ≡ true → AllBlind (expression_code names e 0 at)
     value_blind e at ok = expression_blind program own names outside e 0 at (expression_fits program own false s knows e ok)
 
@@ -111,7 +111,7 @@ module _ (program : Program) (own : ℕ) where
   in_last i k = record { functions = k.functions; sizes = k.sizes; information = k.information }
 
   mutual
-    statement_blind : (s : Statement) (i : Inside) (knows : Knows program own false i.scope) (scope : Scope) (o : IsOutside scope.names.exception) (at : ℕ) → statement_sound i s ≡ true → AllBlind (statement_code scope s at)
+    statement_blind : (s : Statement) (i : Inside) (knows : Knows program own false i.scope) (scope : LoweringContext) (o : IsOutside scope.names.exception) (at : ℕ) → statement_sound i s ≡ true → AllBlind (statement_code scope s at)
     statement_blind (Declare d) i k scope o at ok = declared_blind i.scope k scope.names o d at ok
     statement_blind (Block ss) i k scope o at ok = statements_blind ss i k scope o at ok
     statement_blind (Evaluate e) i k scope o at ok = discarded_blind i.scope k scope.names o e at ok
@@ -159,7 +159,7 @@ module _ (program : Program) (own : ℕ) where
         let inner = in_guarded (at + statements_size body) scope in
         append (statements_code inner body at) (Separator ∷ CallFinally (number - 1) ∷ Separator ∷ []) (statements_blind body (record i { body = true }) k inner o at (both_left _ _ ok)) (tt, (tt, (tt, tt)))
 
-    statements_blind : (ss : Statements) (i : Inside) (knows : Knows program own false i.scope) (scope : Scope) (o : IsOutside scope.names.exception) (at : ℕ) → statements_sound i ss ≡ true → AllBlind (statements_code scope ss at)
+    statements_blind : (ss : Statements) (i : Inside) (knows : Knows program own false i.scope) (scope : LoweringContext) (o : IsOutside scope.names.exception) (at : ℕ) → statements_sound i ss ≡ true → AllBlind (statements_code scope ss at)
     statements_blind Empty i k scope o at ok = tt
     statements_blind (Then s ss) i k scope o at ok =
         append (statement_code scope s at) (statements_code scope ss (at + statement_size s)) (statement_blind s i k scope o at (both_left _ _ ok)) (statements_blind ss i k scope o (at + statement_size s) (both_right _ _ ok))

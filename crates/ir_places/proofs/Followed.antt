@@ -13,7 +13,7 @@ use Rattle.seh_ir.specs.declared.funclets.Owner.{Owner}
 use Rattle.ir_expressions.specs.declared.scope.Names.{Names}
 use Rattle.ir_expressions.specs.declared.scope.Way.{Way}
 use Rattle.ir_expressions.specs.declared.scope.Way.TheVariants.{Nowhere, Jumps, Unwinds}
-use Rattle.ir_expressions.specs.declared.scope.Scope.{Scope}
+use Rattle.ir_expressions.specs.declared.scope.LoweringContext.{LoweringContext}
 use Rattle.ir_expressions.specs.Scope.{finally_scope, in_loop, in_try, in_except, in_guarded}
 use Rattle.ir_expressions.specs.Expressions.{constant, copy, expression_code}
 use Rattle.seh_ir.specs.Statements.{jump_code, return_code, leave_code, discarded_code, returned_code, condition_code, initialiser_code, declared_code, all_declared_code, landed, repeated, statement_code, statements_code}
@@ -108,7 +108,7 @@ leave_follows (Some label) = ((λ x. no x), tt)
 -- ---- statements
 
 mutual
-  statement_follows : (s : Statement) (scope : Scope) (at : ℕ) → Follows (statement_code scope s at)
+  statement_follows : (s : Statement) (scope : LoweringContext) (at : ℕ) → Follows (statement_code scope s at)
   statement_follows (Declare d) scope at = declared scope.names d at
   statement_follows (Block ss) scope at = statements_follow ss scope at
   statement_follows (Evaluate e) scope at = discarded scope.names e at
@@ -157,7 +157,7 @@ mutual
       append (statements_code inner body at) (Separator ∷ CallFinally (k - 1) ∷ Separator ∷ []) (statements_follow body inner at)
       ((λ x. no x), ((λ x. refl), ((λ x. no x), tt)))
 
-  statements_follow : (ss : Statements) (scope : Scope) (at : ℕ) → Follows (statements_code scope ss at)
+  statements_follow : (ss : Statements) (scope : LoweringContext) (at : ℕ) → Follows (statements_code scope ss at)
   statements_follow Empty scope at = tt
   statements_follow (Then s ss) scope at =
       let next = at + statement_size s in

@@ -15,7 +15,7 @@ use Rattle.seh_ir.specs.declared.funclets.Owner.{Owner}
 use Rattle.ir_expressions.specs.declared.scope.Names.{Names}
 use Rattle.ir_expressions.specs.declared.scope.Way.{Way}
 use Rattle.ir_expressions.specs.declared.scope.Way.TheVariants.{Nowhere, Jumps, Unwinds}
-use Rattle.ir_expressions.specs.declared.scope.Scope.{Scope}
+use Rattle.ir_expressions.specs.declared.scope.LoweringContext.{LoweringContext}
 use Rattle.ir_expressions.specs.Scope.{unwound, finally_scope, in_loop, in_try, in_except, in_guarded}
 use Rattle.ir_expressions.specs.Expressions.{constant, copy, expression_code}
 use Rattle.seh_ir.specs.Statements.{jump_code, return_code, leave_code, discarded_code, returned_code, condition_code, initialiser_code, declared_code, all_declared_code, landed, repeated, statement_code, statements_code}
@@ -88,7 +88,7 @@ module _ (n : ℕ) where
   LeadsIn (Jumps label) = label < n
   LeadsIn (Unwinds label) = label < n
 
-  record AllLeadIn (scope : Scope) : Type 0 where
+  record AllLeadIn (scope : LoweringContext) : Type 0 where
     exit : LeadsIn scope.exit
     loop_end : LeadsIn scope.loop_end
     loop_next : LeadsIn scope.loop_next
@@ -115,7 +115,7 @@ module _ (n : ℕ) where
   -- ---- statements, with an instruction after them
 
   mutual
-    statement_goes_in : (s : Statement) (scope : Scope) (at : ℕ) → AllLeadIn scope → at + statement_size s < n → AllGoIn (statement_code scope s at)
+    statement_goes_in : (s : Statement) (scope : LoweringContext) (at : ℕ) → AllLeadIn scope → at + statement_size s < n → AllGoIn (statement_code scope s at)
     statement_goes_in (Declare d) scope at ways lt = declared scope.names d at
     statement_goes_in (Block ss) scope at ways lt = statements_go_in ss scope at ways lt
     statement_goes_in (Evaluate e) scope at ways lt = discarded scope.names e at
@@ -167,7 +167,7 @@ module _ (n : ℕ) where
         let within : AllLeadIn inner = record { exit = unwound_leads scope.exit ways.exit; loop_end = unwound_leads scope.loop_end ways.loop_end; loop_next = unwound_leads scope.loop_next ways.loop_next } in
         append (statements_code inner body at) (Separator ∷ CallFinally (k - 1) ∷ Separator ∷ []) (statements_go_in body inner at within (omega arith)) (tt, (tt, (tt, tt)))
 
-    statements_go_in : (ss : Statements) (scope : Scope) (at : ℕ) → AllLeadIn scope → at + statements_size ss < n → AllGoIn (statements_code scope ss at)
+    statements_go_in : (ss : Statements) (scope : LoweringContext) (at : ℕ) → AllLeadIn scope → at + statements_size ss < n → AllGoIn (statements_code scope ss at)
     statements_go_in Empty scope at ways lt = tt
     statements_go_in (Then s ss) scope at ways lt =
         let next = at + statement_size s in

@@ -16,7 +16,7 @@ use Rattle.seh_ir.specs.declared.funclets.Owner.{Owner}
 use Rattle.ir_expressions.specs.declared.scope.Names.{Names}
 use Rattle.ir_expressions.specs.declared.scope.Way.{Way}
 use Rattle.ir_expressions.specs.declared.scope.Way.TheVariants.{Nowhere, Jumps, Unwinds}
-use Rattle.ir_expressions.specs.declared.scope.Scope.{Scope}
+use Rattle.ir_expressions.specs.declared.scope.LoweringContext.{LoweringContext}
 use Rattle.ir_expressions.specs.Scope.{finally_scope, in_loop, in_try, in_except, in_guarded}
 use Rattle.ir_expressions.specs.Expressions.{constant, copy, expression_code}
 use Rattle.seh_ir.specs.Statements.{jump_code, return_code, leave_code, discarded_code, returned_code, condition_code, initialiser_code, declared_code, all_declared_code, landed, repeated, statement_code, statements_code}
@@ -141,7 +141,7 @@ module _ (around : ℕ → List Region) where
   -- ---- statements
 
   mutual
-    statement_apart : (s : Statement) (scope : Scope) (rs : List Region) (at : ℕ) → Cover rs at (at + statement_size s) (statement_regions s at) → Separate at (statement_code scope s at)
+    statement_apart : (s : Statement) (scope : LoweringContext) (rs : List Region) (at : ℕ) → Cover rs at (at + statement_size s) (statement_regions s at) → Separate at (statement_code scope s at)
     statement_apart (Declare d) scope rs at c = declared_apart rs scope.names d at c
     statement_apart (Block ss) scope rs at c = statements_apart ss scope rs at c
     statement_apart (Evaluate e) scope rs at c = discarded_apart rs scope.names e at c
@@ -239,7 +239,7 @@ module _ (around : ℕ → List Region) where
         joined at at_end guarded _ (omega arith) (statements_apart body inner (try ∷ rs) at (λ q lo hi. inside_own rs try rb (try ∷ []) q (own_in try [] q lo (omega arith)) (c q lo (omega arith))))
         ((λ x. no_call x), ((λ x. out (at_end + 1 + 1) (omega arith) (omega arith) ∙ sym (out (at_end + 1) (omega arith) (omega arith))), ((λ x. no_call x), tt)))
 
-    statements_apart : (ss : Statements) (scope : Scope) (rs : List Region) (at : ℕ) → Cover rs at (at + statements_size ss) (statements_regions ss at) → Separate at (statements_code scope ss at)
+    statements_apart : (ss : Statements) (scope : LoweringContext) (rs : List Region) (at : ℕ) → Cover rs at (at + statements_size ss) (statements_regions ss at) → Separate at (statements_code scope ss at)
     statements_apart Empty scope rs at c = tt
     statements_apart (Then s ss) scope rs at c =
         let next = at + statement_size s in

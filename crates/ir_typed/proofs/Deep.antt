@@ -11,7 +11,7 @@ use Rattle.seh_num.specs.Widths.{low, signed}
 use Rattle.c_operations.specs.declared.built_in.BuiltIn.{BuiltIn}
 use Rattle.c_operations.specs.declared.built_in.BuiltIn.TheVariants.{Put, Protect, RaiseException}
 use Rattle.c_operations.specs.declared.operation.Operation.{Operation}
-use Rattle.c_operations.specs.Performed.{Outcome, Gives, Raises, Undefined, performed}
+use Rattle.c_operations.specs.Performed.{OperationResult, Gives, Raises, Undefined, performed}
 use Rattle.c_model.specs.declared.ended.Ended.TheVariants as ends
 use Rattle.c_model.specs.State.{Exception}
 use Rattle.c_model.specs.Source.{is_reserved}
@@ -243,7 +243,7 @@ module _ (program : LinearProgram) (whole : IsWhole program) (leads : (name : Bo
     plain_deep : (i : Instruction) → instruction_at program c ≡ Some i → taken (Some i) ≡ 0 → Deep (Waits c.frame ∷ c.below)
     plain_deep i at n = deep i at c.frame.temporaries (omega arith)
 
-    computed_turn : (to : Slot) (o : Operation) (first second : Slot) (r : Outcome) → instruction_at program c ≡ Some (instructions.Compute to o first second) → Turn Ok (λ next. computed program next to c r)
+    computed_turn : (to : Slot) (o : Operation) (first second : Slot) (r : OperationResult) → instruction_at program c ≡ Some (instructions.Compute to o first second) → Turn Ok (λ next. computed program next to c r)
     computed_turn to o first second (Gives v memory) at = written_turn (instructions.Compute to o first second) at (record c { store = record c.store { memory = memory } }) to v (λ x. refl) refl refl refl refl
     computed_turn to o first second (Raises code access) at =
         let i = instructions.Compute to o first second in

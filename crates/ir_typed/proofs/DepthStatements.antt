@@ -16,7 +16,7 @@ use Rattle.seh_ir.specs.declared.funclets.Owner.{Owner}
 use Rattle.ir_expressions.specs.declared.scope.Names.{Names}
 use Rattle.ir_expressions.specs.declared.scope.Way.{Way}
 use Rattle.ir_expressions.specs.declared.scope.Way.TheVariants.{Nowhere, Jumps, Unwinds}
-use Rattle.ir_expressions.specs.declared.scope.Scope.{Scope}
+use Rattle.ir_expressions.specs.declared.scope.LoweringContext.{LoweringContext}
 use Rattle.ir_expressions.specs.Scope.{unwound, finally_scope, in_loop, in_try, in_except, in_guarded}
 use Rattle.ir_expressions.specs.Expressions.{constant, copy, expression_code}
 use Rattle.seh_ir.specs.Statements.{jump_code, return_code, leave_code, discarded_code, returned_code, condition_code, initialiser_code, declared_code, all_declared_code, landed, repeated, statement_code, statements_code}
@@ -70,7 +70,7 @@ leave_past None = refl
 leave_past (Some label) = refl
 
 mutual
-  statement_past : (s : Statement) (scope : Scope) (at : ℕ) → past (statement_code scope s at) 0 ≡ 0
+  statement_past : (s : Statement) (scope : LoweringContext) (at : ℕ) → past (statement_code scope s at) 0 ≡ 0
   statement_past (Declare d) scope at = declared_past scope.names d at
   statement_past (Block ss) scope at = statements_past ss scope at
   statement_past (Evaluate e) scope at = discarded_past scope.names e at
@@ -96,7 +96,7 @@ mutual
       past_both (statements_code (in_try _ scope) body at) _ 0 0 0 (statements_past body (in_try _ scope) at) (statements_past block (in_except scope) _)
   statement_past (TryFinally body k last) scope at = past_to (statements_code _ body at) (_ ∷ _ ∷ _ ∷ []) 0 0 (λ x. refl)
 
-  statements_past : (ss : Statements) (scope : Scope) (at : ℕ) → past (statements_code scope ss at) 0 ≡ 0
+  statements_past : (ss : Statements) (scope : LoweringContext) (at : ℕ) → past (statements_code scope ss at) 0 ≡ 0
   statements_past Empty scope at = refl
   statements_past (Then s ss) scope at = past_both (statement_code scope s at) _ 0 0 0 (statement_past s scope at) (statements_past ss scope _)
 
@@ -119,7 +119,7 @@ module _ (depth : ℕ → ℕ) where
   PlaceHolds None = Unit {0}
   PlaceHolds (Some label) = depth label ≡ 0
 
-  record ScopeHolds (scope : Scope) : Type 0 where
+  record ScopeHolds (scope : LoweringContext) : Type 0 where
     exit : WayHolds 1 scope.exit
     loop_end : WayHolds 0 scope.loop_end
     loop_next : WayHolds 0 scope.loop_next
@@ -177,7 +177,7 @@ module _ (depth : ℕ → ℕ) where
     returned_leads (Some e) at h = expression_leads depth names e 0 at h
 
   mutual
-    statement_leads : (s : Statement) (scope : Scope) (at : ℕ) → ScopeHolds scope → At at 0 (statement_code scope s at) → All 0 (statement_code scope s at)
+    statement_leads : (s : Statement) (scope : LoweringContext) (at : ℕ) → ScopeHolds scope → At at 0 (statement_code scope s at) → All 0 (statement_code scope s at)
     statement_leads (Declare d) scope at w h = declared_leads scope.names d at h
     statement_leads (Block ss) scope at w h = statements_lead ss scope at w h
     statement_leads (Evaluate e) scope at w h = discarded_leads scope.names e at h
@@ -285,7 +285,7 @@ module _ (depth : ℕ → ℕ) where
         let holds : ScopeHolds inner = record { exit = unwound_holds 1 scope.exit w.exit; loop_end = unwound_holds 0 scope.loop_end w.loop_end; loop_next = unwound_holds 0 scope.loop_next w.loop_next; leave = h1.0 } in
         lead_both depth guarded rest 0 0 (statements_past body inner at) (statements_lead body inner at holds (scan_front depth at 0 guarded rest h)) (tt, (tt, (tt, tt)))
 
-    statements_lead : (ss : Statements) (scope : Scope) (at : ℕ) → ScopeHolds scope → At at 0 (statements_code scope ss at) → All 0 (statements_code scope ss at)
+    statements_lead : (ss : Statements) (scope : LoweringContext) (at : ℕ) → ScopeHolds scope → At at 0 (statements_code scope ss at) → All 0 (statements_code scope ss at)
     statements_lead Empty scope at w h = tt
     statements_lead (Then s ss) scope at w h =
         let next = at + statement_size s in

@@ -10,7 +10,7 @@ use Rattle.c_operations.specs.declared.built_in.BuiltIn.{BuiltIn}
 use Rattle.c_operations.specs.declared.built_in.BuiltIn.TheVariants.{Put, Protect, RaiseException}
 use Rattle.c_operations.specs.declared.field.Field.{Field}
 use Rattle.c_operations.specs.declared.field.Field.TheVariants as fields
-use Rattle.c_operations.specs.Performed.{Outcome, Gives, Raises, Undefined, performed}
+use Rattle.c_operations.specs.Performed.{OperationResult, Gives, Raises, Undefined, performed}
 use Rattle.c_model.specs.declared.ended.Ended.TheVariants as ends
 use Rattle.c_model.specs.State.{Exception}
 use Rattle.c_model.specs.Source.{is_reserved}
@@ -280,7 +280,7 @@ module _ (program : LinearProgram) where
   written_turn : (c : Configuration) (to : Slot) (v : ℕ) → v < 2 ^ 64 → at_rest c → Turn HasSmallNumbers (λ next. written c to v next)
   written_turn c to v lt o = some_turn HasSmallNumbers c.events (write c to v) (λ next d. next (forth d)) (λ d e. goes (forth d) (moved_to (d.frame.next + 1) d (write_small c to v d e lt o)))
 
-  computed_turn : (c : Configuration) (to : Slot) (r : Outcome) → IsSmallOutcome r → at_rest c → Turn HasSmallNumbers (λ next. computed program next to c r)
+  computed_turn : (c : Configuration) (to : Slot) (r : OperationResult) → IsSmallOutcome r → at_rest c → Turn HasSmallNumbers (λ next. computed program next to c r)
   computed_turn c to (Gives v memory) s o = written_turn (record c { store = record c.store { memory = memory } }) to v s o
   computed_turn c to (Raises code access) s o = raise_turn (record { code = code.0; flag = false; access = access }) SameOperation c (record { code = s.0; access = s.1 }) o
   computed_turn c to (Undefined a) s o = Halts (Finished (ends.Undefined a) c.events) (λ next. refl)

@@ -14,7 +14,7 @@ use Rattle.c_operations.specs.declared.operation.Signedness.TheVariants.{Unsigne
 use Rattle.c_operations.specs.declared.operation.Operation.{Operation}
 use Rattle.c_operations.specs.declared.operation.Operation.TheVariants as operations
 use Rattle.c_operations.specs.Numbers.{width}
-use Rattle.c_operations.specs.Performed.{Outcome, Gives, Raises, Undefined, fault_of, signed_part, unsigned_part, unless_reserved, unless_refused, accessed, performed}
+use Rattle.c_operations.specs.Performed.{OperationResult, Gives, Raises, Undefined, fault_of, signed_part, unsigned_part, unless_reserved, unless_refused, accessed, performed}
 use Rattle.c_operations.proofs.SmallResults.{result_small}
 use Rattle.ir_typed.specs.Small.{IsSmallAccess}
 
@@ -28,7 +28,7 @@ of_width W64 n lt = lt
 
 -- ---- all operations
 
-abbrev pub IsSmallOutcome : Outcome → Type 0
+abbrev pub IsSmallOutcome : OperationResult → Type 0
 IsSmallOutcome (Gives v m) = v < 2 ^ 64
 IsSmallOutcome (Raises code access) = (code.0 < 2 ^ 32) × IsSmallAccess access
 IsSmallOutcome (Undefined a) = Unit {0}
@@ -77,7 +77,7 @@ refused_small may (suc n) at a lt e = go (refused_small may n (next at) a (omega
     go more true e = more e
     go more false e = subst (λ x. x < 2 ^ 64) (ap (λ o. elim o [ None ↦ at | Some y ↦ y ]) e) lt
 
-accessed_small : (reserved : ℕ → Bool) (write : Bool) (may : ℕ → Bool) (n at : ℕ) (o : Outcome) → at < 2 ^ 64 → IsSmallOutcome o → IsSmallOutcome (accessed reserved write may n at o)
+accessed_small : (reserved : ℕ → Bool) (write : Bool) (may : ℕ → Bool) (n at : ℕ) (o : OperationResult) → at < 2 ^ 64 → IsSmallOutcome o → IsSmallOutcome (accessed reserved write may n at o)
 accessed_small reserved write may n at o lt h = outer (first_refused (λ a. not (reserved a)) n at)
   where
     inner : (r : Option ℕ) → first_refused may n at ≡ r → IsSmallOutcome (unless_refused write r o)

@@ -11,7 +11,7 @@ use Rattle.seh_num.specs.Widths.{low as low_bits, signed}
 use Rattle.c_operations.specs.declared.built_in.BuiltIn.{BuiltIn}
 use Rattle.c_operations.specs.declared.built_in.BuiltIn.TheVariants.{Put, Protect, RaiseException}
 use Rattle.c_operations.specs.declared.operation.Operation.{Operation}
-use Rattle.c_operations.specs.Performed.{Outcome, Gives, Raises, Undefined, performed}
+use Rattle.c_operations.specs.Performed.{OperationResult, Gives, Raises, Undefined, performed}
 use Rattle.c_model.specs.declared.ended.Ended.TheVariants as ends
 use Rattle.c_model.specs.State.{Exception}
 use Rattle.c_model.specs.Source.{is_reserved}
@@ -320,7 +320,7 @@ module _ (program : LinearProgram) (bodies : AreBodies program) where
       pub waits : (ts : List ℕ) → MayWait program i (length ts) → Items (Waits (with_last ts c).frame ∷ c.below)
       waits ts m = (record { instruction = i; at = at; may = m; landed = unlanded }, t.above, t.below)
 
-    computed_turn : (to : Slot) (o : Operation) (first second : Slot) (r : Outcome) → instruction_at program c ≡ Some (instructions.Compute to o first second) → Turn Ok (λ next. computed program next to c r)
+    computed_turn : (to : Slot) (o : Operation) (first second : Slot) (r : OperationResult) → instruction_at program c ≡ Some (instructions.Compute to o first second) → Turn Ok (λ next. computed program next to c r)
     computed_turn to o first second (Gives v memory) at =
         written_turn (record c { store = record c.store { memory = memory } }) to v (unlanded (instructions.Compute to o first second) at refl) refl refl refl refl
     computed_turn to o first second (Raises code access) at =

@@ -24,7 +24,7 @@ use Rattle.seh_ir.specs.declared.funclets.Owner.{Owner}
 use Rattle.ir_expressions.specs.declared.scope.Names.{Names}
 use Rattle.ir_expressions.specs.declared.scope.Way.{Way}
 use Rattle.ir_expressions.specs.declared.scope.Way.TheVariants.{Nowhere, Jumps, Unwinds}
-use Rattle.ir_expressions.specs.declared.scope.Scope.{Scope}
+use Rattle.ir_expressions.specs.declared.scope.LoweringContext.{LoweringContext}
 use Rattle.ir_expressions.specs.Scope.{except_names, filter_names, finally_names, finally_scope, in_loop, in_try, in_except, in_guarded}
 use Rattle.ir_expressions.specs.Expressions.{expression_code}
 use Rattle.seh_ir.specs.Statements.{jump_code, return_code, leave_code, discarded_code, returned_code, condition_code, initialiser_code, declared_code, all_declared_code, landed, repeated, statement_code, statements_code}
@@ -64,7 +64,7 @@ module _ (program : Program) (linear : LinearProgram) (callee : (f count : ℕ) 
   module _ (own : ℕ) where
     -- ---- expressions in statements
 
-    module _ (name : BodyName) (s : sound.Scope) (knows : Knows program own false s) (names : Names) where
+    module _ (name : BodyName) (s : sound.TypingContext) (knows : Knows program own false s) (names : Names) where
       abbrev All : List Instruction → Type 0
       All code = AllCall program linear callee name code
 
@@ -148,7 +148,7 @@ module _ (program : Program) (linear : LinearProgram) (callee : (f count : ℕ) 
     none_is_at name code j h = record { calls = h; regions = tt; funclets = no_part Fine j (j + 0) (omega arith) }
 
     mutual
-      pub is_there : (s : Statement) (name : BodyName) (b : LinearBody) → body_of linear name ≡ Some b → (i : Inside) → Knows program own false i.scope → (scope : Scope) (owner : Owner) → IsOwner name owner → (at j : ℕ)
+      pub is_there : (s : Statement) (name : BodyName) (b : LinearBody) → body_of linear name ≡ Some b → (i : Inside) → Knows program own false i.scope → (scope : LoweringContext) (owner : Owner) → IsOwner name owner → (at j : ℕ)
           → statement_sound i s ≡ true → IsSegmentAt b.code at (statement_code scope s at) → IsSegmentAt linear.funclets j (statement_funclets owner scope.names s) → count_up (j + 1) (funclets_in s) ≡ true
           → IsTypedAt name (statement_code scope s at) (statement_regions s at) j (length (statement_funclets owner scope.names s))
       is_there (Declare d) name b there i k scope owner o at j ok h f n = none_is_at name _ j (declared_calls name i.scope k scope.names d at ok)
@@ -298,7 +298,7 @@ module _ (program : Program) (linear : LinearProgram) (callee : (f count : ℕ) 
             funclets = part_of Fine j end j _ (omega arith) (omega arith) (both_parts Fine j (j + length fb) end x.funclets (both_parts Fine (j + length fb) (j + length fb + 1) end (one_part Fine (j + length fb) (subst Fine same own_body)) y.funclets));
           }
 
-      pub all_are_at : (ss : Statements) (name : BodyName) (b : LinearBody) → body_of linear name ≡ Some b → (i : Inside) → Knows program own false i.scope → (scope : Scope) (owner : Owner) → IsOwner name owner → (at j : ℕ)
+      pub all_are_at : (ss : Statements) (name : BodyName) (b : LinearBody) → body_of linear name ≡ Some b → (i : Inside) → Knows program own false i.scope → (scope : LoweringContext) (owner : Owner) → IsOwner name owner → (at j : ℕ)
           → statements_sound i ss ≡ true → IsSegmentAt b.code at (statements_code scope ss at) → IsSegmentAt linear.funclets j (statements_funclets owner scope.names ss) → count_up (j + 1) (funclets ss) ≡ true
           → IsTypedAt name (statements_code scope ss at) (statements_regions ss at) j (length (statements_funclets owner scope.names ss))
       all_are_at Empty name b there i k scope owner o at j ok h f n = none_is_at name [] j tt

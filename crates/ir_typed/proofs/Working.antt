@@ -8,7 +8,7 @@ use Rattle.seh_num.specs.declared.width.Width.TheVariants.{W32}
 use Rattle.seh_num.specs.Widths.{low, signed}
 use Rattle.c_operations.specs.declared.built_in.BuiltIn.{BuiltIn}
 use Rattle.c_operations.specs.declared.built_in.BuiltIn.TheVariants.{Put, Protect, RaiseException}
-use Rattle.c_operations.specs.Performed.{Outcome, Gives, Raises, Undefined, performed}
+use Rattle.c_operations.specs.Performed.{OperationResult, Gives, Raises, Undefined, performed}
 use Rattle.c_model.specs.declared.ended.Ended.TheVariants as ends
 use Rattle.c_model.specs.State.{Exception}
 use Rattle.c_model.specs.Source.{is_reserved}
@@ -265,7 +265,7 @@ module _ (program : LinearProgram) (whole : IsWhole program) where
   written_turn : (c : Configuration) (to : Slot) (v : ℕ) → at_rest c → Turn (Ok program) (λ next. written c to v next)
   written_turn c to v o = some_turn (Ok program) c.events (write c to v) (λ next d. next (forth d)) (λ d e. goes (forth d) (write_stored c to v d e o))
 
-  computed_turn : (c : Configuration) (to : Slot) (r : Outcome) → Items program (Waits c.frame ∷ c.below) → at_rest c → Turn (Ok program) (λ next. computed program next to c r)
+  computed_turn : (c : Configuration) (to : Slot) (r : OperationResult) → Items program (Waits c.frame ∷ c.below) → at_rest c → Turn (Ok program) (λ next. computed program next to c r)
   computed_turn c to (Gives v memory) w o = written_turn (record c { store = record c.store { memory = memory } }) to v o
   computed_turn c to (Raises code access) w o = raise_turn (record { code = code.0; flag = false; access = access }) SameOperation c w o
   computed_turn c to (Undefined a) w o = Halts (Finished (ends.Undefined a) c.events) (λ next. refl)

@@ -1,7 +1,7 @@
 -- What an instruction does that needs no dispatcher.
 use Rattle.std.specs.Prelude.{ℕ, zero, suc, ◌+◌, ◌<◌, ◌≤◌, Bool, nat_eq, nat_lt, if◌then◌else◌, List, length, get_or, Option, Some, None}
 use Rattle.seh_num.specs.declared.event.Code.{Code}
-use Rattle.c_operations.specs.Performed.{Outcome, Gives, Raises, Undefined, performed}
+use Rattle.c_operations.specs.Performed.{OperationResult, Gives, Raises, Undefined, performed}
 use Rattle.linear_code.specs.declared.slot.Slot.{Slot}
 use Rattle.linear_code.specs.declared.slot.Slot.TheVariants.{Local, Temporary}
 use Rattle.linear_code.specs.declared.instruction.Instruction.{Instruction}
@@ -12,19 +12,19 @@ use Rattle.linear_code.specs.BodyState.{BodyState, Counts, with_slot}
 
 -- what an instruction does without the dispatcher: the body after it, and where it continues (at a
 -- label, or at the instruction after); a fault; nothing is said; or it isn't one of these
-pub data Step : Type 0 where
-  Next : BodyState → Step
-  JumpsTo : BodyState → ℕ → Step
-  Faults : Code → Option (Bool × ℕ) → Step
-  ReservedAccess : ℕ → Step
-  NeedsDispatcher : Step
+pub data InstructionEffect : Type 0 where
+  Next : BodyState → InstructionEffect
+  JumpsTo : BodyState → ℕ → InstructionEffect
+  Faults : Code → Option (Bool × ℕ) → InstructionEffect
+  ReservedAccess : ℕ → InstructionEffect
+  NeedsDispatcher : InstructionEffect
 
-abbrev pub kept : Slot → (Slot → ℕ) → Outcome → Step
+abbrev pub kept : Slot → (Slot → ℕ) → OperationResult → InstructionEffect
 kept to slots (Gives v m) = Next (record { slots = with_slot slots to v; memory = m })
 kept to slots (Raises code access) = Faults code access
 kept to slots (Undefined a) = ReservedAccess a
 
-abbrev pub step : (ℕ → Bool) → Instruction → BodyState → Step
+abbrev pub step : (ℕ → Bool) → Instruction → BodyState → InstructionEffect
 step reserved (instructions.Compute to o first second) b =
     kept to b.slots (performed reserved o (b.slots first) (b.slots second) b.memory)
 step reserved (instructions.Jump label) b = JumpsTo b label
@@ -56,7 +56,7 @@ HasSlots n other = Unit {0}
 abbrev pub BodyPoint : Type 0
 BodyPoint = ℕ × BodyState
 
-abbrev pub continued : (ℕ → BodyState → Option BodyPoint) → ℕ → Step → Option BodyPoint
+abbrev pub continued : (ℕ → BodyState → Option BodyPoint) → ℕ → InstructionEffect → Option BodyPoint
 continued rest number (Next b) = rest (number + 1) b
 continued rest number (JumpsTo b label) = rest label b
 continued rest number _ = None

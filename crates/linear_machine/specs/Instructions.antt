@@ -11,7 +11,7 @@ use Rattle.c_operations.specs.declared.built_in.BuiltIn.TheVariants.{Put, Protec
 use Rattle.c_operations.specs.declared.operation.Operation.{Operation}
 use Rattle.c_operations.specs.declared.operation.Operation.TheVariants as operations
 use Rattle.c_operations.specs.declared.operation.Pure.TheVariants.{Constant}
-use Rattle.c_operations.specs.Performed.{Outcome, Gives, Raises, Undefined, performed}
+use Rattle.c_operations.specs.Performed.{OperationResult, Gives, Raises, Undefined, performed}
 use Rattle.linear_code.specs.declared.slot.Slot.{Slot}
 use Rattle.linear_code.specs.declared.slot.Slot.TheVariants.{Local, Temporary}
 use Rattle.linear_code.specs.declared.instruction.Instruction.{Instruction}
@@ -43,7 +43,7 @@ abbrev pub written : Configuration → Slot → ℕ → Next → Seen
 written c to v next = with_some c.events (write c to v) (λ c. next (forth c))
 
 -- the result goes to its slot; a fault keeps the operands, since the operation may be made again
-abbrev pub computed : LinearProgram → Next → Slot → Configuration → Outcome → Seen
+abbrev pub computed : LinearProgram → Next → Slot → Configuration → OperationResult → Seen
 computed program next to c (Gives v memory) =
     written (record c { store = record c.store { memory = memory } }) to v next
 computed program next to c (Raises code access) =

@@ -152,7 +152,7 @@ module _ (program : LinearProgram) (f g : Next) (h : (c : Configuration) → Kee
   written_keeps c (Local x) v = h _
   written_keeps c (Temporary i) v = rewritten_keeps c (with_temporary c.frame.temporaries i v)
 
-  computed_keeps : (to : Slot) (c : Configuration) (o : performing.Outcome) → Keeps c.events (computed program f to c o) (computed program g to c o)
+  computed_keeps : (to : Slot) (c : Configuration) (o : performing.OperationResult) → Keeps c.events (computed program f to c o) (computed program g to c o)
   computed_keeps to c (performing.Gives v memory) = written_keeps (record c { store = record c.store { memory = memory } }) to v
   computed_keeps to c (performing.Raises code access) = raise_keeps (record { code = code.0; flag = false; access = access }) SameOperation c
   computed_keeps to c (performing.Undefined a) = keeps_finished c.events (ends.Undefined a)

@@ -10,7 +10,7 @@ use Rattle.pe_image.specs.Image.{Section, stores_byte, section_or, section_at, s
 use Rattle.pe_image.specs.Imports.{Import, imports, or_none}
 use Rattle.pe_image.specs.Imports as importing
 use Rattle.pe_write.specs.ImportTables.{import_tables}
-use Rattle.pe_write.specs.Program.{Program, CanBeImage, sizes_of, text_at, rdata_at, xdata_at, pdata_at, end_at, data_section, text_section, rdata_section, xdata_section, pdata_section, import_directory, exception_directory, parts_of, sections_of, image_of, imports_of}
+use Rattle.pe_write.specs.Program.{ImageContents, CanBeImage, sizes_of, text_at, rdata_at, xdata_at, pdata_at, end_at, data_section, text_section, rdata_section, xdata_section, pdata_section, import_directory, exception_directory, parts_of, sections_of, image_of, imports_of}
 use Rattle.pe_image.specs.Reading.{IsImage}
 use Rattle.pe_write.specs.declared.sizes.Sizes.{Sizes}
 use Rattle.pe_image.specs.Numbers.{zeros}
@@ -19,7 +19,7 @@ use Rattle.pe_write.proofs.Back.{raw_length, is_read, written_length}
 use Rattle.pe_image.proofs.Stored.{above_holds_none}
 use Rattle.pe_write.proofs.Tables.{tables_length, tables_read}
 
-module _ (p : Program) (fits : CanBeImage p) where
+module _ (p : ImageContents) (fits : CanBeImage p) where
   abbrev r : ℕ
   r = rdata_at (sizes_of p)
 
@@ -161,27 +161,27 @@ module _ (p : Program) (fits : CanBeImage p) where
         imported = ap imports image_is ∙ imports_are ∙ ap (λ (xs : List Import). Ok xs) (sym listed) ∙ ap (λ i. Ok (importing.imports_of i)) (sym image_is);
       }
 
-pub read_again : (p : Program) (t : Result (Vec ℕ) AllocError) → CanBeImage p → OnOk t (CanBeWritten (parts_of p)) → IfOk t (λ bytes. bytes.items ≡ written (parts_of p)) → IfOk t (λ bytes. IsImage bytes.items (image_of p))
+pub read_again : (p : ImageContents) (t : Result (Vec ℕ) AllocError) → CanBeImage p → OnOk t (CanBeWritten (parts_of p)) → IfOk t (λ bytes. bytes.items ≡ written (parts_of p)) → IfOk t (λ bytes. IsImage bytes.items (image_of p))
 read_again p (Ok v) is fits same = subst (IsImage v.items) (image_is p is) (is_read (parts_of p) (Ok v) fits same)
 read_again p (Err e) is fits same = tt
 
-pub small_file : (p : Program) (t : Result (Vec ℕ) AllocError) → CanBeImage p → IfOk t (λ bytes. bytes.items ≡ written (parts_of p)) → IfOk t (λ bytes. length bytes.items ≤ end_at (sizes_of p))
+pub small_file : (p : ImageContents) (t : Result (Vec ℕ) AllocError) → CanBeImage p → IfOk t (λ bytes. bytes.items ≡ written (parts_of p)) → IfOk t (λ bytes. length bytes.items ≤ end_at (sizes_of p))
 small_file p (Ok v) is same = let n = ap length same in let le = written_length (parts_of p) (can_be_written p is) in let e = size_is p is in omega arith
 small_file p (Err e) is same = tt
 
-pub with_imports : (p : Program) (t : Result (Vec ℕ) AllocError) → CanBeImage p → OnOk t (imports (image_of p) ≡ Ok (imports_of p))
+pub with_imports : (p : ImageContents) (t : Result (Vec ℕ) AllocError) → CanBeImage p → OnOk t (imports (image_of p) ≡ Ok (imports_of p))
 with_imports p (Ok v) is = imports_are p is
 with_imports p (Err e) is = tt
 
 -- ---- the same by the values that the code has
 
-pub rdata_fits : (p : Program) (s : Sizes) (n : ℕ) → CanBeImage p → s ≡ sizes_of p → n ≡ rdata_at s → n + 222 < 2 ^ 32
+pub rdata_fits : (p : ImageContents) (s : Sizes) (n : ℕ) → CanBeImage p → s ≡ sizes_of p → n ≡ rdata_at s → n + 222 < 2 ^ 32
 rdata_fits p s n is e1 e2 = let e = is.end in let at : n ≡ rdata_at (sizes_of p) = e2 ∙ ap rdata_at e1 in omega arith
 
-pub text_fits : (p : Program) (s : Sizes) (n : ℕ) → CanBeImage p → s ≡ sizes_of p → n ≡ text_at s → n + p.entry < 2 ^ 32
+pub text_fits : (p : ImageContents) (s : Sizes) (n : ℕ) → CanBeImage p → s ≡ sizes_of p → n ≡ text_at s → n + p.entry < 2 ^ 32
 text_fits p s n is e1 e2 = let e = is.end in let h = is.entry in let at : n ≡ text_at (sizes_of p) = e2 ∙ ap text_at e1 in omega arith
 
-pub pdata_fits : (p : Program) (s : Sizes) (n : ℕ) → CanBeImage p → s ≡ sizes_of p → n ≡ pdata_at s → n < 2 ^ 32
+pub pdata_fits : (p : ImageContents) (s : Sizes) (n : ℕ) → CanBeImage p → s ≡ sizes_of p → n ≡ pdata_at s → n < 2 ^ 32
 pdata_fits p s n is e1 e2 = let e = is.end in let at : n ≡ pdata_at (sizes_of p) = e2 ∙ ap pdata_at e1 in omega arith
 
 abbrev pub with_places : ℕ → List SectionParts → ℕ → ℕ → ℕ → ImageParts
@@ -193,12 +193,12 @@ with_places entry ss rdata pdata size = record {
   import_addresses = record { rva = rdata + 88; size = 48 };
 }
 
-pub same_parts : (p : Program) (s : Sizes) (n entry : ℕ) (ss : List SectionParts) (rdata pdata : ℕ) → s ≡ sizes_of p → n ≡ text_at s → entry ≡ p.entry → ss ≡ (parts_of p).sections → rdata ≡ rdata_at s → pdata ≡ pdata_at s
+pub same_parts : (p : ImageContents) (s : Sizes) (n entry : ℕ) (ss : List SectionParts) (rdata pdata : ℕ) → s ≡ sizes_of p → n ≡ text_at s → entry ≡ p.entry → ss ≡ (parts_of p).sections → rdata ≡ rdata_at s → pdata ≡ pdata_at s
     → with_places (n + entry) ss rdata pdata s.pdata_size ≡ parts_of p
 same_parts p s n entry ss rdata pdata e1 e2 e3 e4 e5 e6 =
     ap (λ s. with_places (n + entry) ss rdata pdata s.pdata_size) e1
     ∙ (λ i. with_places ((e2 ∙ ap text_at e1) i + e3 i) (e4 i) ((e5 ∙ ap rdata_at e1) i) ((e6 ∙ ap pdata_at e1) i) (length p.pdata))
 
-pub places_fit : (p : Program) (s : Sizes) (n entry : ℕ) (ss : List SectionParts) (rdata pdata : ℕ) → CanBeImage p → s ≡ sizes_of p → n ≡ text_at s → entry ≡ p.entry → ss ≡ (parts_of p).sections → rdata ≡ rdata_at s → pdata ≡ pdata_at s
+pub places_fit : (p : ImageContents) (s : Sizes) (n entry : ℕ) (ss : List SectionParts) (rdata pdata : ℕ) → CanBeImage p → s ≡ sizes_of p → n ≡ text_at s → entry ≡ p.entry → ss ≡ (parts_of p).sections → rdata ≡ rdata_at s → pdata ≡ pdata_at s
     → CanBeWritten (with_places (n + entry) ss rdata pdata s.pdata_size)
 places_fit p s n entry ss rdata pdata is e1 e2 e3 e4 e5 e6 = subst CanBeWritten (sym (same_parts p s n entry ss rdata pdata e1 e2 e3 e4 e5 e6)) (can_be_written p is)

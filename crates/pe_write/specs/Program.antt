@@ -14,7 +14,7 @@ use Rattle.pe_write.specs.Written.{SectionParts, ImageParts, pages, raw_data}
 
 -- a program: how many bytes its data takes and what the file stores of it, its code and where in it
 -- the program begins, its unwind infos and its function table
-pub record Program : Type 0 where
+pub record ImageContents : Type 0 where
   pub data_size : ℕ
   pub data_bytes : List ℕ
   pub text : List ℕ
@@ -39,7 +39,7 @@ pdata_at s = xdata_at s + pages s.xdata_size
 abbrev pub end_at : Sizes → ℕ
 end_at s = pdata_at s + pages s.pdata_size
 
-abbrev pub sizes_of : Program → Sizes
+abbrev pub sizes_of : ImageContents → Sizes
 sizes_of p =
     record {
       data_size = p.data_size;
@@ -62,7 +62,7 @@ text_flags = IMAGE_SCN_CNT_CODE + IMAGE_SCN_MEM_EXECUTE + IMAGE_SCN_MEM_READ
 abbrev pub const_flags : ℕ
 const_flags = IMAGE_SCN_CNT_INITIALIZED_DATA + IMAGE_SCN_MEM_READ
 
-abbrev pub data_section : Program → SectionParts
+abbrev pub data_section : ImageContents → SectionParts
 data_section p =
     record {
       name = DATA_NAME;
@@ -71,7 +71,7 @@ data_section p =
       bytes = p.data_bytes;
     }
 
-abbrev pub text_section : Program → SectionParts
+abbrev pub text_section : ImageContents → SectionParts
 text_section p =
     record {
       name = TEXT_NAME;
@@ -84,33 +84,33 @@ abbrev pub const_section : List ℕ → ℕ → List ℕ → SectionParts
 const_section name size bytes =
     record { name = name; flags = const_flags; size = size; bytes = bytes }
 
-abbrev pub rdata_section : Program → SectionParts
+abbrev pub rdata_section : ImageContents → SectionParts
 rdata_section p = const_section RDATA_NAME tables_size (import_tables (rdata_at (sizes_of p)))
 
-abbrev pub xdata_section : Program → SectionParts
+abbrev pub xdata_section : ImageContents → SectionParts
 xdata_section p = const_section XDATA_NAME (length p.xdata) p.xdata
 
-abbrev pub pdata_section : Program → SectionParts
+abbrev pub pdata_section : ImageContents → SectionParts
 pdata_section p = const_section PDATA_NAME (length p.pdata) p.pdata
 
 -- ---- its directories
 
 -- the descriptors
-abbrev pub import_directory : Program → DataDirectory
+abbrev pub import_directory : ImageContents → DataDirectory
 import_directory p = record { rva = rdata_at (sizes_of p); size = DESCRIPTORS_SIZE }
 
 -- the function table
-abbrev pub exception_directory : Program → DataDirectory
+abbrev pub exception_directory : ImageContents → DataDirectory
 exception_directory p = record { rva = pdata_at (sizes_of p); size = length p.pdata }
 
 -- the slots
-abbrev pub address_directory : Program → DataDirectory
+abbrev pub address_directory : ImageContents → DataDirectory
 address_directory p = record { rva = slots_at (rdata_at (sizes_of p)); size = ADDRESSES_SIZE }
 
 -- ---- the image
 
 -- as it is written
-abbrev pub parts_of : Program → ImageParts
+abbrev pub parts_of : ImageContents → ImageParts
 parts_of p = record {
   entry = text_at (sizes_of p) + p.entry;
   sections =
@@ -125,7 +125,7 @@ abbrev pub section_with : ℕ → ℕ → List ℕ → ℕ → Section
 section_with address size raw flags =
     record { address = address; size = size; raw = raw; flags = flags }
 
-abbrev pub sections_of : Program → List Section
+abbrev pub sections_of : ImageContents → List Section
 sections_of p =
     section_with DATA_AT p.data_size (raw_data (data_section p)) data_flags
     ∷ section_with (text_at (sizes_of p)) (length p.text) p.text text_flags
@@ -135,7 +135,7 @@ sections_of p =
     ∷ section_with (pdata_at (sizes_of p)) (length p.pdata) p.pdata const_flags
     ∷ []
 
-abbrev pub image_of : Program → Image
+abbrev pub image_of : ImageContents → Image
 image_of p = record {
   base = IMAGE_BASE;
   entry = text_at (sizes_of p) + p.entry;
@@ -146,14 +146,14 @@ image_of p = record {
 }
 
 -- each service with its slot
-abbrev pub imports_of : Program → List Import
+abbrev pub imports_of : ImageContents → List Import
 imports_of p = imported (slots_at (rdata_at (sizes_of p))) services
 
 -- ---- what can be written
 
 -- `.data` takes whole pages, at least one, the program begins inside its code, and all addresses
 -- fit 32 bits
-pub record CanBeImage (p : Program) : Type 0 where
+pub record CanBeImage (p : ImageContents) : Type 0 where
   pub whole : p.data_size % PAGE ≡ 0
   pub some : PAGE ≤ p.data_size
   pub stored : length p.data_bytes ≤ p.data_size

@@ -43,9 +43,9 @@ pub struct Image {
 }
 
 impl Model for Image {
-    ghost use Rattle.pe_write.specs.Program.{Program, CanBeImage};
+    ghost use Rattle.pe_write.specs.Program.{ImageContents, CanBeImage};
 
-    ghost Value = { Program };
+    ghost Value = { ImageContents };
 
     ghost view = { λ p. record {
       data_size = p.data_size;

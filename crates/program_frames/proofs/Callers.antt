@@ -22,7 +22,7 @@ use Rattle.pe_write.specs.Program.{image_of}
 use Rattle.host_layout.specs.declared.imported.ImportedService.{ImportedService}
 use Rattle.host_layout.specs.declared.imported.ImportedService.TheVariants.{RaiseException, CSpecificHandler, LocalUnwind, Protect, Put}
 use Rattle.linear_code.specs.Program.{LinearProgram}
-use Rattle.frame_layout.specs.declared.frame.Frame.{Frame}
+use Rattle.frame_layout.specs.declared.frame.FrameLayout.{FrameLayout}
 use Rattle.template_code.specs.Bytes.{thunk}
 use Rattle.program_link.specs.Fits.{FitsProgram}
 use Rattle.program_link.specs.Text.{routine_size, thunk_at, check_stack_at}

@@ -3,13 +3,13 @@ use Rattle.std.proofs.Common.{◌≡◌, ℕ, zero, suc, ◌==◌, Bool, true, f
 use Rattle.std.specs.Prelude.{slice_get, ◌&&◌}
 use Rattle.std.specs.List.{AllByRecursion}
 use Rattle.linear_code.specs.Program.{LinearFunction, LinearFunclet, LinearProgram}
-use Rattle.frame_layout.specs.declared.frame.Frame.{Frame}
+use Rattle.frame_layout.specs.declared.frame.FrameLayout.{FrameLayout}
 use Rattle.program_link.specs.Routines.{RoutineView, is_leaf, leaf_if, functions_from, funclet, routines}
 use Rattle.program_tables.specs.Placed.{Placed, site_of, infos_begin, placed}
 use Rattle.program_tables.proofs.Lookups.{placed_has}
 use Rattle.program_link.specs.Linked.{first}
 
-abbrev pub size_of : Option Frame → ℕ
+abbrev pub size_of : Option FrameLayout → ℕ
 size_of None = 0
 size_of (Some f) = f.size
 

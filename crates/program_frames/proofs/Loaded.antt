@@ -9,7 +9,7 @@ use Rattle.pe_image.specs.Image.{Section, Image}
 use Rattle.pe_image.specs.Imports.{Import}
 use Rattle.pe_image.specs.Imports as importing
 use Rattle.pe_write.specs.ImportTables.{services, imported}
-use Rattle.pe_write.specs.Program.{Program, image_of, sections_of, imports_of, rdata_at, text_at, sizes_of}
+use Rattle.pe_write.specs.Program.{ImageContents, image_of, sections_of, imports_of, rdata_at, text_at, sizes_of}
 use Rattle.pe_write.proofs.Programs.{listed}
 use Rattle.host_model.specs.Loading.{section_of, mode_in, byte_in, stored_byte, with_slots, mapped}
 use Rattle.host_model.specs.Slots.{IsBeside}
@@ -26,7 +26,7 @@ use Rattle.program_frames.specs.InMemory.{image_base, HasText}
 use Rattle.program_frames.specs.Laws.{ImagesHaveText, TextsAreFixed}
 
 module _ (p : LinearProgram) (fits : FitsProgram p) where
-  abbrev program : Program
+  abbrev program : ImageContents
   program = linked p
 
   abbrev image : Image

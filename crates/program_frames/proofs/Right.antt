@@ -21,7 +21,7 @@ use Rattle.frame_rules.specs.Bytes.{spell, IsExecutableAt, prologue_code}
 use Rattle.frame_rules.proofs.Bytes.{spells_all, items_are_at, plans_are_encodable}
 use Rattle.frame_rules.proofs.Emitting.{plans_are_right}
 use Rattle.linear_code.specs.Program.{LinearProgram}
-use Rattle.frame_layout.specs.declared.frame.Frame.{Frame}
+use Rattle.frame_layout.specs.declared.frame.FrameLayout.{FrameLayout}
 use Rattle.frame_layout.specs.Layout.{plan_of, info_of, taking_size, Describes}
 use Rattle.frame_layout.proofs.Sizes.{describes}
 use Rattle.template_code.specs.Bytes.{spelled}
@@ -55,10 +55,10 @@ allowed_by n true = refl
 allowed_by n false = refl
 
 -- with an allocation, or without
-pub plan_near : (f : Frame) (next to : ℕ) → f.size < 2 ^ 31 → next < 2 ^ 31 → IsNear to → IsPlan (plan_of f (distance next to))
+pub plan_near : (f : FrameLayout) (next to : ℕ) → f.size < 2 ^ 31 → next < 2 ^ 31 → IsNear to → IsPlan (plan_of f (distance next to))
 plan_near f next to size a b = record { size = size; distance = omega arith; probe = near_signed next to a b; allowed = allowed_by f.size (not (eqb f.size 0)) }
 
-pub one_code : (f : Frame) (probe : ℕ) → 0 < f.size → operations_of (plan_of f probe) ≡ Allocate f.size ∷ []
+pub one_code : (f : FrameLayout) (probe : ℕ) → 0 < f.size → operations_of (plan_of f probe) ≡ Allocate f.size ∷ []
 one_code f probe some = ap (λ (none : Bool). allocation_then (not none) f.size []) (ne_eqb f.size 0 (λ z. (let q : f.size ≡ 0 = z in absurd (omega arith))))
 
 spelled_steps : (p : FramePlan) (at : ℕ) (xs : List UnwindOperation) → spelled_by spell (flat_map (instructions_of p) xs) ≡ items (steps_of spell p at xs)
@@ -77,7 +77,7 @@ rest_fine p index x n probe is_plan size fits e h =
     (fine_inner n probe is_plan (argument_code r.layout r.entry) (arguments_inner r.layout r.entry h.near.entry))
     (body_fine n probe is_plan (links p x) r.layout (body_begin x) r.body.code (sized p index x e ∙ size) (links_near p x fits h) h.near.code (omega arith))
 
-module _ (p : LinearProgram) (index : ℕ) (x : Placed) (f : Frame) (framed : IsFramed p index x f) where
+module _ (p : LinearProgram) (index : ℕ) (x : Placed) (f : FrameLayout) (framed : IsFramed p index x f) where
   here : IsThere (site_of p) (linked p).text (text_begin p.globals) x
   here = there p index x framed.fits framed.there
 
@@ -119,7 +119,7 @@ module _ (p : LinearProgram) (index : ℕ) (x : Placed) (f : Frame) (framed : Is
       let check = check_stack_at (site_of p).text in
       let a = argument_code r.layout r.entry in
       let b = code_from (links p x) r.layout (body_begin x) r.body.code in
-      ap (λ (o : Option Frame). (frame_code x.begin check o ++ a) ++ b) framed.framed ∙ append_assoc (prologue_code (plan p x f)) a b
+      ap (λ (o : Option FrameLayout). (frame_code x.begin check o ++ a) ++ b) framed.framed ∙ append_assoc (prologue_code (plan p x f)) a b
 
   pub is_there : (m : Memory) → HasText m p → HasItems m (image_base + x.begin) (items (function_of p x f).steps ++ (function_of p x f).rest) (image_base + end_of x)
   is_there m text =

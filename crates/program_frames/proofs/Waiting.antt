@@ -26,7 +26,7 @@ use Rattle.pe_write.specs.Program.{image_of}
 use Rattle.linear_code.specs.declared.instruction.Instruction.{Instruction}
 use Rattle.linear_code.specs.declared.instruction.Instruction.TheVariants as instructions
 use Rattle.linear_code.specs.Program.{LinearProgram}
-use Rattle.frame_layout.specs.declared.frame.Frame.{Frame}
+use Rattle.frame_layout.specs.declared.frame.FrameLayout.{FrameLayout}
 use Rattle.frame_layout.specs.Layout.{taking_size}
 use Rattle.template_code.specs.Bytes.{spelled, size, sizes}
 use Rattle.template_code.specs.Template.{template, template_size, body_size, offset_of, code_from}
@@ -136,7 +136,7 @@ pub away : (rva : ℕ) → rva < 2 ^ 32 → distance image_base (image_base + rv
 away rva lt = omega arith
 
 -- the entry of an image's table at an address
-pub found_in : (p : LinearProgram) (index : ℕ) (x : Placed) (f : Frame) (rva : ℕ) → FitsProgram p → HasRegions p → slice_get (placed p) index ≡ Some x → x.routine.frame ≡ Some f → x.begin ≤ rva → rva < end_of x → rva < 2 ^ 32
+pub found_in : (p : LinearProgram) (index : ℕ) (x : Placed) (f : FrameLayout) (rva : ℕ) → FitsProgram p → HasRegions p → slice_get (placed p) index ≡ Some x → x.routine.frame ≡ Some f → x.begin ≤ rva → rva < end_of x → rva < 2 ^ 32
     → entry_of (functions_in (image_of (linked p))) (image_base + rva) ≡ Some (tables.entry_of (site_of p) x f)
 found_in p index x f rva fits regions e framed le lt small =
     ap (λ (t : Table (List Entry)). holding (distance image_base (image_base + rva)) (or_none t)) (tables_are_read p fits regions)
@@ -152,7 +152,7 @@ pub record HasItem (m : Memory) (x : Placed) (rva : ℕ) : Type 0 where
   pub is_there : IsExecutableAt m (image_base + rva) (chosen item)
 
 -- a frame at such an instruction
-pub frame_at : (p : LinearProgram) (m : Memory) (index : ℕ) (x : Placed) (f : Frame) (c : Context) (rva back : ℕ) → FitsProgram p → HasRegions p → slice_get (placed p) index ≡ Some x → x.routine.frame ≡ Some f
+pub frame_at : (p : LinearProgram) (m : Memory) (index : ℕ) (x : Placed) (f : FrameLayout) (c : Context) (rva back : ℕ) → FitsProgram p → HasRegions p → slice_get (placed p) index ≡ Some x → x.routine.frame ≡ Some f
     → HasItem m x rva → c.rip ≡ image_base + rva → length c.kept ≡ 9 → rsp c + f.size + 8 < 2 ^ 64 → word m (rsp c + f.size) ≡ Ok back
     → FrameIsAt (functions_in (image_of (linked p))) m c (stack_frame p x f back)
 frame_at p m index x f c rva back fits regions e framed first here kept room' returns =
@@ -180,7 +180,7 @@ frame_at p m index x f c rva back fits regions e framed first here kept room' re
       returns = returns;
     }
 
-pub frame_is_at : (p : LinearProgram) (m : Memory) (index : ℕ) (x : Placed) (f : Frame) (c : Context) (rva back : ℕ) → FitsProgram p → HasRegions p → slice_get (placed p) index ≡ Some x → x.routine.frame ≡ Some f
+pub frame_is_at : (p : LinearProgram) (m : Memory) (index : ℕ) (x : Placed) (f : FrameLayout) (c : Context) (rva back : ℕ) → FitsProgram p → HasRegions p → slice_get (placed p) index ≡ Some x → x.routine.frame ≡ Some f
     → IsExecutableAt m (image_base + x.begin) (spelled (routine_code (site_of p) x.begin x.routine)) → IsInBody p x rva → c.rip ≡ image_base + rva → length c.kept ≡ 9 → rsp c + f.size + 8 < 2 ^ 64 → word m (rsp c + f.size) ≡ Ok back
     → FrameIsAt (functions_in (image_of (linked p))) m c (stack_frame p x f back)
 frame_is_at p m index x f c rva back fits regions e framed code body here kept room' returns =

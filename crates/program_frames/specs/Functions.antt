@@ -8,7 +8,7 @@ use Rattle.frame_rules.specs.Plan.{FramePlan, spelled_by, prologue}
 use Rattle.frame_rules.specs.Bytes.{spell}
 use Rattle.host_layout.specs.declared.imported.ImportedService.{ImportedService}
 use Rattle.linear_code.specs.Program.{LinearProgram}
-use Rattle.frame_layout.specs.declared.frame.Frame.{Frame}
+use Rattle.frame_layout.specs.declared.frame.FrameLayout.{FrameLayout}
 use Rattle.frame_layout.specs.Layout.{plan_of}
 use Rattle.template_code.specs.Jumps.{distance}
 use Rattle.template_code.specs.Probing.{check_stack}
@@ -21,7 +21,7 @@ use Rattle.program_frames.specs.InMemory.{links}
 -- ---- with a frame
 
 -- a large frame is taken by a call of `__chkstk`, which ends ten bytes from the begin
-abbrev pub plan : LinearProgram → Placed → Frame → FramePlan
+abbrev pub plan : LinearProgram → Placed → FrameLayout → FramePlan
 plan p x f = plan_of f (distance (x.begin + 10) (check_stack_at (site_of p).text))
 
 -- what it does with what it is called with, and its body
@@ -31,7 +31,7 @@ rest_of p x =
     ++ code_from (links p x) x.routine.layout (body_begin x) x.routine.body.code
 
 -- a routine with a frame: its unwind info, prologue and the rest
-abbrev pub function_of : LinearProgram → Placed → Frame → FramedFunction
+abbrev pub function_of : LinearProgram → Placed → FrameLayout → FramedFunction
 function_of p x f = record {
   info = (entry_of (site_of p) x f).info;
   steps = prologue spell (plan p x f);

@@ -18,7 +18,7 @@ use Rattle.linked_stack.specs.Stack.{StackFrame, FrameIsAt, LeafIsAt}
 use Rattle.host_layout.specs.declared.imported.ImportedService.{ImportedService}
 use Rattle.pe_write.specs.Program.{image_of}
 use Rattle.linear_code.specs.Program.{LinearProgram}
-use Rattle.frame_layout.specs.declared.frame.Frame.{Frame}
+use Rattle.frame_layout.specs.declared.frame.FrameLayout.{FrameLayout}
 use Rattle.frame_layout.specs.Layout.{taking_size}
 use Rattle.program_link.specs.Fits.{FitsProgram}
 use Rattle.program_link.specs.Text.{thunk_at, check_stack_at}
@@ -44,7 +44,7 @@ TextsAreFixed =
 -- ---- bodies that wait
 
 -- the frame of a routine's body, with its return address
-abbrev pub stack_frame : LinearProgram → Placed → Frame → ℕ → StackFrame
+abbrev pub stack_frame : LinearProgram → Placed → FrameLayout → ℕ → StackFrame
 stack_frame p x f back =
     record {
       entry = entry_of (site_of p) x f;
@@ -54,7 +54,7 @@ stack_frame p x f back =
     }
 
 -- what a state must have: the address in the body, room up to the return address, and that address
-pub record IsWaiting (p : LinearProgram) (m : Memory) (x : Placed) (f : Frame) (c : Context)
+pub record IsWaiting (p : LinearProgram) (m : Memory) (x : Placed) (f : FrameLayout) (c : Context)
     (rva back : ℕ) : Type 0 where
   pub text : HasText m p
   pub body : IsInBody p x rva
@@ -67,7 +67,7 @@ pub record IsWaiting (p : LinearProgram) (m : Memory) (x : Placed) (f : Frame) (
 -- prologue and not in an epilogue
 abbrev pub BodiesHaveFrames : Type 0
 BodiesHaveFrames =
-    (p : LinearProgram) (m : Memory) (index : ℕ) (x : Placed) (f : Frame) (c : Context)
+    (p : LinearProgram) (m : Memory) (index : ℕ) (x : Placed) (f : FrameLayout) (c : Context)
     (rva back : ℕ)
     → FitsProgram p → HasRegions p → slice_get (placed p) index ≡ Some x → x.routine.frame ≡ Some f
     → IsWaiting p m x f c rva back
@@ -92,7 +92,7 @@ LeavesHaveReturns =
 -- ---- every frame
 
 -- a routine of a number with a frame
-pub record IsFramed (p : LinearProgram) (index : ℕ) (x : Placed) (f : Frame) : Type 0 where
+pub record IsFramed (p : LinearProgram) (index : ℕ) (x : Placed) (f : FrameLayout) : Type 0 where
   pub fits : FitsProgram p
   pub there : slice_get (placed p) index ≡ Some x
   pub framed : x.routine.frame ≡ Some f
@@ -100,7 +100,8 @@ pub record IsFramed (p : LinearProgram) (index : ℕ) (x : Placed) (f : Frame) :
 -- its instructions are in memory, from its first byte to its end
 abbrev pub FunctionsAreInMemory : Type 0
 FunctionsAreInMemory =
-    (p : LinearProgram) (index : ℕ) (x : Placed) (f : Frame) (m : Memory) → IsFramed p index x f
+    (p : LinearProgram) (index : ℕ) (x : Placed) (f : FrameLayout) (m : Memory)
+    → IsFramed p index x f
     → HasText m p
     → HasItems m (image_base + x.begin)
     (items (function_of p x f).steps ++ (function_of p x f).rest) (image_base + end_of x)
@@ -108,7 +109,7 @@ FunctionsAreInMemory =
 -- it keeps the rules, with the unwind info that its entry has
 abbrev pub FunctionsKeepTheRules : Type 0
 FunctionsKeepTheRules =
-    (p : LinearProgram) (index : ℕ) (x : Placed) (f : Frame) → IsFramed p index x f
+    (p : LinearProgram) (index : ℕ) (x : Placed) (f : FrameLayout) → IsFramed p index x f
     → IsRight (function_of p x f)
 
 -- the walk from a state finds the caller of another, as it was
@@ -121,7 +122,7 @@ FindsCaller p e s =
 -- state at its first byte
 abbrev pub FramesAreFound : Type 0
 FramesAreFound =
-    (p : LinearProgram) (index : ℕ) (x : Placed) (f : Frame) (e s : State) (distance : ℕ)
+    (p : LinearProgram) (index : ℕ) (x : Placed) (f : FrameLayout) (e s : State) (distance : ℕ)
     → IsFramed p index x f → HasRegions p
     → IsEntry f.size e → HasText s.memory p → s.cpu.rip ≡ image_base + x.begin + distance
     → IsInFunction (function_of p x f) e s distance

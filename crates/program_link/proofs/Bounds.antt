@@ -4,7 +4,7 @@ use Rattle.std.specs.List.{AllByRecursion}
 use Rattle.eh_tables.specs.declared.range.RuntimeFunction.{RuntimeFunction}
 use Rattle.pe_image.specs.Numbers.{u32}
 use Rattle.eh_tables.specs.Written.{table_bytes}
-use Rattle.frame_layout.specs.declared.frame.Frame.{Frame}
+use Rattle.frame_layout.specs.declared.frame.FrameLayout.{FrameLayout}
 use Rattle.template_code.specs.Bytes.{spelled, size, sizes, thunk}
 use Rattle.template_code.specs.Template.{code_from}
 use Rattle.template_code.proofs.Sizes.{sizes_append, sizes_spelled, body_sizes}
@@ -97,7 +97,7 @@ infos_length s at (r ∷ rs) =
     let l = infos_length s (at + routine_size r) rs in
     omega (arith, length-append (info_bytes s at r) (infos s (at + routine_size r) rs))
 
-range_few : (o : Option Frame) (range : RuntimeFunction) → length (range_if o range) ≤ 1
+range_few : (o : Option FrameLayout) (range : RuntimeFunction) → length (range_if o range) ≤ 1
 range_few None range = omega arith
 range_few (Some f) range = omega arith
 

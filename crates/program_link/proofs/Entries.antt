@@ -7,7 +7,7 @@ use Rattle.linear_code.specs.declared.slot.Slot.TheVariants.{Local}
 use Rattle.linear_code.specs.declared.instruction.Instruction.{Instruction}
 use Rattle.frame_rules.specs.Plan.{allocating}
 use Rattle.frame_rules.specs.Bytes.{prologue_code}
-use Rattle.frame_layout.specs.declared.frame.Frame.{Frame}
+use Rattle.frame_layout.specs.declared.frame.FrameLayout.{FrameLayout}
 use Rattle.frame_layout.specs.Layout.{plan_of}
 use Rattle.frame_layout.proofs.Sizes.{code_is}
 use Rattle.template_code.specs.declared.layout.Layout.{Layout}
@@ -44,16 +44,16 @@ allocating_small : (probe n : ℕ) (small : Bool) → sizes (allocating probe n 
 allocating_small probe n true = let s = sizes_small (allocating probe n true) in omega arith
 allocating_small probe n false = sizes_small (allocating probe n false)
 
-planned : (f : Frame) (probe : ℕ) → 0 < f.size → sizes (prologue_code (plan_of f probe)) ≡ sizes (allocating probe f.size (leb f.size 4096))
+planned : (f : FrameLayout) (probe : ℕ) → 0 < f.size → sizes (prologue_code (plan_of f probe)) ≡ sizes (allocating probe f.size (leb f.size 4096))
 planned f probe some = ap sizes (code_is probe f.size some)
 
-frame_sizes : (at check : ℕ) (o : Option Frame) → IsFrameNear o → sizes (frame_code at check o) ≡ sizes (frame_code 0 0 o)
+frame_sizes : (at check : ℕ) (o : Option FrameLayout) → IsFrameNear o → sizes (frame_code at check o) ≡ sizes (frame_code 0 0 o)
 frame_sizes at check None near = refl
 frame_sizes at check (Some f) near =
     planned f (distance (at + 10) check) near.0 ∙ allocating_sizes (distance (at + 10) check) f.size (leb f.size 4096)
     ∙ sym (allocating_sizes (distance 10 0) f.size (leb f.size 4096)) ∙ sym (planned f (distance 10 0) near.0)
 
-frame_small : (at check : ℕ) (o : Option Frame) → IsFrameNear o → sizes (frame_code at check o) ≤ 45
+frame_small : (at check : ℕ) (o : Option FrameLayout) → IsFrameNear o → sizes (frame_code at check o) ≤ 45
 frame_small at check None near = omega arith
 frame_small at check (Some f) near = let p = planned f (distance (at + 10) check) near.0 in let s = allocating_small (distance (at + 10) check) f.size (leb f.size 4096) in omega arith
 

@@ -8,7 +8,7 @@ use Rattle.eh_tables.specs.declared.unwind_info.Trailer.{Trailer}
 use Rattle.pe_image.specs.Numbers.{u16, u32}
 use Rattle.eh_tables.specs.Written.{slot, is_small, is_short, allocation, header, padded, unwind_bytes, trailer_bytes, scope_record_bytes}
 use Rattle.linear_code.specs.declared.program.Region.{Region}
-use Rattle.frame_layout.specs.declared.frame.Frame.{Frame}
+use Rattle.frame_layout.specs.declared.frame.FrameLayout.{FrameLayout}
 use Rattle.frame_layout.specs.Layout.{info_of, taking_size}
 use Rattle.host_layout.specs.declared.imported.ImportedService.TheVariants.{CSpecificHandler}
 use Rattle.program_link.specs.Routines.{RoutineView}
@@ -38,7 +38,7 @@ unfolding u32
 scopes_small funclets labels end [] = omega arith
 scopes_small funclets labels end (r ∷ rs) = let l = records_length (scope_records funclets labels end (r ∷ rs)) in omega (arith, length-map (r ∷ rs) (scope_record funclets labels end))
 
-unwind_small : (f : Frame) (t : Trailer) → length (trailer_bytes t) ≤ 4 → length (unwind_bytes (info_of f t)) ≤ 16
+unwind_small : (f : FrameLayout) (t : Trailer) → length (trailer_bytes t) ≤ 4 → length (unwind_bytes (info_of f t)) ≤ 16
 unfolding unwind_bytes
 unwind_small f t le =
     let offset = taking_size f.size in
@@ -46,7 +46,7 @@ unwind_small f t le =
     let bytes = allocation offset f.size ++ [] in
     omega (arith, length-append (header (info_of f t) (length bytes)) (padded bytes ++ trailer_bytes t), length-append (padded bytes) (trailer_bytes t))
 
-info_by : (s : SiteView) (labels : List ℕ) (end : ℕ) (r : RoutineView) (o : Option Frame) → length (info_if s labels end r o) ≤ info_room r
+info_by : (s : SiteView) (labels : List ℕ) (end : ℕ) (r : RoutineView) (o : Option FrameLayout) → length (info_if s labels end r o) ≤ info_room r
 info_by s labels end r None = omega arith
 info_by s labels end r (Some f) =
     let h = thunk_at s.text CSpecificHandler in

@@ -3,7 +3,7 @@ use Rattle.std.specs.Prelude.{ℕ, ◌+◌, ◌-◌, List, [], ◌∷◌, length
 use Rattle.host_layout.specs.declared.range.TheConstants.{DATA_AT}
 use Rattle.eh_tables.specs.Written.{table_bytes}
 use Rattle.pe_write.specs.declared.sizes.Sizes.{Sizes}
-use Rattle.pe_write.specs.Program.{Program, rdata_at, xdata_at}
+use Rattle.pe_write.specs.Program.{ImageContents, rdata_at, xdata_at}
 use Rattle.pe_write.specs.Written.{pages}
 use Rattle.linear_code.specs.Program.{LinearProgram}
 use Rattle.program_link.specs.Routines.{RoutineView, routines}
@@ -51,7 +51,7 @@ site globals rs functions = record {
 
 -- ---- the image, which begins at the routine of this index
 
-abbrev pub image_of : List ℕ → List RoutineView → ℕ → ℕ → Program
+abbrev pub image_of : List ℕ → List RoutineView → ℕ → ℕ → ImageContents
 image_of globals rs functions main =
     record {
       data_size = data_size globals;
@@ -64,5 +64,5 @@ image_of globals rs functions main =
           (first globals) rs);
     }
 
-abbrev pub linked : LinearProgram → Program
+abbrev pub linked : LinearProgram → ImageContents
 linked p = image_of p.globals (routines p) (length p.functions) p.main

@@ -3,7 +3,7 @@ use Rattle.std.specs.Prelude.{ℕ, ◌+◌, ◌*◌, ◌<◌, ◌≤◌, List, l
 use Rattle.std.specs.List.{AllByRecursion}
 use Rattle.seh_num.specs.declared.limit.TheConstants.{MOST_PARAMETERS}
 use Rattle.linear_code.specs.declared.slot.Slot.TheVariants.{Local}
-use Rattle.frame_layout.specs.declared.frame.Frame.{Frame}
+use Rattle.frame_layout.specs.declared.frame.FrameLayout.{FrameLayout}
 use Rattle.template_code.specs.declared.layout.Layout.{Layout}
 use Rattle.x64_code.specs.Near.{AreNear, IsSlotNear, AreParametersNear, ArePointersNear, IsInstructionNear}
 use Rattle.x64_code.specs.Entries.{IsKeptNear}
@@ -16,7 +16,7 @@ use Rattle.template_code.specs.declared.layout.TheConstants.{LARGEST_FRAME}
 use Rattle.host_layout.specs.declared.limit.TheConstants.{MOST_IMAGE}
 use Rattle.program_link.specs.Fits.{other_room}
 
-abbrev pub IsFrameNear : Option Frame → Type 0
+abbrev pub IsFrameNear : Option FrameLayout → Type 0
 IsFrameNear None = Unit {0}
 IsFrameNear (Some f) = (0 < f.size) × (f.size + 8 ≤ LARGEST_FRAME)
 

@@ -6,7 +6,7 @@ use Rattle.linear_code.specs.declared.instruction.Instruction.TheVariants as ins
 use Rattle.linear_code.specs.declared.program.FuncletKind.{FuncletKind}
 use Rattle.linear_code.specs.declared.program.FuncletKind.TheVariants.{Filter, Finally}
 use Rattle.linear_code.specs.Program.{LinearBody, LinearFunction, LinearFunclet, LinearProgram}
-use Rattle.frame_layout.specs.declared.frame.Frame.{Frame}
+use Rattle.frame_layout.specs.declared.frame.FrameLayout.{FrameLayout}
 use Rattle.frame_layout.specs.Layout.{frame_of}
 use Rattle.template_code.specs.declared.layout.Layout.{Layout}
 use Rattle.program_link.specs.declared.routine.Entry.{Entry}
@@ -15,7 +15,7 @@ use Rattle.program_link.specs.declared.routine.Entry.TheVariants as entries
 -- a function or a funclet, with its frame, if it has one, and the places of its slots
 pub record RoutineView : Type 0 where
   pub entry : Entry
-  pub frame : Option Frame
+  pub frame : Option FrameLayout
   pub layout : Layout
   pub body : LinearBody
 
@@ -38,7 +38,7 @@ is_leaf b =
 
 -- ---- functions
 
-abbrev pub function_frame : LinearBody → Frame
+abbrev pub function_frame : LinearBody → FrameLayout
 function_frame b =
     frame_of (record {
       passed = b.passed;
@@ -52,7 +52,7 @@ abbrev pub leaf_layout : LinearBody → Layout
 leaf_layout b =
     record { base = None; pointers = 0; locals = 8; temporaries = 8 + 8 * b.locals; frame = 0 }
 
-abbrev pub function_layout : Frame → Layout
+abbrev pub function_layout : FrameLayout → Layout
 function_layout f =
     record {
       base = None;
@@ -92,7 +92,7 @@ functions_from main index (f ∷ fs) =
 
 -- ---- funclets: they keep the base of their function's frame and the address of EXCEPTION_POINTERS
 
-abbrev pub funclet_frame : LinearBody → Frame
+abbrev pub funclet_frame : LinearBody → FrameLayout
 funclet_frame b =
     frame_of (record { passed = b.passed; kept = 2; temporaries = b.temporaries; locals = 0 })
 
@@ -126,7 +126,7 @@ entry_of Filter parent = entries.Filter parent
 entry_of (Finally flag) parent = entries.Finally parent flag
 
 -- the locals are those of the function
-abbrev pub funclet_layout : Frame → Frame → Layout
+abbrev pub funclet_layout : FrameLayout → FrameLayout → Layout
 funclet_layout function own =
     record {
       base = Some own.kept;

@@ -10,7 +10,7 @@ use Rattle.eh_tables.specs.Written.{unwind_bytes, scope_bytes}
 use Rattle.linear_code.specs.declared.program.Region.{Region}
 use Rattle.linear_code.specs.declared.program.RegionKind.{RegionKind}
 use Rattle.linear_code.specs.declared.program.RegionKind.TheVariants as kinds
-use Rattle.frame_layout.specs.declared.frame.Frame.{Frame}
+use Rattle.frame_layout.specs.declared.frame.FrameLayout.{FrameLayout}
 use Rattle.frame_layout.specs.Layout.{info_of}
 use Rattle.host_layout.specs.declared.imported.ImportedService.TheVariants.{CSpecificHandler}
 use Rattle.x64_code.specs.Linking.{address_or}
@@ -69,12 +69,12 @@ abbrev pub scope_table : List ℕ → List ℕ → ℕ → List Region → List 
 scope_table funclets labels end [] = []
 scope_table funclets labels end rs = scope_bytes (scope_records funclets labels end rs)
 
-abbrev pub info_bytes_of : SiteView → List ℕ → ℕ → RoutineView → Frame → List ℕ
+abbrev pub info_bytes_of : SiteView → List ℕ → ℕ → RoutineView → FrameLayout → List ℕ
 info_bytes_of s labels end r f =
     unwind_bytes (info_of f (trailer (thunk_at s.text CSpecificHandler) r.body.regions))
     ++ scope_table s.funclets labels end r.body.regions
 
-abbrev pub info_if : SiteView → List ℕ → ℕ → RoutineView → Option Frame → List ℕ
+abbrev pub info_if : SiteView → List ℕ → ℕ → RoutineView → Option FrameLayout → List ℕ
 info_if s labels end r None = []
 info_if s labels end r (Some f) = info_bytes_of s labels end r f
 
@@ -95,7 +95,7 @@ infos_room (r ∷ rs) = info_room r + infos_room rs
 
 -- ---- the function table
 
-abbrev pub range_if : Option Frame → RuntimeFunction → List RuntimeFunction
+abbrev pub range_if : Option FrameLayout → RuntimeFunction → List RuntimeFunction
 range_if None range = []
 range_if (Some f) range = range ∷ []
 

@@ -4,7 +4,7 @@ use Rattle.seh_num.specs.declared.width.Width.TheVariants.{W32}
 use Rattle.x64_instr.specs.declared.register.Reg.TheVariants.{Rax, Rcx}
 use Rattle.x64_instr.specs.declared.instruction.Instr.{Instr}
 use Rattle.linear_code.specs.declared.slot.Slot.TheVariants.{Local}
-use Rattle.frame_layout.specs.declared.frame.Frame.{Frame}
+use Rattle.frame_layout.specs.declared.frame.FrameLayout.{FrameLayout}
 use Rattle.frame_layout.specs.Layout.{plan_of}
 use Rattle.frame_rules.specs.Bytes.{prologue_code}
 use Rattle.host_layout.specs.declared.imported.ImportedService.{ImportedService}
@@ -34,7 +34,7 @@ use Rattle.program_link.specs.Routines.{RoutineView}
 
 -- ---- what comes before a body, for a routine that begins at an address
 
-abbrev pub frame_code : ℕ → ℕ → Option Frame → List Instr
+abbrev pub frame_code : ℕ → ℕ → Option FrameLayout → List Instr
 frame_code at check None = []
 frame_code at check (Some f) = prologue_code (plan_of f (distance (at + 10) check))
 

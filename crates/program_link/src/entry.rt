@@ -7,7 +7,7 @@ ghost use Rattle.program_link.specs.Near.{IsFrameNear, IsEntryNear, IsRoutineNea
 ghost use Rattle.program_link.specs.Text as spec;
 
 use crate::routine::{Entry, Routine};
-use frame_layout::Frame;
+use frame_layout::FrameLayout;
 use std::alloc::AllocError;
 use template_code::layout::Layout;
 use x64_code::entry::{
@@ -17,7 +17,7 @@ use x64_code::entry::{
 /// Adds the prologue of a frame, if there is one.
 fn put_frame(
     code: &mut Vec<u8>,
-    frame: &Option<Frame>,
+    frame: &Option<FrameLayout>,
     at: u64,
     check_stack: u64,
 ) -> Result<(), AllocError>

@@ -5,7 +5,7 @@ ghost use Rattle.linear_code.specs.Program.{linear_body, linear_function, linear
 ghost use Rattle.program_link.specs.Fits.{FitsBody, FitsFunction, FitsFunclet, FitsProgram};
 ghost use Rattle.program_link.specs.Routines as spec;
 
-use frame_layout::{Facts, Frame, plan};
+use frame_layout::{Facts, FrameLayout, plan};
 use linear_code::instruction::Instruction;
 use linear_code::program::{FuncletKind, IrBody, IrFunclet, IrFunction, IrProgram, Region};
 use std::alloc::{AllocError, Global};
@@ -37,7 +37,7 @@ pub struct Routine<'a> {
     /// How it is entered.
     pub entry: Entry,
     /// Its frame: a leaf function has none.
-    pub frame: Option<Frame>,
+    pub frame: Option<FrameLayout>,
     /// The places of its slots.
     pub layout: Layout,
     /// Its instructions.
@@ -128,7 +128,7 @@ fn leaf<'a>(function: &'a IrFunction) -> Routine<'a>
     }
 }
 
-fn function_frame(body: &IrBody) -> Frame
+fn function_frame(body: &IrBody) -> FrameLayout
     requires { FitsBody (linear_body body.now) }
     ensures { result ≡ spec.function_frame (linear_body body.now) }
 {
@@ -174,7 +174,7 @@ fn function_routine<'a>(function: &'a IrFunction, is_main: bool) -> Routine<'a>
     }
 }
 
-fn funclet_frame(body: &IrBody) -> Frame
+fn funclet_frame(body: &IrBody) -> FrameLayout
     requires { FitsBody (linear_body body.now) }
     ensures { result ≡ spec.funclet_frame (linear_body body.now) }
 {

@@ -17,7 +17,7 @@ use eh_tables::{
     EXCEPTION_EXECUTE_HANDLER, RuntimeFunction, ScopeRecord, Trailer, UnwindInfo, write_pdata,
     write_scopes, write_unwind,
 };
-use frame_layout::{Frame, unwind_of};
+use frame_layout::{FrameLayout, unwind_of};
 use host_layout::imported::ImportedService;
 use linear_code::program::{Region, RegionKind};
 use std::alloc::{AllocError, Global};
@@ -131,7 +131,7 @@ fn trailer(regions: &[Region], handler: u32) -> Trailer
 }
 
 /// The unwind info of a frame, with what follows its codes.
-fn info_with(frame: &Frame, trailer: Trailer) -> UnwindInfo
+fn info_with(frame: &FrameLayout, trailer: Trailer) -> UnwindInfo
     requires some { 0 < frame.now.size }
     requires fits { frame.now.size < 2 ^ 31 }
     requires trailer { IsTrailer trailer }
@@ -154,7 +154,7 @@ fn put_info(
     xdata: &mut Vec<u8>,
     site: &Site<'_>,
     routine: &Routine<'_>,
-    frame: &Frame,
+    frame: &FrameLayout,
     labels: &Labels,
 ) -> Result<(), AllocError>
     requires site { IsSiteNear site.now }
@@ -180,7 +180,7 @@ fn put_tables(
     ranges: &mut Vec<RuntimeFunction>,
     site: &Site<'_>,
     routine: &Routine<'_>,
-    frame: &Option<Frame>,
+    frame: &Option<FrameLayout>,
     labels: &Labels,
     range: RuntimeFunction,
 ) -> Result<(), AllocError>

@@ -9,7 +9,7 @@ use Rattle.linear_code.specs.declared.program.RegionKind.{RegionKind}
 use Rattle.linear_code.specs.declared.program.RegionKind.TheVariants as kinds
 use Rattle.linear_code.specs.declared.instruction.Instruction.{Instruction}
 use Rattle.linear_code.specs.Program.{LinearBody, LinearFunction, LinearFunclet, LinearProgram}
-use Rattle.frame_layout.specs.declared.frame.Frame.{Frame}
+use Rattle.frame_layout.specs.declared.frame.FrameLayout.{FrameLayout}
 use Rattle.template_code.specs.declared.layout.Layout.{Layout}
 use Rattle.template_code.specs.Template.{body_size}
 use Rattle.x64_code.specs.Bodies.{label_list}
@@ -124,7 +124,7 @@ module _ (p : LinearProgram) (far : AreFar (site_of p).funclets) where
   abbrev s : SiteView
   s = site_of p
 
-  rows_if : (x : Placed) (o : Option Frame) (es : List Entry) (qs : List Region) → (o ≡ None → x.routine.body.regions ≡ []) → AreRows p (scopes_of s x) x.routine.body.regions → AreRows p (rows_of es) qs → AreRows p (rows_of (entry_if s x o ++ es)) (x.routine.body.regions ++ qs)
+  rows_if : (x : Placed) (o : Option FrameLayout) (es : List Entry) (qs : List Region) → (o ≡ None → x.routine.body.regions ≡ []) → AreRows p (scopes_of s x) x.routine.body.regions → AreRows p (rows_of es) qs → AreRows p (rows_of (entry_if s x o ++ es)) (x.routine.body.regions ++ qs)
   rows_if x None es qs bare own others = subst (λ (rs : List Region). AreRows p (rows_of es) (rs ++ qs)) (sym (bare refl)) others
   rows_if x (Some f) es qs bare own others = rows_both p (scopes_of s x) (rows_of es) x.routine.body.regions qs own others
 
@@ -140,7 +140,7 @@ module _ (p : LinearProgram) (far : AreFar (site_of p).funclets) where
   order_less a b [] le h = tt
   order_less a b (e ∷ es) le h = let l = h.0 in (omega arith, h.1, h.2)
 
-  order_if : (x : Placed) (o : Option Frame) (es : List Entry) (last : ℕ) → last ≤ x.begin → ((f : Frame) → o ≡ Some f → 0 < routine_size x.routine) → AreInOrder (end_of x) es → AreInOrder last (entry_if s x o ++ es)
+  order_if : (x : Placed) (o : Option FrameLayout) (es : List Entry) (last : ℕ) → last ≤ x.begin → ((f : FrameLayout) → o ≡ Some f → 0 < routine_size x.routine) → AreInOrder (end_of x) es → AreInOrder last (entry_if s x o ++ es)
   order_if x None es last le some h = order_less (end_of x) last es (omega arith) h
   order_if x (Some f) es last le some h = let l = some f refl in (le, omega arith, h)
 

@@ -4,7 +4,7 @@ use Rattle.std.specs.List.{count_by}
 use Rattle.eh_tables.specs.Tables.{Entry, holding}
 use Rattle.seh_walk.specs.Asked.{is_searched, is_unwound}
 use Rattle.linear_code.specs.Program.{LinearProgram}
-use Rattle.frame_layout.specs.declared.frame.Frame.{Frame}
+use Rattle.frame_layout.specs.declared.frame.FrameLayout.{FrameLayout}
 use Rattle.program_link.specs.Fits.{FitsProgram}
 use Rattle.program_link.specs.Tables.{is_finally, has_except, has_finally}
 use Rattle.program_link.specs.Text.{SiteView}
@@ -46,17 +46,17 @@ HandlersDiffer =
 -- ---- the flags of its unwind infos
 
 -- EHANDLER where there is an `__except`, UHANDLER where there is a `__finally`
-pub record IsFlagged (s : SiteView) (x : Placed) (f : Frame) : Type 0 where
+pub record IsFlagged (s : SiteView) (x : Placed) (f : FrameLayout) : Type 0 where
   pub searched : is_searched (entry_of s x f).info ≡ has_except x.routine.body.regions
   pub unwound : is_unwound (entry_of s x f).info ≡ has_finally x.routine.body.regions
 
 abbrev pub EntriesAreFlagged : Type 0
-EntriesAreFlagged = (s : SiteView) (x : Placed) (f : Frame) → IsFlagged s x f
+EntriesAreFlagged = (s : SiteView) (x : Placed) (f : FrameLayout) → IsFlagged s x f
 
 -- ---- frames
 
 -- none takes more than the largest frame, its return address counted
 abbrev pub FramesAreSmall : Type 0
 FramesAreSmall =
-    (p : LinearProgram) (index : ℕ) (x : Placed) (f : Frame) → FitsProgram p
+    (p : LinearProgram) (index : ℕ) (x : Placed) (f : FrameLayout) → FitsProgram p
     → slice_get (placed p) index ≡ Some x → x.routine.frame ≡ Some f → f.size + 8 ≤ LARGEST_FRAME

@@ -12,7 +12,7 @@ use Rattle.eh_tables.specs.ReadAgain.{IsUnwindInfo, HasTrailer, has_c_handler, p
 use Rattle.pe_image.specs.Numbers.{u16, u32}
 use Rattle.eh_tables.specs.Written.{bit, slot, is_small, is_short, allocation, header, padded, unwind_bytes, trailer_bytes, scope_record_bytes, CanBeWritten, IsTrailer}
 use Rattle.linear_code.specs.declared.program.Region.{Region}
-use Rattle.frame_layout.specs.declared.frame.Frame.{Frame}
+use Rattle.frame_layout.specs.declared.frame.FrameLayout.{FrameLayout}
 use Rattle.frame_layout.specs.Layout.{info_of, taking_size}
 use Rattle.frame_layout.proofs.Sizes.{takes_four, takes_seven, takes_thirteen, can_be_written}
 use Rattle.host_layout.specs.declared.imported.ImportedService.TheVariants.{CSpecificHandler}
@@ -39,7 +39,7 @@ pub no_parent : (h : ℕ) (rs : List Region) → parent_of (trailer h rs) ≡ No
 no_parent h [] = refl
 no_parent h (r ∷ rs) = refl
 
-pub handled : (image : Image) (f : Frame) (h : ℕ) (rs : List Region) → is_c_handler image h ≡ true → has_c_handler image (info_of f (trailer h rs)) ≡ has_rows rs
+pub handled : (image : Image) (f : FrameLayout) (h : ℕ) (rs : List Region) → is_c_handler image h ≡ true → has_c_handler image (info_of f (trailer h rs)) ≡ has_rows rs
 handled image f h [] c = refl
 handled image f h (r ∷ rs) c = c
 
@@ -54,14 +54,14 @@ taking_few n some lt = elim (cases_lt n 128) [
   ]
 ]
 
-pub can_be : (f : Frame) (t : Trailer) → 0 < f.size → f.size < 2 ^ 31 → IsTrailer t → CanBeWritten (info_of f t)
+pub can_be : (f : FrameLayout) (t : Trailer) → 0 < f.size → f.size < 2 ^ 31 → IsTrailer t → CanBeWritten (info_of f t)
 can_be f t some lt is =
     let few = taking_few f.size some lt in
     let least = few.1 in
     let h = can_be_written f.size (taking_size f.size) (info_of f Nothing).codes (omega arith) refl in
     record { register = h.register; offset = h.offset; codes = h.codes; order = h.order; slots = h.slots; trailer = is }
 
-pub is_info : (f : Frame) (t : Trailer) → f.size < 2 ^ 31 → HasTrailer t → IsUnwindInfo (info_of f t)
+pub is_info : (f : FrameLayout) (t : Trailer) → f.size < 2 ^ 31 → HasTrailer t → IsUnwindInfo (info_of f t)
 is_info f t lt has = record { operations = (omega arith, tt); trailer = has }
 
 -- ---- how many bytes it takes
@@ -77,7 +77,7 @@ unfolding u32
 trailer_four h [] = refl
 trailer_four h (r ∷ rs) = refl
 
-unwind_four : (f : Frame) (h : ℕ) (rs : List Region) → length (unwind_bytes (info_of f (trailer h rs))) % 4 ≡ 0
+unwind_four : (f : FrameLayout) (h : ℕ) (rs : List Region) → length (unwind_bytes (info_of f (trailer h rs))) % 4 ≡ 0
 unfolding unwind_bytes
 unwind_four f h rs =
     let offset = taking_size f.size in
@@ -87,7 +87,7 @@ unwind_four f h rs =
     let last = trailer_four h rs in
     omega (arith, length-append (header (info_of f t) (length bytes)) (padded bytes ++ trailer_bytes t), length-append (padded bytes) (trailer_bytes t))
 
-pub unwind_some : (f : Frame) (t : Trailer) → 0 < length (unwind_bytes (info_of f t))
+pub unwind_some : (f : FrameLayout) (t : Trailer) → 0 < length (unwind_bytes (info_of f t))
 unfolding unwind_bytes
 unwind_some f t = omega arith
 
@@ -101,7 +101,7 @@ unfolding u32
 scopes_four funclets labels end [] = refl
 scopes_four funclets labels end (r ∷ rs) = let l = records_length (scope_records funclets labels end (r ∷ rs)) in omega arith
 
-info_four : (s : SiteView) (labels : List ℕ) (end : ℕ) (r : RoutineView) (o : Option Frame) → length (info_if s labels end r o) % 4 ≡ 0
+info_four : (s : SiteView) (labels : List ℕ) (end : ℕ) (r : RoutineView) (o : Option FrameLayout) → length (info_if s labels end r o) % 4 ≡ 0
 info_four s labels end r None = refl
 info_four s labels end r (Some f) =
     let h = thunk_at s.text CSpecificHandler in

@@ -4,7 +4,7 @@ use Rattle.std.specs.Prelude.{slice_get}
 use Rattle.std.specs.List.{AllByRecursion}
 use Rattle.std.proofs.lemmas.Bool.{and_from, and_left, and_right, lt-ltb, le-leb, lt-leb, le-ltb, false≢true}
 use Rattle.eh_tables.specs.Tables.{Entry, entry_or, holding}
-use Rattle.frame_layout.specs.declared.frame.Frame.{Frame}
+use Rattle.frame_layout.specs.declared.frame.FrameLayout.{FrameLayout}
 use Rattle.program_link.specs.Routines.{RoutineView}
 use Rattle.program_link.specs.Text.{SiteView, routine_size}
 use Rattle.program_link.specs.Tables.{info_bytes}
@@ -36,7 +36,7 @@ placed_has P s info at (r ∷ rs) (suc index) x all e = placed_has P s (info + l
 
 module _ (s : SiteView) (rva : ℕ) where
   -- below all of them
-  below_if : (x : Placed) (o : Option Frame) (es : List Entry) → rva < x.begin → holding rva es ≡ None → holding rva (entry_if s x o ++ es) ≡ None
+  below_if : (x : Placed) (o : Option FrameLayout) (es : List Entry) → rva < x.begin → holding rva es ≡ None → holding rva (entry_if s x o ++ es) ≡ None
   below_if x None es lt more = more
   below_if x (Some f) es lt more = ap (entry_or (holding rva es) (entry_of s x f)) (and_left (leb x.begin rva) (ltb rva (end_of x)) (lt-leb x.begin rva lt)) ∙ more
 
@@ -47,13 +47,13 @@ module _ (s : SiteView) (rva : ℕ) where
       below_if (record { routine = r; begin = at; info = info }) r.frame (entries_of s (placed_from s next (at + routine_size r) rs)) lt (below next (at + routine_size r) rs (omega arith))
 
   -- past an entry
-  past : (x : Placed) (o : Option Frame) (es : List Entry) → end_of x ≤ rva → holding rva (entry_if s x o ++ es) ≡ holding rva es
+  past : (x : Placed) (o : Option FrameLayout) (es : List Entry) → end_of x ≤ rva → holding rva (entry_if s x o ++ es) ≡ holding rva es
   past x None es le = refl
   past x (Some f) es le = ap (entry_or (holding rva es) (entry_of s x f)) (and_right (leb x.begin rva) (ltb rva (end_of x)) (le-ltb rva (end_of x) le))
 
-  here : (x : Placed) (f : Frame) (o : Option Frame) (es : List Entry) → o ≡ Some f → x.begin ≤ rva → rva < end_of x → holding rva (entry_if s x o ++ es) ≡ Some (entry_of s x f)
+  here : (x : Placed) (f : FrameLayout) (o : Option FrameLayout) (es : List Entry) → o ≡ Some f → x.begin ≤ rva → rva < end_of x → holding rva (entry_if s x o ++ es) ≡ Some (entry_of s x f)
   here x f o es e le lt =
-      ap (λ (q : Option Frame). holding rva (entry_if s x q ++ es)) e
+      ap (λ (q : Option FrameLayout). holding rva (entry_if s x q ++ es)) e
       ∙ ap (entry_or (holding rva es) (entry_of s x f)) (and_from (leb x.begin rva) (ltb rva (end_of x)) (le-leb x.begin rva le) (lt-ltb rva (end_of x) lt))
 
   -- a routine of an index begins at the first one's begin, or after it
@@ -62,7 +62,7 @@ module _ (s : SiteView) (rva : ℕ) where
   least info at (r ∷ rs) zero x e = let b = ap (λ (y : Placed). y.begin) (some_same e) in omega arith
   least info at (r ∷ rs) (suc index) x e = let l = least (info + length (info_bytes s at r)) (at + routine_size r) rs index x e in omega arith
 
-  held : (info at : ℕ) (rs : List RoutineView) (index : ℕ) (x : Placed) (f : Frame) → slice_get (placed_from s info at rs) index ≡ Some x → x.routine.frame ≡ Some f → x.begin ≤ rva → rva < end_of x
+  held : (info at : ℕ) (rs : List RoutineView) (index : ℕ) (x : Placed) (f : FrameLayout) → slice_get (placed_from s info at rs) index ≡ Some x → x.routine.frame ≡ Some f → x.begin ≤ rva → rva < end_of x
       → holding rva (entries_of s (placed_from s info at rs)) ≡ Some (entry_of s x f)
   held info at [] index x f e framed le lt = absurd (none_some e)
   held info at (r ∷ rs) zero x f e framed le lt =
@@ -83,7 +83,7 @@ module _ (s : SiteView) (rva : ℕ) where
       let es = entries_of s (placed_from s (info + length (info_bytes s at r)) (at + routine_size r) rs) in
       let end = ap end_of (some_same e) in
       let none : r.frame ≡ None = ap (λ (y : Placed). y.routine.frame) (some_same e) ∙ leaf in
-      ap (λ (o : Option Frame). holding rva (entry_if s first o ++ es)) none ∙ below (info + length (info_bytes s at r)) (at + routine_size r) rs (omega arith)
+      ap (λ (o : Option FrameLayout). holding rva (entry_if s first o ++ es)) none ∙ below (info + length (info_bytes s at r)) (at + routine_size r) rs (omega arith)
   unheld info at (r ∷ rs) (suc index) x e leaf le lt =
       let first : Placed = record { routine = r; begin = at; info = info } in
       let es = entries_of s (placed_from s (info + length (info_bytes s at r)) (at + routine_size r) rs) in

@@ -5,7 +5,7 @@ use Rattle.x64_encode.specs.Chosen.{chosen}
 use Rattle.frame_rules.specs.Prologue.{bytes}
 use Rattle.frame_rules.specs.Plan.{allocating, spelled_by}
 use Rattle.frame_rules.specs.Bytes.{spell, prologue_code}
-use Rattle.frame_layout.specs.declared.frame.Frame.{Frame}
+use Rattle.frame_layout.specs.declared.frame.FrameLayout.{FrameLayout}
 use Rattle.frame_layout.specs.Layout.{plan_of, taking_size}
 use Rattle.frame_layout.proofs.Sizes.{code_is}
 use Rattle.template_code.specs.Bytes.{size, sizes}
@@ -27,7 +27,7 @@ taking_by probe n true = refl
 taking_by probe n false = refl
 
 -- a prologue takes as many bytes wherever it calls
-pub prologue_sizes : (f : Frame) (probe : ℕ) → 0 < f.size → sizes (prologue_code (plan_of f probe)) ≡ taking_size f.size
+pub prologue_sizes : (f : FrameLayout) (probe : ℕ) → 0 < f.size → sizes (prologue_code (plan_of f probe)) ≡ taking_size f.size
 unfolding taking_size
 prologue_sizes f probe some =
     ap sizes (code_is probe f.size some)
@@ -35,11 +35,11 @@ prologue_sizes f probe some =
     ∙ sym (ap sizes (code_is 0 f.size some))
     ∙ sym (bytes_sizes (prologue_code (plan_of (record { kept = 0; temporaries = 0; locals = 0; size = f.size }) 0)))
 
-entry_by : (r : RoutineView) (f : Frame) (o : Option Frame) → o ≡ Some f → 0 < f.size → sizes (frame_code 0 0 o) ≡ taking_size f.size
-entry_by r f o e some = ap (λ (x : Option Frame). sizes (frame_code 0 0 x)) e ∙ prologue_sizes f _ some
+entry_by : (r : RoutineView) (f : FrameLayout) (o : Option FrameLayout) → o ≡ Some f → 0 < f.size → sizes (frame_code 0 0 o) ≡ taking_size f.size
+entry_by r f o e some = ap (λ (x : Option FrameLayout). sizes (frame_code 0 0 x)) e ∙ prologue_sizes f _ some
 
 -- that of a routine with a frame is first
-pub entry_least : (r : RoutineView) (f : Frame) → IsRoutineNear r → r.frame ≡ Some f → 0 < f.size → taking_size f.size ≤ entry_size r
+pub entry_least : (r : RoutineView) (f : FrameLayout) → IsRoutineNear r → r.frame ≡ Some f → 0 < f.size → taking_size f.size ≤ entry_size r
 entry_least r f near e some =
     let h = entry_by r f r.frame e some in
     let s = entry_sizes 0 0 r near in

@@ -7,7 +7,7 @@ use Rattle.std.proofs.Math.Seq.{take-append_seam}
 use Rattle.pe_image.specs.Image.{Section, stores_byte, section_or, section_at, stored_in, only_if, whole, stored}
 use Rattle.pe_image.proofs.Stored.{above_holds_none}
 use Rattle.pe_write.specs.ImportTables.{import_tables}
-use Rattle.pe_write.specs.Program.{Program, CanBeImage, sizes_of, text_at, rdata_at, xdata_at, pdata_at, data_section, sections_of}
+use Rattle.pe_write.specs.Program.{ImageContents, CanBeImage, sizes_of, text_at, rdata_at, xdata_at, pdata_at, data_section, sections_of}
 use Rattle.pe_write.specs.Written.{raw_data}
 use Rattle.pe_write.proofs.Back.{raw_length}
 use Rattle.pe_write.proofs.Programs.{xdata_is_at, pdata_is_at}
@@ -26,7 +26,7 @@ there ss rva k all front bytes more h e at =
 
 -- ---- the text
 
-module _ (p : Program) (fits : CanBeImage p) where
+module _ (p : ImageContents) (fits : CanBeImage p) where
   abbrev globals : Section
   globals = record { address = 0x1000; size = p.data_size; raw = raw_data (data_section p); flags = 0xC0000040 }
 

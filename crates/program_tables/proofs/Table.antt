@@ -16,11 +16,11 @@ use Rattle.eh_tables.proofs.TablesAgain.{reads_ranges}
 use Rattle.eh_tables.proofs.WholeAgain.{reads_table}
 use Rattle.host_layout.specs.declared.imported.ImportedService.TheVariants.{RaiseException, CSpecificHandler, LocalUnwind, Protect, Put}
 use Rattle.pe_write.specs.Program as images
-use Rattle.pe_write.specs.Program.{Program, CanBeImage, sizes_of, text_at, rdata_at, xdata_at}
+use Rattle.pe_write.specs.Program.{ImageContents, CanBeImage, sizes_of, text_at, rdata_at, xdata_at}
 use Rattle.pe_write.proofs.Programs.{listed}
 use Rattle.linear_code.specs.declared.program.Region.{Region}
 use Rattle.linear_code.specs.Program.{LinearFunction, LinearFunclet, LinearProgram}
-use Rattle.frame_layout.specs.declared.frame.Frame.{Frame}
+use Rattle.frame_layout.specs.declared.frame.FrameLayout.{FrameLayout}
 use Rattle.frame_layout.specs.Layout.{info_of}
 use Rattle.template_code.specs.Bytes.{spelled, thunk}
 use Rattle.template_code.specs.Jumps.{distance}
@@ -51,10 +51,10 @@ use Rattle.host_layout.specs.declared.limit.TheConstants.{MOST_IMAGE}
 
 -- ---- the entries as they are written
 
-abbrev pub written_of : SiteView → Placed → Frame → WrittenEntry
+abbrev pub written_of : SiteView → Placed → FrameLayout → WrittenEntry
 written_of s x f = record { range = record { begin = x.begin; end = end_of x; unwind_info = x.info }; own = record { info = unwind_of s x f; scopes = scopes_of s x }; parents = [] }
 
-abbrev pub written_if : SiteView → Placed → Option Frame → List WrittenEntry
+abbrev pub written_if : SiteView → Placed → Option FrameLayout → List WrittenEntry
 written_if s x None = []
 written_if s x (Some f) = written_of s x f ∷ []
 
@@ -62,7 +62,7 @@ abbrev pub written_from : SiteView → List Placed → List WrittenEntry
 written_from s [] = []
 written_from s (x ∷ xs) = written_if s x x.routine.frame ++ written_from s xs
 
-range_same : (s : SiteView) (x : Placed) (o : Option Frame) → ranges_of (written_if s x o) ≡ range_if o (record { begin = x.begin; end = end_of x; unwind_info = x.info })
+range_same : (s : SiteView) (x : Placed) (o : Option FrameLayout) → ranges_of (written_if s x o) ≡ range_if o (record { begin = x.begin; end = end_of x; unwind_info = x.info })
 range_same s x None = refl
 range_same s x (Some f) = refl
 
@@ -76,7 +76,7 @@ ranges_same s info at (r ∷ rs) =
 
 -- ---- in their order
 
-pub framed_room : (r : RoutineView) (f : Frame) → IsRoutineNear r → r.frame ≡ Some f → 0 < routine_size r
+pub framed_room : (r : RoutineView) (f : FrameLayout) → IsRoutineNear r → r.frame ≡ Some f → 0 < routine_size r
 framed_room r f near e =
     let size = subst IsFrameNear e near.frame in
     let few = taking_few f.size size.0 (let l = size.1 in omega arith) in
@@ -88,7 +88,7 @@ order_less : (a b : ℕ) (ws : List WrittenEntry) → b ≤ a → AreInOrder a w
 order_less a b [] le h = tt
 order_less a b (w ∷ ws) le h = let l = h.0 in (omega arith, h.1, h.2)
 
-order_if : (s : SiteView) (x : Placed) (o : Option Frame) (ws : List WrittenEntry) (last : ℕ) → last ≤ x.begin → ((f : Frame) → o ≡ Some f → 0 < routine_size x.routine) → AreInOrder (end_of x) ws → AreInOrder last (written_if s x o ++ ws)
+order_if : (s : SiteView) (x : Placed) (o : Option FrameLayout) (ws : List WrittenEntry) (last : ℕ) → last ≤ x.begin → ((f : FrameLayout) → o ≡ Some f → 0 < routine_size x.routine) → AreInOrder (end_of x) ws → AreInOrder last (written_if s x o ++ ws)
 order_if s x None ws last le some h = order_less (end_of x) last ws (omega arith) h
 order_if s x (Some f) ws last le some h = let l = some f refl in (le, omega arith, h)
 
@@ -98,7 +98,7 @@ in_order s info at last (r ∷ rs) near le =
     let next = info + length (info_bytes s at r) in
     order_if s (record { routine = r; begin = at; info = info }) r.frame (written_from s (placed_from s next (at + routine_size r) rs)) last le (λ f e. framed_room r f near.0 e) (in_order s next (at + routine_size r) (at + routine_size r) rs near.1 (omega arith))
 
-small_if : (s : SiteView) (x : Placed) (o : Option Frame) (ws : List WrittenEntry) → end_of x < 2 ^ 32 → x.info < 2 ^ 32 → AllByRecursion IsRuntimeFunction (ranges_of ws) → AllByRecursion IsRuntimeFunction (ranges_of (written_if s x o ++ ws))
+small_if : (s : SiteView) (x : Placed) (o : Option FrameLayout) (ws : List WrittenEntry) → end_of x < 2 ^ 32 → x.info < 2 ^ 32 → AllByRecursion IsRuntimeFunction (ranges_of ws) → AllByRecursion IsRuntimeFunction (ranges_of (written_if s x o ++ ws))
 small_if s x None ws lt lt' more = more
 small_if s x (Some f) ws lt lt' more = (record { begin = omega arith; end = lt; info = lt' }, more)
 
@@ -147,7 +147,7 @@ drop_below size (suc n) (x ∷ xs) all = drop_below size n xs all.1
 -- ---- pieces
 
 -- the unwind info of a routine with a frame
-bytes_of : (s : SiteView) (at : ℕ) (r : RoutineView) (f : Frame) → r.frame ≡ Some f → info_bytes s at r ≡ info_bytes_of s (own_addresses at r).labels (own_addresses at r).end r f
+bytes_of : (s : SiteView) (at : ℕ) (r : RoutineView) (f : FrameLayout) → r.frame ≡ Some f → info_bytes s at r ≡ info_bytes_of s (own_addresses at r).labels (own_addresses at r).end r f
 unfolding info_bytes
 bytes_of s at r f e = ap (info_if s (own_addresses at r).labels (own_addresses at r).end r) e
 
@@ -168,7 +168,7 @@ module _ (p : LinearProgram) (fits : FitsProgram p) where
   abbrev s : SiteView
   s = site_of p
 
-  abbrev program : Program
+  abbrev program : ImageContents
   program = linked p
 
   abbrev image : Image
@@ -223,7 +223,7 @@ module _ (p : LinearProgram) (fits : FitsProgram p) where
   -- ---- its unwind infos
 
   -- one of some regions, with its scope table
-  scopes_by : (info at : ℕ) (r : RoutineView) (f : Frame) (regions : List Region) (front more : List ℕ)
+  scopes_by : (info at : ℕ) (r : RoutineView) (f : FrameLayout) (regions : List Region) (front more : List ℕ)
       → AllByRecursion (IsRegionRange (length r.body.code)) regions → 16 * length regions ≤ MOST_IMAGE → at + routine_size r ≤ first p.globals + total rs
       → program.xdata ≡ front ++ ((unwind_bytes (info_of f (trailer (thunk_at s.text CSpecificHandler) regions)) ++ scope_table s.funclets (own_addresses at r).labels (own_addresses at r).end regions) ++ more)
       → info ≡ xdata_at (sizes_of program) + length front
@@ -253,7 +253,7 @@ module _ (p : LinearProgram) (fits : FitsProgram p) where
         stored = subst (λ (k : ℕ). stored image.sections k (length bytes) ≡ Some bytes) (sym here) (xdata_there program is front bytes more e (omega (arith, length-append u (scope_bytes rows))));
       }
 
-  entry_is : (info at : ℕ) (r : RoutineView) (f : Frame) (front more : List ℕ) → IsRoutineNear r → HasRanges r.body → r.frame ≡ Some f → at + routine_size r ≤ first p.globals + total rs
+  entry_is : (info at : ℕ) (r : RoutineView) (f : FrameLayout) (front more : List ℕ) → IsRoutineNear r → HasRanges r.body → r.frame ≡ Some f → at + routine_size r ≤ first p.globals + total rs
       → program.xdata ≡ front ++ (info_bytes_of s (own_addresses at r).labels (own_addresses at r).end r f ++ more) → info ≡ xdata_at (sizes_of program) + length front → info % 4 ≡ 0
       → IsEntryWritten image (written_of s (record { routine = r; begin = at; info = info }) f)
   entry_is info at r f front more close ranges framed le e here four =
@@ -275,7 +275,7 @@ module _ (p : LinearProgram) (fits : FitsProgram p) where
         count = omega arith;
       }
 
-  written_if_so : (x : Placed) (o : Option Frame) (ws : List WrittenEntry) → ((f : Frame) → o ≡ Some f → IsEntryWritten image (written_of s x f)) → AllByRecursion (IsEntryWritten image) ws → AllByRecursion (IsEntryWritten image) (written_if s x o ++ ws)
+  written_if_so : (x : Placed) (o : Option FrameLayout) (ws : List WrittenEntry) → ((f : FrameLayout) → o ≡ Some f → IsEntryWritten image (written_of s x f)) → AllByRecursion (IsEntryWritten image) ws → AllByRecursion (IsEntryWritten image) (written_if s x o ++ ws)
   written_if_so x None ws own more = more
   written_if_so x (Some f) ws own more = (own f refl, more)
 
@@ -287,13 +287,13 @@ module _ (p : LinearProgram) (fits : FitsProgram p) where
       let bytes = info_bytes s at r in
       let more = infos s (at + routine_size r) qs in
       let aligned = info_aligned s at r in
-      let own : (f : Frame) → r.frame ≡ Some f → IsEntryWritten image (written_of s (record { routine = r; begin = at; info = info }) f) = λ f same. entry_is info at r f front more close.0 ranges.0 same (omega arith) (e ∙ ap (λ t. front ++ (t ++ more)) (bytes_of s at r f same)) here four in
+      let own : (f : FrameLayout) → r.frame ≡ Some f → IsEntryWritten image (written_of s (record { routine = r; begin = at; info = info }) f) = λ f same. entry_is info at r f front more close.0 ranges.0 same (omega arith) (e ∙ ap (λ t. front ++ (t ++ more)) (bytes_of s at r f same)) here four in
       written_if_so (record { routine = r; begin = at; info = info }) r.frame (written_from s (placed_from s (info + length bytes) (at + routine_size r) qs)) own
       (all_written (info + length bytes) (at + routine_size r) qs (front ++ bytes) close.1 ranges.1 (omega arith) (e ∙ sym (append_assoc front bytes more)) (omega (arith, length-append front bytes)) (omega arith))
 
   -- ---- what is read
 
-  read_if : (x : Placed) (o : Option Frame) → map (as_read image) (written_if s x o) ≡ entry_if s x o
+  read_if : (x : Placed) (o : Option FrameLayout) → map (as_read image) (written_if s x o) ≡ entry_if s x o
   read_if x None = refl
   read_if x (Some f) =
       let h = thunk_at s.text CSpecificHandler in

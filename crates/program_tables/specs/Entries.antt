@@ -7,7 +7,7 @@ use Rattle.eh_tables.specs.Tables.{Entry}
 use Rattle.host_layout.specs.declared.imported.ImportedService.TheVariants.{CSpecificHandler}
 use Rattle.linear_code.specs.declared.program.Region.{Region}
 use Rattle.linear_code.specs.Program.{LinearProgram}
-use Rattle.frame_layout.specs.declared.frame.Frame.{Frame}
+use Rattle.frame_layout.specs.declared.frame.FrameLayout.{FrameLayout}
 use Rattle.frame_layout.specs.Layout.{info_of}
 use Rattle.program_link.specs.Text.{SiteView, own_addresses, thunk_at}
 use Rattle.program_link.specs.Tables.{trailer, scope_records}
@@ -24,19 +24,19 @@ has_rows [] = false
 has_rows (r ∷ rs) = true
 
 -- its unwind info, whose language handler is `__C_specific_handler` where it has scope records
-abbrev pub unwind_of : SiteView → Placed → Frame → UnwindInfo
+abbrev pub unwind_of : SiteView → Placed → FrameLayout → UnwindInfo
 unwind_of s x f = info_of f (trailer (thunk_at s.text CSpecificHandler) x.routine.body.regions)
 
 -- ---- entries
 
-abbrev pub entry_of : SiteView → Placed → Frame → Entry
+abbrev pub entry_of : SiteView → Placed → FrameLayout → Entry
 entry_of s x f = record {
   range = record { begin = x.begin; end = end_of x; unwind_info = x.info };
   info = info_written (unwind_of s x f) (has_rows x.routine.body.regions) (scopes_of s x);
   parents = [];
 }
 
-abbrev pub entry_if : SiteView → Placed → Option Frame → List Entry
+abbrev pub entry_if : SiteView → Placed → Option FrameLayout → List Entry
 entry_if s x None = []
 entry_if s x (Some f) = entry_of s x f ∷ []
 

@@ -9,7 +9,7 @@ use Rattle.pe_write.specs.Program.{image_of}
 use Rattle.x64_encode.specs.Chosen.{chosen}
 use Rattle.template_code.specs.Bytes.{thunk}
 use Rattle.linear_code.specs.Program.{LinearProgram}
-use Rattle.frame_layout.specs.declared.frame.Frame.{Frame}
+use Rattle.frame_layout.specs.declared.frame.FrameLayout.{FrameLayout}
 use Rattle.program_link.specs.Fits.{FitsProgram}
 use Rattle.program_link.specs.Linked.{first, linked}
 use Rattle.program_tables.specs.Placed.{Placed, end_of, site_of, placed}
@@ -26,7 +26,7 @@ TablesAreRead =
 -- first one, none
 abbrev pub EntriesAreHeld : Type 0
 EntriesAreHeld =
-    (p : LinearProgram) (index : ℕ) (x : Placed) (f : Frame) (rva : ℕ)
+    (p : LinearProgram) (index : ℕ) (x : Placed) (f : FrameLayout) (rva : ℕ)
     → FitsProgram p → slice_get (placed p) index ≡ Some x → x.routine.frame ≡ Some f → x.begin ≤ rva
     → rva < end_of x
     → holding rva (entries p) ≡ Some (entry_of (site_of p) x f)

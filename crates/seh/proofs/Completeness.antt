@@ -8,7 +8,7 @@ use Rattle.host_model.specs.declared.refusal.LoadErr.{LoadErr}
 use Rattle.host_model.specs.declared.refusal.LoadErr.TheVariants as loads
 use Rattle.host_model.specs.Loading.{load_refusal}
 use Rattle.c_text.proofs.NotRefused.{accepted_is_not_refused}
-use Rattle.seh.specs.declared.outcome.Outcome.TheVariants.{Compiled, Ran}
+use Rattle.seh.specs.declared.outcome.CommandOutcome.TheVariants.{Compiled, Ran}
 use Rattle.seh.specs.declared.refusal.Refusal.TheVariants as refusals
 use Rattle.seh.specs.Answers.{IsRefusedLoad}
 use Rattle.seh.specs.Completeness.{IsWantOfMemory, AcceptedTextsCompile, CompiledImagesRun}

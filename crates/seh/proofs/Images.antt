@@ -1,8 +1,8 @@
 -- What comes of a text comes of its image, or is its refusal.
 use Rattle.std.proofs.Common.{◌≡◌, ℕ, List, Result, Ok, Err, refl}
 use Rattle.command_line.specs.declared.command.RunOptions.{RunOptions}
-use Rattle.seh.specs.declared.outcome.Outcome.{Outcome}
-use Rattle.seh.specs.declared.outcome.Outcome.TheVariants.{Compiled, Ran, Viewed}
+use Rattle.seh.specs.declared.outcome.CommandOutcome.{CommandOutcome}
+use Rattle.seh.specs.declared.outcome.CommandOutcome.TheVariants.{Compiled, Ran, Viewed}
 use Rattle.seh.specs.declared.refusal.Refusal.{Refusal}
 use Rattle.seh.specs.declared.refusal.Refusal.TheVariants as refusals
 use Rattle.seh.specs.Images.{IsCompiled, IsTextRefusal}
@@ -10,7 +10,7 @@ use Rattle.seh.specs.Streams.{Stream}
 use Rattle.seh.specs.Answers.{IsRunAnswer, IsTextRunAnswer}
 
 -- the run of an image that was compiled
-pub of_image : (options : RunOptions) (text image : List ℕ) (out out' : Stream) (answer : Result Outcome Refusal) → IsCompiled text image → IsRunAnswer options image out out' answer → IsTextRunAnswer options text out out' answer
+pub of_image : (options : RunOptions) (text image : List ℕ) (out out' : Stream) (answer : Result CommandOutcome Refusal) → IsCompiled text image → IsRunAnswer options image out out' answer → IsTextRunAnswer options text out out' answer
 of_image options text image out out' (Ok done) compiled h = (image, compiled, h)
 of_image options text image out out' (Err (refusals.Image e)) compiled h = (image, compiled, h)
 of_image options text image out out' (Err (refusals.Load e)) compiled h = (image, compiled, h)

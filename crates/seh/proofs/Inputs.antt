@@ -3,7 +3,7 @@ use Rattle.std.proofs.Common.{◌≡◌, ◌+◌, ◌<◌, ◌≤◌, ℕ, min, 
 use Rattle.std.proofs.lemmas.List.{take-append-drop, length-take-le}
 use Rattle.seh_io.specs.Streams.{Grew, last_count}
 use Rattle.seh_io.specs.Writer.{TookPart}
-use Rattle.seh.specs.declared.outcome.Outcome.{Outcome}
+use Rattle.seh.specs.declared.outcome.CommandOutcome.{CommandOutcome}
 use Rattle.seh.specs.declared.refusal.Refusal.{Refusal}
 use Rattle.seh.specs.declared.refusal.Refusal.TheVariants as refusals
 use Rattle.seh.specs.Streams.{Stream}
@@ -24,7 +24,7 @@ pub same_input : (limit : ℕ) (source source' : Stream) (read bytes : List ℕ)
 same_input limit source source' read bytes same input = subst (λ (bs : List ℕ). IsInput limit source source' bs) (sym same) input
 
 -- of a text that was compiled
-pub from_text : (text : List ℕ) (source source' out out' : Stream) (answer : Result Outcome Refusal) → IsInput text_limit source source' text → IsCompileAnswer text out out' answer → IsInputAnswer text_limit IsCompileAnswer source source' out out' answer
+pub from_text : (text : List ℕ) (source source' out out' : Stream) (answer : Result CommandOutcome Refusal) → IsInput text_limit source source' text → IsCompileAnswer text out out' answer → IsInputAnswer text_limit IsCompileAnswer source source' out out' answer
 from_text text source source' out out' (Ok done) input h = record { bytes = text; input = input; comes = h }
 from_text text source source' out out' (Err (refusals.Text e)) input h = record { bytes = text; input = input; comes = h }
 from_text text source source' out out' (Err refusals.WriteFault) input h = record { bytes = text; input = input; comes = h }
@@ -32,7 +32,7 @@ from_text text source source' out out' (Err refusals.NoMemory) input h = (lost_a
 from_text text source source' out out' (Err r) input h = absurd h
 
 -- of a text that was compiled and run
-pub from_run : (options : RunOptions) (text : List ℕ) (source source' out out' : Stream) (answer : Result Outcome Refusal) → IsInput text_limit source source' text → IsTextRunAnswer options text out out' answer → IsInputAnswer text_limit (IsTextRunAnswer options) source source' out out' answer
+pub from_run : (options : RunOptions) (text : List ℕ) (source source' out out' : Stream) (answer : Result CommandOutcome Refusal) → IsInput text_limit source source' text → IsTextRunAnswer options text out out' answer → IsInputAnswer text_limit (IsTextRunAnswer options) source source' out out' answer
 from_run options text source source' out out' (Ok done) input h = record { bytes = text; input = input; comes = h }
 from_run options text source source' out out' (Err (refusals.Text e)) input h = record { bytes = text; input = input; comes = h }
 from_run options text source source' out out' (Err (refusals.Image e)) input h = record { bytes = text; input = input; comes = h }
@@ -44,7 +44,7 @@ from_run options text source source' out out' (Err refusals.ReadFault) input h =
 from_run options text source source' out out' (Err (refusals.TooLong most)) input h = absurd h.2
 
 -- of a text that was run as its meaning says
-pub from_meaning : (options : RunOptions) (text : List ℕ) (source source' out out' : Stream) (answer : Result Outcome Refusal) → IsInput text_limit source source' text → IsMeaningAnswer options text out out' answer → IsMeaningInputAnswer options source source' out out' answer
+pub from_meaning : (options : RunOptions) (text : List ℕ) (source source' out out' : Stream) (answer : Result CommandOutcome Refusal) → IsInput text_limit source source' text → IsMeaningAnswer options text out out' answer → IsMeaningInputAnswer options source source' out out' answer
 from_meaning options text source source' out out' (Ok done) input h = record { bytes = text; input = input; comes = h }
 from_meaning options text source source' out out' (Err (refusals.Text e)) input h = record { bytes = text; input = input; comes = h }
 from_meaning options text source source' out out' (Err refusals.WriteFault) input h = record { bytes = text; input = input; comes = h }
@@ -52,7 +52,7 @@ from_meaning options text source source' out out' (Err refusals.NoMemory) input 
 from_meaning options text source source' out out' (Err r) input h = absurd h
 
 -- of an image that was run
-pub from_image : (options : RunOptions) (bytes : List ℕ) (source source' out out' : Stream) (answer : Result Outcome Refusal) → IsInput image_limit source source' bytes → IsRunAnswer options bytes out out' answer → IsInputAnswer image_limit (IsRunAnswer options) source source' out out' answer
+pub from_image : (options : RunOptions) (bytes : List ℕ) (source source' out out' : Stream) (answer : Result CommandOutcome Refusal) → IsInput image_limit source source' bytes → IsRunAnswer options bytes out out' answer → IsInputAnswer image_limit (IsRunAnswer options) source source' out out' answer
 from_image options bytes source source' out out' (Ok done) input h = record { bytes = bytes; input = input; comes = h }
 from_image options bytes source source' out out' (Err (refusals.Image e)) input h = record { bytes = bytes; input = input; comes = h }
 from_image options bytes source source' out out' (Err (refusals.Load e)) input h = record { bytes = bytes; input = input; comes = h }
@@ -60,7 +60,7 @@ from_image options bytes source source' out out' (Err refusals.WriteFault) input
 from_image options bytes source source' out out' (Err r) input h = absurd h
 
 -- of an image whose function table was shown
-pub from_shown : (bytes : List ℕ) (source source' out out' : Stream) (answer : Result Outcome Refusal) → IsInput image_limit source source' bytes → IsShowAnswer bytes out out' answer → IsInputAnswer image_limit IsShowAnswer source source' out out' answer
+pub from_shown : (bytes : List ℕ) (source source' out out' : Stream) (answer : Result CommandOutcome Refusal) → IsInput image_limit source source' bytes → IsShowAnswer bytes out out' answer → IsInputAnswer image_limit IsShowAnswer source source' out out' answer
 from_shown bytes source source' out out' (Ok done) input h = record { bytes = bytes; input = input; comes = h }
 from_shown bytes source source' out out' (Err (refusals.Image e)) input h = record { bytes = bytes; input = input; comes = h }
 from_shown bytes source source' out out' (Err refusals.WriteFault) input h = record { bytes = bytes; input = input; comes = h }

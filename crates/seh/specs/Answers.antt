@@ -18,8 +18,8 @@ use Rattle.seh_host.specs.Turns.{end_within}
 use Rattle.seh_host.specs.Hosts.{IsLoadRefusal}
 use Rattle.c_text.specs.Texts.{TextIsRefused as IsRefusedText}
 use Rattle.command_line.specs.declared.command.RunOptions.{RunOptions}
-use Rattle.seh.specs.declared.outcome.Outcome.{Outcome}
-use Rattle.seh.specs.declared.outcome.Outcome.TheVariants.{Compiled, Ran, Viewed}
+use Rattle.seh.specs.declared.outcome.CommandOutcome.{CommandOutcome}
+use Rattle.seh.specs.declared.outcome.CommandOutcome.TheVariants.{Compiled, Ran, Viewed}
 use Rattle.seh.specs.declared.refusal.Refusal.{Refusal}
 use Rattle.seh.specs.declared.refusal.Refusal.TheVariants as refusals
 use Rattle.seh.specs.Images.{IsCompiled}
@@ -73,7 +73,7 @@ IsCutOff text out out' =
 
 -- what comes of bytes that were read, from the sink before and after
 abbrev pub Judged : Type 1
-Judged = List ℕ → Stream → Stream → Result Outcome Refusal → Type 0
+Judged = List ℕ → Stream → Stream → Result CommandOutcome Refusal → Type 0
 
 -- what comes of an image's bytes: the whole text of the run of an image that loads, with its end;
 -- the first check that fails, or the load's; or a part of the text, where the sink had a fault
@@ -127,7 +127,7 @@ IsTextRunAnswer options text out out' answer =
 
 -- the source was read to its end, and this comes of what it held
 pub record FromInput (limit : ℕ) (judged : Judged) (source source' out out' : Stream)
-    (answer : Result Outcome Refusal) : Type 0 where
+    (answer : Result CommandOutcome Refusal) : Type 0 where
   pub bytes : List ℕ
   pub input : IsInput limit source source' bytes
   pub comes : judged bytes out out' answer
@@ -152,7 +152,8 @@ IsInputRefusal limit source source' e = ⊥
 
 -- a command that reads its input has this answer by its cause, from the source and the sink before
 -- and after
-abbrev pub IsInputAnswer : ℕ → Judged → Stream → Stream → Stream → Stream → Result Outcome Refusal
+abbrev pub IsInputAnswer : ℕ → Judged → Stream → Stream → Stream → Stream
+    → Result CommandOutcome Refusal
     → Type 0
 IsInputAnswer limit judged source source' out out' (Err refusals.Usage) = ⊥
 IsInputAnswer limit judged source source' out out' (Err refusals.ReadFault) =

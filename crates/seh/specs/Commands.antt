@@ -3,7 +3,7 @@ use Rattle.std.specs.Prelude.{◌≡◌, ◌⊎◌, ℕ, List, Result, Err}
 use Rattle.command_line.specs.declared.command.Command.{Command}
 use Rattle.command_line.specs.declared.command.Command.TheVariants.{Compile, Exec, Run, Meaning, Show}
 use Rattle.command_line.specs.Lines.{IsLine, IsNoLine}
-use Rattle.seh.specs.declared.outcome.Outcome.{Outcome}
+use Rattle.seh.specs.declared.outcome.CommandOutcome.{CommandOutcome}
 use Rattle.seh.specs.declared.status.Status.{Status}
 use Rattle.seh.specs.declared.refusal.Refusal.{Refusal}
 use Rattle.seh.specs.declared.refusal.Refusal.TheVariants as refusals
@@ -12,7 +12,8 @@ use Rattle.seh.specs.Meanings.{IsMeaningInputAnswer}
 use Rattle.seh.specs.Refusals.{Reported}
 use Rattle.seh.specs.Streams.{Stream}
 
-abbrev pub IsCommandAnswer : Command → Stream → Stream → Stream → Stream → Result Outcome Refusal
+abbrev pub IsCommandAnswer : Command → Stream → Stream → Stream → Stream
+    → Result CommandOutcome Refusal
     → Type 0
 IsCommandAnswer Compile source source' out out' answer =
     IsInputAnswer text_limit IsCompileAnswer source source' out out' answer
@@ -31,7 +32,8 @@ Untouched source source' out out' = (source' ≡ source) × Quiet out out'
 
 -- the words are no line of the command set, or mean a command that has this answer; or there was no
 -- memory to read them
-abbrev pub IsAnswer : List (List ℕ) → Stream → Stream → Stream → Stream → Result Outcome Refusal
+abbrev pub IsAnswer : List (List ℕ) → Stream → Stream → Stream → Stream
+    → Result CommandOutcome Refusal
     → Type 0
 IsAnswer words source source' out out' answer =
     ((answer ≡ Err refusals.Usage) × IsNoLine words × Untouched source source' out out')
@@ -42,6 +44,6 @@ IsAnswer words source source' out out' answer =
 -- the program has one answer, by its cause, and reports it
 pub record Answers (words : List (List ℕ)) (source source' out out' err err' : Stream)
     (status : Status) : Type 0 where
-  pub answer : Result Outcome Refusal
+  pub answer : Result CommandOutcome Refusal
   pub cause : IsAnswer words source source' out out' answer
   pub reported : Reported answer err err' status

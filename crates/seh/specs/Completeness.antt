@@ -6,8 +6,8 @@ use Rattle.c_text.specs.Texts.{IsAccepted}
 use Rattle.pe_image.specs.declared.refusal.ImageErr.TheVariants as images
 use Rattle.host_model.specs.declared.refusal.LoadErr.TheVariants as loads
 use Rattle.command_line.specs.declared.command.RunOptions.{RunOptions}
-use Rattle.seh.specs.declared.outcome.Outcome.{Outcome}
-use Rattle.seh.specs.declared.outcome.Outcome.TheVariants.{Compiled, Ran}
+use Rattle.seh.specs.declared.outcome.CommandOutcome.{CommandOutcome}
+use Rattle.seh.specs.declared.outcome.CommandOutcome.TheVariants.{Compiled, Ran}
 use Rattle.seh.specs.declared.refusal.Refusal.{Refusal}
 use Rattle.seh.specs.declared.refusal.Refusal.TheVariants as refusals
 use Rattle.seh.specs.Images.{IsCompiled}
@@ -23,7 +23,7 @@ IsWantOfMemory (refusals.Load loads.Memory) = Unit {0}
 IsWantOfMemory r = ⊥
 
 -- an answer is this outcome, unless the sink has a fault or memory is wanting
-abbrev pub AnswersWith : Outcome → Result Outcome Refusal → Type 0
+abbrev pub AnswersWith : CommandOutcome → Result CommandOutcome Refusal → Type 0
 AnswersWith done (Ok outcome) = outcome ≡ done
 AnswersWith done (Err refusals.WriteFault) = Unit {0}
 AnswersWith done (Err r) = IsWantOfMemory r
@@ -32,12 +32,12 @@ AnswersWith done (Err r) = IsWantOfMemory r
 abbrev pub AcceptedTextsCompile : Type 0
 AcceptedTextsCompile =
     (source : List ℕ) (xs : List ExternalDeclaration) → IsAccepted source xs
-    → (out out' : Stream) (answer : Result Outcome Refusal)
+    → (out out' : Stream) (answer : Result CommandOutcome Refusal)
     → IsCompileAnswer source out out' answer → AnswersWith Compiled answer
 
 -- what `exec` answers to the image that a text was compiled to: the end of its run
 abbrev pub CompiledImagesRun : Type 0
 CompiledImagesRun =
     (source image : List ℕ) → IsCompiled source image
-    → (options : RunOptions) (out out' : Stream) (answer : Result Outcome Refusal)
+    → (options : RunOptions) (out out' : Stream) (answer : Result CommandOutcome Refusal)
     → IsRunAnswer options image out out' answer → AnswersWith (Ran (end_by options image)) answer

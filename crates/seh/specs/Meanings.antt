@@ -10,8 +10,8 @@ use Rattle.c_text.specs.Texts.{IsCheckedAs, TextIsRefused}
 use Rattle.c_interpret.specs.Texts as texts
 use Rattle.c_interpret.specs.declared.interpret.MeanErr.TheVariants.{Memory}
 use Rattle.command_line.specs.declared.command.RunOptions.{RunOptions}
-use Rattle.seh.specs.declared.outcome.Outcome.{Outcome}
-use Rattle.seh.specs.declared.outcome.Outcome.TheVariants.{Meant}
+use Rattle.seh.specs.declared.outcome.CommandOutcome.{CommandOutcome}
+use Rattle.seh.specs.declared.outcome.CommandOutcome.TheVariants.{Meant}
 use Rattle.seh.specs.declared.refusal.Refusal.{Refusal}
 use Rattle.seh.specs.declared.refusal.Refusal.TheVariants as refusals
 use Rattle.seh.specs.Answers.{text_limit, Quiet, IsCutOff, Judged, IsInput, IsInputAnswer}
@@ -56,7 +56,7 @@ pub record TookOfInput (options : RunOptions) (source source' out out' : Stream)
   pub front : TookMeaningFront options bytes out out'
 
 abbrev pub IsMeaningInputAnswer : RunOptions → Stream → Stream → Stream → Stream
-    → Result Outcome Refusal → Type 0
+    → Result CommandOutcome Refusal → Type 0
 IsMeaningInputAnswer options source source' out out' (Err refusals.NoMemory) =
     IsInputAnswer text_limit (IsMeaningAnswer options) source source' out out'
     (Err refusals.NoMemory)

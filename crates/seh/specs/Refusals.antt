@@ -21,7 +21,7 @@ use Rattle.c_resolved.specs.declared.fault.Fault.{Fault}
 use Rattle.c_resolved.specs.declared.fault.Fault.TheVariants as faults
 use Rattle.c_text.specs.declared.accepting.TextErr.{TextErr}
 use Rattle.c_text.specs.declared.accepting.TextErr.TheVariants as texts
-use Rattle.seh.specs.declared.outcome.Outcome.{Outcome}
+use Rattle.seh.specs.declared.outcome.CommandOutcome.{CommandOutcome}
 use Rattle.seh.specs.declared.status.Status.{Status}
 use Rattle.seh.specs.declared.status.Status.TheVariants as statuses
 use Rattle.seh.specs.declared.refusal.Refusal.{Refusal}
@@ -150,7 +150,7 @@ refusal_status refusals.NoMemory = statuses.NoMemory
 -- what was carried out is shown by the status alone; a refusal by its line on `err` too, and where
 -- that line can't be written the status is that of a write fault, and a part of the line from the
 -- front was taken
-abbrev pub Reported : Result Outcome Refusal → Stream → Stream → Status → Type 0
+abbrev pub Reported : Result CommandOutcome Refusal → Stream → Stream → Status → Type 0
 Reported (Ok done) err err' status = (status ≡ outcome_status done) × (err' ≡ err)
 Reported (Err r) err err' status =
     ((status ≡ refusal_status r) × Grew err.bytes (ended (refusal_text r)) err'.bytes)

@@ -4,8 +4,8 @@ use Rattle.seh_num.specs.declared.end.RunEnd.{RunEnd}
 use Rattle.seh_num.specs.declared.end.RunEnd.TheVariants as ends
 use Rattle.c_model.specs.declared.ended.Ended.{Ended}
 use Rattle.c_model.specs.declared.ended.Ended.TheVariants as meant
-use Rattle.seh.specs.declared.outcome.Outcome.{Outcome}
-use Rattle.seh.specs.declared.outcome.Outcome.TheVariants.{Compiled, Ran, Meant, Viewed}
+use Rattle.seh.specs.declared.outcome.CommandOutcome.{CommandOutcome}
+use Rattle.seh.specs.declared.outcome.CommandOutcome.TheVariants.{Compiled, Ran, Meant, Viewed}
 use Rattle.seh.specs.declared.status.Status.{Status}
 use Rattle.seh.specs.declared.status.Status.TheVariants as statuses
 
@@ -40,7 +40,7 @@ meaning_status (meant.OutOfSteps n) = statuses.OutOfTurns
 meaning_status (meant.Undefined a) = statuses.Undefined
 meaning_status (meant.Deep d) = statuses.Deep
 
-abbrev pub outcome_status : Outcome → Status
+abbrev pub outcome_status : CommandOutcome → Status
 outcome_status Compiled = statuses.Done
 outcome_status Viewed = statuses.Done
 outcome_status (Ran end) = status_of end

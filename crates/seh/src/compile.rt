@@ -6,7 +6,7 @@ ghost use Rattle.seh.specs.Streams.{stream};
 
 use crate::image::image_of;
 use crate::input::read_input;
-use crate::outcome::Outcome;
+use crate::outcome::CommandOutcome;
 use crate::refusal::Refusal;
 use host_layout::limit::MOST_TEXT;
 use seh_io::sink::Sink;
@@ -15,7 +15,7 @@ use seh_io::writing::put_all;
 use std::alloc::Global;
 
 /// Compiles a text, and writes the bytes of its image.
-fn compile_text<O: Sink>(alloc: Global, text: &[u8], out: &mut O) -> Result<Outcome, Refusal>
+fn compile_text<O: Sink>(alloc: Global, text: &[u8], out: &mut O) -> Result<CommandOutcome, Refusal>
     requires { length text.now ≤ MOST_TEXT }
     ensures { IsCompileAnswer text.now
         (stream O.taken O.faults out.old) (stream O.taken O.faults out.new) result }
@@ -25,7 +25,7 @@ fn compile_text<O: Sink>(alloc: Global, text: &[u8], out: &mut O) -> Result<Outc
         Err(refusal) => return Err(refusal),
     };
     match put_all(out, &image) {
-        Ok(()) => Ok(Outcome::Compiled),
+        Ok(()) => Ok(CommandOutcome::Compiled),
         Err(_) => Err(Refusal::WriteFault),
     }
 }
@@ -35,7 +35,7 @@ pub fn compile<S: Source, O: Sink>(
     alloc: Global,
     src: &mut S,
     out: &mut O,
-) -> Result<Outcome, Refusal>
+) -> Result<CommandOutcome, Refusal>
     ensures { IsInputAnswer text_limit IsCompileAnswer
         (stream S.left S.faults src.old) (stream S.left S.faults src.new)
         (stream O.taken O.faults out.old) (stream O.taken O.faults out.new) result }

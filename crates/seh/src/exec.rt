@@ -5,7 +5,7 @@ ghost use Rattle.seh.specs.Answers.{image_limit, IsRunAnswer, IsInputAnswer};
 ghost use Rattle.seh.specs.Streams.{stream};
 
 use crate::input::read_input;
-use crate::outcome::Outcome;
+use crate::outcome::CommandOutcome;
 use crate::refusal::Refusal;
 use command_line::command::RunOptions;
 use host_layout::limit::MOST_IMAGE;
@@ -22,7 +22,7 @@ pub fn run_image<O: Sink>(
     options: RunOptions,
     bytes: &[u8],
     out: &mut O,
-) -> Result<Outcome, Refusal>
+) -> Result<CommandOutcome, Refusal>
     ensures { IsRunAnswer options bytes.now
         (stream O.taken O.faults out.old) (stream O.taken O.faults out.new) result }
 {
@@ -35,7 +35,7 @@ pub fn run_image<O: Sink>(
         Err(error) => return Err(Refusal::Load(error)),
     };
     match run(&mut host, options.turns, options.trace, out) {
-        Ok(end) => Ok(Outcome::Ran(end)),
+        Ok(end) => Ok(CommandOutcome::Ran(end)),
         Err(_) => Err(Refusal::WriteFault),
     }
 }
@@ -46,7 +46,7 @@ pub fn exec<S: Source, O: Sink>(
     options: RunOptions,
     src: &mut S,
     out: &mut O,
-) -> Result<Outcome, Refusal>
+) -> Result<CommandOutcome, Refusal>
     ensures { IsInputAnswer image_limit (IsRunAnswer options)
         (stream S.left S.faults src.old) (stream S.left S.faults src.new)
         (stream O.taken O.faults out.old) (stream O.taken O.faults out.new) result }

@@ -6,7 +6,7 @@ ghost use Rattle.seh.specs.Meanings.{IsMeaningAnswer, IsMeaningInputAnswer};
 ghost use Rattle.seh.specs.Streams.{stream};
 
 use crate::input::read_input;
-use crate::outcome::Outcome;
+use crate::outcome::CommandOutcome;
 use crate::refusal::Refusal;
 use c_interpret::interpret::{MeanErr, interpret};
 use c_text::accepting::accept;
@@ -22,7 +22,7 @@ fn mean_text<O: Sink>(
     options: RunOptions,
     text: &[u8],
     out: &mut O,
-) -> Result<Outcome, Refusal>
+) -> Result<CommandOutcome, Refusal>
     requires { length text.now ≤ MOST_TEXT }
     ensures { IsMeaningAnswer options text.now
         (stream O.taken O.faults out.old) (stream O.taken O.faults out.new) result }
@@ -37,7 +37,7 @@ fn mean_text<O: Sink>(
         trace,
     } = options;
     match interpret(alloc, &accepted.checked, argument, turns, trace, out) {
-        Ok(ended) => Ok(Outcome::Meant(ended)),
+        Ok(ended) => Ok(CommandOutcome::Meant(ended)),
         Err(MeanErr::Write { .. }) => Err(Refusal::WriteFault),
         Err(MeanErr::Memory) => Err(Refusal::NoMemory),
     }
@@ -49,7 +49,7 @@ pub fn meaning<S: Source, O: Sink>(
     options: RunOptions,
     src: &mut S,
     out: &mut O,
-) -> Result<Outcome, Refusal>
+) -> Result<CommandOutcome, Refusal>
     ensures { IsMeaningInputAnswer options
         (stream S.left S.faults src.old) (stream S.left S.faults src.new)
         (stream O.taken O.faults out.old) (stream O.taken O.faults out.new) result }

@@ -9,7 +9,7 @@ use seh_num::end::RunEnd;
 
 /// What a command that was carried out came to.
 #[derive(Clone, Copy, Debug, PartialEq, Eq)]
-pub enum Outcome {
+pub enum CommandOutcome {
     /// A text was compiled, and its image written.
     Compiled,
     /// An image was run, and ended so.
@@ -20,15 +20,15 @@ pub enum Outcome {
     Viewed,
 }
 
-impl Outcome {
+impl CommandOutcome {
     /// The status of what was carried out.
     pub fn status(&self) -> Status
         ensures { result ≡ outcome_status self.now }
     {
         match self {
-            Outcome::Compiled | Outcome::Viewed => Status::Done,
-            Outcome::Ran(end) => Status::of(end),
-            Outcome::Meant(ended) => Status::of_meaning(ended),
+            CommandOutcome::Compiled | CommandOutcome::Viewed => Status::Done,
+            CommandOutcome::Ran(end) => Status::of(end),
+            CommandOutcome::Meant(ended) => Status::of_meaning(ended),
         }
     }
 }

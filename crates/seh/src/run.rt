@@ -8,7 +8,7 @@ ghost use Rattle.seh.specs.Streams.{stream};
 use crate::exec::run_image;
 use crate::image::image_of;
 use crate::input::read_input;
-use crate::outcome::Outcome;
+use crate::outcome::CommandOutcome;
 use crate::refusal::Refusal;
 use command_line::command::RunOptions;
 use host_layout::limit::MOST_TEXT;
@@ -22,7 +22,7 @@ fn run_text<O: Sink>(
     options: RunOptions,
     text: &[u8],
     out: &mut O,
-) -> Result<Outcome, Refusal>
+) -> Result<CommandOutcome, Refusal>
     requires { length text.now ≤ MOST_TEXT }
     ensures { IsTextRunAnswer options text.now
         (stream O.taken O.faults out.old) (stream O.taken O.faults out.new) result }
@@ -39,7 +39,7 @@ pub fn run<S: Source, O: Sink>(
     options: RunOptions,
     src: &mut S,
     out: &mut O,
-) -> Result<Outcome, Refusal>
+) -> Result<CommandOutcome, Refusal>
     ensures { IsInputAnswer text_limit (IsTextRunAnswer options)
         (stream S.left S.faults src.old) (stream S.left S.faults src.new)
         (stream O.taken O.faults out.old) (stream O.taken O.faults out.new) result }

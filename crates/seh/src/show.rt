@@ -5,7 +5,7 @@ ghost use Rattle.seh.specs.Answers.{image_limit, IsShowAnswer, IsInputAnswer};
 ghost use Rattle.seh.specs.Streams.{stream};
 
 use crate::input::read_input;
-use crate::outcome::Outcome;
+use crate::outcome::CommandOutcome;
 use crate::refusal::Refusal;
 use host_layout::limit::MOST_IMAGE;
 use pe_image::ImageView;
@@ -15,7 +15,7 @@ use std::alloc::Global;
 use table_view::view;
 
 /// Writes the view of an image's function table.
-fn show_image<O: Sink>(alloc: Global, bytes: &[u8], out: &mut O) -> Result<Outcome, Refusal>
+fn show_image<O: Sink>(alloc: Global, bytes: &[u8], out: &mut O) -> Result<CommandOutcome, Refusal>
     ensures { IsShowAnswer bytes.now
         (stream O.taken O.faults out.old) (stream O.taken O.faults out.new) result }
 {
@@ -24,13 +24,17 @@ fn show_image<O: Sink>(alloc: Global, bytes: &[u8], out: &mut O) -> Result<Outco
         Err(error) => return Err(Refusal::Image(error)),
     };
     match view(&image, out) {
-        Ok(()) => Ok(Outcome::Viewed),
+        Ok(()) => Ok(CommandOutcome::Viewed),
         Err(_) => Err(Refusal::WriteFault),
     }
 }
 
 /// Reads an image from the source and shows its function table.
-pub fn show<S: Source, O: Sink>(alloc: Global, src: &mut S, out: &mut O) -> Result<Outcome, Refusal>
+pub fn show<S: Source, O: Sink>(
+    alloc: Global,
+    src: &mut S,
+    out: &mut O,
+) -> Result<CommandOutcome, Refusal>
     ensures { IsInputAnswer image_limit IsShowAnswer
         (stream S.left S.faults src.old) (stream S.left S.faults src.new)
         (stream O.taken O.faults out.old) (stream O.taken O.faults out.new) result }

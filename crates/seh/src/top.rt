@@ -8,7 +8,7 @@ ghost use Rattle.seh.specs.Streams.{stream};
 use crate::compile::compile;
 use crate::exec::exec;
 use crate::meaning::meaning;
-use crate::outcome::Outcome;
+use crate::outcome::CommandOutcome;
 use crate::refusal::{Refusal, report};
 use crate::run::run;
 use crate::show::show;
@@ -25,7 +25,7 @@ fn answer<S: Source, O: Sink>(
     words: &[String],
     src: &mut S,
     out: &mut O,
-) -> Result<Outcome, Refusal>
+) -> Result<CommandOutcome, Refusal>
     ensures { IsAnswer (map string_bytes words.now) (stream S.left S.faults src.old)
         (stream S.left S.faults src.new) (stream O.taken O.faults out.old)
         (stream O.taken O.faults out.new) result }

@@ -4,7 +4,7 @@ use Rattle.seh_num.specs.declared.event.Event.{Event}
 use Rattle.flat_memory.specs.Memory.{Memory}
 use Rattle.x64_machine.specs.declared.cpu.Cpu.{Cpu}
 use Rattle.host_model.specs.Turns.{Turn, Continues, Ends, with_event}
-use Rattle.seh_dispatch.specs.declared.outcome.Outcome as code
+use Rattle.seh_dispatch.specs.declared.outcome.TurnOutcome as code
 use Rattle.seh_dispatch.specs.declared.outcome.Led.{Led}
 use Rattle.seh_dispatch.specs.declared.outcome.Made.{Made}
 use Rattle.seh_dispatch.specs.Outcomes.{led, turn_of, led_turn, made_turn, quiet, all_quiet}

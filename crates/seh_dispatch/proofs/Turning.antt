@@ -10,8 +10,8 @@ use Rattle.host_model.specs.declared.funclet.Funclet.{Funclet}
 use Rattle.host_model.specs.Turns.{Continues, Ends}
 use Rattle.host_model.specs.Funclets.{arrivals, arrived}
 use Rattle.host_model.specs.HostStep.{turn, turned, over, host}
-use Rattle.seh_dispatch.specs.declared.outcome.Outcome as code
-use Rattle.seh_dispatch.specs.declared.outcome.Outcome.TheVariants as outcomes
+use Rattle.seh_dispatch.specs.declared.outcome.TurnOutcome as code
+use Rattle.seh_dispatch.specs.declared.outcome.TurnOutcome.TheVariants as outcomes
 use Rattle.seh_dispatch.specs.declared.outcome.Made.{Made}
 use Rattle.image_funclets.specs.Listed.{listed}
 use Rattle.seh_dispatch.specs.Outcomes.{led, turn_of, made_turn}

@@ -12,8 +12,8 @@ use Rattle.x64_machine.specs.Effect.{register, with_register, state}
 use Rattle.seh_walk.specs.declared.stop_cause.StopCause.{StopCause}
 use Rattle.host_model.specs.Turns.{Turn, Continues, Ends}
 use Rattle.image_funclets.specs.Listed.{listed}
-use Rattle.seh_dispatch.specs.declared.outcome.Outcome as code
-use Rattle.seh_dispatch.specs.declared.outcome.Outcome.TheVariants as outcomes
+use Rattle.seh_dispatch.specs.declared.outcome.TurnOutcome as code
+use Rattle.seh_dispatch.specs.declared.outcome.TurnOutcome.TheVariants as outcomes
 use Rattle.seh_dispatch.specs.declared.outcome.Led.{Led}
 use Rattle.seh_dispatch.specs.declared.outcome.Made.{Made}
 

@@ -10,7 +10,7 @@ ghost use Rattle.image_funclets.specs.Listed.{AreAscending, listed};
 ghost use Rattle.seh_dispatch.specs.Ends.{left};
 ghost use Rattle.seh_dispatch.specs.Ends.{over_cpu};
 
-use crate::outcome::Outcome;
+use crate::outcome::TurnOutcome;
 use crate::serving::make;
 use eh_tables::Tables;
 use host_model::funclet::Funclet;
@@ -65,8 +65,8 @@ pub fn advance<S: AddressSpace, V: Events>(
     tell(to, made.first);
     tell(to, made.rest.first);
     match made.rest.outcome {
-        Outcome::Ends(end) => Some(end),
-        Outcome::Continues(event) => {
+        TurnOutcome::Ends(end) => Some(end),
+        TurnOutcome::Continues(event) => {
             tell(to, event);
             let arrived = arrival(funclets, tables.base(), cpu);
             tell(to, arrived);

@@ -10,7 +10,7 @@ ghost use Rattle.host_model.specs.Dispatch as spec;
 ghost use Rattle.seh_dispatch.specs.Outcomes.{turn_of, led_turn, made_turn, bad_record};
 
 use crate::dispatching::{accept, begun, search_on, stopped, unwind_on};
-use crate::outcome::{Led, Made, Outcome, all_quiet, quiet};
+use crate::outcome::{Led, Made, TurnOutcome, all_quiet, quiet};
 use eh_tables::{ScopeRecord, Tables};
 use seh_num::code::NONCONTINUABLE_EXCEPTION;
 use seh_num::end::{Reason, RunEnd};
@@ -29,7 +29,7 @@ use x64_memory::space::AddressSpace;
 /// The answers from here on are below 0: the signed numbers of 32 bits whose top bit is set.
 const FIRST_NEGATIVE: u32 = 0x8000_0000;
 
-fn bad(at: u64) -> Outcome
+fn bad(at: u64) -> TurnOutcome
     ensures { result ≡ bad_record at }
 {
     stopped(StopCause {
@@ -60,14 +60,14 @@ fn search_again<S: AddressSpace>(
     space: &mut S,
     at: u64,
     dispatch: &DispatchRecord,
-) -> Outcome
+) -> TurnOutcome
     requires { TablesAreWhole tables.now }
     ensures { turn_of cpu.new (S.memory space.new) result ≡ spec.searched_again
         (functions_of tables.now) (state cpu.old (S.memory space.old)) at dispatch.now }
 {
     let new = again(dispatch);
     match rewrite(space, at, &new) {
-        Err(guard) => Outcome::Ends(RunEnd::StackLimit {
+        Err(guard) => TurnOutcome::Ends(RunEnd::StackLimit {
             address: guard.address,
         }),
         Ok(()) => search_on(tables, cpu, space, at, &new),
@@ -102,7 +102,7 @@ fn jump<S: AddressSpace>(
     space: &mut S,
     at: u64,
     dispatch: &DispatchRecord,
-) -> Outcome
+) -> TurnOutcome
     requires { TablesAreWhole tables.now }
     ensures { turn_of cpu.new (S.memory space.new) result
         ≡ spec.jumping (functions_of tables.now) (state cpu.old (S.memory space.old))
@@ -135,7 +135,7 @@ fn continue_execution<S: AddressSpace>(
 {
     if dispatch.flags % 2 == 0 {
         *cpu = dispatch.saved;
-        return quiet(Outcome::Continues(None));
+        return quiet(TurnOutcome::Continues(None));
     }
     let outcome = search_again(tables, cpu, space, at, dispatch);
     Led {
@@ -199,7 +199,7 @@ pub fn filter_return<S: AddressSpace>(tables: &Tables, cpu: &mut Cpu, space: &mu
 }
 
 /// The return of a `__finally` block: its unwinding continues.
-pub fn finally_return<S: AddressSpace>(tables: &Tables, cpu: &mut Cpu, space: &mut S) -> Outcome
+pub fn finally_return<S: AddressSpace>(tables: &Tables, cpu: &mut Cpu, space: &mut S) -> TurnOutcome
     requires { TablesAreWhole tables.now }
     ensures { turn_of cpu.new (S.memory space.new) result
         ≡ spec.finally_returned (functions_of tables.now) (state cpu.old (S.memory space.old))

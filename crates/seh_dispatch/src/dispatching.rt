@@ -8,7 +8,7 @@ ghost use Rattle.x64_machine.specs.Effect.{state};
 ghost use Rattle.host_model.specs.Dispatch as spec;
 ghost use Rattle.seh_dispatch.specs.Outcomes.{turn_of, stopped_outcome};
 
-use crate::outcome::Outcome;
+use crate::outcome::TurnOutcome;
 use eh_tables::Tables;
 use host_layout::service::{FILTER_RETURN_AT, FINALLY_RETURN_AT};
 use seh_num::end::RunEnd;
@@ -29,10 +29,10 @@ use x64_machine::cpu::{Cpu, Flags};
 use x64_memory::space::AddressSpace;
 
 /// A run that can't continue.
-pub fn stopped(why: StopCause) -> Outcome
+pub fn stopped(why: StopCause) -> TurnOutcome
     ensures { result ≡ stopped_outcome why }
 {
-    Outcome::Ends(RunEnd::Stopped {
+    TurnOutcome::Ends(RunEnd::Stopped {
         why: why.reason,
         address: why.address,
     })
@@ -110,18 +110,18 @@ fn land<S: AddressSpace>(
     space: &S,
     dispatch: &DispatchRecord,
     context: &Context,
-) -> Outcome
+) -> TurnOutcome
     ensures { turn_of cpu.new (S.memory space.now) result
         ≡ spec.land (state cpu.old (S.memory space.now)) dispatch.now context.now }
 {
     match dispatch.kind {
         Kind::ExceptionUnwind => {
             *cpu = landed(context, dispatch.code.0 as u64, dispatch.target);
-            Outcome::Continues(Some(Event::Except(dispatch.code)))
+            TurnOutcome::Continues(Some(Event::Except(dispatch.code)))
         }
         _ => {
             *cpu = landed(context, 0, dispatch.target);
-            Outcome::Continues(None)
+            TurnOutcome::Continues(None)
         }
     }
 }
@@ -134,7 +134,7 @@ pub fn unwind_on<S: AddressSpace>(
     space: &mut S,
     at: u64,
     dispatch: &DispatchRecord,
-) -> Outcome
+) -> TurnOutcome
     requires { TablesAreWhole tables.now }
     ensures { turn_of cpu.new (S.memory space.new) result ≡ spec.unwinds_on
         (functions_of tables.now) (state cpu.old (S.memory space.old)) at dispatch.now }
@@ -148,12 +148,12 @@ pub fn unwind_on<S: AddressSpace>(
             row,
             walk,
         } => match rewrite(space, at, &in_hand(dispatch, frame, row, &walk)) {
-            Err(guard) => Outcome::Ends(RunEnd::StackLimit {
+            Err(guard) => TurnOutcome::Ends(RunEnd::StackLimit {
                 address: guard.address,
             }),
             Ok(()) => {
                 enter(cpu, space, at, FINALLY_RETURN_AT, handler, 1, frame);
-                Outcome::Continues(None)
+                TurnOutcome::Continues(None)
             }
         },
     }
@@ -169,14 +169,14 @@ pub fn accept<S: AddressSpace>(
     dispatch: &DispatchRecord,
     frame: u64,
     target: u64,
-) -> Outcome
+) -> TurnOutcome
     requires { TablesAreWhole tables.now }
     ensures { turn_of cpu.new (S.memory space.new) result ≡ spec.accepted (functions_of tables.now)
         (state cpu.old (S.memory space.old)) at dispatch.now frame target }
 {
     let accepted = accepting(dispatch, frame, target);
     match rewrite(space, at, &accepted) {
-        Err(guard) => Outcome::Ends(RunEnd::StackLimit {
+        Err(guard) => TurnOutcome::Ends(RunEnd::StackLimit {
             address: guard.address,
         }),
         Ok(()) => unwind_on(tables, cpu, space, at, &accepted),
@@ -191,14 +191,14 @@ pub fn search_on<S: AddressSpace>(
     space: &mut S,
     at: u64,
     dispatch: &DispatchRecord,
-) -> Outcome
+) -> TurnOutcome
     requires { TablesAreWhole tables.now }
     ensures { turn_of cpu.new (S.memory space.new) result ≡ spec.searches_on
         (functions_of tables.now) (state cpu.old (S.memory space.old)) at dispatch.now }
 {
     match search(tables, space, dispatch) {
         SearchResult::Stop(why) => stopped(why),
-        SearchResult::Nobody => Outcome::Ends(RunEnd::Unhandled(dispatch.code)),
+        SearchResult::Nobody => TurnOutcome::Ends(RunEnd::Unhandled(dispatch.code)),
         SearchResult::Accept { frame, target } => {
             accept(tables, cpu, space, at, dispatch, frame, target)
         }
@@ -208,13 +208,13 @@ pub fn search_on<S: AddressSpace>(
             row,
             walk,
         } => match rewrite(space, at, &in_hand(dispatch, frame, row, &walk)) {
-            Err(guard) => Outcome::Ends(RunEnd::StackLimit {
+            Err(guard) => TurnOutcome::Ends(RunEnd::StackLimit {
                 address: guard.address,
             }),
             Ok(()) => {
                 let pointers = at.wrapping_add(POINTERS_AT);
                 enter(cpu, space, at, FILTER_RETURN_AT, handler, pointers, frame);
-                Outcome::Continues(None)
+                TurnOutcome::Continues(None)
             }
         },
     }
@@ -274,14 +274,14 @@ pub fn raise<S: AddressSpace>(
     flags: u32,
     access: Option<(bool, u64)>,
     saved: &Cpu,
-) -> Outcome
+) -> TurnOutcome
     requires { TablesAreWhole tables.now }
     ensures { turn_of cpu.new (S.memory space.new) result ≡ spec.raising (functions_of tables.now)
         (state cpu.old (S.memory space.old)) code flags access saved.now }
 {
     let dispatch = new_record(Kind::Search, code, flags, access, saved);
     match place(space, saved.registers[Reg::Rsp as usize], &dispatch) {
-        Err(guard) => Outcome::Ends(RunEnd::StackLimit {
+        Err(guard) => TurnOutcome::Ends(RunEnd::StackLimit {
             address: guard.address,
         }),
         Ok(at) => search_on(tables, cpu, space, at, &dispatch),
@@ -306,14 +306,14 @@ pub fn unwind_locally<S: AddressSpace>(
     frame: u64,
     target: u64,
     saved: &Cpu,
-) -> Outcome
+) -> TurnOutcome
     requires { TablesAreWhole tables.now }
     ensures { turn_of cpu.new (S.memory space.new) result ≡ spec.unwound_locally
         (functions_of tables.now) (state cpu.old (S.memory space.old)) frame target saved.now }
 {
     let dispatch = to_target(saved, frame, target);
     match place(space, saved.registers[Reg::Rsp as usize], &dispatch) {
-        Err(guard) => Outcome::Ends(RunEnd::StackLimit {
+        Err(guard) => TurnOutcome::Ends(RunEnd::StackLimit {
             address: guard.address,
         }),
         Ok(at) => unwind_on(tables, cpu, space, at, &dispatch),

@@ -6,7 +6,7 @@ use seh_num::event::Event;
 
 /// What a part of a turn comes to.
 #[derive(Clone, Copy, Debug, PartialEq, Eq)]
-pub enum Outcome {
+pub enum TurnOutcome {
     /// The run continues, and this is shown.
     Continues(Option<Event>),
     /// The run has ended.
@@ -19,7 +19,7 @@ pub struct Led {
     /// The exception that is raised, where one is.
     pub first: Option<Event>,
     /// What the part of the turn comes to.
-    pub outcome: Outcome,
+    pub outcome: TurnOutcome,
 }
 
 /// A turn: what is shown first, and what follows.
@@ -32,7 +32,7 @@ pub struct Made {
 }
 
 /// Nothing is shown first.
-pub fn quiet(outcome: Outcome) -> Led
+pub fn quiet(outcome: TurnOutcome) -> Led
     ensures { result ≡ spec.quiet outcome }
 {
     Led {
@@ -42,7 +42,7 @@ pub fn quiet(outcome: Outcome) -> Led
 }
 
 /// Nothing is shown first.
-pub fn all_quiet(outcome: Outcome) -> Made
+pub fn all_quiet(outcome: TurnOutcome) -> Made
     ensures { result ≡ spec.all_quiet outcome }
 {
     Made {

@@ -15,7 +15,7 @@ ghost use Rattle.seh_dispatch.specs.Outcomes.{turn_of, led_turn, made_turn, back
 
 use crate::answering::{filter_return, finally_return};
 use crate::dispatching::{raise, stopped, unwind_locally};
-use crate::outcome::{Led, Made, Outcome, all_quiet, quiet};
+use crate::outcome::{Led, Made, TurnOutcome, all_quiet, quiet};
 use eh_tables::Tables;
 use host_layout::service::Service;
 use seh_num::end::{Reason, RunEnd};
@@ -46,7 +46,7 @@ fn back<S: AddressSpace>(cpu: &Cpu, space: &S) -> Option<Cpu>
     }
 }
 
-fn unreadable(cpu: &Cpu) -> Outcome
+fn unreadable(cpu: &Cpu) -> TurnOutcome
     ensures { result
         ≡ stopped_outcome (record { reason = reasons.Unreadable; address = register cpu.now Rsp }) }
 {
@@ -58,7 +58,7 @@ fn unreadable(cpu: &Cpu) -> Outcome
 
 /// Shows the number in RCX.
 #[tactic(auto, using(crate::proofs::Returning::returning_steps))]
-fn put<S: AddressSpace>(cpu: &mut Cpu, space: &S) -> Outcome
+fn put<S: AddressSpace>(cpu: &mut Cpu, space: &S) -> TurnOutcome
     ensures { turn_of cpu.new (S.memory space.now) result
         ≡ spec.put (state cpu.old (S.memory space.now)) }
 {
@@ -67,14 +67,14 @@ fn put<S: AddressSpace>(cpu: &mut Cpu, space: &S) -> Outcome
         Some(after) => {
             let value = sign_extend(Width::W64, cpu.register(Reg::Rcx));
             *cpu = after;
-            Outcome::Continues(Some(Event::Put(value)))
+            TurnOutcome::Continues(Some(Event::Put(value)))
         }
     }
 }
 
 /// Sets the rights of a page of the arena.
 #[tactic(auto, using(crate::proofs::Returning::returning_steps))]
-fn protect<S: AddressSpace>(cpu: &mut Cpu, space: &mut S) -> Outcome
+fn protect<S: AddressSpace>(cpu: &mut Cpu, space: &mut S) -> TurnOutcome
     ensures { turn_of cpu.new (S.memory space.new) result
         ≡ spec.returning (state cpu.old (S.memory space.old))
         (spec.protecting (state cpu.old (S.memory space.old))) }
@@ -87,7 +87,7 @@ fn protect<S: AddressSpace>(cpu: &mut Cpu, space: &mut S) -> Outcome
             let answer = if space.protect(at, protection) { 1 } else { 0 };
             *cpu = after;
             cpu.set_register(Width::W64, Reg::Rax, answer);
-            Outcome::Continues(None)
+            TurnOutcome::Continues(None)
         }
     }
 }
@@ -137,7 +137,7 @@ fn raise_exception<S: AddressSpace>(tables: &Tables, cpu: &mut Cpu, space: &mut 
 
 /// Unwinds to the target in RDX of the frame in RCX.
 #[tactic(auto, using(crate::proofs::Returning::returning_steps))]
-fn local_unwind<S: AddressSpace>(tables: &Tables, cpu: &mut Cpu, space: &mut S) -> Outcome
+fn local_unwind<S: AddressSpace>(tables: &Tables, cpu: &mut Cpu, space: &mut S) -> TurnOutcome
     requires { TablesAreWhole tables.now }
     ensures { turn_of cpu.new (S.memory space.new) result ≡ spec.served (functions_of tables.now)
         (state cpu.old (S.memory space.old)) (Some services.LocalUnwind) }
@@ -190,7 +190,7 @@ pub fn make<S: AddressSpace>(tables: &Tables, cpu: &mut Cpu, space: &mut S) -> M
 {
     let rip = cpu.rip;
     match step(cpu, space) {
-        StepOutcome::Next => all_quiet(Outcome::Continues(None)),
+        StepOutcome::Next => all_quiet(TurnOutcome::Continues(None)),
         StepOutcome::Fault { code, access } => {
             let saved = *cpu;
             let rest = raised(tables, cpu, space, code, 0, access, &saved);
@@ -202,7 +202,7 @@ pub fn make<S: AddressSpace>(tables: &Tables, cpu: &mut Cpu, space: &mut S) -> M
             address: rip,
         })),
         StepOutcome::Guard { address } => {
-            all_quiet(Outcome::Ends(RunEnd::StackLimit { address }))
+            all_quiet(TurnOutcome::Ends(RunEnd::StackLimit { address }))
         }
     }
 }

@@ -12,7 +12,7 @@ use Rattle.linear_code.specs.declared.instruction.Instruction.TheVariants.{Jump,
 use Rattle.ir_expressions.specs.declared.scope.Names.{Names}
 use Rattle.ir_expressions.specs.declared.scope.Way.{Way}
 use Rattle.ir_expressions.specs.declared.scope.Way.TheVariants.{Nowhere, Jumps, Unwinds}
-use Rattle.ir_expressions.specs.declared.scope.Scope.{Scope}
+use Rattle.ir_expressions.specs.declared.scope.LoweringContext.{LoweringContext}
 use Rattle.ir_expressions.specs.Scope.{in_loop, in_try, in_except, in_guarded}
 use Rattle.ir_sizes.specs.Sizes.{expression_size, discarded_size, condition_size, returned_size, declared_size, all_declared_size, statement_size, statements_size}
 use Rattle.ir_expressions.specs.Expressions.{copy, expression_code}
@@ -56,7 +56,7 @@ all_declared_length names [] at = refl
 all_declared_length names (d ∷ ds) at = two (declared_code names d at) (all_declared_code names ds (at + declared_size d)) (declared_size d) (all_declared_size ds) (declared_length names d at) (all_declared_length names ds (at + declared_size d))
 
 mutual
-  pub statement_length : (scope : Scope) (s : Statement) (at : ℕ) → length (statement_code scope s at) ≡ statement_size s
+  pub statement_length : (scope : LoweringContext) (s : Statement) (at : ℕ) → length (statement_code scope s at) ≡ statement_size s
   statement_length scope (Declare d) at = declared_length scope.names d at
   statement_length scope (Block ss) at = statements_length scope ss at
   statement_length scope (Evaluate e) at = discarded_length scope.names e at
@@ -108,40 +108,40 @@ mutual
       let inner = in_guarded (at + statements_size body) scope in
       two (statements_code inner body at) (Separator ∷ CallFinally (k - 1) ∷ Separator ∷ []) (statements_size body) 3 (statements_length inner body at) refl
 
-  pub statements_length : (scope : Scope) (ss : Statements) (at : ℕ) → length (statements_code scope ss at) ≡ statements_size ss
+  pub statements_length : (scope : LoweringContext) (ss : Statements) (at : ℕ) → length (statements_code scope ss at) ≡ statements_size ss
   statements_length scope Empty at = refl
   statements_length scope (Then s ss) at = two (statement_code scope s at) (statements_code scope ss (at + statement_size s)) (statement_size s) (statements_size ss) (statement_length scope s at) (statements_length scope ss (at + statement_size s))
 
 -- ---- code after code
 
-after_statement : (scope : Scope) (s : Statement) (old mid new : List Instruction) (more : ℕ → List Instruction) → mid ≡ old ++ statement_code scope s (length old) → new ≡ mid ++ more (length mid) → new ≡ old ++ (statement_code scope s (length old) ++ more (length old + statement_size s))
+after_statement : (scope : LoweringContext) (s : Statement) (old mid new : List Instruction) (more : ℕ → List Instruction) → mid ≡ old ++ statement_code scope s (length old) → new ≡ mid ++ more (length mid) → new ≡ old ++ (statement_code scope s (length old) ++ more (length old + statement_size s))
 after_statement scope s old mid new more h k = after (statement_code scope s (length old)) (statement_size s) old mid new more (statement_length scope s (length old)) h k
 
-after_statements : (scope : Scope) (ss : Statements) (old mid new : List Instruction) (more : ℕ → List Instruction) → mid ≡ old ++ statements_code scope ss (length old) → new ≡ mid ++ more (length mid) → new ≡ old ++ (statements_code scope ss (length old) ++ more (length old + statements_size ss))
+after_statements : (scope : LoweringContext) (ss : Statements) (old mid new : List Instruction) (more : ℕ → List Instruction) → mid ≡ old ++ statements_code scope ss (length old) → new ≡ mid ++ more (length mid) → new ≡ old ++ (statements_code scope ss (length old) ++ more (length old + statements_size ss))
 after_statements scope ss old mid new more h k = after (statements_code scope ss (length old)) (statements_size ss) old mid new more (statements_length scope ss (length old)) h k
 
 -- ---- statements
 
-abbrev Run : Scope → Statement → List Instruction → List Instruction → Type 0
+abbrev Run : LoweringContext → Statement → List Instruction → List Instruction → Type 0
 Run scope s old new = new ≡ old ++ statement_code scope s (length old)
 
-of : (scope : Scope) (s t : Statement) (old new : List Instruction) → s ≡ t → Run scope t old new → Run scope s old new
+of : (scope : LoweringContext) (s t : Statement) (old new : List Instruction) → s ≡ t → Run scope t old new → Run scope s old new
 of scope s t old new e h = subst (λ x. Run scope x old new) (sym e) h
 
-pub when_is : (scope : Scope) (c : Expression) (s : Statement) (size more' : ℕ) (old one two three : List Instruction) → size ≡ statement_size s → one ≡ old ++ expression_code scope.names c 0 (length old) → two ≡ one ++ JumpIfZero (Temporary 0) (length one + (size + more')) ∷ [] → three ≡ two ++ statement_code scope s (length two) → three ≡ old ++ when_code scope c s more' (length old)
+pub when_is : (scope : LoweringContext) (c : Expression) (s : Statement) (size more' : ℕ) (old one two three : List Instruction) → size ≡ statement_size s → one ≡ old ++ expression_code scope.names c 0 (length old) → two ≡ one ++ JumpIfZero (Temporary 0) (length one + (size + more')) ∷ [] → three ≡ two ++ statement_code scope s (length two) → three ≡ old ++ when_code scope c s more' (length old)
 when_is scope c s size more' old one two three z a b k =
     let h = after_one (JumpIfZero (Temporary 0) (length one + (size + more'))) one two three (λ at. statement_code scope s at) b k in
     after_expression scope.names c 0 old one three (λ at. JumpIfZero (Temporary 0) (at + (statement_size s + more')) ∷ statement_code scope s (at + 1)) a
     (h ∙ ap (λ n. one ++ JumpIfZero (Temporary 0) (length one + (n + more')) ∷ statement_code scope s (length one + 1)) z)
 
-pub if_is : (scope : Scope) (c : Expression) (s : Statement) (x : Statement) (old new : List Instruction) → x ≡ If c s → new ≡ old ++ when_code scope c s 1 (length old) → Run scope x old new
+pub if_is : (scope : LoweringContext) (c : Expression) (s : Statement) (x : Statement) (old new : List Instruction) → x ≡ If c s → new ≡ old ++ when_code scope c s 1 (length old) → Run scope x old new
 if_is scope c s x old new is a =
     let then = length old + expression_size c in
     let e : then + (statement_size s + 1) ≡ then + 1 + statement_size s = omega arith in
     of scope x (If c s) old new is
     (a ∙ ap (λ k. old ++ (expression_code scope.names c 0 (length old) ++ JumpIfZero (Temporary 0) k ∷ statement_code scope s (then + 1))) e)
 
-pub if_else_is : (scope : Scope) (c : Expression) (s t : Statement) (x : Statement) (other : ℕ) (old l1 l2 l3 : List Instruction) → x ≡ IfElse c s t → other ≡ statement_size t → l1 ≡ old ++ when_code scope c s 2 (length old) → l2 ≡ l1 ++ Jump (length l1 + (other + 1)) ∷ [] → l3 ≡ l2 ++ statement_code scope t (length l2) → Run scope x old l3
+pub if_else_is : (scope : LoweringContext) (c : Expression) (s t : Statement) (x : Statement) (other : ℕ) (old l1 l2 l3 : List Instruction) → x ≡ IfElse c s t → other ≡ statement_size t → l1 ≡ old ++ when_code scope c s 2 (length old) → l2 ≡ l1 ++ Jump (length l1 + (other + 1)) ∷ [] → l3 ≡ l2 ++ statement_code scope t (length l2) → Run scope x old l3
 if_else_is scope c s t x other old l1 l2 l3 is z a b k =
     let i = statement_size s in
     let j = statement_size t in
@@ -169,7 +169,7 @@ if_else_is scope c s t x other old l1 l2 l3 is z a b k =
         two (expression_code scope.names c 0 (length old)) (JumpIfZero (Temporary 0) (length old + expression_size c + (statement_size s + 2)) ∷ statement_code scope s (length old + expression_size c + 1)) (expression_size c) (1 + statement_size s) (expression_length scope.names c 0 (length old))
         (more (JumpIfZero (Temporary 0) (length old + expression_size c + (statement_size s + 2))) (statement_code scope s (length old + expression_size c + 1)) (statement_size s) (statement_length scope s (length old + expression_size c + 1)))
 
-pub for_is : (scope : Scope) (ds : List Declared) (first c next : Option Expression) (s : Statement) (nc ns nn turn last again end : ℕ) (old l0 l1 l2 l3 l4 l5 l6 : List Instruction) → nc ≡ condition_size c → ns ≡ statement_size s → nn ≡ discarded_size next → turn ≡ nc + ns → last ≡ nn + 2 → again ≡ length l1 + turn → end ≡ again + last → l0 ≡ old ++ all_declared_code scope.names ds (length old) → l1 ≡ l0 ++ discarded_code scope.names first (length l0) → l2 ≡ l1 ++ condition_code scope.names c end (length l1) → l3 ≡ l2 ++ statement_code (in_loop end again scope) s (length l2) → l4 ≡ l3 ++ Separator ∷ [] → l5 ≡ l4 ++ discarded_code scope.names next (length l4) → l6 ≡ l5 ++ Jump (length l1) ∷ [] → Run scope (For ds first c next s) old l6
+pub for_is : (scope : LoweringContext) (ds : List Declared) (first c next : Option Expression) (s : Statement) (nc ns nn turn last again end : ℕ) (old l0 l1 l2 l3 l4 l5 l6 : List Instruction) → nc ≡ condition_size c → ns ≡ statement_size s → nn ≡ discarded_size next → turn ≡ nc + ns → last ≡ nn + 2 → again ≡ length l1 + turn → end ≡ again + last → l0 ≡ old ++ all_declared_code scope.names ds (length old) → l1 ≡ l0 ++ discarded_code scope.names first (length l0) → l2 ≡ l1 ++ condition_code scope.names c end (length l1) → l3 ≡ l2 ++ statement_code (in_loop end again scope) s (length l2) → l4 ≡ l3 ++ Separator ∷ [] → l5 ≡ l4 ++ discarded_code scope.names next (length l4) → l6 ≡ l5 ++ Jump (length l1) ∷ [] → Run scope (For ds first c next s) old l6
 for_is scope ds first c next s nc0 ns0 nn0 turn last again end old l0 l1 l2 l3 l4 l5 l6 zc zs zn t l a e h0 h1 h2 h3 h4 h5 h6 =
     let names = scope.names in
     let nd = all_declared_size ds in
@@ -194,7 +194,7 @@ for_is scope ds first c next s nc0 ns0 nn0 turn last again end old l0 l1 l2 l3 l
     let g1 = after (discarded_code names first (length l0)) nf l0 l1 l6 (λ at. whole at (at + nc) (at + nc + ns) (at + nc + ns + 1 + nn + 1)) (discarded_length names first (length l0)) h1 g2'' in
     after (all_declared_code names ds (length old)) nd old l0 l6 (λ at. discarded_code names first at ++ whole (at + nf) (at + nf + nc) (at + nf + nc + ns) (at + nf + nc + ns + 1 + nn + 1)) (all_declared_length names ds (length old)) h0 g1
 
-pub do_is : (scope : Scope) (s : Statement) (c : Expression) (size nc0 last again end : ℕ) (old l1 l2 l3 l4 : List Instruction) → size ≡ statement_size s → nc0 ≡ expression_size c → last ≡ nc0 + 3 → again ≡ length old + size → end ≡ again + last → l1 ≡ old ++ statement_code (in_loop end again scope) s (length old) → l2 ≡ l1 ++ Separator ∷ [] → l3 ≡ l2 ++ expression_code scope.names c 0 (length l2) → l4 ≡ l3 ++ repeated end (length old) → Run scope (DoWhile s c) old l4
+pub do_is : (scope : LoweringContext) (s : Statement) (c : Expression) (size nc0 last again end : ℕ) (old l1 l2 l3 l4 : List Instruction) → size ≡ statement_size s → nc0 ≡ expression_size c → last ≡ nc0 + 3 → again ≡ length old + size → end ≡ again + last → l1 ≡ old ++ statement_code (in_loop end again scope) s (length old) → l2 ≡ l1 ++ Separator ∷ [] → l3 ≡ l2 ++ expression_code scope.names c 0 (length l2) → l4 ≡ l3 ++ repeated end (length old) → Run scope (DoWhile s c) old l4
 do_is scope s c size nc0 last again end old l1 l2 l3 l4 z y l a e h1 h2 h3 h4 =
     let names = scope.names in
     let ns = statement_size s in
@@ -208,21 +208,21 @@ do_is scope s c size nc0 last again end old l1 l2 l3 l4 z y l a e h1 h2 h3 h4 =
     let whole = λ (r t : ℕ). statement_code (in_loop t r scope) s at ++ Separator ∷ (expression_code names c 0 (at + ns + 1) ++ repeated t at) in
     g1 ∙ ap (λ k. old ++ whole k end) p ∙ ap (λ k. old ++ whole (at + ns) k) q
 
-pub return_is : (scope : Scope) (e : Option Expression) (old one two : List Instruction) → one ≡ old ++ returned_code scope.names e (length old) → two ≡ one ++ return_code scope.exit → Run scope (Return e) old two
+pub return_is : (scope : LoweringContext) (e : Option Expression) (old one two : List Instruction) → one ≡ old ++ returned_code scope.names e (length old) → two ≡ one ++ return_code scope.exit → Run scope (Return e) old two
 return_is scope e old one two a b = joined old one two (returned_code scope.names e (length old)) (return_code scope.exit) a b
 
 -- the body of a `__try` with the beginning of its `__except` block
-abbrev Tried : Scope → Statements → ℕ → ℕ → List Instruction
+abbrev Tried : LoweringContext → Statements → ℕ → ℕ → List Instruction
 Tried scope body block at =
     statements_code (in_try (at + (statements_size body + (block + 2))) scope) body at ++ landed (at + (statements_size body + (block + 2))) scope.names.free
 
-pub tried_is : (scope : Scope) (body : Statements) (size block rest both end : ℕ) (old l1 l2 : List Instruction) → size ≡ statements_size body → rest ≡ block + 2 → both ≡ size + rest → end ≡ length old + both → l1 ≡ old ++ statements_code (in_try end scope) body (length old) → l2 ≡ l1 ++ landed end scope.names.free → l2 ≡ old ++ Tried scope body block (length old)
+pub tried_is : (scope : LoweringContext) (body : Statements) (size block rest both end : ℕ) (old l1 l2 : List Instruction) → size ≡ statements_size body → rest ≡ block + 2 → both ≡ size + rest → end ≡ length old + both → l1 ≡ old ++ statements_code (in_try end scope) body (length old) → l2 ≡ l1 ++ landed end scope.names.free → l2 ≡ old ++ Tried scope body block (length old)
 tried_is scope body size block rest both end old l1 l2 z w v e h1 h2 =
     let p : end ≡ length old + (statements_size body + (block + 2)) = omega arith in
     joined old l1 l2 (statements_code (in_try end scope) body (length old)) (landed end scope.names.free) h1 h2
     ∙ ap (λ t. old ++ (statements_code (in_try t scope) body (length old) ++ landed t scope.names.free)) p
 
-pub except_is : (scope inner : Scope) (body : Statements) (filter : Filter) (block : Statements) (x : Statement) (size : ℕ) (old l1 l2 : List Instruction) → x ≡ TryExcept body filter block → size ≡ statements_size block → inner ≡ in_except scope → l1 ≡ old ++ Tried scope body size (length old) → l2 ≡ l1 ++ statements_code inner block (length l1) → Run scope x old l2
+pub except_is : (scope inner : LoweringContext) (body : Statements) (filter : Filter) (block : Statements) (x : Statement) (size : ℕ) (old l1 l2 : List Instruction) → x ≡ TryExcept body filter block → size ≡ statements_size block → inner ≡ in_except scope → l1 ≡ old ++ Tried scope body size (length old) → l2 ≡ l1 ++ statements_code inner block (length l1) → Run scope x old l2
 except_is scope inner body filter block x size old l1 l2 is z i h1 h2 =
     let nb = statements_size body in
     let nh = statements_size block in
@@ -231,7 +231,7 @@ except_is scope inner body filter block x size old l1 l2 is z i h1 h2 =
     let free = scope.names.free in
     let front = statements_code (in_try end scope) body at in
     let long = two front (landed end free) nb 2 (statements_length (in_try end scope) body at) refl in
-    let h2' = h2 ∙ ap (λ (k : Scope). l1 ++ statements_code k block (length l1)) i in
+    let h2' = h2 ∙ ap (λ (k : LoweringContext). l1 ++ statements_code k block (length l1)) i in
     let g = after (Tried scope body size at) (nb + 2) old l1 l2 (λ k. statements_code (in_except scope) block k) long h1 h2' in
     let p : end ≡ at + nb + 1 + 1 + nh = omega arith in
     let q : at + (nb + 2) ≡ at + nb + 1 + 1 = omega arith in
@@ -240,7 +240,7 @@ except_is scope inner body filter block x size old l1 l2 is z i h1 h2 =
     (g ∙ ap (λ xs. old ++ xs) (append_assoc front (landed end free) (statements_code (in_except scope) block (at + (nb + 2))))
     ∙ ap (λ t. old ++ whole t (at + (nb + 2))) p ∙ ap (λ k. old ++ whole (at + nb + 1 + 1 + nh) k) q)
 
-pub finally_is : (scope : Scope) (body : Statements) (k : ℕ) (last : Statements) (size end : ℕ) (old one two : List Instruction) → size ≡ statements_size body → end ≡ length old + size → one ≡ old ++ statements_code (in_guarded end scope) body (length old) → two ≡ one ++ Separator ∷ CallFinally (k - 1) ∷ Separator ∷ [] → Run scope (TryFinally body k last) old two
+pub finally_is : (scope : LoweringContext) (body : Statements) (k : ℕ) (last : Statements) (size end : ℕ) (old one two : List Instruction) → size ≡ statements_size body → end ≡ length old + size → one ≡ old ++ statements_code (in_guarded end scope) body (length old) → two ≡ one ++ Separator ∷ CallFinally (k - 1) ∷ Separator ∷ [] → Run scope (TryFinally body k last) old two
 finally_is scope body k last size end old one two z e a b =
     let p : end ≡ length old + statements_size body = omega arith in
     let tail = Separator ∷ CallFinally (k - 1) ∷ Separator ∷ [] in
@@ -249,7 +249,7 @@ finally_is scope body k last size end old one two z e a b =
 
 -- ---- lists, one element after another
 
-more_statements : (scope : Scope) (items : List Stmt) (i : ℕ) (x : Stmt) (at : ℕ) → i < length items → statements_code scope (statements (map statement (take (suc i) items))) at ≡ statements_code scope (statements (map statement (take i items))) at ++ statement_code scope (statement (get_or items i x)) (at + length (statements_code scope (statements (map statement (take i items))) at))
+more_statements : (scope : LoweringContext) (items : List Stmt) (i : ℕ) (x : Stmt) (at : ℕ) → i < length items → statements_code scope (statements (map statement (take (suc i) items))) at ≡ statements_code scope (statements (map statement (take i items))) at ++ statement_code scope (statement (get_or items i x)) (at + length (statements_code scope (statements (map statement (take i items))) at))
 more_statements scope [] i x at lt = absurd (omega arith)
 more_statements scope (y ∷ ys) zero x at lt =
     let e : at ≡ at + 0 = omega arith in
@@ -263,7 +263,7 @@ more_statements scope (y ∷ ys) (suc i) x at lt =
     ap (λ t. front ++ t) h ∙ sym (append_assoc front made (statement_code scope (statement (get_or ys i x)) (at + s + length made)))
     ∙ ap (λ k. (front ++ made) ++ statement_code scope (statement (get_or ys i x)) k) l
 
-pub statements_next : (scope : Scope) (items : List Stmt) (i : ℕ) (x : Stmt) (old mid new : List Instruction) → i < length items → x ≡ get_or items i x → mid ≡ old ++ statements_code scope (statements (map statement (take i items))) (length old) → new ≡ mid ++ statement_code scope (statement x) (length mid) → new ≡ old ++ statements_code scope (statements (map statement (take (i + 1) items))) (length old)
+pub statements_next : (scope : LoweringContext) (items : List Stmt) (i : ℕ) (x : Stmt) (old mid new : List Instruction) → i < length items → x ≡ get_or items i x → mid ≡ old ++ statements_code scope (statements (map statement (take i items))) (length old) → new ≡ mid ++ statement_code scope (statement x) (length mid) → new ≡ old ++ statements_code scope (statements (map statement (take (i + 1) items))) (length old)
 statements_next scope items i x old mid new lt is h k =
     let made = statements_code scope (statements (map statement (take i items))) (length old) in
     let l : length mid ≡ length old + length made = longer old mid made (length made) refl h in

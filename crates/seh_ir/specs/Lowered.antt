@@ -4,7 +4,7 @@ use Rattle.c_checked.specs.Program.{Program, Function}
 use Rattle.linear_code.specs.declared.slot.Slot.TheVariants.{Temporary}
 use Rattle.linear_code.specs.declared.instruction.Instruction.TheVariants.{Return}
 use Rattle.linear_code.specs.Program.{LinearFunction, LinearFunclet, LinearProgram}
-use Rattle.ir_expressions.specs.declared.scope.Scope.{Scope}
+use Rattle.ir_expressions.specs.declared.scope.LoweringContext.{LoweringContext}
 use Rattle.ir_expressions.specs.Scope.{function_scope}
 use Rattle.ir_sizes.specs.Sizes.{statements_size, statements_notes}
 use Rattle.seh_ir.specs.Slots.{body_with}
@@ -21,7 +21,7 @@ abbrev pub all_locals : Function → ℕ
 all_locals f = own_locals f + statements_notes f.body
 
 -- a function returns 0 at its end, and what its first temporary holds at its exit
-abbrev pub scope_of : Function → Scope
+abbrev pub scope_of : Function → LoweringContext
 scope_of f = function_scope (own_locals f) (statements_size f.body + 1)
 
 abbrev pub lowered_function : Function → LinearFunction

@@ -10,7 +10,7 @@ use Rattle.linear_code.specs.declared.instruction.Instruction.{Instruction}
 use Rattle.linear_code.specs.declared.instruction.Instruction.TheVariants.{Compute, Jump, JumpIfZero, CallFinally, LocalUnwind, Landing, Separator, Return}
 use Rattle.ir_expressions.specs.declared.scope.Names.{Names}
 use Rattle.ir_expressions.specs.declared.scope.Way.{Way}
-use Rattle.ir_expressions.specs.declared.scope.Scope.{Scope}
+use Rattle.ir_expressions.specs.declared.scope.LoweringContext.{LoweringContext}
 use Rattle.ir_expressions.specs.declared.scope.Way.TheVariants.{Nowhere, Jumps, Unwinds}
 use Rattle.ir_expressions.specs.Scope.{in_loop, in_try, in_except, in_guarded}
 use Rattle.ir_sizes.specs.Sizes.{expression_size, discarded_size, condition_size, declared_size, all_declared_size, statement_size, statements_size}
@@ -82,7 +82,7 @@ finally_called k = Separator ∷ CallFinally k ∷ Separator ∷ []
 -- ---- statements, placed at an instruction
 
 abbrev mutual
-  pub statement_code : Scope → Statement → ℕ → List Instruction
+  pub statement_code : LoweringContext → Statement → ℕ → List Instruction
   statement_code scope (Declare d) at = declared_code scope.names d at
   statement_code scope (Block ss) at = statements_code scope ss at
   statement_code scope (Evaluate e) at = discarded_code scope.names e at
@@ -134,7 +134,7 @@ abbrev mutual
       statements_code (in_guarded (at + statements_size body) scope) body at
       ++ Separator ∷ CallFinally (k - 1) ∷ Separator ∷ []
 
-  pub statements_code : Scope → Statements → ℕ → List Instruction
+  pub statements_code : LoweringContext → Statements → ℕ → List Instruction
   statements_code scope Empty at = []
   statements_code scope (Then s ss) at =
       statement_code scope s at ++ statements_code scope ss (at + statement_size s)
@@ -142,7 +142,7 @@ abbrev mutual
 -- ---- parts of statements, placed at an instruction
 
 -- a condition, and a statement with a jump over it, and so many instructions more, where it is 0
-abbrev pub when_code : Scope → Expression → Statement → ℕ → ℕ → List Instruction
+abbrev pub when_code : LoweringContext → Expression → Statement → ℕ → ℕ → List Instruction
 when_code scope c s more at =
     let then = at + expression_size c in
     expression_code scope.names c 0 at
@@ -150,7 +150,7 @@ when_code scope c s more at =
     ∷ statement_code scope s (then + 1)
 
 -- the body of a `__try` with an `__except` block of this size, and the beginning of that block
-abbrev pub tried_code : Scope → Statements → ℕ → ℕ → List Instruction
+abbrev pub tried_code : LoweringContext → Statements → ℕ → ℕ → List Instruction
 tried_code scope body block at =
     let end = at + (statements_size body + (block + 2)) in
     statements_code (in_try end scope) body at ++ landed end scope.names.free

@@ -14,7 +14,7 @@ use crate::statements::statements;
 use c_checked::checked::Checked;
 use c_checked::function::Function;
 use ir_expressions::instructions::{constant, put_all};
-use ir_expressions::scope::{ExceptionSource, Names, Scope, Way};
+use ir_expressions::scope::{ExceptionSource, LoweringContext, Names, Way};
 use ir_sizes::statement_sizes::{statements_notes, statements_size};
 use ir_sizes::sums::sum;
 use linear_code::instruction::Instruction;
@@ -34,12 +34,12 @@ fn all_locals(f: &Function) -> Result<u64, AllocError>
     sum(own_locals(f)?, statements_notes(&f.body)?)
 }
 
-fn scope_of(f: &Function) -> Result<Scope, AllocError>
+fn scope_of(f: &Function) -> Result<LoweringContext, AllocError>
     ensures { IfOk result (λ s. s ≡ spec.scope_of (programs.function f.now)) }
 {
     let free = own_locals(f)?;
     let exit = sum(statements_size(&f.body)?, 1)?;
-    Ok(Scope {
+    Ok(LoweringContext {
         names: Names {
             exception: ExceptionSource::NoException,
             abnormal: None,

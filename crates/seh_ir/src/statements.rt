@@ -14,7 +14,7 @@ use c_operations::operation::{Operation, Pure};
 use ir_expressions::expressions::expression;
 use ir_expressions::instructions::{ahead, constant, copy, put, put_all};
 use ir_expressions::pieces::{skip, test};
-use ir_expressions::scope::{Names, Scope, Way, in_except, in_guarded, in_loop, in_try};
+use ir_expressions::scope::{LoweringContext, Names, Way, in_except, in_guarded, in_loop, in_try};
 use ir_sizes::sizes::expression_size;
 use ir_sizes::statement_sizes::{condition_size, discarded_size, statement_size, statements_size};
 use ir_sizes::sums::sum;
@@ -110,7 +110,7 @@ fn returned(
 /// A `return`.
 fn leave_function(
     code: &mut Vec<Instruction>,
-    scope: &Scope,
+    scope: &LoweringContext,
     expr: &Option<Expr>,
 ) -> Result<(), AllocError>
     ensures { OnOk result (Places code.old code.new
@@ -225,7 +225,7 @@ fn end_do(code: &mut Vec<Instruction>, end: u64, begin: u64) -> Result<(), Alloc
 #[cycle(statements)]
 pub fn statements(
     code: &mut Vec<Instruction>,
-    scope: &Scope,
+    scope: &LoweringContext,
     stmts: &[Stmt],
 ) -> Result<(), AllocError>
     ensures { OnOk result (Places code.old code.new
@@ -242,7 +242,7 @@ pub fn statements(
 #[cycle(statements)]
 fn when(
     code: &mut Vec<Instruction>,
-    scope: &Scope,
+    scope: &LoweringContext,
     then: &Stmt,
     condition: &Expr,
     more: u64,
@@ -260,7 +260,7 @@ fn when(
 #[cycle(statements)]
 fn for_loop(
     code: &mut Vec<Instruction>,
-    scope: &Scope,
+    scope: &LoweringContext,
     body: &Stmt,
     declared: &[Declared],
     first: &Option<Expr>,
@@ -291,7 +291,7 @@ fn for_loop(
 #[cycle(statements)]
 fn do_loop(
     code: &mut Vec<Instruction>,
-    scope: &Scope,
+    scope: &LoweringContext,
     body: &Stmt,
     condition: &Expr,
 ) -> Result<(), AllocError>
@@ -315,7 +315,7 @@ fn do_loop(
 #[cycle(statements)]
 fn tried(
     code: &mut Vec<Instruction>,
-    scope: &Scope,
+    scope: &LoweringContext,
     body: &[Stmt],
     block: u64,
 ) -> Result<(), AllocError>
@@ -334,7 +334,7 @@ fn tried(
 #[cycle(statements)]
 fn try_finally(
     code: &mut Vec<Instruction>,
-    scope: &Scope,
+    scope: &LoweringContext,
     body: &[Stmt],
     number: u32,
 ) -> Result<(), AllocError>
@@ -351,7 +351,11 @@ fn try_finally(
 
 /// A loop (C11, 6.8.5) or a `__try`.
 #[cycle(statements)]
-fn loop_or_try(code: &mut Vec<Instruction>, scope: &Scope, stmt: &Stmt) -> Result<(), AllocError>
+fn loop_or_try(
+    code: &mut Vec<Instruction>,
+    scope: &LoweringContext,
+    stmt: &Stmt,
+) -> Result<(), AllocError>
     requires { is_loop_or_try (statements.statement stmt.now) ≡ true }
     ensures { OnOk result (Places code.old code.new
         (spec.statement_code scope.now (statements.statement stmt.now))) }
@@ -377,7 +381,11 @@ fn loop_or_try(code: &mut Vec<Instruction>, scope: &Scope, stmt: &Stmt) -> Resul
 }
 
 #[cycle(statements)]
-fn statement(code: &mut Vec<Instruction>, scope: &Scope, stmt: &Stmt) -> Result<(), AllocError>
+fn statement(
+    code: &mut Vec<Instruction>,
+    scope: &LoweringContext,
+    stmt: &Stmt,
+) -> Result<(), AllocError>
     ensures { OnOk result (Places code.old code.new
         (spec.statement_code scope.now (statements.statement stmt.now))) }
 {

@@ -4,7 +4,7 @@ use Rattle.std.specs.Prelude.{true, false, nat_eq, length, slice_get, take, get_
 use Rattle.c_operations.specs.declared.built_in.BuiltIn.{BuiltIn}
 use Rattle.c_operations.specs.declared.built_in.BuiltIn.TheVariants.{Put, Protect, RaiseException}
 use Rattle.c_operations.specs.declared.operation.Operation.{Operation}
-use Rattle.c_operations.specs.Performed.{Outcome, Gives, Raises, Undefined, performed}
+use Rattle.c_operations.specs.Performed.{OperationResult, Gives, Raises, Undefined, performed}
 use Rattle.c_model.specs.declared.ended.Ended.TheVariants as ends
 use Rattle.c_model.specs.Source.{is_reserved}
 use Rattle.c_model.specs.Expressions.{field_of, raised}
@@ -82,7 +82,7 @@ module _ (program : LinearProgram) (whole : IsWhole program) (sets : BodyName �
   leads : (i : Instruction) → instruction_at program c ≡ Some i → Leads program sets c.frame.body c.frame.next i
   leads i at = goes.leads program sets recorded marks i c c.frame i at
 
-  computed_turn : (to : Slot) (o : Operation) (first second : Slot) (a b : ℕ) (r : Outcome) → instruction_at program c ≡ Some (instructions.Compute to o first second) → operand (is_constant o) c first ≡ Some a → operand (is_constant o) c second ≡ Some b
+  computed_turn : (to : Slot) (o : Operation) (first second : Slot) (a b : ℕ) (r : OperationResult) → instruction_at program c ≡ Some (instructions.Compute to o first second) → operand (is_constant o) c first ≡ Some a → operand (is_constant o) c second ≡ Some b
       → performed (is_reserved program.globals) o a b c.store.memory ≡ r → Turn (Ok (instructions.Compute to o first second)) (λ next. computed program next to c r)
   computed_turn to o first second a b (Gives v memory) at e f g =
       let i = instructions.Compute to o first second in

@@ -10,7 +10,7 @@ use Rattle.linear_code.specs.declared.instruction.Instruction.TheVariants.{Jump,
 use Rattle.linear_code.specs.Program.{LinearProgram}
 use Rattle.linear_machine.specs.Frames.{BodyName}
 use Rattle.ir_sizes.specs.Sizes.{expression_size, returned_size, statement_size, statements_size}
-use Rattle.ir_expressions.specs.declared.scope.Scope.{Scope}
+use Rattle.ir_expressions.specs.declared.scope.LoweringContext.{LoweringContext}
 use Rattle.ir_expressions.specs.Expressions.{expression_code}
 use Rattle.seh_ir.specs.Statements.{returned_code, return_code, statement_code, statements_code}
 use Rattle.ir_expressions.proofs.Codes.{expression_length}
@@ -25,7 +25,7 @@ use Rattle.set_locals.proofs.Fine.{IsAround}
 use Rattle.set_locals.proofs.Shapes.{statement_long, statements_long, grows, statement_first, statements_first, begins}
 use Rattle.set_locals.proofs.Pieces.{WayIn, return_leads, value_leads, returned_leads, test_leads, from_here}
 
-module _ (linear : LinearProgram) (lists : BodyName → List SeenNames) (name : BodyName) (locals : ℕ) (room : locals_at linear name ≡ locals) (scope : Scope) (before seen : SeenNames) (around : IsAround locals scope.names before seen) where
+module _ (linear : LinearProgram) (lists : BodyName → List SeenNames) (name : BodyName) (locals : ℕ) (room : locals_at linear name ≡ locals) (scope : LoweringContext) (before seen : SeenNames) (around : IsAround locals scope.names before seen) where
   abbrev sets : BodyName → ℕ → SeenNames
   sets n label = set_in (lists n) label
 

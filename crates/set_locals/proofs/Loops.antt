@@ -11,7 +11,7 @@ use Rattle.linear_code.specs.declared.instruction.Instruction.TheVariants.{Jump,
 use Rattle.linear_code.specs.Program.{LinearProgram}
 use Rattle.linear_machine.specs.Frames.{BodyName}
 use Rattle.ir_sizes.specs.Sizes.{expression_size, discarded_size, condition_size, all_declared_size, statement_size}
-use Rattle.ir_expressions.specs.declared.scope.Scope.{Scope}
+use Rattle.ir_expressions.specs.declared.scope.LoweringContext.{LoweringContext}
 use Rattle.ir_expressions.specs.Scope.{in_loop}
 use Rattle.ir_expressions.specs.Expressions.{expression_code}
 use Rattle.seh_ir.specs.Statements.{discarded_code, condition_code, all_declared_code, repeated, statement_code}
@@ -27,7 +27,7 @@ use Rattle.set_locals.proofs.Fine.{IsAround}
 use Rattle.set_locals.proofs.Shapes.{all_declared_long, statement_long, grows, all_grow, statement_first, begins}
 use Rattle.set_locals.proofs.Pieces.{value_leads, discarded_leads, test_leads, condition_leads, all_declared_leads, around_all_declared, from_here}
 
-module _ (linear : LinearProgram) (lists : BodyName → List SeenNames) (name : BodyName) (locals : ℕ) (room : locals_at linear name ≡ locals) (scope : Scope) (before seen : SeenNames) (around : IsAround locals scope.names before seen) where
+module _ (linear : LinearProgram) (lists : BodyName → List SeenNames) (name : BodyName) (locals : ℕ) (room : locals_at linear name ≡ locals) (scope : LoweringContext) (before seen : SeenNames) (around : IsAround locals scope.names before seen) where
   abbrev sets : BodyName → ℕ → SeenNames
   sets n label = set_in (lists n) label
 
@@ -61,7 +61,7 @@ module _ (linear : LinearProgram) (lists : BodyName → List SeenNames) (name : 
   abbrev pub for_out : List Declared → Option Expression → Option Expression → Option Expression → Statement → ℕ → ℕ
   for_out ds first c next s at = for_again ds first c s at + 1 + discarded_size next + 1
 
-  for_leads : (scope' : sound.Scope) (ds : List Declared) (first c next : Option Expression) (s : Statement) (at begin iteration start again step : ℕ)
+  for_leads : (scope' : sound.TypingContext) (ds : List Declared) (first c next : Option Expression) (s : Statement) (at begin iteration start again step : ℕ)
       → begin ≡ at + all_declared_size ds → iteration ≡ begin + discarded_size first → start ≡ iteration + condition_size c → again ≡ start + statement_size s → step ≡ again + 1 + discarded_size next
       → length scope'.sizes ≤ locals → all_declared_sound scope' ds ≡ true → all_declared_within before ds ≡ true
       → optional_within (after_all_declared before ds) first ≡ true → optional_within (after_all_declared before ds) c ≡ true → optional_within (after_all_declared before ds) next ≡ true
@@ -97,7 +97,7 @@ module _ (linear : LinearProgram) (lists : BodyName → List SeenNames) (name : 
             (from_here linear lists name step iteration inner (last.inside step (omega arith) (omega arith)) recorded_iteration, tt),
       ))))
 
-  pub for_parts : (scope' : sound.Scope) (ds : List Declared) (first c next : Option Expression) (s : Statement) (at : ℕ) → length scope'.sizes ≤ locals → all_declared_sound scope' ds ≡ true → all_declared_within before ds ≡ true
+  pub for_parts : (scope' : sound.TypingContext) (ds : List Declared) (first c next : Option Expression) (s : Statement) (at : ℕ) → length scope'.sizes ≤ locals → all_declared_sound scope' ds ≡ true → all_declared_within before ds ≡ true
       → optional_within (after_all_declared before ds) first ≡ true → optional_within (after_all_declared before ds) c ≡ true → optional_within (after_all_declared before ds) next ≡ true
       → At at (statement_sets free seen (For ds first c next s)) → IsRecordedAt (at + statement_size (For ds first c next s)) seen
       → LoopParts (after_all_declared seen ds) s (for_start ds first c at) (for_again ds first c s at) (for_out ds first c next s at) (statement_code scope (For ds first c next s) at) at

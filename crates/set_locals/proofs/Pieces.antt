@@ -58,10 +58,10 @@ around_declared locals names before seen x lt a = record {
   flag = flag_kept seen (with_local x seen) names.abnormal (sees_before seen x) a.flag;
 }
 
-pub declared_small : (s : sound.Scope) (d : Declared) (locals : ℕ) → length s.sizes ≤ locals → declared_sound s d ≡ true → d.local < locals
+pub declared_small : (s : sound.TypingContext) (d : Declared) (locals : ℕ) → length s.sizes ≤ locals → declared_sound s d ≡ true → d.local < locals
 declared_small s d locals le ok = let lt = ltb-true d.local (length s.sizes) (both_left _ _ ok) in omega arith
 
-pub around_all_declared : (locals : ℕ) (names : Names) (s : sound.Scope) (ds : List Declared) (before seen : SeenNames) → length s.sizes ≤ locals → all_declared_sound s ds ≡ true → IsAround locals names before seen
+pub around_all_declared : (locals : ℕ) (names : Names) (s : sound.TypingContext) (ds : List Declared) (before seen : SeenNames) → length s.sizes ≤ locals → all_declared_sound s ds ≡ true → IsAround locals names before seen
     → IsAround locals names (after_all_declared before ds) (after_all_declared seen ds)
 around_all_declared locals names s [] before seen le ok a = a
 around_all_declared locals names s (d ∷ ds) before seen le ok a =
@@ -178,7 +178,7 @@ module _ (linear : LinearProgram) (lists : BodyName → List SeenNames) (name : 
 
   -- ---- declarations
 
-  module _ (locals : ℕ) (room : locals_at linear name ≡ locals) (names : Names) (s : sound.Scope) (fits : length s.sizes ≤ locals) where
+  module _ (locals : ℕ) (room : locals_at linear name ≡ locals) (names : Names) (s : sound.TypingContext) (fits : length s.sizes ≤ locals) where
     pub declared_leads : (d : Declared) (before seen : SeenNames) (at : ℕ) → IsAround locals names before seen → declared_sound s d ≡ true → declared_within before d ≡ true → At at (declared_sets seen d) → IsRecordedAt (at + declared_size d) (after_declared seen d)
         → Lead at (declared_code names d at)
     declared_leads d before seen at a ok w h end =

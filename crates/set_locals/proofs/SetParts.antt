@@ -22,7 +22,7 @@ use Rattle.linear_runs.proofs.Ranges.{Range, part_of, both_parts, no_part, one_p
 use Rattle.ir_sizes.specs.Sizes.{expression_size, discarded_size, statement_size, statements_size, statement_notes, statements_notes}
 use Rattle.seh_ir.specs.declared.funclets.Owner.{Owner}
 use Rattle.ir_expressions.specs.declared.scope.Names.{Names}
-use Rattle.ir_expressions.specs.declared.scope.Scope.{Scope}
+use Rattle.ir_expressions.specs.declared.scope.LoweringContext.{LoweringContext}
 use Rattle.ir_expressions.specs.Scope.{except_names, filter_names, finally_names, finally_scope, in_loop, in_try, in_except, in_guarded}
 use Rattle.ir_expressions.specs.Expressions.{expression_code}
 use Rattle.seh_ir.specs.Statements.{statement_code, statements_code}
@@ -68,7 +68,7 @@ module _ (linear : LinearProgram) (lists : BodyName → List SeenNames) (funclet
   IsGuarded name r = (label : ℕ) → holds label r ≡ true → Guards linear sets name label r.kind
 
   -- whose body a part is in, and what is recorded around it
-  pub record IsPlace (name : BodyName) (owner : Owner) (scope : Scope) (before seen : SeenNames) : Type 0 where
+  pub record IsPlace (name : BodyName) (owner : Owner) (scope : LoweringContext) (before seen : SeenNames) : Type 0 where
     pub owned : owner_of linear name ≡ Some owner.function
     pub room : function_locals (slice_get linear.functions owner.function) ≡ owner.locals
     pub around : IsAround owner.locals scope.names before seen
@@ -104,11 +104,11 @@ module _ (linear : LinearProgram) (lists : BodyName → List SeenNames) (funclet
 
   -- ---- places
 
-  pub locals_are : (name : BodyName) (owner : Owner) (scope : Scope) (before seen : SeenNames) → IsPlace name owner scope before seen → locals_at linear name ≡ owner.locals
+  pub locals_are : (name : BodyName) (owner : Owner) (scope : LoweringContext) (before seen : SeenNames) → IsPlace name owner scope before seen → locals_at linear name ≡ owner.locals
   locals_are name owner scope before seen p = ap (owner_locals linear) p.owned ∙ p.room
 
   -- after a declaration
-  pub more_place : (name : BodyName) (owner : Owner) (scope : Scope) (before seen before' seen' : SeenNames) → IsPart seen seen' → IsAround owner.locals scope.names before' seen' → IsPlace name owner scope before seen → IsPlace name owner scope before' seen'
+  pub more_place : (name : BodyName) (owner : Owner) (scope : LoweringContext) (before seen before' seen' : SeenNames) → IsPart seen seen' → IsAround owner.locals scope.names before' seen' → IsPlace name owner scope before seen → IsPlace name owner scope before' seen'
   more_place name owner scope before seen before' seen' g a p = record {
     owned = p.owned;
     room = p.room;
@@ -119,13 +119,13 @@ module _ (linear : LinearProgram) (lists : BodyName → List SeenNames) (funclet
     leave = label_more linear lists name seen seen' scope.leave g p.leave;
   }
 
-  pub loop_place : (name : BodyName) (owner : Owner) (scope : Scope) (before seen : SeenNames) (end next : ℕ) → IsRecordedAt name end seen → IsRecordedAt name next seen → IsPlace name owner scope before seen → IsPlace name owner (in_loop end next scope) before seen
+  pub loop_place : (name : BodyName) (owner : Owner) (scope : LoweringContext) (before seen : SeenNames) (end next : ℕ) → IsRecordedAt name end seen → IsRecordedAt name next seen → IsPlace name owner scope before seen → IsPlace name owner (in_loop end next scope) before seen
   loop_place name owner scope before seen end next e n p = record { owned = p.owned; room = p.room; around = p.around; exit = p.exit; loop_end = e; loop_next = n; leave = p.leave }
 
-  pub try_place : (name : BodyName) (owner : Owner) (scope : Scope) (before seen : SeenNames) (end : ℕ) → IsRecordedAt name end seen → IsPlace name owner scope before seen → IsPlace name owner (in_try end scope) before seen
+  pub try_place : (name : BodyName) (owner : Owner) (scope : LoweringContext) (before seen : SeenNames) (end : ℕ) → IsRecordedAt name end seen → IsPlace name owner scope before seen → IsPlace name owner (in_try end scope) before seen
   try_place name owner scope before seen end e p = record { owned = p.owned; room = p.room; around = p.around; exit = p.exit; loop_end = p.loop_end; loop_next = p.loop_next; leave = e }
 
-  pub guarded_place : (name : BodyName) (owner : Owner) (scope : Scope) (before seen : SeenNames) (end : ℕ) → IsRecordedAt name end seen → IsPlace name owner scope before seen → IsPlace name owner (in_guarded end scope) before seen
+  pub guarded_place : (name : BodyName) (owner : Owner) (scope : LoweringContext) (before seen : SeenNames) (end : ℕ) → IsRecordedAt name end seen → IsPlace name owner scope before seen → IsPlace name owner (in_guarded end scope) before seen
   guarded_place name owner scope before seen end e p = record {
     owned = p.owned;
     room = p.room;
@@ -136,7 +136,7 @@ module _ (linear : LinearProgram) (lists : BodyName → List SeenNames) (funclet
     leave = e;
   }
 
-  pub except_place : (name : BodyName) (owner : Owner) (scope : Scope) (before seen : SeenNames) → scope.names.free < owner.locals → IsPlace name owner scope before seen → IsPlace name owner (in_except scope) before (with_local scope.names.free seen)
+  pub except_place : (name : BodyName) (owner : Owner) (scope : LoweringContext) (before seen : SeenNames) → scope.names.free < owner.locals → IsPlace name owner scope before seen → IsPlace name owner (in_except scope) before (with_local scope.names.free seen)
   except_place name owner scope before seen lt p =
       let free = scope.names.free in
       let more = with_local free seen in
@@ -208,7 +208,7 @@ module _ (linear : LinearProgram) (lists : BodyName → List SeenNames) (funclet
   pub in_region : (begin end label : ℕ) (kind : RegionKind) → holds label (region begin end kind) ≡ true → (begin ≤ label) × (label < end)
   in_region begin end label kind h = (leb-true begin label (both_left _ _ h), ltb-true label end (both_right _ _ h))
 
-  pub filter_is_set : (name : BodyName) (owner : Owner) (scope : Scope) (before seen : SeenNames) → IsPlace name owner scope before seen → (f : Filter) (j at target : ℕ) → filter_within before f ≡ true
+  pub filter_is_set : (name : BodyName) (owner : Owner) (scope : LoweringContext) (before seen : SeenNames) → IsPlace name owner scope before seen → (f : Filter) (j at target : ℕ) → filter_within before f ≡ true
       → HasFunclets j (filter_funclets owner (filter_names scope.names) f) (filter_sets seen f) (filter_funclet f) → ((label : ℕ) → at ≤ label → label < target → IsPart seen (sets name label)) → IsRecordedAt name target seen
       → IsGuarded name (region at target (except_kind f target)) × Range IsFine j (j + length (filter_funclet f))
   filter_is_set name owner scope before seen p Always j at target w h above t =
@@ -272,7 +272,7 @@ module _ (linear : LinearProgram) (lists : BodyName → List SeenNames) (funclet
     of_filter : HasFunclets (j + length (funclets body)) (filter_funclets owner (filter_names names) filter) (filter_sets seen filter) (filter_funclet filter)
     of_block : HasFunclets (j + length (funclets body) + length (filter_funclet filter)) (statements_funclets owner (except_names names) block) (statements_funclet_sets (names.free + 1) (with_local names.free seen) block) (funclets block)
 
-  except_funclets : (j : ℕ) (owner : Owner) (scope : Scope) (seen : SeenNames) (body : Statements) (filter : Filter) (block : Statements)
+  except_funclets : (j : ℕ) (owner : Owner) (scope : LoweringContext) (seen : SeenNames) (body : Statements) (filter : Filter) (block : Statements)
       → HasFunclets j (statement_funclets owner scope.names (TryExcept body filter block)) (statement_funclet_sets scope.names.free seen (TryExcept body filter block)) (funclets_in (TryExcept body filter block))
       → ExceptFunclets j owner scope.names seen body filter block
   except_funclets j owner scope seen body filter block f =
@@ -303,7 +303,7 @@ module _ (linear : LinearProgram) (lists : BodyName → List SeenNames) (funclet
     recorded : slice_get funclet_lists (k - 1) ≡ Some (finally_sets names.free seen last)
     of_last : HasFunclets (j + length (funclets body) + 1) (statements_funclets (in_funclet (k - 1) owner) (finally_names names) last) (statements_funclet_sets (names.free + 1) (with_local names.free seen) last) (funclets last)
 
-  finally_funclets : (j : ℕ) (owner : Owner) (scope : Scope) (seen : SeenNames) (body : Statements) (k : ℕ) (last : Statements)
+  finally_funclets : (j : ℕ) (owner : Owner) (scope : LoweringContext) (seen : SeenNames) (body : Statements) (k : ℕ) (last : Statements)
       → HasFunclets j (statement_funclets owner scope.names (TryFinally body k last)) (statement_funclet_sets scope.names.free seen (TryFinally body k last)) (funclets_in (TryFinally body k last))
       → FinallyFunclets j owner scope.names seen body k last
   finally_funclets j owner scope seen body k last f =
@@ -347,7 +347,7 @@ module _ (linear : LinearProgram) (lists : BodyName → List SeenNames) (funclet
       part_of IsFine j last j (j + length (ns ++ k ∷ os)) (omega arith) (omega arith) (both_parts IsFine j mid last x (both_parts IsFine mid (mid + 1) last (one_part IsFine mid f) z))
 
   mutual
-    pub statement_is_set : (s : Statement) (name : BodyName) (owner : Owner) (i : Inside) (scope : Scope) (before seen : SeenNames) (at j : ℕ) → IsPlace name owner scope before seen → length i.scope.sizes ≤ owner.locals
+    pub statement_is_set : (s : Statement) (name : BodyName) (owner : Owner) (i : Inside) (scope : LoweringContext) (before seen : SeenNames) (at j : ℕ) → IsPlace name owner scope before seen → length i.scope.sizes ≤ owner.locals
         → scope.names.free + statement_notes s ≤ owner.locals → statement_sound i s ≡ true → statement_within before s ≡ true → IsSegmentAt (lists name) at (statement_sets scope.names.free seen s) → IsRecordedAt name (at + statement_size s) (after_statement seen s)
         → HasFunclets j (statement_funclets owner scope.names s) (statement_funclet_sets scope.names.free seen s) (funclets_in s) → IsSetAt name at (statement_code scope s at) (statement_regions s at) j (j + length (funclets_in s))
     statement_is_set (Declare d) name owner i scope before seen at j p fits notes ok w h end f =
@@ -457,7 +457,7 @@ module _ (linear : LinearProgram) (lists : BodyName → List SeenNames) (funclet
           funclets = block_ranges j (funclets body) k (funclets last) x.funclets fine y.funclets;
         }
 
-    pub statements_are_set : (ss : Statements) (name : BodyName) (owner : Owner) (i : Inside) (scope : Scope) (before seen : SeenNames) (at j : ℕ) → IsPlace name owner scope before seen → length i.scope.sizes ≤ owner.locals
+    pub statements_are_set : (ss : Statements) (name : BodyName) (owner : Owner) (i : Inside) (scope : LoweringContext) (before seen : SeenNames) (at j : ℕ) → IsPlace name owner scope before seen → length i.scope.sizes ≤ owner.locals
         → scope.names.free + statements_notes ss ≤ owner.locals → statements_sound i ss ≡ true → statements_within before ss ≡ true → IsSegmentAt (lists name) at (statements_sets scope.names.free seen ss) → IsRecordedAt name (at + statements_size ss) seen
         → HasFunclets j (statements_funclets owner scope.names ss) (statements_funclet_sets scope.names.free seen ss) (funclets ss) → IsSetAt name at (statements_code scope ss at) (statements_regions ss at) j (j + length (funclets ss))
     statements_are_set Empty name owner i scope before seen at j p fits notes ok w h end f = plain name at [] j tt

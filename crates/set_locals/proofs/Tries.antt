@@ -7,7 +7,7 @@ use Rattle.linear_code.specs.declared.instruction.Instruction.TheVariants.{CallF
 use Rattle.linear_code.specs.Program.{LinearProgram}
 use Rattle.linear_machine.specs.Frames.{BodyName}
 use Rattle.ir_sizes.specs.Sizes.{statement_size, statements_size}
-use Rattle.ir_expressions.specs.declared.scope.Scope.{Scope}
+use Rattle.ir_expressions.specs.declared.scope.LoweringContext.{LoweringContext}
 use Rattle.ir_expressions.specs.Scope.{in_try, in_except, in_guarded}
 use Rattle.seh_ir.specs.Statements.{landed, statement_code, statements_code}
 use Rattle.seh_ir.proofs.StatementCodes.{statements_length}
@@ -21,7 +21,7 @@ use Rattle.set_locals.proofs.Fine.{IsAround}
 use Rattle.set_locals.proofs.Shapes.{statements_long, statements_first, begins}
 use Rattle.set_locals.proofs.Pieces.{from_here}
 
-module _ (linear : LinearProgram) (lists : BodyName → List SeenNames) (name : BodyName) (locals : ℕ) (room : locals_at linear name ≡ locals) (scope : Scope) (before seen : SeenNames) (around : IsAround locals scope.names before seen) where
+module _ (linear : LinearProgram) (lists : BodyName → List SeenNames) (name : BodyName) (locals : ℕ) (room : locals_at linear name ≡ locals) (scope : LoweringContext) (before seen : SeenNames) (around : IsAround locals scope.names before seen) where
   abbrev sets : BodyName → ℕ → SeenNames
   sets n label = set_in (lists n) label
 

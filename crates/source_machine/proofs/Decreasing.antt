@@ -23,7 +23,7 @@ use Rattle.c_model.specs.Tasks as tasks
 use Rattle.c_model.specs.Tasks.{Handler, Task}
 use Rattle.source_machine.specs.Frames as frames
 use Rattle.source_machine.specs.Frames.{Place, Callee, OperandFrame, AssignmentFrame}
-use Rattle.source_machine.specs.Frames.{StatementFrame, SequelFrame, BodyFrame, Frame, Operand}
+use Rattle.source_machine.specs.Frames.{StatementFrame, SequelFrame, BodyFrame, ContinuationFrame, Operand}
 use Rattle.source_machine.specs.Frames.{Assignment, InStatement, Sequel, Body, EndsCall, Lands}
 use Rattle.source_machine.specs.Frames.{Finishes, Next, Over, Give, Start, Begin, Plan, Then, Push}
 use Rattle.source_machine.specs.Plans.{chosen, node_plan, expression_plan, find_plan, pass_plan}
@@ -270,7 +270,7 @@ finish_decreases m k last p Normal = omega arith
 finish_decreases m k last p LeftTry = omega arith
 finish_decreases m k last p how = omega arith
 
-resumed_decreases : (m : Machine) (f : Frame) (how : Result)
+resumed_decreases : (m : Machine) (f : ContinuationFrame) (how : Result)
     → distance (resumed m f how) < at_worth m (worth f + 20)
 resumed_decreases m (Operand f) how =
     value_decreases m (operand_plan f) (operand_worth f + 20) (operand_more f)
@@ -312,7 +312,7 @@ resumed_decreases m (EndsCall n) how = call_decreases m n how
 resumed_decreases m (Lands held block p) how = land_decreases m held block p how
 resumed_decreases m (Finishes k last p) how = finish_decreases m k last p how
 
-given_decreases : (m : Machine) (how : Result) (fs : List Frame)
+given_decreases : (m : Machine) (how : Result) (fs : List ContinuationFrame)
     → distance (given m how fs) < 64 * m.state.steps_left + all_worth fs + 20
 given_decreases m how [] = omega arith
 given_decreases m how (f ∷ fs) =
@@ -359,7 +359,7 @@ put_decreases m (Global access _) a v p = omega arith
 put_decreases m (Indirection access _) a v p = omega arith
 put_decreases m (Element access _ _) a v p = omega arith
 
-operated_decreases : (m : Machine) (o : Operation) (a b : ℕ) (p : Place) (x : performing.Outcome)
+operated_decreases : (m : Machine) (o : Operation) (a b : ℕ) (p : Place) (x : performing.OperationResult)
     → distance (operated m o a b p x) < at_worth m 21
 unfolding plan_worth
 operated_decreases m o a b p (performing.Gives v memory) = omega arith

@@ -19,7 +19,7 @@ use Rattle.seh_num.specs.declared.event.Event.TheVariants as events
 use Rattle.seh_num.specs.Widths.{low}
 use Rattle.source_machine.specs.Frames as frames
 use Rattle.source_machine.specs.Frames.{Place, context_at, OperandFrame, AssignmentFrame}
-use Rattle.source_machine.specs.Frames.{StatementFrame, SequelFrame, BodyFrame, Frame, Operand}
+use Rattle.source_machine.specs.Frames.{StatementFrame, SequelFrame, BodyFrame, ContinuationFrame, Operand}
 use Rattle.source_machine.specs.Frames.{Assignment, InStatement, Sequel, Body, EndsCall, Lands}
 use Rattle.source_machine.specs.Frames.{Finishes, Plan}
 use Rattle.source_machine.specs.Plans.{chosen, operand_plan, assignment_plan, evaluated, branch}
@@ -41,7 +41,7 @@ module _ (program : Program) (d : Does) where
 
   -- ---- an end passes all frames
 
-  ended_frame : (hs : List Handler) (f : Frame) (e : Option Ended) (st : State)
+  ended_frame : (hs : List Handler) (f : ContinuationFrame) (e : Option Ended) (st : State)
       → through program d hs f (Gives (End e) st) ≡ Gives (End e) st
   unfolding with_value and_then in_loop ended_call landing finally_after
   ended_frame hs (Operand f) e st = refl
@@ -53,7 +53,7 @@ module _ (program : Program) (d : Does) where
   ended_frame hs (Lands held block p) e st = refl
   ended_frame hs (Finishes k last p) e st = refl
 
-  ended_all : (hs : List Handler) (fs : List Frame) (e : Option Ended) (st : State)
+  ended_all : (hs : List Handler) (fs : List ContinuationFrame) (e : Option Ended) (st : State)
       → through_all program d hs fs (Gives (End e) st) ≡ Gives (End e) st
   ended_all hs [] e st = refl
   ended_all hs (f ∷ fs) e st =
@@ -243,7 +243,7 @@ module _ (program : Program) (d : Does) where
   finish_keeps m k last p (Value v) = refl
   finish_keeps m k last p other = refl
 
-  resumed_keeps : (m : Machine) (f : Frame) (how : Result)
+  resumed_keeps : (m : Machine) (f : ContinuationFrame) (how : Result)
       → comes (resumed m f how) ≡ from m (through program d m.handlers f (Gives how m.state))
   resumed_keeps m (Operand f) how =
       value_keeps m (operand_plan f) (operand_meaning program d m.handlers f) (operand_keeps m f)
@@ -262,7 +262,7 @@ module _ (program : Program) (d : Does) where
   resumed_keeps m (Lands held block p) how = land_keeps m held block p how
   resumed_keeps m (Finishes k last p) how = finish_keeps m k last p how
 
-  pub given_keeps : (m : Machine) (how : Result) (fs : List Frame)
+  pub given_keeps : (m : Machine) (how : Result) (fs : List ContinuationFrame)
       → comes (given m how fs) ≡ through_all program d m.handlers fs (Gives how m.state)
   given_keeps m how [] = refl
   given_keeps m how (f ∷ fs) =

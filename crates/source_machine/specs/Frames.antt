@@ -116,19 +116,19 @@ pub data BodyFrame : Type 0 where
   EndsForBody : ForLoop → Place → BodyFrame
   EndsDoBody : Statement → Expression → Place → BodyFrame
 
-pub data Frame : Type 0 where
-  Operand : OperandFrame → Frame
-  Assignment : AssignmentFrame → Frame
-  InStatement : StatementFrame → Frame
-  Sequel : SequelFrame → Frame
-  Body : BodyFrame → Frame
+pub data ContinuationFrame : Type 0 where
+  Operand : OperandFrame → ContinuationFrame
+  Assignment : AssignmentFrame → ContinuationFrame
+  InStatement : StatementFrame → ContinuationFrame
+  Sequel : SequelFrame → ContinuationFrame
+  Body : BodyFrame → ContinuationFrame
   -- a call's end: how many activations there were before it
-  EndsCall : ℕ → Frame
+  EndsCall : ℕ → ContinuationFrame
   -- the end of a `__try` with an `__except`, whose handler is the machine's last: what was held
   -- where it was entered, and the block
-  Lands : ℕ → Statements → Place → Frame
+  Lands : ℕ → Statements → Place → ContinuationFrame
   -- the end of a `__try` with a `__finally`
-  Finishes : ℕ → Statements → Place → Frame
+  Finishes : ℕ → Statements → Place → ContinuationFrame
 
 -- what is to be done next
 pub data Next : Type 0 where
@@ -161,4 +161,4 @@ pub data Next : Type 0 where
 -- what is done next, maybe with one more frame on the stack
 pub data Plan : Type 0 where
   Then : Next → Plan
-  Push : Frame → Next → Plan
+  Push : ContinuationFrame → Next → Plan

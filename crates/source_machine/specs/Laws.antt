@@ -6,7 +6,7 @@ use Rattle.c_model.specs.Meaning.{does}
 use Rattle.c_model.specs.Laws.{IsPrefixOf}
 use Rattle.source_machine.specs.Frames as frames
 use Rattle.source_machine.specs.Frames.{OperandFrame, AssignmentFrame, StatementFrame, SequelFrame}
-use Rattle.source_machine.specs.Frames.{Frame, Operand, Assignment, InStatement, Sequel, Body}
+use Rattle.source_machine.specs.Frames.{ContinuationFrame, Operand, Assignment, InStatement, Sequel, Body}
 use Rattle.source_machine.specs.Frames.{EndsCall, Lands, Finishes, Next, Over, Give, Start, Begin}
 use Rattle.source_machine.specs.Machine.{Machine, step}
 use Rattle.source_machine.specs.Waiting.{comes_to}
@@ -52,7 +52,7 @@ statement_worth f = 2
 abbrev pub sequel_worth : SequelFrame → ℕ
 sequel_worth f = 2
 
-abbrev pub worth : Frame → ℕ
+abbrev pub worth : ContinuationFrame → ℕ
 worth (Operand f) = operand_worth f
 worth (Assignment f) = assignment_worth f
 worth (InStatement f) = statement_worth f
@@ -62,7 +62,7 @@ worth (EndsCall n) = 1
 worth (Lands held block p) = 2
 worth (Finishes k last p) = 1
 
-abbrev pub all_worth : List Frame → ℕ
+abbrev pub all_worth : List ContinuationFrame → ℕ
 all_worth [] = 0
 all_worth (f ∷ fs) = worth f + all_worth fs
 

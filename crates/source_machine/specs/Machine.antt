@@ -25,7 +25,7 @@ use Rattle.c_model.specs.Expressions.{of_test, no_exception, raised}
 use Rattle.c_model.specs.Raises.{raise_event}
 use Rattle.c_model.specs.declared.depth.TheConstants.{DEEPEST, TOO_DEEP}
 use Rattle.source_machine.specs.Frames as frames
-use Rattle.source_machine.specs.Frames.{Place, Callee, ForLoop, Frame, Operand, Assignment}
+use Rattle.source_machine.specs.Frames.{Place, Callee, ForLoop, ContinuationFrame, Operand, Assignment}
 use Rattle.source_machine.specs.Frames.{InStatement, Sequel, Body, EndsCall, Lands, Finishes, Next}
 use Rattle.source_machine.specs.Frames.{Over, Give, Start, Begin, Plan, Then, Push}
 use Rattle.source_machine.specs.Plans.{node_plan, expression_plan, find_plan, pass_plan}
@@ -38,7 +38,7 @@ use Rattle.source_machine.specs.Plans.{statement_plan, in_statement_plan, sequel
 pub record Machine : Type 0 where
   pub state : State
   pub handlers : List Handler
-  pub stack : List Frame
+  pub stack : List ContinuationFrame
   pub next : Next
 
 abbrev pub with_next : Machine → Next → Machine
@@ -116,7 +116,7 @@ put m (Global access _) a v p = follow m (store_plan access a v p)
 put m (Indirection access _) a v p = follow m (store_plan access a v p)
 put m (Element access _ _) a v p = follow m (store_plan access a v p)
 
-abbrev pub operated : Machine → Operation → ℕ → ℕ → Place → performing.Outcome → Machine
+abbrev pub operated : Machine → Operation → ℕ → ℕ → Place → performing.OperationResult → Machine
 operated m o a b p (performing.Gives v memory) =
     with_next (at_state m (set_memory m.state memory)) (Give (Value v))
 operated m o a b p (performing.Raises code access) =
@@ -244,7 +244,7 @@ after_body m plan Continued = follow m plan
 after_body m plan Broke = with_next m (Give Normal)
 after_body m plan how = with_next m (Give how)
 
-abbrev pub resumed : Machine → Frame → Result → Machine
+abbrev pub resumed : Machine → ContinuationFrame → Result → Machine
 resumed m (Operand f) how = after_value m (operand_plan f) how
 resumed m (Assignment f) how = after_value m (assignment_plan f) how
 resumed m (InStatement f) how = after_value m (in_statement_plan f) how
@@ -258,11 +258,11 @@ resumed m (Finishes k last p) how = finished m k last p how
 abbrev pub without_last : List Handler → List Handler
 without_last hs = take (length hs - 1) hs
 
-abbrev pub outside : Frame → List Handler → List Handler
+abbrev pub outside : ContinuationFrame → List Handler → List Handler
 outside (Lands held block p) hs = without_last hs
 outside f hs = hs
 
-abbrev pub given : Machine → Result → List Frame → Machine
+abbrev pub given : Machine → Result → List ContinuationFrame → Machine
 given m how [] = over (record m { stack = [] }) how
 given m how (f ∷ fs) = resumed (record m { handlers = outside f m.handlers; stack = fs }) f how
 

@@ -25,7 +25,7 @@ use Rattle.c_model.specs.Meaning.{perform}
 use Rattle.source_machine.specs.Frames as frames
 use Rattle.source_machine.specs.Frames.{Place, context_at, Callee, ForLoop, OperandFrame}
 use Rattle.source_machine.specs.Frames.{AssignmentFrame, StatementFrame, SequelFrame, BodyFrame}
-use Rattle.source_machine.specs.Frames.{Frame, Operand, Assignment, InStatement, Sequel, Body}
+use Rattle.source_machine.specs.Frames.{ContinuationFrame, Operand, Assignment, InStatement, Sequel, Body}
 use Rattle.source_machine.specs.Frames.{EndsCall, Lands, Finishes, Next, Over, Give, Start, Begin}
 use Rattle.source_machine.specs.Plans.{for_task}
 use Rattle.source_machine.specs.Machine.{Machine, outside}
@@ -173,7 +173,7 @@ module _ (program : Program) (d : Does) where
 
   -- ---- frames, with the handlers outside them
 
-  abbrev pub through : List Handler → Frame → Outcome → Outcome
+  abbrev pub through : List Handler → ContinuationFrame → Outcome → Outcome
   through hs (Operand f) o = with_value o (operand_meaning hs f)
   through hs (Assignment f) o = with_value o (assignment_meaning hs f)
   through hs (InStatement f) o = with_value o (in_statement_meaning hs f)
@@ -186,7 +186,7 @@ module _ (program : Program) (d : Does) where
   through hs (Finishes k last p) o =
       finally_after o (λ flag st. d (tasks.RunFinally k last flag) (context_at hs p) st)
 
-  abbrev pub through_all : List Handler → List Frame → Outcome → Outcome
+  abbrev pub through_all : List Handler → List ContinuationFrame → Outcome → Outcome
   through_all hs [] o = o
   through_all hs (f ∷ fs) o = through_all (outside f hs) fs (through (outside f hs) f o)
 
@@ -218,7 +218,7 @@ module _ (program : Program) (d : Does) where
       search d (below level hs) exc (context_at hs p) st
 
   -- what the machine comes to; where the run is over nothing waits any more
-  abbrev pub reaches : List Handler → List Frame → State → Next → Outcome
+  abbrev pub reaches : List Handler → List ContinuationFrame → State → Next → Outcome
   reaches hs fs st (Over how) = Gives how st
   reaches hs fs st next = through_all hs fs (next_meaning hs next st)
 

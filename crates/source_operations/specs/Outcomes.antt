@@ -6,11 +6,11 @@ use Rattle.seh_num.specs.declared.code.TheConstants.{ACCESS_VIOLATION}
 use Rattle.flat_memory.specs.Memory.{Memory, first_refused, may_read, number_at}
 use Rattle.flat_memory.specs.declared.access.RefusedAccess.{RefusedAccess}
 use Rattle.flat_memory.specs.declared.access.RefusedAccess.TheVariants as refused
-use Rattle.c_operations.specs.Performed.{Outcome, Gives, Raises, Undefined, unless_refused}
+use Rattle.c_operations.specs.Performed.{OperationResult, Gives, Raises, Undefined, unless_refused}
 use Rattle.source_operations.specs.declared.performing.Performed.{Performed}
 use Rattle.source_operations.specs.declared.performing.Performed.TheVariants as performed
 
-abbrev pub outcome_of : Performed → Memory → Outcome
+abbrev pub outcome_of : Performed → Memory → OperationResult
 outcome_of (performed.Gives v) m = Gives v m
 outcome_of (performed.Raises code access) m = Raises code access
 outcome_of (performed.Undefined a) m = Undefined a
@@ -20,12 +20,12 @@ is_given (performed.Gives v) = true
 is_given other = false
 
 -- the fault of an access that was refused at an address
-abbrev pub violation : Bool → RefusedAccess → Outcome
+abbrev pub violation : Bool → RefusedAccess → OperationResult
 violation write (refused.Fault a w) = Raises ACCESS_VIOLATION (Some (write, a))
 violation write (refused.Guard a) = Raises ACCESS_VIOLATION (Some (write, a))
 
 -- a load of bytes that aren't reserved
-abbrev pub loaded : Width → ℕ → Memory → Outcome
+abbrev pub loaded : Width → ℕ → Memory → OperationResult
 loaded w at m =
     unless_refused false (first_refused (may_read m) (bytes_of w) at)
     (Gives (low w (number_at m.byte (bytes_of w) at)) m)

@@ -31,16 +31,16 @@ use Rattle.source_plans.specs.declared.frame.Phase.{Phase}
 use Rattle.source_plans.specs.declared.frame.Phase.TheVariants as phases
 use Rattle.source_plans.specs.declared.frame.StatementFrame.{StatementFrame}
 use Rattle.source_plans.specs.declared.frame.StatementFrame.TheVariants as in_statements
-use Rattle.source_plans.specs.declared.frame.Outcome.{Outcome}
-use Rattle.source_plans.specs.declared.frame.Outcome.TheVariants as outcomes
+use Rattle.source_plans.specs.declared.frame.Completion.{Completion}
+use Rattle.source_plans.specs.declared.frame.Completion.TheVariants as outcomes
 use Rattle.source_plans.specs.declared.frame.SequelFrame.{SequelFrame}
 use Rattle.source_plans.specs.declared.frame.SequelFrame.TheVariants as sequels
 use Rattle.source_plans.specs.declared.frame.BodyFrame.{BodyFrame}
 use Rattle.source_plans.specs.declared.frame.BodyFrame.TheVariants as bodies
 use Rattle.source_plans.specs.declared.frame.Waiting.{Waiting}
 use Rattle.source_plans.specs.declared.frame.Waiting.TheVariants as waiting
-use Rattle.source_plans.specs.declared.frame.Frame.{Frame}
-use Rattle.source_plans.specs.declared.frame.Frame.TheVariants as frame_kinds
+use Rattle.source_plans.specs.declared.frame.ContinuationFrame.{ContinuationFrame}
+use Rattle.source_plans.specs.declared.frame.ContinuationFrame.TheVariants as frame_kinds
 use Rattle.source_plans.specs.declared.frame.Finish.{Finish}
 use Rattle.source_plans.specs.declared.frame.Finish.TheVariants as finishes
 use Rattle.source_plans.specs.declared.frame.Action.{Action}
@@ -97,7 +97,7 @@ stepped_of k =
       after = k.after;
     }
 
-abbrev pub result_of : Outcome → Result
+abbrev pub result_of : Completion → Result
 result_of (outcomes.Value v) = Value v
 result_of outcomes.Normal = Normal
 result_of (outcomes.Returned v) = Returned v
@@ -222,7 +222,7 @@ body_frame_of (bodies.EndsForBody k p) = frames.EndsForBody (for_loop_of k) (pla
 body_frame_of (bodies.EndsDoBody s c p) =
     frames.EndsDoBody (statement s.now.value) (expression c.now) (place_of p)
 
-abbrev pub waiting_of : Waiting → frames.Frame
+abbrev pub waiting_of : Waiting → frames.ContinuationFrame
 waiting_of (waiting.Operand f) = frames.Operand (operand_frame_of f)
 waiting_of (waiting.Assignment f) = frames.Assignment (assignment_frame_of f)
 waiting_of (waiting.Statement f) = frames.InStatement (statement_frame_of f)
@@ -234,7 +234,7 @@ waiting_of (waiting.Lands held block p) =
 waiting_of (waiting.Finishes k last p) =
     frames.Finishes k (all_statements last.now.items) (place_of p)
 
-abbrev pub frame_of : Frame → frames.Frame
+abbrev pub frame_of : ContinuationFrame → frames.ContinuationFrame
 frame_of (frame_kinds.Waits w) = waiting_of w
 frame_of (frame_kinds.PassesArgument callee vs es i p) =
     frames.Operand (frames.PassesArgument (callee_of callee) vs.items
@@ -276,7 +276,7 @@ next_of (nexts.Pass callee vs es i p) =
     frames.Pass (callee_of callee) vs.items (arguments_from es.now.items i) (place_of p)
 next_of (nexts.Call callee vs p) = frames.Call (callee_of callee) vs.items (place_of p)
 
-abbrev pub after_push : Option Frame → frames.Next → frames.Plan
+abbrev pub after_push : Option ContinuationFrame → frames.Next → frames.Plan
 after_push None next = frames.Then next
 after_push (Some f) next = frames.Push (frame_of f) next
 

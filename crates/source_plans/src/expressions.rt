@@ -9,8 +9,8 @@ ghost use Rattle.source_plans.specs.Kinds.{IsCompoundAssign, IsIncrement, IsOper
 ghost use Rattle.source_plans.specs.Views.{place_of, plan_of};
 
 use crate::frame::{
-    Action, AssignmentFrame, Callee, Compound, Frame, Next, OperandFrame, Outcome, Phase, Plan,
-    Stepped, Waiting,
+    Action, AssignmentFrame, Callee, Completion, Compound, ContinuationFrame, Next, OperandFrame,
+    Phase, Plan, Stepped, Waiting,
 };
 use crate::place::Place;
 use crate::task::Task;
@@ -27,7 +27,7 @@ pub fn then<'p>(next: Next<'p>) -> Plan<'p>
 }
 
 /// Something is done next, and then a frame continues.
-pub fn push<'p>(frame: Frame<'p>, next: Next<'p>) -> Plan<'p>
+pub fn push<'p>(frame: ContinuationFrame<'p>, next: Next<'p>) -> Plan<'p>
     ensures { plan_of result ≡ frames.Push (views.frame_of frame.entry) (views.next_of next.entry) }
 {
     Plan {
@@ -47,7 +47,7 @@ pub fn start<'p>(task: Task<'p>, place: Place) -> Next<'p>
 pub fn gives<'p>(value: u64) -> Plan<'p>
     ensures { plan_of result ≡ plans.gives value }
 {
-    then(Next::Does(Action::Give(Outcome::Value(value))))
+    then(Next::Does(Action::Give(Completion::Value(value))))
 }
 
 /// An expression is evaluated.
@@ -64,7 +64,7 @@ pub fn operand<'p>(frame: OperandFrame<'p>, expr: &'p Expr, place: Place) -> Pla
         (place_of place) }
 {
     push(
-        Frame::Waits(Waiting::Operand(frame)),
+        ContinuationFrame::Waits(Waiting::Operand(frame)),
         evaluates(expr, place),
     )
 }
@@ -76,7 +76,7 @@ fn located<'p>(frame: AssignmentFrame<'p>, target: &'p Lvalue, place: Place) -> 
         (plans.locates (tree.lvalue target.now) (place_of place)) }
 {
     push(
-        Frame::Waits(Waiting::Assignment(frame)),
+        ContinuationFrame::Waits(Waiting::Assignment(frame)),
         start(Task::Locate(target), place),
     )
 }
@@ -86,7 +86,7 @@ pub fn expression_plan<'p>(expr: &'p Expr, place: Place) -> Plan<'p>
     ensures { plan_of result ≡ plans.expression_plan (tree.expression expr.now) (place_of place) }
 {
     push(
-        Frame::Waits(Waiting::Operand(OperandFrame::Converts(expr.conversion))),
+        ContinuationFrame::Waits(Waiting::Operand(OperandFrame::Converts(expr.conversion))),
         Next::Does(Action::Evaluate(&expr.node, place)),
     )
 }
@@ -120,7 +120,7 @@ fn read_plan<'p>(target: &'p Lvalue, place: Place) -> Plan<'p>
         plans.node_plan (tree.Read (tree.lvalue target.now)) (place_of place) }
 {
     push(
-        Frame::Waits(Waiting::Assignment(AssignmentFrame::ReadsPlace(target, place))),
+        ContinuationFrame::Waits(Waiting::Assignment(AssignmentFrame::ReadsPlace(target, place))),
         Next::Does(Action::Find(target, place)),
     )
 }
@@ -298,7 +298,7 @@ pub fn pass_plan<'p>(
         return then(Next::Call(callee, values, place));
     }
     push(
-        Frame::PassesArgument(callee, values, arguments, next + 1, place),
+        ContinuationFrame::PassesArgument(callee, values, arguments, next + 1, place),
         evaluates(&arguments[next], place),
     )
 }

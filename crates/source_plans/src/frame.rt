@@ -117,7 +117,7 @@ pub enum StatementFrame<'p> {
 
 /// What a part of a program comes to, where the program doesn't end there.
 #[derive(Clone, Copy)]
-pub enum Outcome {
+pub enum Completion {
     Value(u64),
     Normal,
     Returned(u64),
@@ -137,7 +137,7 @@ pub enum SequelFrame<'p> {
     EvaluatesFirst(&'p Option<Expr>, ForLoop<'p>, Place),
     Retries(Operation, u64, u64, Place),
     GivesZero,
-    GivesResult(Outcome),
+    GivesResult(Completion),
     EndsFinally,
 }
 
@@ -167,7 +167,7 @@ pub enum Waiting<'p> {
 
 /// What waits for a result.
 #[derive(Drop)]
-pub enum Frame<'p> {
+pub enum ContinuationFrame<'p> {
     Waits(Waiting<'p>),
     /// The arguments that were evaluated, and the index of the next.
     PassesArgument(Callee, Vec<u64>, &'p Vec<Expr>, usize, Place),
@@ -176,7 +176,7 @@ pub enum Frame<'p> {
 /// How a run ended.
 #[derive(Clone, Copy, Drop)]
 pub enum Finish {
-    Gave(Outcome),
+    Gave(Completion),
     Ended(Ended),
     /// No step was left.
     OutOfSteps,
@@ -187,7 +187,7 @@ pub enum Finish {
 pub enum Action<'p> {
     /// The run is over.
     Over(Finish),
-    Give(Outcome),
+    Give(Completion),
     /// A task, before or after its step.
     Do(Phase, Task<'p>, Place),
     Evaluate(&'p Node, Place),
@@ -223,7 +223,7 @@ pub enum Next<'p> {
 #[derive(Drop)]
 pub struct Plan<'p> {
     /// The frame that is put on the stack first, or None.
-    pub pushed: Option<Frame<'p>>,
+    pub pushed: Option<ContinuationFrame<'p>>,
     /// What is done then.
     pub next: Next<'p>,
 }

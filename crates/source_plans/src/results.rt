@@ -10,8 +10,8 @@ ghost use Rattle.source_plans.specs.Views.{place_of, plan_of};
 
 use crate::expressions::{evaluates, gives, operand, push, start, then};
 use crate::frame::{
-    Action, AssignmentFrame, BodyFrame, Callee, Compound, ForPart, Frame, Next, OperandFrame,
-    Outcome, Plan, SequelFrame, StatementFrame, Stepped, Waiting,
+    Action, AssignmentFrame, BodyFrame, Callee, Completion, Compound, ContinuationFrame, ForPart,
+    Next, OperandFrame, Plan, SequelFrame, StatementFrame, Stepped, Waiting,
 };
 use crate::place::{Exception, NONCONTINUABLE, Place};
 use crate::statements::{branch, ends, first_plan, for_body, iterate, tested};
@@ -117,7 +117,7 @@ fn assignment<'p>(frame: AssignmentFrame<'p>, next: Next<'p>) -> Plan<'p>
     ensures { plan_of result ≡ plans.assignment (views.assignment_frame_of frame.entry)
         (views.next_of next.entry) }
 {
-    push(Frame::Waits(Waiting::Assignment(frame)), next)
+    push(ContinuationFrame::Waits(Waiting::Assignment(frame)), next)
 }
 
 /// The address of an operator's target is there: what is there is read.
@@ -242,7 +242,7 @@ fn answer_plan<'p>(answer: u64, level: usize, exception: Exception, place: Place
     if number == 0 {
         then(Next::Does(Action::Search(level, exception, place)))
     } else if number < 0x8000_0000 {
-        then(Next::Does(Action::Give(Outcome::Target(level, exception))))
+        then(Next::Does(Action::Give(Completion::Target(level, exception))))
     } else if exception.flag {
         then(start(Task::Raise(NONCONTINUABLE), place))
     } else {
@@ -263,7 +263,7 @@ pub fn in_statement_plan<'p>(frame: StatementFrame<'p>, value: u64) -> Plan<'p>
         StatementFrame::Branches(yes, no, place) => branch(value == 0, yes, no, place),
         StatementFrame::For(part, of, place) => for_step(part, value, of, place),
         StatementFrame::TestsDo(body, condition, place) => do_test(value, body, condition, place),
-        StatementFrame::Returns => then(Next::Does(Action::Give(Outcome::Returned(value)))),
+        StatementFrame::Returns => then(Next::Does(Action::Give(Completion::Returned(value)))),
         StatementFrame::EndsFilter => then(Next::Does(Action::Answer(value))),
         StatementFrame::IsAnswered(level, exception, place) => {
             answer_plan(value, level, exception, place)

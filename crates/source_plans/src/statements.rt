@@ -11,7 +11,8 @@ ghost use Rattle.source_plans.specs.Views.{place_of, plan_of};
 
 use crate::expressions::{evaluates, push, start, then};
 use crate::frame::{
-    Action, BodyFrame, ForPart, Frame, Next, Outcome, Plan, SequelFrame, StatementFrame, Waiting,
+    Action, BodyFrame, Completion, ContinuationFrame, ForPart, Next, Plan, SequelFrame,
+    StatementFrame, Waiting,
 };
 use crate::place::Place;
 use crate::task::{ForLoop, Task};
@@ -22,10 +23,10 @@ use c_checked::statement::{Declared, Stmt};
 pub fn ends<'p>() -> Plan<'p>
     ensures { plan_of result ≡ plans.ends }
 {
-    then(Next::Does(Action::Give(Outcome::Normal)))
+    then(Next::Does(Action::Give(Completion::Normal)))
 }
 
-fn leaves<'p>(how: Outcome) -> Plan<'p>
+fn leaves<'p>(how: Completion) -> Plan<'p>
     ensures { plan_of result ≡ frames.Then (frames.Give (views.result_of how)) }
 {
     then(Next::Does(Action::Give(how)))
@@ -45,7 +46,7 @@ pub fn tested<'p>(frame: StatementFrame<'p>, expr: &'p Expr, place: Place) -> Pl
         (place_of place)) }
 {
     push(
-        Frame::Waits(Waiting::Statement(frame)),
+        ContinuationFrame::Waits(Waiting::Statement(frame)),
         evaluates(expr, place),
     )
 }
@@ -78,7 +79,7 @@ pub fn proceed_plan<'p>(stmts: &'p Vec<Stmt>, next: usize, place: Place) -> Plan
         return ends();
     }
     push(
-        Frame::Waits(Waiting::Sequel(SequelFrame::Continues(stmts, next + 1, place))),
+        ContinuationFrame::Waits(Waiting::Sequel(SequelFrame::Continues(stmts, next + 1, place))),
         start(Task::RunListed(stmts, next), place),
     )
 }
@@ -92,7 +93,11 @@ pub fn declare_plan<'p>(declared: &'p Vec<Declared>, next: usize, place: Place) 
         return ends();
     }
     push(
-        Frame::Waits(Waiting::Sequel(SequelFrame::DeclaresRest(declared, next + 1, place))),
+        ContinuationFrame::Waits(Waiting::Sequel(SequelFrame::DeclaresRest(
+            declared,
+            next + 1,
+            place,
+        ))),
         start(Task::Declare(&declared[next]), place),
     )
 }
@@ -123,7 +128,7 @@ pub fn for_body<'p>(of: ForLoop<'p>, place: Place) -> Plan<'p>
     ensures { plan_of result ≡ plans.for_body (views.for_loop_of of.entry) (place_of place) }
 {
     push(
-        Frame::Waits(Waiting::Body(BodyFrame::EndsForBody(of, place))),
+        ContinuationFrame::Waits(Waiting::Body(BodyFrame::EndsForBody(of, place))),
         runs(of.body, place),
     )
 }
@@ -148,7 +153,7 @@ pub fn do_plan<'p>(body: &'p Box<Stmt>, condition: &'p Expr, place: Place) -> Pl
         (frames.Start (tasks.Run (trees.statement body.now.value)) (place_of place)) }
 {
     push(
-        Frame::Waits(Waiting::Body(BodyFrame::EndsDoBody(body, condition, place))),
+        ContinuationFrame::Waits(Waiting::Body(BodyFrame::EndsDoBody(body, condition, place))),
         runs(body, place),
     )
 }
@@ -201,7 +206,7 @@ fn loop_plan<'p>(
         k.condition k.next k.body) (place_of place) }
 {
     push(
-        Frame::Waits(Waiting::Sequel(SequelFrame::EvaluatesFirst(first, of, place))),
+        ContinuationFrame::Waits(Waiting::Sequel(SequelFrame::EvaluatesFirst(first, of, place))),
         Next::Does(Action::DeclareEach(declared, 0, place)),
     )
 }
@@ -215,7 +220,7 @@ fn return_plan<'p>(expr: &'p Option<Expr>, place: Place) -> Plan<'p>
         StatementFrame::Returns,
         expr,
         place,
-        leaves(Outcome::Returned(0)),
+        leaves(Completion::Returned(0)),
     )
 }
 
@@ -226,7 +231,7 @@ fn finally_plan<'p>(body: &'p Vec<Stmt>, number: u32, last: &'p Vec<Stmt>, place
         (views.all_statements last.now.items)) (place_of place) }
 {
     push(
-        Frame::Waits(Waiting::Finishes(number, last, place)),
+        ContinuationFrame::Waits(Waiting::Finishes(number, last, place)),
         start(Task::TryBody(body), place),
     )
 }
@@ -260,9 +265,9 @@ pub fn statement_plan<'p>(stmt: &'p Stmt, place: Place) -> Plan<'p>
         }
         Stmt::Do { body, condition } => then(start(Task::DoIteration { body, condition }, place)),
         Stmt::Return(expr) => return_plan(expr, place),
-        Stmt::Break => leaves(Outcome::Broke),
-        Stmt::Continue => leaves(Outcome::Continued),
-        Stmt::Leave => leaves(Outcome::LeftTry),
+        Stmt::Break => leaves(Completion::Broke),
+        Stmt::Continue => leaves(Completion::Continued),
+        Stmt::Leave => leaves(Completion::LeftTry),
         Stmt::TryExcept {
             body,
             filter,

@@ -5,11 +5,11 @@ use Rattle.c_model.specs.Tasks as tasks
 use Rattle.source_machine.specs.Frames as frames
 use Rattle.source_machine.specs.Frames.{Place, Sequel, Start, Push}
 use Rattle.source_machine.specs.Machine.{Machine, follow, finished}
-use Rattle.source_plans.specs.declared.frame.Outcome.{Outcome}
-use Rattle.source_plans.specs.declared.frame.Outcome.TheVariants as outcomes
+use Rattle.source_plans.specs.declared.frame.Completion.{Completion}
+use Rattle.source_plans.specs.declared.frame.Completion.TheVariants as outcomes
 use Rattle.source_plans.specs.Views.{result_of}
 
-pub finished_other : (m : Machine) (k : ℕ) (last : Statements) (p : Place) (o : Outcome)
+pub finished_other : (m : Machine) (k : ℕ) (last : Statements) (p : Place) (o : Completion)
     → (o ≡ outcomes.Normal → ⊥) → (o ≡ outcomes.LeftTry → ⊥)
     → finished m k last p (result_of o) ≡ follow m
     (Push (Sequel (frames.GivesResult (result_of o))) (Start (tasks.RunFinally k last true) p))

@@ -3,10 +3,10 @@ use Rattle.std.proofs.Common.{◌≡◌, ℕ, List, [], ◌∷◌, ◌++◌, ap,
 use Rattle.std.specs.Prelude.{reverse}
 use Rattle.std.proofs.lemmas.List.{map-append, reverse-append}
 use Rattle.source_machine.specs.Frames as frames
-use Rattle.source_plans.specs.declared.frame.Frame.{Frame}
+use Rattle.source_plans.specs.declared.frame.ContinuationFrame.{ContinuationFrame}
 use Rattle.source_plans.specs.Views.{frame_of}
 
-pub pushed : (fs : List Frame) (f : Frame) → reverse (map frame_of (fs ++ f ∷ [])) ≡ frame_of f
+pub pushed : (fs : List ContinuationFrame) (f : ContinuationFrame) → reverse (map frame_of (fs ++ f ∷ [])) ≡ frame_of f
     ∷ reverse (map frame_of fs)
 pushed fs f =
     ap reverse (map-append frame_of fs (f ∷ []))

@@ -8,7 +8,7 @@ use Rattle.c_model.specs.declared.ended.Ended.TheVariants.{Undefined}
 use Rattle.c_model.specs.State.{Result, Value, End}
 use Rattle.c_model.specs.Tasks as tasks
 use Rattle.source_machine.specs.Frames as frames
-use Rattle.source_machine.specs.Frames.{Place, Frame, Sequel, Give, Start, Push}
+use Rattle.source_machine.specs.Frames.{Place, ContinuationFrame, Sequel, Give, Start, Push}
 use Rattle.source_machine.specs.Machine.{Machine, with_next, follow, over, outside, resumed}
 
 abbrev pub operation_finished : Machine → Operation → ℕ → ℕ → Place → Performed → Machine
@@ -19,5 +19,5 @@ operation_finished m o a b p (performed.Raises code access) =
 operation_finished m o a b p (performed.Undefined at) = over m (End (Some (Undefined at)))
 
 -- a frame's result, where the frame's handler is still there
-abbrev pub resumed_from : Machine → Frame → Result → Machine
+abbrev pub resumed_from : Machine → ContinuationFrame → Result → Machine
 resumed_from m f how = resumed (record m { handlers = outside f m.handlers }) f how

@@ -9,7 +9,7 @@ use Rattle.source_steps.specs.declared.machine.Machine.{Machine as Machine'}
 use Rattle.source_steps.specs.Activations.{frames_of}
 use Rattle.source_plans.specs.Views.{handler_of, frame_of, next_of}
 use Rattle.source_plans.specs.declared.frame.Next.{Next as Next'}
-use Rattle.source_steps.specs.declared.machine.Step.{Step}
+use Rattle.source_steps.specs.declared.machine.MachineStep.{MachineStep}
 
 abbrev pub state_of : Machine' → List Event → State
 state_of m es =
@@ -42,7 +42,7 @@ Moved m m' change next =
     → change (machine_of m x es) ≡ machine_of m' (next_of next) es
 
 -- the same, where the change may show an event
-abbrev pub Showed : Machine' → Machine' → (Machine → Machine) → Step → Type 0
+abbrev pub Showed : Machine' → Machine' → (Machine → Machine) → MachineStep → Type 0
 Showed m m' change step =
     (x : frames.Next) (es : List Event)
     → change (machine_of m x es) ≡ machine_of m' (next_of step.next) (shown_after es step.shown)

@@ -14,7 +14,7 @@ ghost use Rattle.source_plans.specs.Views.{place_of};
 ghost use Rattle.source_steps.specs.Machines.{machine_of, shown_after, Moved, Showed};
 
 use crate::activations::with_zeros;
-use crate::machine::{Machine, Step, quiet, showing, too_deep};
+use crate::machine::{Machine, MachineStep, quiet, showing, too_deep};
 use c_checked::checked::Checked;
 use c_checked::function::Function;
 use c_operations::built_in::BuiltIn;
@@ -22,7 +22,9 @@ use seh_num::event::Event;
 use seh_num::extension::sign_extend;
 use seh_num::width::Width;
 use source_plans::expressions::start;
-use source_plans::frame::{Action, Callee, Frame, Next, Outcome, SequelFrame, Waiting};
+use source_plans::frame::{
+    Action, Callee, Completion, ContinuationFrame, Next, SequelFrame, Waiting,
+};
 use source_plans::place::{Exception, NO_EXCEPTION, Place};
 use source_plans::task::Task;
 use source_plans::values::of_test;
@@ -69,7 +71,7 @@ impl<'p> Machine<'p> {
         let activation = self.activations.len();
         let locals = with_zeros(values, function.locals.len())?;
         self.activations.push(locals)?;
-        self.push(Frame::Waits(Waiting::EndsCall(activation)))?;
+        self.push(ContinuationFrame::Waits(Waiting::EndsCall(activation)))?;
         let place = Place {
             activation,
             exception: NO_EXCEPTION,
@@ -84,7 +86,7 @@ impl<'p> Machine<'p> {
         function: BuiltIn,
         values: &[u64],
         place: Place,
-    ) -> Result<Step<'p>, AllocError>
+    ) -> Result<MachineStep<'p>, AllocError>
         ensures { IfOk result (Showed self.old self.new (λ m. model.built_in m function values.now
             (place_of place))) }
     {
@@ -93,14 +95,14 @@ impl<'p> Machine<'p> {
         match function {
             BuiltIn::Put => {
                 let event = Event::Put(sign_extend(Width::W64, first));
-                Ok(showing(event, Next::Does(Action::Give(Outcome::Value(0)))))
+                Ok(showing(event, Next::Does(Action::Give(Completion::Value(0)))))
             }
             BuiltIn::Protect => {
                 let is_set = self.memory.protect(first, low_signed(second));
-                Ok(quiet(Next::Does(Action::Give(Outcome::Value(of_test(is_set))))))
+                Ok(quiet(Next::Does(Action::Give(Completion::Value(of_test(is_set))))))
             }
             BuiltIn::RaiseException => {
-                self.push(Frame::Waits(Waiting::Sequel(SequelFrame::GivesZero)))?;
+                self.push(ContinuationFrame::Waits(Waiting::Sequel(SequelFrame::GivesZero)))?;
                 let task = Task::Raise(raised(first, second));
                 Ok(quiet(start(task, place)))
             }
@@ -114,7 +116,7 @@ impl<'p> Machine<'p> {
         callee: Callee,
         values: Vec<u64>,
         place: Place,
-    ) -> Result<Step<'p>, AllocError>
+    ) -> Result<MachineStep<'p>, AllocError>
         ensures { IfOk result (Showed self.old self.new (λ m. model.called
             (whole.program program.now) m (views.callee_of callee) values.items
             (place_of place))) }
@@ -122,7 +124,7 @@ impl<'p> Machine<'p> {
         match callee {
             Callee::BuiltIn(function) => self.call_built_in(function, &values, place),
             Callee::Defined(index) => match program.functions.get(index as usize) {
-                None => Ok(quiet(Next::Does(Action::Give(Outcome::Value(0))))),
+                None => Ok(quiet(Next::Does(Action::Give(Completion::Value(0))))),
                 Some(function) => Ok(quiet(self.enter(function, values)?)),
             },
         }

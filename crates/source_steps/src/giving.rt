@@ -12,14 +12,14 @@ ghost use Rattle.source_plans.specs.Views.{place_of, plan_of};
 ghost use Rattle.source_steps.specs.Machines.{machine_of, shown_after, Moved, Showed};
 ghost use Rattle.source_steps.specs.Finished.{resumed_from};
 
-use crate::machine::{Machine, Step, quiet, showing};
+use crate::machine::{Machine, MachineStep, quiet, showing};
 use c_checked::expression::Expr;
 use c_checked::statement::Stmt;
 use seh_num::event::{Code, Event};
 use source_plans::expressions::start;
 use source_plans::frame::{
-    Action, AssignmentFrame, BodyFrame, Callee, Finish, Frame, Next, OperandFrame, Outcome,
-    SequelFrame, StatementFrame, Waiting,
+    Action, AssignmentFrame, BodyFrame, Callee, Completion, ContinuationFrame, Finish, Next,
+    OperandFrame, SequelFrame, StatementFrame, Waiting,
 };
 use source_plans::place::{Exception, Place};
 use source_plans::results::{
@@ -59,17 +59,17 @@ impl<'p> Machine<'p> {
     }
 
     /// The end of a call.
-    fn leave_call(&mut self, count: usize, how: Outcome) -> Result<Next<'p>, AllocError>
+    fn leave_call(&mut self, count: usize, how: Completion) -> Result<Next<'p>, AllocError>
         ensures { IfOk result (Moved self.old self.new (λ m. model.left_call m count
             (views.result_of how))) }
     {
         self.activations.truncate(count);
         match how {
-            Outcome::Normal => Ok(Next::Does(Action::Give(Outcome::Value(0)))),
-            Outcome::Returned(value) => Ok(Next::Does(Action::Give(Outcome::Value(value)))),
-            Outcome::Target(level, exception) => {
+            Completion::Normal => Ok(Next::Does(Action::Give(Completion::Value(0)))),
+            Completion::Returned(value) => Ok(Next::Does(Action::Give(Completion::Value(value)))),
+            Completion::Target(level, exception) => {
                 self.hold_activation()?;
-                Ok(Next::Does(Action::Give(Outcome::Target(level, exception))))
+                Ok(Next::Does(Action::Give(Completion::Target(level, exception))))
             }
             other => Ok(Next::Does(Action::Give(other))),
         }
@@ -83,13 +83,13 @@ impl<'p> Machine<'p> {
         place: Place,
         level: usize,
         exception: Exception,
-    ) -> Step<'p>
+    ) -> MachineStep<'p>
         ensures { Showed self.old self.new (λ m. model.landed m held
             (views.all_statements block.now.items) (place_of place) (states.Target level
             (views.exception_of exception))) result }
     {
         if level != self.handlers.len() {
-            return quiet(Next::Does(Action::Give(Outcome::Target(level, exception))));
+            return quiet(Next::Does(Action::Give(Completion::Target(level, exception))));
         }
         self.held = held;
         let inside = Place {
@@ -109,16 +109,18 @@ impl<'p> Machine<'p> {
         number: u32,
         last: &'p Vec<Stmt>,
         place: Place,
-        how: Outcome,
+        how: Completion,
     ) -> Result<Next<'p>, AllocError>
         ensures { IfOk result (Moved self.old self.new (λ m. model.finished m number
             (views.all_statements last.now.items) (place_of place) (views.result_of how))) }
     {
         match how {
-            Outcome::Normal => Ok(finally(number, last, false, place)),
-            Outcome::LeftTry => Ok(finally(number, last, false, place)),
+            Completion::Normal => Ok(finally(number, last, false, place)),
+            Completion::LeftTry => Ok(finally(number, last, false, place)),
             other => {
-                self.push(Frame::Waits(Waiting::Sequel(SequelFrame::GivesResult(other))))?;
+                self.push(ContinuationFrame::Waits(Waiting::Sequel(SequelFrame::GivesResult(
+                    other,
+                ))))?;
                 Ok(finally(number, last, true, place))
             }
         }
@@ -128,13 +130,13 @@ impl<'p> Machine<'p> {
     fn resume_operand(
         &mut self,
         frame: OperandFrame<'p>,
-        how: Outcome,
+        how: Completion,
     ) -> Result<Next<'p>, AllocError>
         ensures { IfOk result (Moved self.old self.new (λ m. model.resumed m (frames.Operand
             (views.operand_frame_of frame.entry)) (views.result_of how))) }
     {
         match how {
-            Outcome::Value(value) => self.follow(operand_plan(frame, value)),
+            Completion::Value(value) => self.follow(operand_plan(frame, value)),
             other => Ok(Next::Does(Action::Give(other))),
         }
     }
@@ -147,7 +149,7 @@ impl<'p> Machine<'p> {
         arguments: &'p Vec<Expr>,
         next: usize,
         place: Place,
-        how: Outcome,
+        how: Completion,
     ) -> Result<Next<'p>, AllocError>
         ensures { IfOk result (Moved self.old self.new (λ m. model.resumed m (frames.Operand
             (frames.PassesArgument (views.callee_of callee) values.items
@@ -155,7 +157,7 @@ impl<'p> Machine<'p> {
             (views.result_of how))) }
     {
         match how {
-            Outcome::Value(value) => {
+            Completion::Value(value) => {
                 let plan = passed_plan(callee, values, value, arguments, next, place)?;
                 self.follow(plan)
             }
@@ -167,13 +169,13 @@ impl<'p> Machine<'p> {
     fn resume_assignment(
         &mut self,
         frame: AssignmentFrame<'p>,
-        how: Outcome,
+        how: Completion,
     ) -> Result<Next<'p>, AllocError>
         ensures { IfOk result (Moved self.old self.new (λ m. model.resumed m (frames.Assignment
             (views.assignment_frame_of frame.entry)) (views.result_of how))) }
     {
         match how {
-            Outcome::Value(value) => self.follow(assignment_plan(frame, value)),
+            Completion::Value(value) => self.follow(assignment_plan(frame, value)),
             other => Ok(Next::Does(Action::Give(other))),
         }
     }
@@ -182,13 +184,13 @@ impl<'p> Machine<'p> {
     fn resume_statement(
         &mut self,
         frame: StatementFrame<'p>,
-        how: Outcome,
+        how: Completion,
     ) -> Result<Next<'p>, AllocError>
         ensures { IfOk result (Moved self.old self.new (λ m. model.resumed m (frames.InStatement
             (views.statement_frame_of frame.entry)) (views.result_of how))) }
     {
         match how {
-            Outcome::Value(value) => self.follow(in_statement_plan(frame, value)),
+            Completion::Value(value) => self.follow(in_statement_plan(frame, value)),
             other => Ok(Next::Does(Action::Give(other))),
         }
     }
@@ -197,26 +199,26 @@ impl<'p> Machine<'p> {
     fn resume_sequel(
         &mut self,
         frame: SequelFrame<'p>,
-        how: Outcome,
+        how: Completion,
     ) -> Result<Next<'p>, AllocError>
         ensures { IfOk result (Moved self.old self.new (λ m. model.resumed m (frames.Sequel
             (views.sequel_frame_of frame.entry)) (views.result_of how))) }
     {
         match how {
-            Outcome::Normal => self.follow(sequel_plan(frame)),
+            Completion::Normal => self.follow(sequel_plan(frame)),
             other => Ok(Next::Does(Action::Give(other))),
         }
     }
 
     /// A result is given to the end of a loop's body.
-    fn resume_body(&mut self, frame: BodyFrame<'p>, how: Outcome) -> Result<Next<'p>, AllocError>
+    fn resume_body(&mut self, frame: BodyFrame<'p>, how: Completion) -> Result<Next<'p>, AllocError>
         ensures { IfOk result (Moved self.old self.new (λ m. model.resumed m (frames.Body
             (views.body_frame_of frame.entry)) (views.result_of how))) }
     {
         match how {
-            Outcome::Normal => self.follow(body_plan(frame)),
-            Outcome::Continued => self.follow(body_plan(frame)),
-            Outcome::Broke => Ok(Next::Does(Action::Give(Outcome::Normal))),
+            Completion::Normal => self.follow(body_plan(frame)),
+            Completion::Continued => self.follow(body_plan(frame)),
+            Completion::Broke => Ok(Next::Does(Action::Give(Completion::Normal))),
             other => Ok(Next::Does(Action::Give(other))),
         }
     }
@@ -227,21 +229,25 @@ impl<'p> Machine<'p> {
         held: u64,
         block: &'p Vec<Stmt>,
         place: Place,
-        how: Outcome,
-    ) -> Step<'p>
+        how: Completion,
+    ) -> MachineStep<'p>
         ensures { Showed self.old self.new (λ m. model.landed m held
             (views.all_statements block.now.items) (place_of place)
             (views.result_of how)) result }
     {
         match how {
-            Outcome::LeftTry => quiet(Next::Does(Action::Give(Outcome::Normal))),
-            Outcome::Target(level, exception) => self.land(held, block, place, level, exception),
+            Completion::LeftTry => quiet(Next::Does(Action::Give(Completion::Normal))),
+            Completion::Target(level, exception) => self.land(held, block, place, level, exception),
             other => quiet(Next::Does(Action::Give(other))),
         }
     }
 
     /// A result is given to a frame that holds no values of arguments.
-    fn resume_waiting(&mut self, frame: Waiting<'p>, how: Outcome) -> Result<Step<'p>, AllocError>
+    fn resume_waiting(
+        &mut self,
+        frame: Waiting<'p>,
+        how: Completion,
+    ) -> Result<MachineStep<'p>, AllocError>
         ensures { IfOk result (Showed self.old self.new (λ m. resumed_from m
             (views.waiting_of frame.entry) (views.result_of how))) }
     {
@@ -263,13 +269,17 @@ impl<'p> Machine<'p> {
     }
 
     /// A result is given to a frame.
-    fn resume(&mut self, frame: Frame<'p>, how: Outcome) -> Result<Step<'p>, AllocError>
+    fn resume(
+        &mut self,
+        frame: ContinuationFrame<'p>,
+        how: Completion,
+    ) -> Result<MachineStep<'p>, AllocError>
         ensures { IfOk result (Showed self.old self.new (λ m. resumed_from m
             (views.frame_of frame.entry) (views.result_of how))) }
     {
         match frame {
-            Frame::Waits(frame) => self.resume_waiting(frame, how),
-            Frame::PassesArgument(callee, values, arguments, next, place) => {
+            ContinuationFrame::Waits(frame) => self.resume_waiting(frame, how),
+            ContinuationFrame::PassesArgument(callee, values, arguments, next, place) => {
                 let next = self.resume_passing(callee, values, arguments, next, place, how)?;
                 Ok(quiet(next))
             }
@@ -277,7 +287,7 @@ impl<'p> Machine<'p> {
     }
 
     /// A result is given to the newest frame; without one the run is over.
-    pub fn give(&mut self, how: Outcome) -> Result<Step<'p>, AllocError>
+    pub fn give(&mut self, how: Completion) -> Result<MachineStep<'p>, AllocError>
         ensures { IfOk result (Showed self.old self.new (λ m. model.given m
             (views.result_of how) m.stack)) }
     {

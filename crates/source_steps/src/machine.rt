@@ -14,7 +14,7 @@ use crate::activations::Activations;
 use c_model::depth::{DEEPEST, TOO_DEEP};
 use c_model::ended::Ended;
 use seh_num::event::Event;
-use source_plans::frame::{Action, Finish, Frame, Next, Phase, Plan};
+use source_plans::frame::{Action, ContinuationFrame, Finish, Next, Phase, Plan};
 use source_plans::place::{Handler, Place};
 use source_plans::task::Task;
 use std::alloc::AllocError;
@@ -36,12 +36,12 @@ pub struct Machine<'p> {
     /// The handlers around the place where the machine continues, outermost first.
     pub handlers: Vec<Handler<'p>>,
     /// What waits, the newest last.
-    pub stack: Vec<Frame<'p>>,
+    pub stack: Vec<ContinuationFrame<'p>>,
 }
 
 /// What is done next, and what was shown.
 #[derive(Drop)]
-pub struct Step<'p> {
+pub struct MachineStep<'p> {
     /// What is done next.
     pub next: Next<'p>,
     /// The event that the step shows, or None.
@@ -49,19 +49,19 @@ pub struct Step<'p> {
 }
 
 /// A step that shows nothing.
-pub fn quiet<'p>(next: Next<'p>) -> Step<'p>
+pub fn quiet<'p>(next: Next<'p>) -> MachineStep<'p>
     ensures next { views.next_of result.next ≡ views.next_of next.entry }
     ensures shown { (es : List Event') → shown_after es result.shown ≡ es }
 {
-    Step { next, shown: None }
+    MachineStep { next, shown: None }
 }
 
 /// A step that shows an event.
-pub fn showing<'p>(event: Event, next: Next<'p>) -> Step<'p>
+pub fn showing<'p>(event: Event, next: Next<'p>) -> MachineStep<'p>
     ensures next { views.next_of result.next ≡ views.next_of next.entry }
     ensures shown { (es : List Event') → shown_after es result.shown ≡ es ++ event ∷ [] }
 {
-    Step {
+    MachineStep {
         next,
         shown: Some(event),
     }
@@ -92,7 +92,7 @@ impl<'p> Machine<'p> {
     }
 
     /// One more frame waits.
-    pub fn push(&mut self, frame: Frame<'p>) -> Result<(), AllocError>
+    pub fn push(&mut self, frame: ContinuationFrame<'p>) -> Result<(), AllocError>
         ensures { OnOk result ((next : frames.Next) (x : frames.Next) (es : List Event')
             → model.follow (machine_of self.old x es) (frames.Push
             (views.frame_of frame.entry) next) ≡ machine_of self.new next es) }

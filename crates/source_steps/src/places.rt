@@ -20,7 +20,8 @@ use c_operations::operation::Operation;
 use source_operations::performing::{Performed, perform};
 use source_plans::expressions::{push, start, then};
 use source_plans::frame::{
-    Action, AssignmentFrame, Finish, Frame, Next, Outcome, Plan, SequelFrame, Waiting,
+    Action, AssignmentFrame, Completion, ContinuationFrame, Finish, Next, Plan, SequelFrame,
+    Waiting,
 };
 use source_plans::place::{Exception, Place};
 use source_plans::task::Task;
@@ -31,7 +32,7 @@ fn load_plan<'p>(access: Access, address: u64, place: Place) -> Plan<'p>
     ensures { views.plan_of result ≡ plans.load_plan access address (place_of place) }
 {
     push(
-        Frame::Waits(Waiting::Assignment(AssignmentFrame::Extends(access))),
+        ContinuationFrame::Waits(Waiting::Assignment(AssignmentFrame::Extends(access))),
         Next::Does(Action::Operate(Operation::Load(access.width), address, 0, place)),
     )
 }
@@ -65,7 +66,7 @@ impl<'p> Machine<'p> {
         match target {
             Lvalue::Local(local) => {
                 let value = self.activations.local(place.activation, *local);
-                Ok(Next::Does(Action::Give(Outcome::Value(value))))
+                Ok(Next::Does(Action::Give(Completion::Value(value))))
             }
             Lvalue::Global { access, .. } => self.load(*access, address, place),
             Lvalue::Indirection { access, .. } => self.load(*access, address, place),
@@ -89,7 +90,7 @@ impl<'p> Machine<'p> {
         match target {
             Lvalue::Local(local) => {
                 self.set_local(*local, value, place);
-                Next::Does(Action::Give(Outcome::Value(value)))
+                Next::Does(Action::Give(Completion::Value(value)))
             }
             Lvalue::Global { access, .. } => {
                 Next::Does(Action::Operate(Operation::Store(access.width), address, value, place))
@@ -116,9 +117,9 @@ impl<'p> Machine<'p> {
             (place_of place) outcome)) }
     {
         match outcome {
-            Performed::Gives(value) => Ok(Next::Does(Action::Give(Outcome::Value(value)))),
+            Performed::Gives(value) => Ok(Next::Does(Action::Give(Completion::Value(value)))),
             Performed::Raises { code, access } => {
-                self.push(Frame::Waits(Waiting::Sequel(SequelFrame::Retries(
+                self.push(ContinuationFrame::Waits(Waiting::Sequel(SequelFrame::Retries(
                     operation, first, second, place,
                 ))))?;
                 let exception = Exception {

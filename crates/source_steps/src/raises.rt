@@ -13,14 +13,14 @@ ghost use Rattle.source_plans.specs.Views.{place_of};
 ghost use Rattle.source_steps.specs.Machines.{machine_of, shown_after, Moved, Showed};
 
 use crate::calls::low_signed;
-use crate::machine::{Machine, Step, quiet, showing, too_deep};
+use crate::machine::{Machine, MachineStep, quiet, showing, too_deep};
 use c_checked::expression::Expr;
 use c_checked::statement::{Filter, Stmt};
 use c_model::ended::Ended;
 use seh_num::event::{Code, Event};
 use source_plans::expressions::{evaluates, start};
 use source_plans::frame::{
-    Action, Finish, Frame, Next, Outcome, SequelFrame, StatementFrame, Waiting,
+    Action, Completion, ContinuationFrame, Finish, Next, SequelFrame, StatementFrame, Waiting,
 };
 use source_plans::place::{Exception, Handler, Place};
 use source_plans::task::Task;
@@ -35,7 +35,7 @@ fn unhandled<'p>(exception: Exception) -> Next<'p>
 
 impl<'p> Machine<'p> {
     /// An exception is raised: the handlers are asked, the innermost first.
-    pub fn raise(&self, exception: Exception, place: Place) -> Step<'p>
+    pub fn raise(&self, exception: Exception, place: Place) -> MachineStep<'p>
         ensures { Showed self.now self.now (λ m. model.begun m (tasks.Raise
             (views.exception_of exception)) (place_of place)) result }
     {
@@ -58,7 +58,7 @@ impl<'p> Machine<'p> {
         handler: Handler<'p>,
         exception: Exception,
         place: Place,
-    ) -> Result<Step<'p>, AllocError>
+    ) -> Result<MachineStep<'p>, AllocError>
         ensures { IfOk result (Showed self.old self.new (λ m. model.begun m
             (tasks.RunFilter number (tree.expression value.now) (views.handler_of handler.entry)
             (views.exception_of exception)) (place_of place))) }
@@ -68,7 +68,7 @@ impl<'p> Machine<'p> {
             return Ok(quiet(too_deep()));
         }
         self.held = self.held.saturating_add(2);
-        self.push(Frame::Waits(Waiting::Statement(StatementFrame::EndsFilter)))?;
+        self.push(ContinuationFrame::Waits(Waiting::Statement(StatementFrame::EndsFilter)))?;
         let inside = Place {
             activation: handler.activation,
             exception,
@@ -84,7 +84,7 @@ impl<'p> Machine<'p> {
         last: &'p Vec<Stmt>,
         abnormal: bool,
         place: Place,
-    ) -> Result<Step<'p>, AllocError>
+    ) -> Result<MachineStep<'p>, AllocError>
         ensures { IfOk result (Showed self.old self.new (λ m. model.begun m
             (tasks.RunFinally number (views.all_statements last.now.items) abnormal)
             (place_of place))) }
@@ -93,7 +93,7 @@ impl<'p> Machine<'p> {
             return Ok(quiet(too_deep()));
         }
         self.held = self.held.saturating_add(2);
-        self.push(Frame::Waits(Waiting::Sequel(SequelFrame::EndsFinally)))?;
+        self.push(ContinuationFrame::Waits(Waiting::Sequel(SequelFrame::EndsFinally)))?;
         let inside = Place {
             activation: place.activation,
             exception: place.exception,
@@ -122,8 +122,7 @@ impl<'p> Machine<'p> {
             activation: place.activation,
             abnormal: place.abnormal,
         })?;
-        self.stack
-            .push(Frame::Waits(Waiting::Lands(self.held, block, place)))?;
+        self.stack.push(ContinuationFrame::Waits(Waiting::Lands(self.held, block, place)))?;
         Ok(start(Task::TryBody(body), place))
     }
 
@@ -174,9 +173,9 @@ impl<'p> Machine<'p> {
             (views.exception_of exception) (place_of place))) }
     {
         match handler.filter {
-            Filter::Always => Ok(Next::Does(Action::Give(Outcome::Target(level, exception)))),
+            Filter::Always => Ok(Next::Does(Action::Give(Completion::Target(level, exception)))),
             Filter::Funclet { number, value } => {
-                self.push(Frame::Waits(Waiting::Statement(StatementFrame::IsAnswered(
+                self.push(ContinuationFrame::Waits(Waiting::Statement(StatementFrame::IsAnswered(
                     level, exception, place,
                 ))))?;
                 let task = Task::RunFilter {
@@ -191,14 +190,14 @@ impl<'p> Machine<'p> {
     }
 
     /// A filter has answered.
-    pub fn answer(&mut self, value: u64) -> Step<'p>
+    pub fn answer(&mut self, value: u64) -> MachineStep<'p>
         ensures { (p : Program) → Showed self.old self.new (λ m. model.done p m
             (frames.Answer value)) result }
     {
         self.held = self.held.saturating_sub(2);
         showing(
             Event::Answer(low_signed(value)),
-            Next::Does(Action::Give(Outcome::Value(value))),
+            Next::Does(Action::Give(Completion::Value(value))),
         )
     }
 }

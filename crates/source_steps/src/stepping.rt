@@ -13,11 +13,11 @@ ghost use Rattle.source_plans.specs.Views as views;
 ghost use Rattle.source_plans.specs.Views.{place_of};
 ghost use Rattle.source_steps.specs.Machines.{machine_of, shown_after, Moved, Showed};
 
-use crate::machine::{Machine, Step, quiet};
+use crate::machine::{Machine, MachineStep, quiet};
 use c_checked::checked::Checked;
 use c_checked::statement::Declared;
 use source_plans::expressions::{expression_plan, find_plan, node_plan, pass_plan};
-use source_plans::frame::{Action, Next, Outcome, Phase, Plan};
+use source_plans::frame::{Action, Completion, Next, Phase, Plan};
 use source_plans::place::Place;
 use source_plans::statements::{
     declare_plan, do_plan, for_plan, initialise_plan, listed_plan, proceed_plan, statement_plan,
@@ -27,7 +27,7 @@ use std::alloc::{AllocError, Global};
 
 impl<'p> Machine<'p> {
     /// A task's beginning, after its step.
-    fn begin(&mut self, task: Task<'p>, place: Place) -> Result<Step<'p>, AllocError>
+    fn begin(&mut self, task: Task<'p>, place: Place) -> Result<MachineStep<'p>, AllocError>
         ensures { IfOk result (Showed self.old self.new (λ m. model.begun m
             (views.task_of task.entry) (place_of place))) }
     {
@@ -63,7 +63,7 @@ impl<'p> Machine<'p> {
     }
 
     /// What a plan does, which shows nothing.
-    fn planned(&mut self, plan: Plan<'p>) -> Result<Step<'p>, AllocError>
+    fn planned(&mut self, plan: Plan<'p>) -> Result<MachineStep<'p>, AllocError>
         ensures { IfOk result (Showed self.old self.new (λ m. model.follow m
             (views.plan_of plan.entry))) }
     {
@@ -71,7 +71,11 @@ impl<'p> Machine<'p> {
     }
 
     /// A declared name is 0 first, in its own initialiser too.
-    fn declare(&mut self, declared: &'p Declared, place: Place) -> Result<Step<'p>, AllocError>
+    fn declare(
+        &mut self,
+        declared: &'p Declared,
+        place: Place,
+    ) -> Result<MachineStep<'p>, AllocError>
         ensures { IfOk result (Showed self.old self.new (λ m. model.declared m
             (trees.declared declared.now) (place_of place))) }
     {
@@ -85,7 +89,7 @@ impl<'p> Machine<'p> {
         phase: Phase,
         task: Task<'p>,
         place: Place,
-    ) -> Result<Step<'p>, AllocError>
+    ) -> Result<MachineStep<'p>, AllocError>
         ensures { (p : Program) → IfOk result (Showed self.old self.new (λ m. model.done p m
             (views.phased phase (views.task_of task.entry) (place_of place)))) }
     {
@@ -102,7 +106,7 @@ impl<'p> Machine<'p> {
         _program: &'p Checked,
         data_end: u64,
         action: Action<'p>,
-    ) -> Result<Step<'p>, AllocError>
+    ) -> Result<MachineStep<'p>, AllocError>
         requires { data_end ≡ model_data_end _program.now.globals.items }
         ensures { IfOk result (Showed self.old self.new (λ m. model.done
             (whole.program _program.now) m (views.action_of action.entry))) }
@@ -127,7 +131,7 @@ impl<'p> Machine<'p> {
             Action::DeclareName(declared, place) => self.declare(declared, place),
             Action::SetLocal(local, value, place) => {
                 self.set_local(local, value, place);
-                Ok(quiet(Next::Does(Action::Give(Outcome::Normal))))
+                Ok(quiet(Next::Does(Action::Give(Completion::Normal))))
             }
             Action::Guard(body, filter, block, place) => {
                 Ok(quiet(self.guard(body, filter, block, place)?))
@@ -135,7 +139,7 @@ impl<'p> Machine<'p> {
             Action::Answer(value) => Ok(self.answer(value)),
             Action::LetGo => {
                 self.held = self.held.saturating_sub(2);
-                Ok(quiet(Next::Does(Action::Give(Outcome::Normal))))
+                Ok(quiet(Next::Does(Action::Give(Completion::Normal))))
             }
             Action::Search(level, exception, place) => {
                 Ok(quiet(self.search(level, exception, place)?))
@@ -150,7 +154,7 @@ impl<'p> Machine<'p> {
         program: &'p Checked,
         data_end: u64,
         next: Next<'p>,
-    ) -> Result<Step<'p>, AllocError>
+    ) -> Result<MachineStep<'p>, AllocError>
         requires { data_end ≡ model_data_end program.now.globals.items }
         ensures { IfOk result (Showed self.old self.new (λ m. model.done
             (whole.program program.now) m (views.next_of next.entry))) }

@@ -5,7 +5,7 @@ use Rattle.x64_machine.specs.Effect.{State}
 use Rattle.virtual_unwind.specs.CallerOf.{Functions}
 use Rattle.host_model.specs.declared.funclet.Funclet.{Funclet}
 use Rattle.c_operations.specs.declared.operation.Operation.{Operation}
-use Rattle.c_operations.specs.Performed.{Outcome, Gives, Raises, Undefined}
+use Rattle.c_operations.specs.Performed.{OperationResult, Gives, Raises, Undefined}
 use Rattle.c_model.specs.Source.{is_reserved}
 use Rattle.linear_code.specs.declared.slot.Slot.{Slot}
 use Rattle.linear_code.specs.declared.slot.Slot.TheVariants.{Local, Temporary}
@@ -41,7 +41,7 @@ use Rattle.turn_steps.proofs.Completing.{completed}
 use Rattle.turn_steps.proofs.FaultContinuing.{quiet_there, works_on}
 
 -- the operation that an instruction is comes to this
-abbrev Meets : LinearProgram → Configuration → Outcome → Instruction → Type 0
+abbrev Meets : LinearProgram → Configuration → OperationResult → Instruction → Type 0
 Meets program c x (instructions.Compute to o first second) = ComesTo program c o first second x
 Meets program c x i = ⊥
 
@@ -73,7 +73,7 @@ module _ (t : Functions) (fs : List Funclet) (program : LinearProgram) (p : Imag
   -- ---- in the midst of an operation
 
   pub in_midst : (s : State) (c : Configuration) (w : WorksOn t fs program p q s c) (known : IsKnown program c)
-      → (x : Outcome) → ComesTo program c w.again.operation (Temporary w.again.first) (Temporary w.again.second) x
+      → (x : OperationResult) → ComesTo program c w.again.operation (Temporary w.again.first) (Temporary w.again.second) x
       → HasRule (act program (again s c w) (exec program zero) c) → KnownNext program c (again s c w)
       → IsMatched t fs program pace turns_left (Represents t fs program p q) s c (again s c w)
   in_midst s c w known (Gives value m) h rule next = begins_represents t fs program p q pace s c (again s c w) (completed t fs program p q image made s c w known value m h rule)
@@ -116,7 +116,7 @@ module _ (t : Functions) (fs : List Funclet) (program : LinearProgram) (p : Imag
         matched_slower t fs program turns_left (l.turns + 7) pace (Represents t fs program p q) s c i (omega arith)
         (matched_after t fs program turns_left l.turns 7 (Represents t fs program p q) s l.state c i l.comes (faults_in_midst l.state c i code access l.is_there known e h rule next))
 
-    from_beginning : (first second : Slot) (x : Outcome) → ComesTo program c o first second x → instruction_at program c ≡ Some (instructions.Compute to o first second)
+    from_beginning : (first second : Slot) (x : OperationResult) → ComesTo program c o first second x → instruction_at program c ≡ Some (instructions.Compute to o first second)
         → HasRule (act program (instructions.Compute to o first second) (exec program zero) c) → KnownNext program c (instructions.Compute to o first second)
         → IsMatched t fs program pace turns_left (Represents t fs program p q) s c (instructions.Compute to o first second)
     from_beginning first second (Gives value m) h e rule next =

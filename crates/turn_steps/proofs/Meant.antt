@@ -6,7 +6,7 @@ use Rattle.flat_memory.specs.Memory.{Memory}
 use Rattle.c_operations.specs.declared.operation.Operation.{Operation}
 use Rattle.c_operations.specs.declared.operation.Operation.TheVariants as operations
 use Rattle.c_operations.specs.declared.operation.Pure.TheVariants.{Constant}
-use Rattle.c_operations.specs.Performed.{Outcome, Raises, Undefined, performed}
+use Rattle.c_operations.specs.Performed.{OperationResult, Raises, Undefined, performed}
 use Rattle.c_model.specs.declared.ended.Ended.TheVariants as source
 use Rattle.c_model.specs.Source.{is_reserved}
 use Rattle.linear_code.specs.declared.slot.Slot.{Slot}
@@ -45,7 +45,7 @@ operand_there false c slot h = read_there c slot h
 
 -- its operands are there, so that it comes to something
 pub comes_to_something : (program : LinearProgram) (c : Configuration) (to : Slot) (o : Operation) (first second : Slot)
-    → IsReady program c (instructions.Compute to o first second) → (x : Outcome) × ComesTo program c o first second x
+    → IsReady program c (instructions.Compute to o first second) → (x : OperationResult) × ComesTo program c o first second x
 comes_to_something program c to o first second h =
     let a = operand_there (is_constant o) c first h.0 in
     let b = operand_there (is_constant o) c second h.1 in (
@@ -54,7 +54,7 @@ comes_to_something program c to o first second h =
     )
 
 -- and that is what linear code continues with
-pub acts_as : (program : LinearProgram) (c : Configuration) (to : Slot) (o : Operation) (first second : Slot) (x : Outcome)
+pub acts_as : (program : LinearProgram) (c : Configuration) (to : Slot) (o : Operation) (first second : Slot) (x : OperationResult)
     → ComesTo program c o first second x → (next : Next) → act program (instructions.Compute to o first second) next c ≡ computed program next to c x
 unfolding with_some
 acts_as program c to o first second x h next =

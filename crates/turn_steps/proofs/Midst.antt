@@ -13,7 +13,7 @@ use Rattle.virtual_unwind.specs.Undone.{word}
 use Rattle.host_model.specs.declared.funclet.Funclet.{Funclet}
 use Rattle.c_operations.specs.declared.operation.Operation.{Operation}
 use Rattle.c_operations.specs.declared.operation.Operation.TheVariants as operations
-use Rattle.c_operations.specs.Performed.{Outcome, performed}
+use Rattle.c_operations.specs.Performed.{OperationResult, performed}
 use Rattle.c_model.specs.Source.{is_reserved}
 use Rattle.linear_code.specs.declared.slot.Slot.{Slot}
 use Rattle.linear_code.specs.declared.slot.Slot.TheVariants.{Temporary}
@@ -174,7 +174,7 @@ module _ (t : Functions) (fs : List Funclet) (program : LinearProgram) (p : Imag
       subst (λ a. HasCode s.memory a (finish_code y o to)) (sym w.again.here)
       (finish_is_at t fs program p q image s.memory c.frame.body w.body.slots.code c.frame.next to o first second w.memory.code w.body.slots.body there)
 
-  abbrev pub outcome : Outcome
+  abbrev pub outcome : OperationResult
   outcome = performed (is_reserved program.globals) o (register s.cpu Rax) (register s.cpu Rcx) c.store.memory
 
   pub made_here : Finished frame_here o to (seen_by_templates s) s.cpu.rip s.cpu.flags
@@ -187,7 +187,7 @@ module _ (t : Functions) (fs : List Funclet) (program : LinearProgram) (p : Imag
       (holds_here t fs program p q image before c begins_before counted) code_here
 
   -- on the same numbers as in linear code
-  pub same_outcome : (x : Outcome) → ComesTo program c o first second x → outcome ≡ x
+  pub same_outcome : (x : OperationResult) → ComesTo program c o first second x → outcome ≡ x
   same_outcome x h = by (is_constant o) refl h.reads_first h.reads_second
     where
       by : (constant : Bool) → is_constant o ≡ constant → operand constant c first ≡ Some h.a → operand constant c second ≡ Some h.b → outcome ≡ x

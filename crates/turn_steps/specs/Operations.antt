@@ -1,7 +1,7 @@
 -- What an operation of linear code comes to, and where the machine is in its midst.
 use Rattle.std.specs.Prelude.{◌≡◌, ℕ, Some}
 use Rattle.c_operations.specs.declared.operation.Operation.{Operation}
-use Rattle.c_operations.specs.Performed.{Outcome, performed}
+use Rattle.c_operations.specs.Performed.{OperationResult, performed}
 use Rattle.c_model.specs.Source.{is_reserved}
 use Rattle.linear_code.specs.declared.slot.Slot.{Slot}
 use Rattle.linear_code.specs.Program.{LinearProgram}
@@ -10,7 +10,7 @@ use Rattle.linear_machine.specs.Instructions.{is_constant, operand}
 
 -- on the numbers that linear code has in its operands, an operation comes to this
 pub record ComesTo (program : LinearProgram) (c : Configuration) (o : Operation)
-    (first second : Slot) (outcome : Outcome) : Type 0 where
+    (first second : Slot) (outcome : OperationResult) : Type 0 where
   pub a : ℕ
   pub b : ℕ
   pub reads_first : operand (is_constant o) c first ≡ Some a

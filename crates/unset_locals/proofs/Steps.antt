@@ -12,7 +12,7 @@ use Rattle.flat_memory.specs.Memory.{protected, rights_asked}
 use Rattle.c_operations.specs.declared.built_in.BuiltIn.{BuiltIn}
 use Rattle.c_operations.specs.declared.built_in.BuiltIn.TheVariants.{Put, Protect, RaiseException}
 use Rattle.c_operations.specs.declared.operation.Operation.{Operation}
-use Rattle.c_operations.specs.Performed.{Outcome, Gives, Raises, Undefined, performed}
+use Rattle.c_operations.specs.Performed.{OperationResult, Gives, Raises, Undefined, performed}
 use Rattle.c_model.specs.declared.ended.Ended.TheVariants as ends
 use Rattle.c_model.specs.Source.{is_reserved}
 use Rattle.c_model.specs.Expressions.{of_test, field_of, raised, no_exception}
@@ -63,7 +63,7 @@ module _ (program : LinearProgram) (marks : Marks) (before : List Event) where
       Move d (set_in ys k x v) (quiet_after program marks before (Some x) k d (set_in ys k x v) a (set_alive marks b.store.activations ys k x v h)) (λ next. refl) (λ next. refl)
   written_both b ys (Temporary i) v a h = stored_both b.frame.activation b ys (with_temporary b.frame.temporaries i v) a h
 
-  computed_both : (c : Configuration) (ys : List (List ℕ)) (to : Slot) (r : Outcome) → Adds before c.events → Alive marks c.store.activations ys
+  computed_both : (c : Configuration) (ys : List (List ℕ)) (to : Slot) (r : OperationResult) → Adds before c.events → Alive marks c.store.activations ys
       → Both (AfterWrite program marks before (local_given (Some r) to) c.frame.activation) (λ next. computed program next to c r) (λ next. computed program next to (over c ys) r)
   computed_both c ys to (Gives v memory) a h = written_both (record c { store = record c.store { memory = memory } }) ys to v a h
   computed_both c ys to (Raises code access) a h = raise_both program marks before (record { code = code.0; flag = false; access = access }) SameOperation c ys a h

@@ -4,7 +4,7 @@ use Rattle.seh_num.specs.declared.event.Event.{Event}
 use Rattle.seh_num.specs.declared.event.Event.TheVariants as events
 use Rattle.flat_memory.specs.Memory.{Memory}
 use Rattle.c_operations.specs.declared.operation.Operation.{Operation}
-use Rattle.c_operations.specs.Performed.{Outcome, Gives, performed}
+use Rattle.c_operations.specs.Performed.{OperationResult, Gives, performed}
 use Rattle.c_model.specs.Source.{is_reserved}
 use Rattle.linear_code.specs.declared.slot.Slot.{Slot}
 use Rattle.linear_code.specs.declared.slot.Slot.TheVariants.{Local}
@@ -35,7 +35,8 @@ first_marks count function =
 -- ---- what a step sets
 
 -- what an operation leads to, where its operands are there
-abbrev pub outcome_of : LinearProgram → Operation → Option ℕ → Option ℕ → Memory → Option Outcome
+abbrev pub outcome_of : LinearProgram → Operation → Option ℕ → Option ℕ → Memory
+    → Option OperationResult
 outcome_of program o (Some a) (Some b) memory =
     Some (performed (is_reserved program.globals) o a b memory)
 outcome_of program o a b memory = None
@@ -45,7 +46,7 @@ local_in (Local x) = Some x
 local_in to = None
 
 -- an operation that faults sets nothing
-abbrev pub local_given : Option Outcome → Slot → Option ℕ
+abbrev pub local_given : Option OperationResult → Slot → Option ℕ
 local_given (Some (Gives v memory)) to = local_in to
 local_given outcome to = None
 

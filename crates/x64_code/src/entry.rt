@@ -19,7 +19,7 @@ ghost use Rattle.template_code.specs.Probing.{check_stack};
 use crate::calls::distance;
 use crate::put::{above, arithmetic, copy, load, put, store};
 use crate::slots::put_keep;
-use frame_layout::{Frame, prologue};
+use frame_layout::{FrameLayout, prologue};
 use linear_code::slot::Slot;
 use seh_num::width::Width;
 use std::alloc::AllocError;
@@ -99,7 +99,7 @@ fn put_all(code: &mut Vec<u8>, instrs: &[Instr]) -> Result<(), AllocError>
 /// Adds the prologue of a frame, for code that begins at an address.
 pub fn put_prologue(
     code: &mut Vec<u8>,
-    frame: &Frame,
+    frame: &FrameLayout,
     at: u64,
     check_stack: u64,
 ) -> Result<(), AllocError>

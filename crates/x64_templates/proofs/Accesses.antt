@@ -21,7 +21,7 @@ use Rattle.x64_machine.specs.declared.outcome.Stop.TheVariants as stops
 use Rattle.seh_num.specs.Answers.{◌>>=◌}
 use Rattle.x64_machine.specs.Effect.{State, Answer, granted, refusal, effect}
 use Rattle.x64_machine.specs.Effect as machines
-use Rattle.c_operations.specs.Performed.{Outcome, Gives, Raises, Undefined}
+use Rattle.c_operations.specs.Performed.{OperationResult, Gives, Raises, Undefined}
 use Rattle.c_operations.specs.Performed as meaning
 use Rattle.x64_templates.specs.Straight.{MachineView, machine}
 use Rattle.x64_templates.specs.Frames.{Agrees}

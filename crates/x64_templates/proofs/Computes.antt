@@ -20,7 +20,7 @@ use Rattle.c_operations.specs.declared.operation.Operation.{Operation}
 use Rattle.c_operations.specs.declared.operation.Operation.TheVariants as operations
 use Rattle.linear_code.specs.declared.instruction.Instruction.TheVariants as instructions
 use Rattle.linear_code.specs.BodyState.{BodyState, with_slot}
-use Rattle.c_operations.specs.Performed.{Outcome, Gives, Raises, Undefined, performed}
+use Rattle.c_operations.specs.Performed.{OperationResult, Gives, Raises, Undefined, performed}
 use Rattle.linear_code.specs.Meaning.{step, kept}
 use Rattle.x64_templates.specs.Straight.{MachineView, machine, Executes}
 use Rattle.template_code.specs.Bytes.{size, sizes}
@@ -164,7 +164,7 @@ leads_kept p code to v at f b x source fine room is sp h is_there l =
       changes = changes_then y p.counts p.reserved p.sp p.base v.memory l.after last.memory (changes_same y p.counts p.reserved p.sp p.base room v.memory l.after l.own l.protection l.bytes) (changes_slot y p.counts p.reserved p.sp p.base room l.after to x is);
     }
 
-finish_by : (p : FramePlace) (o : Operation) (to : Slot) (v : MachineView) (at : ℕ) (f : Flags) (b : BodyState) (outcome : Outcome) → Roomy p → IsThere p to → sp_of v ≡ p.sp → FrameHolds p v.memory b → HasCode v.memory at (finish_code p.layout o to) → Implements p.reserved (work o) v outcome → Finished p o to v at f b outcome
+finish_by : (p : FramePlace) (o : Operation) (to : Slot) (v : MachineView) (at : ℕ) (f : Flags) (b : BodyState) (outcome : OperationResult) → Roomy p → IsThere p to → sp_of v ≡ p.sp → FrameHolds p v.memory b → HasCode v.memory at (finish_code p.layout o to) → Implements p.reserved (work o) v outcome → Finished p o to v at f b outcome
 finish_by p o to v at f b (Gives x source) room is sp h code w = leads_kept p (work o) to v at f b x source (work_fine o) room is sp h code w
 finish_by p o to v at f b (Raises c access) room is sp h code w = head_faults (finish_code p.layout o to) v at f c access (finish_fine p.layout p.counts p.sp p.base o to room is) code (more_faults (work o) (keep p.layout to) v c access w)
 finish_by p o to v at f b (Undefined a) room is sp h code w = tt
@@ -206,7 +206,7 @@ follows_after p m n s t to others b c same g = record {
   changes = record { protection = g.changes.protection ∙ ap (λ (m : Memory). m.protection) same; byte = λ a own out. g.changes.byte a own out ∙ ap (λ (m : Memory). m.byte a) same; bytes = λ x. g.changes.bytes (subst IsBytes (sym same) x) };
 }
 
-compute_by : (p : FramePlace) (to : Slot) (o : Operation) (first second : Slot) (v : MachineView) (rip : ℕ) (f : Flags) (b : BodyState) (outcome : Outcome) → (g : Begun p o first second v rip f b) → Finished p o to g.stopped (rip + sizes (operands_code p.layout o first second)) g.left b outcome → Computed p to o first second v rip f b (kept to b.slots outcome)
+compute_by : (p : FramePlace) (to : Slot) (o : Operation) (first second : Slot) (v : MachineView) (rip : ℕ) (f : Flags) (b : BodyState) (outcome : OperationResult) → (g : Begun p o first second v rip f b) → Finished p o to g.stopped (rip + sizes (operands_code p.layout o first second)) g.left b outcome → Computed p to o first second v rip f b (kept to b.slots outcome)
 compute_by p to o first second v rip f b (Gives x m) g fin =
     let ops = operands_code p.layout o first second in
     let rest = finish_code p.layout o to in

@@ -8,7 +8,7 @@ use Rattle.c_operations.specs.declared.operation.Operation.{Operation}
 use Rattle.linear_code.specs.declared.instruction.Instruction.{Instruction}
 use Rattle.linear_code.specs.declared.instruction.Instruction.TheVariants as instructions
 use Rattle.linear_code.specs.BodyState.{BodyState, with_slot}
-use Rattle.c_operations.specs.Performed.{Outcome, Gives, Raises, Undefined, performed}
+use Rattle.c_operations.specs.Performed.{OperationResult, Gives, Raises, Undefined, performed}
 use Rattle.linear_code.specs.Meaning.{Next, JumpsTo, kept, step, HasSlots}
 use Rattle.template_code.specs.declared.layout.Layout.{Layout}
 use Rattle.x64_templates.specs.Straight.{MachineView, machine}
@@ -42,7 +42,7 @@ compute_some y to o first second = let k = keep_some y to in omega (arith, lengt
 
 -- ---- by the outcome
 
-compute_done : (p : FramePlace) (k : Links) (to : Slot) (o : Operation) (first second : Slot) (v : MachineView) (here : ℕ) (f : Flags) (b : BodyState) (outcome : Outcome) → Computed p to o first second v here f b (kept to b.slots outcome) → InstructionDone p k v here f b (instructions.Compute to o first second) (kept to b.slots outcome)
+compute_done : (p : FramePlace) (k : Links) (to : Slot) (o : Operation) (first second : Slot) (v : MachineView) (here : ℕ) (f : Flags) (b : BodyState) (outcome : OperationResult) → Computed p to o first second v here f b (kept to b.slots outcome) → InstructionDone p k v here f b (instructions.Compute to o first second) (kept to b.slots outcome)
 compute_done p k to o first second v here f b (Gives x m) g =
     record {
       least = compute_some p.layout to o first second;

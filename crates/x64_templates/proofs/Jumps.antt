@@ -17,7 +17,7 @@ use Rattle.x64_templates.proofs.PlacedCode.{bytes_split, reaches_then}
 use Rattle.linear_code.specs.declared.slot.Slot.{Slot}
 use Rattle.linear_code.specs.declared.instruction.Instruction.TheVariants as instructions
 use Rattle.linear_code.specs.BodyState.{BodyState}
-use Rattle.linear_code.specs.Meaning.{Step, Next, JumpsTo, step}
+use Rattle.linear_code.specs.Meaning.{InstructionEffect, Next, JumpsTo, step}
 use Rattle.x64_templates.specs.Straight.{takes_frame, MachineView, machine}
 use Rattle.template_code.specs.Bytes.{size, sizes}
 use Rattle.template_code.specs.Slots.{fetch}
@@ -127,7 +127,7 @@ jump_if_zero_comes p slot v rip to f b z e room is at near h code =
     refl refl h)
 
 -- what a jump that depends on a slot comes to, by what it means
-abbrev pub Branched : FramePlace → Slot → ℕ → ℕ → MachineView → ℕ → Flags → Step → Type 0
+abbrev pub Branched : FramePlace → Slot → ℕ → ℕ → MachineView → ℕ → Flags → InstructionEffect → Type 0
 Branched p slot there to v rip f (JumpsTo b label) = ReachesBody p (length (jump_if_zero_code p.layout slot rip to)) (machine v rip f) to v.rest b
 Branched p slot there to v rip f (Next b) = ReachesBody p (length (jump_if_zero_code p.layout slot rip to)) (machine v rip f) there v.rest b
 Branched p slot there to v rip f _ = Unit {0}

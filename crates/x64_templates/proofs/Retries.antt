@@ -8,8 +8,8 @@ use Rattle.linear_code.specs.declared.instruction.Instruction.{Instruction}
 use Rattle.linear_code.specs.declared.instruction.Instruction.TheVariants as instructions
 use Rattle.c_operations.specs.declared.operation.Operation.{Operation}
 use Rattle.linear_code.specs.BodyState.{BodyState, with_slot}
-use Rattle.c_operations.specs.Performed.{Outcome, Gives, Raises, Undefined, performed}
-use Rattle.linear_code.specs.Meaning.{Step, Faults, step, run, HasSlots}
+use Rattle.c_operations.specs.Performed.{OperationResult, Gives, Raises, Undefined, performed}
+use Rattle.linear_code.specs.Meaning.{InstructionEffect, Faults, step, run, HasSlots}
 use Rattle.template_code.specs.declared.layout.Layout.{Layout}
 use Rattle.x64_templates.specs.Straight.{MachineView, machine}
 use Rattle.template_code.specs.Bytes.{sizes}
@@ -28,7 +28,7 @@ use Rattle.x64_templates.proofs.InstructionRuns.{body_instruction_run}
 use Rattle.x64_templates.proofs.Stretches.{linked_stays, body_runs}
 use Rattle.x64_templates.specs.Retries.{FaultsAfter, Retried}
 
-refused : (p : FramePlace) (k : Links) (instruction : Instruction) (to first second : Slot) (o : Operation) (v : MachineView) (here : ℕ) (f : Flags) (b : BodyState) (s : Step) (code : Code) (access : Option (Bool × ℕ)) → instruction ≡ instructions.Compute to o first second → s ≡ Faults code access → InstructionDone p k v here f b instruction s → ReachesFault (length (operands_code p.layout o first second)) v here f (here + sizes (operands_code p.layout o first second)) o (b.slots first) (b.slots second) code access
+refused : (p : FramePlace) (k : Links) (instruction : Instruction) (to first second : Slot) (o : Operation) (v : MachineView) (here : ℕ) (f : Flags) (b : BodyState) (s : InstructionEffect) (code : Code) (access : Option (Bool × ℕ)) → instruction ≡ instructions.Compute to o first second → s ≡ Faults code access → InstructionDone p k v here f b instruction s → ReachesFault (length (operands_code p.layout o first second)) v here f (here + sizes (operands_code p.layout o first second)) o (b.slots first) (b.slots second) code access
 refused p k instruction to first second o v here f b s code access is e done = subst (λ t. InstructionDone p k v here f b (instructions.Compute to o first second) t) e (subst (λ l. InstructionDone p k v here f b l s) is done)
 
 few_operands : (y : Layout) (to : Slot) (o : Operation) (first second : Slot) → length (operands_code y o first second) ≤ 16
@@ -61,7 +61,7 @@ body_faults p k start body n number v f b last c to first second o code access r
       fault = r.fault;
     }
 
-retried_by : (p : FramePlace) (next : ℕ) (to : Slot) (o : Operation) (v : MachineView) (at : ℕ) (f : Flags) (b : BodyState) (outcome : Outcome) → at + sizes (finish_code p.layout o to) ≡ next → Finished p o to v at f b outcome → Retried p next to o v at f b outcome
+retried_by : (p : FramePlace) (next : ℕ) (to : Slot) (o : Operation) (v : MachineView) (at : ℕ) (f : Flags) (b : BodyState) (outcome : OperationResult) → at + sizes (finish_code p.layout o to) ≡ next → Finished p o to v at f b outcome → Retried p next to o v at f b outcome
 retried_by p next to o v at f b (Gives x m) e g = subst (λ a. ReachesBody p (length (finish_code p.layout o to)) (machine v at f) a v.rest (record { slots = with_slot b.slots to x; memory = m })) e g
 retried_by p next to o v at f b (Raises code access) e g = g
 retried_by p next to o v at f b (Undefined a) e g = tt

@@ -14,7 +14,7 @@ use Rattle.x64_templates.proofs.PlacedCode.{no_turns, reaches_then}
 use Rattle.linear_code.specs.declared.instruction.Instruction.{Instruction}
 use Rattle.linear_code.specs.declared.instruction.Instruction.TheVariants as instructions
 use Rattle.linear_code.specs.BodyState.{BodyState}
-use Rattle.linear_code.specs.Meaning.{Step, Next, JumpsTo, Faults, ReservedAccess, NeedsDispatcher, step, BodyPoint, continued, run}
+use Rattle.linear_code.specs.Meaning.{InstructionEffect, Next, JumpsTo, Faults, ReservedAccess, NeedsDispatcher, step, BodyPoint, continued, run}
 use Rattle.x64_templates.specs.Straight.{MachineView, machine}
 use Rattle.template_code.specs.Bytes.{sizes}
 use Rattle.template_code.specs.Template.{Links, template, template_size, offset_of, code_from}
@@ -106,7 +106,7 @@ same_point x y b c e = (ap (number_of x) e, ap (body_of b) e)
     body_of d None = d
     body_of d (Some q) = q.1
 
-after_line : (p : FramePlace) (k : Links) (start : ℕ) (body : List Instruction) (n number : ℕ) (v : MachineView) (f : Flags) (b : BodyState) (last : ℕ) (c : BodyState) (instruction : Instruction) (s : Step) → Runs p k start body n → IsLinked p k v.memory start body → sp_of v ≡ p.sp → FrameHolds p v.memory b → number < length body → instruction ≡ get_or body number instructions.Separator → InstructionDone p k v (start + offset_of p.layout body number) f b instruction s → continued (run p.reserved body n) number s ≡ Some (last, c) → RunsAllTo p (suc n) (machine v (start + offset_of p.layout body number) f) (start + offset_of p.layout body last) v.rest c
+after_line : (p : FramePlace) (k : Links) (start : ℕ) (body : List Instruction) (n number : ℕ) (v : MachineView) (f : Flags) (b : BodyState) (last : ℕ) (c : BodyState) (instruction : Instruction) (s : InstructionEffect) → Runs p k start body n → IsLinked p k v.memory start body → sp_of v ≡ p.sp → FrameHolds p v.memory b → number < length body → instruction ≡ get_or body number instructions.Separator → InstructionDone p k v (start + offset_of p.layout body number) f b instruction s → continued (run p.reserved body n) number s ≡ Some (last, c) → RunsAllTo p (suc n) (machine v (start + offset_of p.layout body number) f) (start + offset_of p.layout body last) v.rest c
 after_line p k start body n number v f b last c instruction (Next d) rec l at h lt is done e =
     let y = p.layout in
     let here = start + offset_of y body number in

@@ -13,7 +13,7 @@ use Rattle.c_operations.specs.declared.operation.Signedness.TheVariants.{Unsigne
 use Rattle.c_operations.specs.declared.operation.Operation.{Operation}
 use Rattle.c_operations.specs.declared.operation.Operation.TheVariants as operations
 use Rattle.c_operations.specs.Numbers.{width}
-use Rattle.c_operations.specs.Performed.{Outcome, Gives, Raises, Undefined}
+use Rattle.c_operations.specs.Performed.{OperationResult, Gives, Raises, Undefined}
 use Rattle.x64_templates.specs.Straight.{MachineView, machine, Yields}
 use Rattle.x64_templates.specs.Frames.{Agrees, IsBytes}
 
@@ -50,7 +50,7 @@ pub record LeavesResult (reserved : ℕ → Bool) (code : List Instr) (v : Machi
   pub own : (a : ℕ) → reserved a ≡ true → after.byte a ≡ v.memory.byte a
   pub bytes : IsBytes v.memory → IsBytes after
 
-abbrev pub Implements : (ℕ → Bool) → List Instr → MachineView → Outcome → Type 0
+abbrev pub Implements : (ℕ → Bool) → List Instr → MachineView → OperationResult → Type 0
 Implements reserved code v (Gives x source) = LeavesResult reserved code v x source
 Implements reserved code v (Raises c access) = HeadFaults code v c access
 Implements reserved code v (Undefined a) = Unit {0}

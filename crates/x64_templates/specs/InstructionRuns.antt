@@ -6,7 +6,7 @@ use Rattle.x64_machine.specs.Effect.{State}
 use Rattle.linear_code.specs.declared.instruction.Instruction.{Instruction}
 use Rattle.linear_code.specs.declared.instruction.Instruction.TheVariants as instructions
 use Rattle.linear_code.specs.BodyState.{BodyState}
-use Rattle.linear_code.specs.Meaning.{Step, Next, JumpsTo, Faults, HasSlots}
+use Rattle.linear_code.specs.Meaning.{InstructionEffect, Next, JumpsTo, Faults, HasSlots}
 use Rattle.x64_templates.specs.Straight.{MachineView, machine}
 use Rattle.template_code.specs.Bytes.{sizes}
 use Rattle.template_code.specs.Slots.{operands_code}
@@ -23,7 +23,7 @@ pub record RunsTo (p : FramePlace) (turns : ℕ) (s : State) (to : ℕ) (others 
 -- by what the instruction means: on to the next one, or to a label, in one turn for each machine
 -- instruction of its template, or to a fault
 abbrev pub InstructionDone : FramePlace → Links → MachineView → ℕ → Flags → BodyState → Instruction
-    → Step → Type 0
+    → InstructionEffect → Type 0
 InstructionDone p k v here flags b instruction (Next c) =
     RunsTo p (length (template k p.layout here instruction)) (machine v here flags)
     (here + template_size p.layout instruction) v.rest c

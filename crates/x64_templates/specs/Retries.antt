@@ -5,7 +5,7 @@ use Rattle.x64_machine.specs.declared.cpu.Flags.{Flags}
 use Rattle.x64_machine.specs.declared.outcome.Stop.TheVariants as stops
 use Rattle.x64_machine.specs.Effect as machines
 use Rattle.c_operations.specs.declared.operation.Operation.{Operation}
-use Rattle.c_operations.specs.Performed.{Outcome, Gives, Raises, Undefined}
+use Rattle.c_operations.specs.Performed.{OperationResult, Gives, Raises, Undefined}
 use Rattle.linear_code.specs.declared.slot.Slot.{Slot}
 use Rattle.linear_code.specs.BodyState.{BodyState, with_slot}
 use Rattle.x64_templates.specs.Straight.{MachineView, machine}
@@ -33,7 +33,7 @@ pub record FaultsAfter (p : FramePlace) (n : ℕ) (v : MachineView) (rip : ℕ) 
 -- made again, with the same operands, on whatever the body holds by then: on to the next
 -- instruction, or the fault again
 abbrev pub Retried : FramePlace → ℕ → Slot → Operation → MachineView → ℕ → Flags → BodyState
-    → Outcome
+    → OperationResult
     → Type 0
 Retried p next to o v at f b (Gives x m) =
     ReachesBody p (length (finish_code p.layout o to)) (machine v at f) next v.rest

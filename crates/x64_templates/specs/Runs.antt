@@ -14,8 +14,8 @@ use Rattle.template_code.specs.Bytes.{spelled}
 use Rattle.linear_code.specs.declared.slot.Slot.{Slot}
 use Rattle.c_operations.specs.declared.operation.Operation.{Operation}
 use Rattle.linear_code.specs.BodyState.{BodyState, Counts, with_slot}
-use Rattle.c_operations.specs.Performed.{Outcome, Gives, Raises, Undefined}
-use Rattle.linear_code.specs.Meaning.{Step, Next, Faults, IsSlot}
+use Rattle.c_operations.specs.Performed.{OperationResult, Gives, Raises, Undefined}
+use Rattle.linear_code.specs.Meaning.{InstructionEffect, Next, Faults, IsSlot}
 use Rattle.template_code.specs.declared.layout.Layout.{Layout}
 use Rattle.x64_templates.specs.Straight.{AreSmall, MachineView, machine, takes_frame}
 use Rattle.template_code.specs.Bytes.{sizes}
@@ -115,7 +115,8 @@ pub record ReachesFault (turns : ℕ) (v : MachineView) (rip : ℕ) (flags : Fla
 -- with its operands in their registers an operation is made, or refused; it is made so when it is
 -- made again too, whatever the memory is by then
 
-abbrev pub Finished : FramePlace → Operation → Slot → MachineView → ℕ → Flags → BodyState → Outcome
+abbrev pub Finished : FramePlace → Operation → Slot → MachineView → ℕ → Flags → BodyState
+    → OperationResult
     → Type 0
 Finished p o to v at flags b (Gives x m) =
     ReachesBody p (length (finish_code p.layout o to)) (machine v at flags)
@@ -129,7 +130,7 @@ Finished p o to v at flags b (Undefined a) = Unit {0}
 
 abbrev pub Computed : FramePlace → Slot → Operation → Slot → Slot → MachineView → ℕ → Flags
     → BodyState
-    → Step → Type 0
+    → InstructionEffect → Type 0
 Computed p to o first second v rip flags b (Next c) =
     ReachesBody p (length (compute_code p.layout to o first second)) (machine v rip flags)
     (rip + sizes (compute_code p.layout to o first second)) v.rest c

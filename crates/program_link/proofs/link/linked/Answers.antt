@@ -1,5 +1,5 @@
 use Rattle.std.proofs.Common.{◌≡◌, ℕ, ◌+◌, ◌-◌, List, length, get_or, sym, subst, ap, ◌∙◌, arith}
-use Rattle.pe_write.specs.Program.{Program, CanBeImage}
+use Rattle.pe_write.specs.Program.{ImageContents, CanBeImage}
 use Rattle.program_link.specs.Linked.{first, image_of}
 use Rattle.program_link.proofs.Images.{if_ok, there, past, IsMeasured, rdata_small, xdata_small, is_site_near, image_is, is_program, no_routine}
 use Rattle.program_link.proofs.link.linked.Goals as goal
@@ -93,5 +93,5 @@ returns c =
     record { few = c.requires.globals; near = c.requires.near; places = c.requires.places; sized = c.data_pages-data_size.ensures.value; between = c.requires.bounds; text = c.offset_of.ensures } in
     let same = image_is g b rs c.args.functions c.args.main size_of_data c.offset_of.result h _ c.rdata_at-rdata.result c.site_of-site.ensures c.rdata_at-rdata.ensures c.xdata_at-xdata.result c.offset_of-2.result c.in_ok-code.code.items c.in_ok-tables.tables.xdata.items c.in_ok-tables.tables.pdata.items
     c.xdata_at-xdata.ensures c.offset_of-2.ensures c.in_ok-code.ensures c.in_ok-tables.ensures.xdata c.in_ok-tables.ensures.pdata in
-    if_ok (λ (x : Program). x ≡ record { data_size = size_of_data; data_bytes = g; text = c.in_ok-code.code.items; entry = c.offset_of-2.result; xdata = c.in_ok-tables.tables.xdata.items; pdata = c.in_ok-tables.tables.pdata.items })
-    (λ (x : Program). x ≡ image_of g rs c.args.functions c.args.main) c.image_with.result (λ x e. e ∙ same) c.image_with.ensures
+    if_ok (λ (x : ImageContents). x ≡ record { data_size = size_of_data; data_bytes = g; text = c.in_ok-code.code.items; entry = c.offset_of-2.result; xdata = c.in_ok-tables.tables.xdata.items; pdata = c.in_ok-tables.tables.pdata.items })
+    (λ (x : ImageContents). x ≡ image_of g rs c.args.functions c.args.main) c.image_with.result (λ x e. e ∙ same) c.image_with.ensures

@@ -1,5 +1,5 @@
 use Rattle.std.proofs.Common.{ap, arith}
-use Rattle.pe_write.specs.Program.{Program}
+use Rattle.pe_write.specs.Program.{ImageContents}
 use Rattle.pe_write.proofs.Programs.{rdata_fits, text_fits, places_fit}
 use Rattle.pe_write.proofs.image.Image.with_sections.Goals as goal
 
@@ -12,4 +12,4 @@ overflow_cast-text_at c = let fits = text_fits c.args.self.now c.sizes-sizes.res
 pub new-requires : goal.new-requires
 new-requires c =
     places_fit c.args.self.now c.sizes-sizes.result c.text_at.result c.self.inside.entry c.args.sections.items c.rdata_at-rdata.result c.pdata_at.result
-    c.sizes-sizes.ensures.program c.sizes-sizes.ensures.value c.text_at.ensures (ap (λ (p : Program). p.entry) c.self.view_is) c.requires c.rdata_at-rdata.ensures c.pdata_at.ensures
+    c.sizes-sizes.ensures.program c.sizes-sizes.ensures.value c.text_at.ensures (ap (λ (p : ImageContents). p.entry) c.self.view_is) c.requires c.rdata_at-rdata.ensures c.pdata_at.ensures
