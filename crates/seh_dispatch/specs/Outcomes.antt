@@ -22,7 +22,7 @@ abbrev pub led : List Event → Turn → Turn
 led es (Continues s fs) = Continues s (es ++ fs)
 led es (Ends fs end) = Ends (es ++ fs) end
 
-abbrev pub turn_of : Cpu → Memory → code.Outcome → Turn
+abbrev pub turn_of : Cpu → Memory → code.TurnOutcome → Turn
 turn_of c m (outcomes.Continues shown) = Continues (state c m) (listed shown)
 turn_of c m (outcomes.Ends end) = Ends [] end
 
@@ -32,16 +32,16 @@ led_turn c m made = led (listed made.first) (turn_of c m made.outcome)
 abbrev pub made_turn : Cpu → Memory → Made → Turn
 made_turn c m made = led (listed made.first) (led_turn c m made.rest)
 
-abbrev pub quiet : code.Outcome → Led
+abbrev pub quiet : code.TurnOutcome → Led
 quiet o = record { first = None; outcome = o }
 
-abbrev pub all_quiet : code.Outcome → Made
+abbrev pub all_quiet : code.TurnOutcome → Made
 all_quiet o = record { first = None; rest = quiet o }
 
-abbrev pub stopped_outcome : StopCause → code.Outcome
+abbrev pub stopped_outcome : StopCause → code.TurnOutcome
 stopped_outcome y = outcomes.Ends (ends.Stopped y.reason y.address)
 
-abbrev pub bad_record : ℕ → code.Outcome
+abbrev pub bad_record : ℕ → code.TurnOutcome
 bad_record at = stopped_outcome (record { reason = reasons.BadRecord; address = at })
 
 -- the processor after a service's return
