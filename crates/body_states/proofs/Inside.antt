@@ -1,10 +1,9 @@
 -- Where an instruction begins, RIP is in its code: each template has a byte at least.
-use Rattle.std.proofs.Common.{◌≡◌, ℕ, suc, ◌+◌, ◌*◌, ◌%◌, ◌<◌, ◌≤◌, Bool, List, [], ◌∷◌, ◌++◌, length, get_or, Option, Some, None, refl, sym, ap, subst, ◌∙◌, arith, length-append}
+use Rattle.std.proofs.Common.{◌≡◌, ℕ, suc, ◌+◌, ◌*◌, ◌%◌, ◌<◌, ◌≤◌, List, ◌++◌, length, get_or, Option, Some, None, ap, ◌∙◌, arith, length-append}
 use Rattle.seh_num.specs.declared.width.Width.{Width}
 use Rattle.x64_instr.specs.declared.register.Reg.{Reg}
 use Rattle.x64_instr.specs.declared.register.Reg.TheVariants.{Rax, Rcx, Rsp}
 use Rattle.x64_instr.specs.declared.operand.RegisterOrMemory.{RegisterOrMemory}
-use Rattle.x64_instr.specs.declared.instruction.Instr.{Instr}
 use Rattle.x64_encode.specs.declared.writing.Opcode.{Opcode}
 use Rattle.x64_encode.specs.declared.writing.Opcode.TheVariants as opcodes
 use Rattle.x64_encode.specs.Chosen.{prefixes, modrm_bits, opcode_bytes, place_bytes, modrm}
@@ -20,9 +19,9 @@ use Rattle.template_code.specs.declared.layout.Layout.{Layout}
 use Rattle.template_code.specs.Bytes.{size, sizes}
 use Rattle.template_code.specs.Operations.{before}
 use Rattle.template_code.specs.Slots.{fetched, put_back, local_at, fetch_local, keep_local, fetch, keep, operands_code, finish_code}
-use Rattle.template_code.specs.Calls.{epilogue, finally_arguments, field_load}
-use Rattle.template_code.specs.Template.{template_size, offset_of}
-use Rattle.template_code.proofs.Sizes.{sizes_append, call_size, jump_size, address_size, jump_if_zero_size, call_code_size, passing_call_size, offset_next}
+use Rattle.template_code.specs.Calls.{epilogue, finally_arguments}
+use Rattle.template_code.specs.Template.{template_size}
+use Rattle.template_code.proofs.Sizes.{sizes_append, call_size, jump_size, jump_if_zero_size, call_code_size, passing_call_size, offset_next}
 use Rattle.linked_stack.specs.ImagePlan.{ImagePlan, InCode}
 use Rattle.body_states.specs.Sites.{Sites}
 use Rattle.body_states.specs.Programs.{IsProgramImage}

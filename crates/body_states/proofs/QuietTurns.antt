@@ -1,7 +1,7 @@
 -- Runs of a body's code are turns of the machine that show nothing, up to where they come: a
 -- funclet begins with an instruction that makes its frame.
-use Rattle.std.proofs.Common.{◌≡◌, ◌≢◌, ℕ, zero, suc, ◌+◌, ◌^◌, ◌<◌, ◌≤◌, Bool, true, false, List, [], ◌∷◌, ◌++◌, length, Option, Some, None, Ok, refl, sym, ap, subst, ◌∙◌, arith, inl, inr}
-use Rattle.std.specs.Prelude.{slice_get, ◌==◌, nat_le}
+use Rattle.std.proofs.Common.{◌≡◌, ◌≢◌, ℕ, zero, suc, ◌+◌, ◌<◌, ◌≤◌, Bool, true, false, List, [], ◌∷◌, length, Option, Some, None, refl, sym, ap, subst, ◌∙◌, arith, inl, inr}
+use Rattle.std.specs.Prelude.{slice_get}
 use Rattle.std.proofs.lemmas.Bool.{le-leb, ne_eqb}
 use Rattle.std.proofs.lemmas.Option.{slice_get_cases}
 use Rattle.seh_num.specs.declared.width.Width.TheVariants.{W64}
@@ -11,7 +11,7 @@ use Rattle.host_layout.specs.declared.service.Service.TheVariants as services
 use Rattle.host_layout.specs.Services.{address_of}
 use Rattle.flat_memory.specs.declared.protection.Protection.{Protection}
 use Rattle.flat_memory.specs.Protections.{is_readable, is_writable}
-use Rattle.flat_memory.specs.Memory.{Memory, executable, may_read, may_write}
+use Rattle.flat_memory.specs.Memory.{Memory, executable, may_write}
 use Rattle.x64_instr.specs.declared.register.Reg.TheVariants.{Rsp}
 use Rattle.x64_instr.specs.declared.operand.RegisterOrMemory.TheVariants as places
 use Rattle.x64_instr.specs.declared.operand.Operand.TheVariants as operands
@@ -27,8 +27,8 @@ use Rattle.virtual_unwind.specs.CallerOf.{Functions, distance}
 use Rattle.host_model.specs.declared.funclet.Funclet.{Funclet}
 use Rattle.host_model.specs.Funclets.{arrivals}
 use Rattle.host_model.specs.Dispatch.{no_flags}
-use Rattle.linear_code.specs.Program.{LinearProgram, LinearBody, LinearFunclet}
-use Rattle.linear_machine.specs.Frames.{BodyName, FuncletBody, body_of, funclet_body}
+use Rattle.linear_code.specs.Program.{LinearProgram, LinearFunclet}
+use Rattle.linear_machine.specs.Frames.{FuncletBody, body_of, funclet_body}
 use Rattle.template_code.specs.Bytes.{spelled, thunk}
 use Rattle.template_code.specs.Calls.{enter_code}
 use Rattle.template_code.specs.Probing.{check_stack}
@@ -44,7 +44,6 @@ use Rattle.whole_runs.specs.Shadow.{AllKeep}
 use Rattle.whole_runs.specs.Comes.{IsLive, Comes}
 use Rattle.whole_runs.proofs.Turns.{comes_by_step, comes_then}
 use Rattle.body_states.specs.Sites.{Sites, begin_of, making, frame_code, arguments_code, entry_code, links_of, code_of}
-use Rattle.body_states.specs.Layouts.{IsFuncletPlan}
 use Rattle.body_states.specs.Programs.{service_of, HasService, HasProgram, IsProgramImage}
 
 -- ---- code outlasts whatever changes no protection and no byte that may not be written

@@ -1,6 +1,6 @@
 -- A body that waits runs again.
 use Rattle.std.proofs.Common.{◌≡◌, ℕ, ◌+◌, ◌^◌, ◌<◌, ◌≤◌, Bool, true, false, List, [], ◌∷◌, length, Option, Some, None, Ok, refl, sym, ap, subst, ◌∙◌, arith}
-use Rattle.std.specs.Prelude.{slice_index, slice_set, slice_get}
+use Rattle.std.specs.Prelude.{slice_set, slice_get}
 use Rattle.std.specs.List.{AllByRecursion}
 use Rattle.std.proofs.lemmas.List.{length-set}
 use Rattle.seh_num.specs.declared.event.Event.{Event}
@@ -21,18 +21,18 @@ use Rattle.host_model.specs.declared.funclet.Funclet.{Funclet}
 use Rattle.template_code.specs.declared.layout.Layout.{Layout}
 use Rattle.linear_code.specs.declared.program.Region.{Region}
 use Rattle.linear_code.specs.Program.{LinearProgram, LinearBody, LinearFunclet}
-use Rattle.linear_machine.specs.Frames.{BodyName, FunctionBody, FuncletBody, Frame, Item, Waits, Searches, Unwinds, body_of, Configuration}
+use Rattle.linear_machine.specs.Frames.{BodyName, FunctionBody, FuncletBody, Frame, Item, Waits, Searches, Unwinds, body_of}
 use Rattle.linear_machine.specs.Regions.{holds, regions_of}
 use Rattle.linked_stack.specs.Stack.{StackFrame, StackItem, Framed, Leaf, FrameIsAt, after_frame, after_leaf}
 use Rattle.linked_stack.specs.WalkLaws.{context_below}
 use Rattle.linked_stack.proofs.Visiting.{set_head}
 use Rattle.linked_stack.specs.ImagePlan.{ImagePlan, InCode}
-use Rattle.linked_stack.specs.Linked.{Activation, activations_below, HoldsWords, HasActivation, temporaries_end, home_end, HasSpace, below_end, BodyWaits, FrameWaits, HasPointers, IsAbove, FuncletIsAbove, FunctionIsAbove}
+use Rattle.linked_stack.specs.Linked.{Activation, activations_below, HoldsWords, HasActivation, temporaries_end, home_end, HasSpace, below_end, BodyWaits, HasPointers, IsAbove, FuncletIsAbove}
 use Rattle.linked_stack.specs.Records.{On}
 use Rattle.linked_stack.specs.Unwinding.{on_top}
 use Rattle.body_states.specs.Sites.{Sites}
 use Rattle.body_states.specs.Layouts.{IsLaidOut}
-use Rattle.body_states.specs.Programs.{HasAllocation, IsProgramImage}
+use Rattle.body_states.specs.Programs.{IsProgramImage}
 use Rattle.body_states.specs.Bodies.{slots_end, last_temporary, InBody}
 use Rattle.body_states.proofs.Moved.{on_moved}
 use Rattle.body_states.proofs.Waiting.{leaf_layout}

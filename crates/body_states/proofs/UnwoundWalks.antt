@@ -1,6 +1,6 @@
 -- Where an unwinding comes to, the walk gives the callers that were not entered below.
-use Rattle.std.proofs.Common.{◌≡◌, ℕ, ◌+◌, ◌<◌, ◌≤◌, Bool, true, false, Option, Some, None, List, [], ◌∷◌, length, refl, sym, ap, subst, ◌∙◌, arith}
-use Rattle.std.specs.Prelude.{nat_lt, nat_eq, Result, Ok, Err}
+use Rattle.std.proofs.Common.{◌≡◌, ℕ, ◌+◌, ◌<◌, ◌≤◌, Bool, true, false, Option, Some, None, List, [], ◌∷◌, length, sym, subst, ◌∙◌, arith}
+use Rattle.std.specs.Prelude.{nat_lt, nat_eq}
 use Rattle.flat_memory.specs.Memory.{Memory}
 use Rattle.x64_machine.specs.declared.context.Context.{Context}
 use Rattle.x64_machine.specs.Contexts.{context_of}
@@ -12,7 +12,7 @@ use Rattle.seh_unwind.specs.declared.unwind_result.UnwindResult.{UnwindResult}
 use Rattle.seh_unwind.specs.declared.unwind_result.UnwindResult.TheVariants.{Finally, Land, Stop}
 use Rattle.seh_unwind.specs.Unwind.{if_target, by_row, if_past, unwind}
 use Rattle.linked_stack.specs.Stack.{StackItem, Framed, Leaf, Searching, Unwinding, IsStack, after_frame, after_leaf, caller_frame, caller_of_leaf}
-use Rattle.linked_stack.specs.PlainWalks.{state, decided_or, in_frame, in_leaf, plain_unwind}
+use Rattle.linked_stack.specs.PlainWalks.{state, decided_or, plain_unwind}
 use Rattle.linked_stack.proofs.Visiting.{set_head}
 use Rattle.linked_stack.proofs.Listing.{unwinding_is_of_the_list}
 use Rattle.whole_runs.specs.Shadow.{drop_below}

@@ -18,7 +18,7 @@ use Rattle.linear_code.specs.BodyState.{BodyState, with_slot}
 use Rattle.linear_code.specs.Meaning.{IsSlot, kept}
 use Rattle.linear_code.specs.Program.{LinearProgram, LinearBody}
 use Rattle.linear_machine.specs.Frames as linear
-use Rattle.linear_machine.specs.Frames.{Configuration, Next, Store, read, write, with_temporary, with_temporaries, set_local, forth, with_some, Seen, Stuck}
+use Rattle.linear_machine.specs.Frames.{Configuration, Next, read, with_temporaries, forth, with_some}
 use Rattle.linear_machine.specs.Instructions.{is_constant, operand, written, computed, act}
 use Rattle.linear_machine.specs.Run.{exec}
 use Rattle.template_code.specs.Bytes.{sizes}
@@ -36,7 +36,6 @@ use Rattle.whole_runs.specs.Ends.{HasRule}
 use Rattle.whole_runs.specs.Matched.{Moves}
 use Rattle.ir_typed.specs.Room.{HaveRoom}
 use Rattle.ir_typed.specs.Ready as ready
-use Rattle.ir_typed.specs.Ready.{IsHeld}
 use Rattle.body_states.specs.Sites.{Sites}
 use Rattle.body_states.specs.Programs.{IsProgramImage}
 use Rattle.body_states.specs.Bodies.{turns_left, Begins}

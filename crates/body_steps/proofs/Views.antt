@@ -12,7 +12,7 @@ use Rattle.c_model.specs.Source.{is_reserved}
 use Rattle.linear_code.specs.BodyState.{Counts}
 use Rattle.linear_code.specs.Program.{LinearProgram, LinearBody}
 use Rattle.linear_machine.specs.Frames as linear
-use Rattle.linear_machine.specs.Frames.{BodyName, FunctionBody, FuncletBody, body_of, Configuration, local_of}
+use Rattle.linear_machine.specs.Frames.{FunctionBody, FuncletBody, Configuration, local_of}
 use Rattle.template_code.specs.declared.layout.Layout.{Layout}
 use Rattle.x64_templates.specs.Frames.{InTemporaries, InLocals, HasBase, SlotsHaveRoom, MemoryKeepsBase, KeepsReserved, Agrees, IsBytes, HoldsBody}
 use Rattle.x64_templates.specs.EntryStates.{body_in_memory}

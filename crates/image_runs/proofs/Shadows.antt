@@ -1,17 +1,15 @@
 -- At every turn of a compiled image's run the walk gives the shadow.
-use Rattle.std.proofs.Common.{◌≡◌, ℕ, zero, ◌+◌, ◌*◌, ◌^◌, ◌<◌, ◌≤◌, true, Some, None, Ok, List, [], ◌∷◌, length, get_or, refl, sym, ap, subst, ◌∙◌, arith}
-use Rattle.std.specs.Prelude.{ℤ, pos, slice_get, slice_index, slice_set}
+use Rattle.std.proofs.Common.{◌≡◌, ℕ, zero, ◌+◌, ◌*◌, ◌<◌, ◌≤◌, true, Some, None, Ok, List, [], ◌∷◌, length, get_or, refl, sym, ap, subst, ◌∙◌, arith}
+use Rattle.std.specs.Prelude.{ℤ, pos, slice_get}
 use Rattle.std.proofs.lemmas.Nat.{mul-le}
 use Rattle.std.proofs.lemmas.Option.{slice_get_within}
 use Rattle.seh_num.specs.Shown.{Shown}
 use Rattle.seh_num.specs.declared.end.RunEnd.{RunEnd}
-use Rattle.flat_memory.specs.Memory.{Memory}
 use Rattle.x64_instr.specs.declared.register.Reg.TheVariants.{Rsp, Rbx, Rbp, Rsi, Rdi, R12, R13, R14, R15}
 use Rattle.x64_machine.specs.declared.cpu.Cpu.{Cpu}
 use Rattle.x64_machine.specs.declared.context.Context.{Context}
 use Rattle.x64_machine.specs.Contexts.{context_of}
 use Rattle.x64_machine.specs.Effect.{State, register}
-use Rattle.pe_image.specs.Reading.{IsImage}
 use Rattle.pe_write.specs.Program.{image_of}
 use Rattle.eh_tables.specs.Tables.{Entry, or_none}
 use Rattle.virtual_unwind.specs.Undone.{word}
@@ -23,7 +21,7 @@ use Rattle.host_model.specs.Machine.{machine}
 use Rattle.c_checked.specs.Program.{Program}
 use Rattle.c_model.specs.Meaning.{Calm}
 use Rattle.linear_code.specs.Program.{LinearProgram, LinearFunction}
-use Rattle.linear_machine.specs.Frames.{BodyName, FunctionBody, body_of, function_body}
+use Rattle.linear_machine.specs.Frames.{FunctionBody, body_of, function_body}
 use Rattle.linear_machine.specs.Run as code
 use Rattle.seh_ir.specs.Lowered.{lowered}
 use Rattle.ir_linked.specs.Pace.{pace_of}

@@ -1,18 +1,17 @@
 -- Where the bodies of a program's image are.
-use Rattle.std.proofs.Common.{◌≡◌, ◌≢◌, ℕ, zero, suc, ◌+◌, ◌-◌, ◌*◌, ◌/◌, ◌^◌, ◌<◌, ◌≤◌, ◌==◌, Bool, true, false, not, leb, ltb, List, [], ◌∷◌, ◌++◌, length, get_or, take, Option, Some, None, refl, sym, ap, subst, ◌∙◌, arith, inl, inr, length-append}
-use Rattle.std.specs.Prelude.{slice_get, ◌&&◌, ◌||◌}
+use Rattle.std.proofs.Common.{◌≡◌, ◌≢◌, ℕ, zero, suc, ◌+◌, ◌<◌, ◌≤◌, true, false, not, leb, ltb, List, [], ◌∷◌, ◌++◌, length, get_or, Some, refl, ap, subst, ◌∙◌, arith, inl, inr, length-append}
+use Rattle.std.specs.Prelude.{◌&&◌}
 use Rattle.std.proofs.lemmas.Bool.{or_right, and_from, and_right, not_from_false, cases_lt, le-leb, lt-ltb, le-ltb}
 use Rattle.host_layout.specs.declared.range.TheConstants.{IMAGE_BASE, IMAGE_RANGE_END}
 use Rattle.c_model.specs.Source.{is_between, is_data, data_end, is_reserved}
-use Rattle.pe_write.specs.Program.{sizes_of, end_at}
 use Rattle.linear_code.specs.Program.{LinearBody, LinearFunclet, LinearProgram}
-use Rattle.linear_machine.specs.Frames.{BodyName, FuncletBody, body_of}
+use Rattle.linear_machine.specs.Frames.{BodyName, body_of}
 use Rattle.linear_code.specs.declared.instruction.Instruction.{Instruction}
 use Rattle.template_code.specs.declared.layout.Layout.{Layout}
 use Rattle.x64_encode.specs.Chosen.{modrm}
 use Rattle.template_code.specs.Bytes.{size, sizes}
 use Rattle.template_code.specs.Probing.{check_stack}
-use Rattle.template_code.specs.Template.{template_size, body_size, offset_of}
+use Rattle.template_code.specs.Template.{body_size, offset_of}
 use Rattle.template_code.proofs.Sizes.{offset_next}
 use Rattle.x64_code.proofs.Nearby.{some_instruction}
 use Rattle.program_link.specs.Fits.{FitsProgram}
@@ -22,8 +21,7 @@ use Rattle.program_link.specs.Text.{routine_size, entry_size, routine_bytes, che
 use Rattle.program_link.specs.Linked.{text_begin, first, total, linked}
 use Rattle.program_link.proofs.Images.{no_routine}
 use Rattle.program_link.proofs.Bounds.{bounds_least, bounds_below}
-use Rattle.program_link.proofs.Entries.{routine_small}
-use Rattle.program_tables.specs.Placed.{Placed, body_begin, end_of, site_of, placed}
+use Rattle.program_tables.specs.Placed.{Placed, end_of, site_of}
 use Rattle.program_tables.proofs.Labels.{template_some}
 use Rattle.program_tables.proofs.Infos.{taking_few}
 use Rattle.program_tables.proofs.Prologues.{entry_least}

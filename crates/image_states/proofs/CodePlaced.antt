@@ -1,24 +1,21 @@
 -- The code of a loaded image: that of bodies, of thunks and of `__chkstk`.
-use Rattle.std.proofs.Common.{◌≡◌, ℕ, zero, suc, ◌+◌, ◌-◌, ◌*◌, ◌/◌, ◌%◌, ◌^◌, ◌<◌, ◌≤◌, Bool, true, false, List, [], ◌∷◌, ◌++◌, length, Option, Some, None, refl, sym, ap, subst, ◌∙◌, arith, inl, inr, length-append}
+use Rattle.std.proofs.Common.{◌≡◌, ℕ, suc, ◌+◌, ◌-◌, ◌^◌, ◌<◌, ◌≤◌, true, false, List, [], ◌∷◌, ◌++◌, length, Option, Some, refl, sym, ap, subst, ◌∙◌, arith, inl}
 use Rattle.std.specs.List.{AllByRecursion}
 use Rattle.std.proofs.lemmas.List.{append-nil}
-use Rattle.host_layout.specs.declared.range.TheConstants.{IMAGE_BASE, IMAGE_RANGE_END}
 use Rattle.host_layout.specs.declared.service.Service.{Service}
 use Rattle.host_layout.specs.declared.service.Service.TheVariants as services
 use Rattle.host_layout.specs.Services.{address_of, service_named}
 use Rattle.flat_memory.specs.Protections.{is_readable, is_writable}
 use Rattle.flat_memory.specs.Memory.{Memory, number_at, may_read, may_write}
-use Rattle.x64_instr.specs.declared.instruction.Instr.{Instr}
 use Rattle.x64_encode.specs.Chosen.{chosen, modrm}
-use Rattle.pe_image.specs.Image.{Section, Image}
+use Rattle.pe_image.specs.Image.{Section}
 use Rattle.pe_image.specs.Imports.{Import}
 use Rattle.host_layout.specs.declared.imported.ImportedService.{ImportedService}
 use Rattle.host_layout.specs.declared.imported.ImportedService.TheVariants as imports
-use Rattle.pe_write.specs.ImportTables.{name_of, import_tables, slot_of}
-use Rattle.pe_write.specs.ImportTables as importing
-use Rattle.pe_write.specs.Program.{ImageContents, image_of, sections_of, imports_of, sizes_of, rdata_at, end_at}
+use Rattle.pe_write.specs.ImportTables.{name_of, slot_of}
+use Rattle.pe_write.specs.Program.{ImageContents, image_of, imports_of, sizes_of, rdata_at, end_at}
 use Rattle.pe_write.proofs.Programs.{listed}
-use Rattle.host_model.specs.Loading.{section_of, mode_in, stored_byte, with_slots, mapped}
+use Rattle.host_model.specs.Loading.{mode_in, stored_byte, with_slots, mapped}
 use Rattle.host_model.specs.Slots.{SlotsAreApart}
 use Rattle.host_model.proofs.Slots.{slots_read}
 use Rattle.frame_rules.specs.Bytes.{IsExecutableAt}
@@ -30,24 +27,23 @@ use Rattle.template_code.specs.Bytes.{spelled, size, sizes, thunk}
 use Rattle.template_code.specs.Jumps.{distance}
 use Rattle.template_code.specs.Probing.{check_stack}
 use Rattle.template_code.proofs.Sizes.{sizes_spelled}
-use Rattle.x64_templates.specs.Placed.{IsCodeAt, IsPlaced}
+use Rattle.x64_templates.specs.Placed.{IsCodeAt}
 use Rattle.x64_templates.specs.Runs.{HasCode}
-use Rattle.x64_templates.specs.Thunks.{HasThunk}
-use Rattle.program_link.specs.Text.{SiteView, routine_size, thunk_at, service_thunk, check_stack_at, front_code, routine_code, routine_bytes, routines_bytes}
-use Rattle.program_link.specs.Linked.{text_begin, first, total, linked}
+use Rattle.program_link.specs.Text.{SiteView, routine_size, thunk_at, service_thunk, front_code, routine_code, routine_bytes, routines_bytes}
+use Rattle.program_link.specs.Linked.{text_begin, first, linked}
 use Rattle.program_link.specs.Routines.{routines}
 use Rattle.program_link.proofs.Entries.{routine_small}
-use Rattle.program_tables.specs.Placed.{Placed, site_of}
+use Rattle.program_tables.specs.Placed.{site_of}
 use Rattle.program_tables.proofs.Handlers.{thunk_bytes}
 use Rattle.program_tables.proofs.Table.{is, text_is, rdata_is, end_inside}
 use Rattle.program_frames.specs.InMemory.{image_base}
-use Rattle.program_frames.proofs.CodeInMemory.{IsThere, code_length}
+use Rattle.program_frames.proofs.CodeInMemory.{code_length}
 use Rattle.program_frames.proofs.Loaded.{images_have_text, texts_are_fixed}
 use Rattle.body_states.specs.Sites.{begin_of, code_of}
 use Rattle.body_states.specs.Programs.{service_of, HasService, HasProgram}
 use Rattle.image_states.specs.Plans.{functions_of, funclets_of, routine_of, plan_of, sites_of}
 use Rattle.image_states.specs.Compiled.{HasWholeImage}
-use Rattle.image_states.proofs.Addresses.{InImage, in_image, reserved, place, here}
+use Rattle.image_states.proofs.Addresses.{reserved, place, here}
 use Rattle.image_states.proofs.Entering.{code_same}
 use Rattle.image_states.proofs.Data.{tables_there}
 use Rattle.host_layout.specs.declared.limit.TheConstants.{MOST_IMAGE}

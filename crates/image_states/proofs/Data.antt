@@ -1,12 +1,11 @@
 -- The machine's first memory beside the source's.
-use Rattle.std.proofs.Common.{◌≡◌, ℕ, zero, suc, ◌+◌, ◌-◌, ◌*◌, ◌/◌, ◌%◌, ◌^◌, ◌<◌, ◌≤◌, Bool, true, false, cond, not, leb, ltb, List, [], ◌∷◌, ◌++◌, length, get_or, Option, Some, None, refl, sym, ap, subst, ◌∙◌, arith, inl, inr}
+use Rattle.std.proofs.Common.{◌≡◌, ℕ, ◌+◌, ◌-◌, ◌^◌, ◌<◌, ◌≤◌, Bool, true, false, cond, not, leb, ltb, List, [], ◌∷◌, ◌++◌, length, get_or, Option, Some, None, refl, sym, ap, ◌∙◌, arith, inl, inr}
 use Rattle.std.specs.Prelude.{◌&&◌, ◌||◌, ◌⊎◌}
 use Rattle.std.specs.List.{AllByRecursion, flat_map}
 use Rattle.std.proofs.lemmas.Bool.{and_from, and_parts, and_left, and_right, or_left, lt-ltb, le-ltb, le-leb, lt-leb, ltb-true, leb-true, cases_lt, false≢true}
 use Rattle.std.proofs.lemmas.List.{get_or_past}
 use Rattle.host_layout.specs.declared.range.TheConstants.{GUARD_START, STACK_START, STACK_END, ARENA_START, ARENA_END, IMAGE_BASE, IMAGE_RANGE_END, FIRST_DATA}
-use Rattle.host_layout.specs.Ranges.{in_stack, in_guard, in_arena}
-use Rattle.flat_memory.specs.declared.protection.Protection.{Protection}
+use Rattle.host_layout.specs.Ranges.{in_stack, in_arena}
 use Rattle.flat_memory.specs.declared.protection.Rights.TheVariants.{Nothing, ReadWrite}
 use Rattle.flat_memory.specs.Protections.{is_writable}
 use Rattle.flat_memory.specs.Memory.{Memory, may_write}
@@ -14,19 +13,19 @@ use Rattle.pe_image.specs.Image.{Section, Image}
 use Rattle.pe_image.specs.Imports.{Import}
 use Rattle.pe_image.specs.Imports as importing
 use Rattle.pe_write.specs.ImportTables.{services, imported, import_tables}
-use Rattle.pe_write.specs.Program.{ImageContents, CanBeImage, image_of, sections_of, imports_of, parts_of, sizes_of, text_at, rdata_at, xdata_at, pdata_at, end_at, data_section, text_section, rdata_section, xdata_section, pdata_section}
+use Rattle.pe_write.specs.Program.{ImageContents, image_of, sections_of, imports_of, parts_of, sizes_of, text_at, rdata_at, xdata_at, pdata_at, end_at, data_section, text_section, rdata_section, xdata_section, pdata_section}
 use Rattle.pe_image.specs.Numbers.{zeros}
 use Rattle.pe_write.specs.Written.{raw_size, raw_data, written, dos_header, file_header, standard_fields, windows_fields, directories, table_of}
 use Rattle.pe_write.proofs.Programs.{listed}
-use Rattle.host_model.specs.Loading.{section_of, section_mode, mode_in, byte_in, stored_byte, stack_mode, with_slots, mapped}
+use Rattle.host_model.specs.Loading.{section_of, mode_in, byte_in, stored_byte, stack_mode, with_slots, mapped}
 use Rattle.host_model.specs.Slots.{IsBeside}
 use Rattle.host_model.proofs.Slots.{slots-beside}
 use Rattle.c_model.specs.Source.{is_between, data_end, is_data, is_reserved, plain_mode, first_memory}
 use Rattle.linear_code.specs.Program.{LinearProgram}
 use Rattle.linked_stack.specs.Records.{IsData}
 use Rattle.x64_templates.specs.Frames.{Agrees}
-use Rattle.program_link.specs.Linked.{text_begin, data_size, linked}
-use Rattle.program_tables.proofs.Table.{is, text_is, image_small}
+use Rattle.program_link.specs.Linked.{data_size, linked}
+use Rattle.program_tables.proofs.Table.{is, text_is}
 use Rattle.program_frames.specs.InMemory.{image_base}
 use Rattle.image_states.specs.Compiled.{HasWholeImage}
 use Rattle.image_states.specs.StartLaws.{HasBytes}

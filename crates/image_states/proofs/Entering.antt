@@ -1,7 +1,6 @@
 -- The code of a body, as its image has it and as the plan says.
-use Rattle.std.proofs.Common.{◌≡◌, ℕ, zero, suc, ◌+◌, ◌-◌, ◌*◌, ◌^◌, ◌<◌, ◌≤◌, ◌==◌, Bool, true, false, not, leb, List, [], ◌∷◌, ◌++◌, length, get_or, Option, Some, None, refl, sym, ap, subst, ◌∙◌, arith}
+use Rattle.std.proofs.Common.{◌≡◌, ℕ, zero, suc, ◌+◌, ◌^◌, ◌<◌, ◌==◌, Bool, true, false, not, leb, List, [], ◌∷◌, ◌++◌, get_or, Option, Some, None, refl, sym, ap, subst, ◌∙◌, arith}
 use Rattle.std.specs.Prelude.{slice_get, ◌&&◌}
-use Rattle.std.specs.List.{AllByRecursion}
 use Rattle.std.proofs.lemmas.Option.{slice_get_within, get_or_from_slice_get, slice_get-get_or}
 use Rattle.seh_num.specs.declared.width.Width.TheVariants.{W32, W64}
 use Rattle.x64_instr.specs.declared.register.Reg.TheVariants.{Rax, Rsp}
@@ -21,28 +20,28 @@ use Rattle.frame_layout.proofs.Sizes.{code_is}
 use Rattle.template_code.specs.declared.layout.Layout.{Layout}
 use Rattle.template_code.specs.Jumps.{distance}
 use Rattle.template_code.specs.Calls.{parameters_code}
-use Rattle.template_code.specs.Template.{Links, template_size, body_size, offset_of, code_from}
+use Rattle.template_code.specs.Template.{template_size, body_size, offset_of, code_from}
 use Rattle.x64_code.specs.Bodies.{label_list}
 use Rattle.x64_code.specs.Linking.{address_or}
 use Rattle.x64_code.specs.Entries as link_entries
 use Rattle.x64_code.proofs.Nearby.{all_at}
-use Rattle.program_link.specs.Fits.{FitsFunclet, FitsProgram}
+use Rattle.program_link.specs.Fits.{FitsFunclet}
 use Rattle.program_link.specs.Near.{IsFrameNear}
 use Rattle.program_link.specs.Routines.{RoutineView, leaf_if, funclet_frame, nothing, kept_by, HasParent, entry_of, funclet}
 use Rattle.program_link.specs.Routines as link
-use Rattle.program_link.specs.Text.{argument_code, entry_size, check_stack_at, own_addresses, routine_code}
+use Rattle.program_link.specs.Text.{argument_code, check_stack_at, own_addresses, routine_code}
 use Rattle.program_link.specs.Text as texts
 use Rattle.program_link.specs.Linked.{text_begin, linked}
-use Rattle.program_link.proofs.Entries.{entry_small, routine_small}
-use Rattle.program_tables.specs.Placed.{Placed, body_begin, end_of, site_of, placed}
-use Rattle.program_tables.proofs.Lookups.{some_same, none_some}
-use Rattle.program_frames.specs.InMemory.{image_base, template_at, links}
+use Rattle.program_link.proofs.Entries.{entry_small}
+use Rattle.program_tables.specs.Placed.{Placed, body_begin, site_of}
+use Rattle.program_tables.proofs.Lookups.{none_some}
+use Rattle.program_frames.specs.InMemory.{image_base, links}
 use Rattle.program_frames.proofs.CodeInMemory.{IsThere}
-use Rattle.program_frames.proofs.Layouts.{size_of, IsSized, sized}
-use Rattle.body_states.specs.Sites.{links_of, begin_of, making, frame_code, base_in, parent_base, keep_base, keep_argument, function_arguments, funclet_arguments, arguments_code, entry_code, code_of}
+use Rattle.program_frames.proofs.Layouts.{size_of, sized}
+use Rattle.body_states.specs.Sites.{links_of, begin_of, making, frame_code, parent_base, keep_base, keep_argument, function_arguments, funclet_arguments, arguments_code, entry_code, code_of}
 use Rattle.image_states.specs.Plans.{is_leaf, routine_of, address_of, plan_of, sites_of}
 use Rattle.image_states.specs.Compiled.{HasWholeImage}
-use Rattle.image_states.proofs.Places.{IsBody, is_function, is_funclet}
+use Rattle.image_states.proofs.Places.{is_function, is_funclet}
 use Rattle.image_states.proofs.Addresses.{place, here}
 use Rattle.image_states.proofs.Shifts.{AreMoved, call_moved, code_moved}
 

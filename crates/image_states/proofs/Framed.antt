@@ -1,17 +1,16 @@
 -- The frames of bodies that wait.
-use Rattle.std.proofs.Common.{◌≡◌, ℕ, zero, suc, ◌+◌, ◌-◌, ◌^◌, ◌<◌, ◌≤◌, Bool, true, false, List, [], ◌∷◌, ◌++◌, length, Option, Some, None, Ok, refl, sym, ap, subst, ◌∙◌, arith}
+use Rattle.std.proofs.Common.{◌≡◌, ℕ, zero, suc, ◌+◌, ◌^◌, ◌<◌, true, false, List, [], ◌∷◌, Option, Some, None, Ok, refl, sym, ap, subst, ◌∙◌, arith}
 use Rattle.std.specs.Prelude.{slice_get}
 use Rattle.std.specs.List.{AllByRecursion}
 use Rattle.program_tables.proofs.Lookups.{some_same, none_some}
 use Rattle.std.proofs.lemmas.Bool.{false≢true}
 use Rattle.flat_memory.specs.Memory.{Memory}
 use Rattle.x64_instr.specs.declared.instruction.Instr.{Instr}
-use Rattle.x64_machine.specs.declared.context.Context.{Context}
 use Rattle.eh_tables.specs.declared.code.UnwindOperation.TheVariants.{Allocate}
 use Rattle.eh_tables.specs.declared.code.UnwindCode.{UnwindCode}
 use Rattle.virtual_unwind.specs.Contexts.{rsp}
 use Rattle.virtual_unwind.specs.Undone.{word}
-use Rattle.linked_stack.specs.Stack.{StackFrame, FrameIsAt, LeafIsAt}
+use Rattle.linked_stack.specs.Stack.{FrameIsAt}
 use Rattle.frame_rules.specs.Bytes.{IsExecutableAt}
 use Rattle.linear_code.specs.declared.instruction.Instruction.{Instruction}
 use Rattle.linear_code.specs.declared.instruction.Instruction.TheVariants as instructions
@@ -25,17 +24,16 @@ use Rattle.x64_templates.specs.Quiet as quiet
 use Rattle.program_link.specs.Text.{routine_code}
 use Rattle.program_link.proofs.Entries.{routine_small}
 use Rattle.x64_code.specs.Near.{IsInstructionNear}
-use Rattle.program_tables.specs.Placed.{Placed, site_of, placed}
+use Rattle.program_tables.specs.Placed.{site_of}
 use Rattle.program_tables.specs.Entries as tables
 use Rattle.program_frames.specs.InMemory.{image_base, template_at, links, IsReturn, IsInBody}
 use Rattle.program_frames.specs.Laws.{stack_frame}
 use Rattle.program_frames.proofs.Layouts.{size_of, sized}
 use Rattle.program_frames.proofs.Waiting.{frame_is_at, leaves_are_at}
-use Rattle.body_states.specs.Programs.{frame_with, HasProgram, IsResumed, IsFramed, FramesAreWaiting, HasAllocation, LeavesAreWaiting}
+use Rattle.body_states.specs.Programs.{frame_with, HasProgram, IsResumed, FramesAreWaiting, HasAllocation, LeavesAreWaiting}
 use Rattle.body_states.specs.Sites.{links_of, begin_of, code_of}
 use Rattle.image_states.specs.Plans.{functions_of, funclets_of, is_leaf, or_none, routine_of, address_of, plan_of, sites_of}
 use Rattle.image_states.specs.Compiled.{HasWholeImage}
-use Rattle.image_states.proofs.Places.{IsBody}
 use Rattle.image_states.proofs.Addresses.{place, here, label_inside}
 use Rattle.image_states.proofs.Entering.{moved, code_same}
 use Rattle.image_states.proofs.Shifts.{template_moved}

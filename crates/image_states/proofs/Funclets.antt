@@ -1,5 +1,5 @@
 -- Where RIP arrives at funclets.
-use Rattle.std.proofs.Common.{◌≡◌, ◌≢◌, ℕ, zero, suc, ◌+◌, ◌-◌, ◌%◌, ◌^◌, ◌<◌, ◌≤◌, ◌==◌, Bool, true, false, List, [], ◌∷◌, ◌++◌, length, Option, Some, None, refl, sym, ap, subst, ◌∙◌, arith, inl, inr}
+use Rattle.std.proofs.Common.{◌≡◌, ◌≢◌, ℕ, zero, suc, ◌+◌, ◌^◌, ◌<◌, ◌==◌, Bool, true, false, List, [], ◌∷◌, ◌++◌, length, Option, Some, None, refl, sym, ap, ◌∙◌, arith, inl, inr}
 use Rattle.std.specs.Prelude.{slice_get, ◌||◌}
 use Rattle.std.specs.List.{AllByRecursion}
 use Rattle.std.proofs.lemmas.Bool.{eq-eqb, or_right}
@@ -15,18 +15,16 @@ use Rattle.linear_code.specs.declared.program.RegionKind.{RegionKind}
 use Rattle.linear_code.specs.declared.program.RegionKind.TheVariants as kinds
 use Rattle.linear_code.specs.declared.program.FuncletKind.{FuncletKind}
 use Rattle.linear_code.specs.declared.program.FuncletKind.TheVariants.{Filter, Finally}
-use Rattle.linear_code.specs.Program.{LinearBody, LinearFunction, LinearFunclet, LinearProgram}
-use Rattle.linear_machine.specs.Frames.{BodyName, FunctionBody, FuncletBody, function_body, funclet_body, body_of}
+use Rattle.linear_code.specs.Program.{LinearFunction, LinearFunclet, LinearProgram}
+use Rattle.linear_machine.specs.Frames.{BodyName, FunctionBody, FuncletBody, function_body, funclet_body}
 use Rattle.ir_typed.specs.Bodies.{IsFilterKind, IsFinallyKind, IsKindOf, IsRegionOf}
 use Rattle.program_link.specs.Fits.{function_bodies, funclet_bodies}
-use Rattle.program_link.specs.Linked.{first, total}
 use Rattle.program_tables.specs.Entries.{entries}
-use Rattle.program_tables.proofs.Lookups.{some_same, none_some}
 use Rattle.program_tables.proofs.Table.{end_inside, image_small}
 use Rattle.program_frames.specs.InMemory.{image_base}
 use Rattle.program_frames.proofs.Waiting.{away}
 use Rattle.program_shape.specs.Rows.{rows_of, regions_in, regions, funclet_in, named, funclet_begin, IsRow, AreRows}
-use Rattle.program_shape.proofs.Shape.{rises, tables_have_shape, begin_is, as_long, funclet_size}
+use Rattle.program_shape.proofs.Shape.{rises, tables_have_shape}
 use Rattle.body_states.specs.Programs.{FuncletsBegin}
 use Rattle.body_states.specs.Programs as states
 use Rattle.image_states.specs.Plans.{functions_of, funclets_of, plan_of, sites_of}

@@ -1,5 +1,5 @@
 -- The scope records of each body are its regions.
-use Rattle.std.proofs.Common.{◌≡◌, ◌≢◌, ℕ, zero, suc, ◌+◌, ◌-◌, ◌%◌, ◌^◌, ◌<◌, ◌≤◌, ◌==◌, Bool, true, false, not, leb, ltb, eqb, List, [], ◌∷◌, ◌++◌, length, get_or, map, Option, Some, None, refl, sym, ap, subst, ◌∙◌, arith, inl, inr}
+use Rattle.std.proofs.Common.{◌≡◌, ◌≢◌, ℕ, ◌+◌, ◌%◌, ◌^◌, ◌<◌, ◌≤◌, ◌==◌, Bool, true, false, not, leb, ltb, eqb, List, [], ◌∷◌, length, map, Option, Some, None, refl, sym, ap, subst, ◌∙◌, arith, inl, inr}
 use Rattle.std.specs.Prelude.{slice_get, ◌&&◌, ◌||◌, ◌⊎◌}
 use Rattle.std.specs.List.{AllByRecursion}
 use Rattle.std.proofs.lemmas.Bool.{cases_lt, lt-ltb, le-ltb, le-leb, lt-leb, ltb-true, eq-eqb, ne_eqb, false≢true}
@@ -8,7 +8,7 @@ use Rattle.std.proofs.lemmas.Option.{slice_get_within}
 use Rattle.x64_machine.specs.declared.cpu.Cpu.{Cpu}
 use Rattle.eh_tables.specs.declared.scope.ScopeRecord.{ScopeRecord}
 use Rattle.virtual_unwind.specs.CallerOf.{distance}
-use Rattle.seh_walk.specs.Asked.{is_end, is_searched, is_unwound}
+use Rattle.seh_walk.specs.Asked.{is_end}
 use Rattle.seh_walk.specs.Asked as rows
 use Rattle.host_model.specs.Funclets.{by_kind, arrivals}
 use Rattle.linear_code.specs.declared.slot.Slot.TheVariants.{Local}
@@ -18,38 +18,32 @@ use Rattle.linear_code.specs.declared.instruction.Instruction.TheVariants as ins
 use Rattle.linear_code.specs.declared.program.Region.{Region}
 use Rattle.linear_code.specs.declared.program.RegionKind.{RegionKind}
 use Rattle.linear_code.specs.declared.program.RegionKind.TheVariants as kinds
-use Rattle.linear_code.specs.Program.{LinearBody, LinearFunclet, LinearProgram}
+use Rattle.linear_code.specs.Program.{LinearBody, LinearProgram}
 use Rattle.linear_machine.specs.Frames.{BodyName, body_of}
 use Rattle.linear_machine.specs.Regions.{leads_to}
 use Rattle.linear_machine.specs.Regions as linear
 use Rattle.linear_machine.specs.Run.{instruction_in}
 use Rattle.ir_typed.specs.Bodies.{parent_of, IsFuncletOf, IsLanding, IsKindOf, IsRegionOf}
 use Rattle.template_code.specs.declared.layout.Layout.{Layout}
-use Rattle.template_code.specs.Template.{template_size, body_size, offset_of}
-use Rattle.x64_code.specs.Bodies.{label_list}
 use Rattle.x64_code.specs.Linking.{address_or}
-use Rattle.program_link.specs.Routines.{RoutineView, routines}
-use Rattle.program_link.specs.Tables.{has_except, has_finally, handler_address, jump_target, scope_record, scope_records}
+use Rattle.program_link.specs.Routines.{routines}
+use Rattle.program_link.specs.Tables.{has_except, has_finally, handler_address, jump_target, scope_record}
 use Rattle.program_link.specs.Tables as tables
-use Rattle.program_link.specs.Text.{routine_size, entry_size, own_addresses}
-use Rattle.program_link.specs.Linked.{text_begin, first, total, linked}
+use Rattle.program_link.specs.Text.{own_addresses}
+use Rattle.program_link.specs.Linked.{text_begin, first, linked}
 use Rattle.program_link.proofs.Entries.{routine_small}
-use Rattle.program_tables.specs.Placed.{Placed, body_begin, end_of, site_of, infos_begin, placed}
-use Rattle.program_tables.specs.Ranges.{IsRange, HasRanges}
-use Rattle.program_tables.specs.Entries.{scopes_of}
-use Rattle.program_tables.proofs.Lookups.{placed_has, some_same, none_some}
+use Rattle.program_tables.specs.Placed.{Placed, body_begin, site_of, infos_begin}
+use Rattle.program_tables.proofs.Lookups.{placed_has}
 use Rattle.program_tables.proofs.Table.{end_inside, image_small}
 use Rattle.program_frames.specs.InMemory.{image_base, template_at}
 use Rattle.program_frames.proofs.CodeInMemory.{IsThere}
 use Rattle.program_frames.proofs.Waiting.{away}
 use Rattle.program_shape.specs.Rows.{funclet_begin}
-use Rattle.program_shape.specs.Laws as shape
 use Rattle.program_shape.proofs.Placing.{IsBare, routines_bare}
 use Rattle.program_shape.proofs.Shape.{entries_are_flagged}
-use Rattle.linked_stack.specs.ImagePlan.{InCode, by_parent, parent_body, IsFunclet, IsFinallyRow, JumpsTo, IsFilterRow, IsAlwaysRow, IsOfKind, IsRegion, AreRegions, AllFinally, AllExcept, IsFlagged, IsEntryOf, IsGiven, Gives}
-use Rattle.image_states.specs.Plans.{functions_of, funclets_of, is_leaf, or_none, routine_of, address_of, plan_of}
+use Rattle.linked_stack.specs.ImagePlan.{InCode, by_parent, parent_body, IsFunclet, JumpsTo, IsOfKind, IsRegion, AreRegions, AllFinally, AllExcept, IsFlagged, IsEntryOf, IsGiven, Gives}
+use Rattle.image_states.specs.Plans.{functions_of, funclets_of, or_none, routine_of, address_of, plan_of}
 use Rattle.image_states.specs.Compiled.{HasWholeImage}
-use Rattle.image_states.proofs.Places.{IsBody}
 use Rattle.image_states.proofs.Addresses.{offset_mono, past, place, here, label_rises, label_inside, not_first, funclet_end, begin_least}
 use Rattle.image_states.proofs.Entering.{label_is}
 use Rattle.image_states.proofs.Framed.{leaf_of}

@@ -1,15 +1,13 @@
 -- The image of a compiled program has its bodies where the plan says.
-use Rattle.std.proofs.Common.{◌≡◌, ℕ, ◌+◌, ◌<◌, ◌≤◌, List, length, Some, refl, sym, ap, subst, ◌∙◌, arith}
+use Rattle.std.proofs.Common.{◌≡◌, ℕ, ◌+◌, ◌<◌, length, Some, sym, ap, subst, ◌∙◌, arith}
 use Rattle.std.proofs.lemmas.Bool.{lt-ltb, ltb-true}
-use Rattle.x64_instr.specs.declared.instruction.Instr.{Instr}
 use Rattle.linear_code.specs.Program.{LinearBody, LinearProgram}
 use Rattle.linear_machine.specs.Frames.{BodyName, body_of}
 use Rattle.template_code.specs.Bytes.{sizes}
 use Rattle.template_code.specs.Template.{body_size, offset_of}
-use Rattle.program_link.specs.Text.{entry_size, check_stack_at}
-use Rattle.program_link.specs.Text as texts
+use Rattle.program_link.specs.Text.{check_stack_at}
 use Rattle.program_link.proofs.Entries.{entry_sizes}
-use Rattle.program_tables.specs.Placed.{Placed, body_begin, end_of, site_of}
+use Rattle.program_tables.specs.Placed.{Placed, end_of, site_of}
 use Rattle.program_frames.specs.InMemory.{image_base}
 use Rattle.body_states.specs.Sites.{begin_of, entry_code}
 use Rattle.body_states.specs.Programs.{HasAddresses}

@@ -1,6 +1,6 @@
 -- Leaf functions call nothing, and functions begin elsewhere than funclets.
-use Rattle.std.proofs.Common.{◌≡◌, ◌≢◌, ℕ, zero, suc, ◌+◌, ◌<◌, ◌≤◌, ◌==◌, Bool, true, false, not, List, [], ◌∷◌, length, get_or, Option, Some, None, refl, sym, ap, ◌∙◌, arith}
-use Rattle.std.specs.Prelude.{slice_get, ◌&&◌, ◌||◌, nat_le}
+use Rattle.std.proofs.Common.{◌≡◌, ◌≢◌, ℕ, zero, suc, ◌+◌, ◌<◌, ◌==◌, Bool, true, false, not, List, [], ◌∷◌, length, get_or, Option, Some, None, refl, sym, ap, ◌∙◌, arith}
+use Rattle.std.specs.Prelude.{slice_get, ◌&&◌, nat_le}
 use Rattle.std.proofs.lemmas.Option.{slice_get_within}
 use Rattle.std.proofs.lemmas.Bool.{and_parts, or_parts, true≢false, false≢true}
 use Rattle.linear_code.specs.declared.instruction.Instruction.{Instruction}
@@ -8,14 +8,14 @@ use Rattle.linear_code.specs.declared.instruction.Instruction.TheVariants as ins
 use Rattle.linear_code.specs.Program.{LinearBody, LinearFunction, LinearFunclet, LinearProgram}
 use Rattle.linear_machine.specs.Frames.{BodyName, FunctionBody, FuncletBody, function_body, funclet_body, body_of}
 use Rattle.ir_typed.specs.Apart.{is_call}
-use Rattle.program_link.specs.Routines.{RoutineView, leaf_if, funclet, routines, has_call}
+use Rattle.program_link.specs.Routines.{RoutineView, leaf_if, routines, has_call}
 use Rattle.program_link.specs.Routines as link
 use Rattle.program_link.specs.Text.{bounds, routine_size}
 use Rattle.program_link.specs.Linked.{first}
 use Rattle.program_link.proofs.Images.{no_routine}
-use Rattle.program_tables.specs.Placed.{site_of, end_of}
+use Rattle.program_tables.specs.Placed.{site_of}
 use Rattle.program_tables.proofs.Lookups.{some_same, none_some}
-use Rattle.program_frames.specs.InMemory.{image_base, template_at}
+use Rattle.program_frames.specs.InMemory.{image_base}
 use Rattle.x64_code.specs.Linking.{address_or}
 use Rattle.program_shape.specs.Rows.{funclet_begin}
 use Rattle.program_shape.proofs.Placing.{bounds_rise}

@@ -1,7 +1,7 @@
 -- Each body's routine, and where it begins.
-use Rattle.std.proofs.Common.{◌≡◌, ℕ, zero, suc, ◌+◌, ◌<◌, ◌≤◌, ◌==◌, Bool, true, false, not, List, [], ◌∷◌, ◌++◌, length, get_or, take, drop, map, Option, Some, None, refl, sym, ap, subst, ◌∙◌, arith, length-append, get_or-drop}
+use Rattle.std.proofs.Common.{◌≡◌, ℕ, zero, suc, ◌+◌, ◌<◌, ◌==◌, Bool, true, false, not, List, [], ◌∷◌, length, get_or, take, drop, map, Option, Some, None, refl, sym, ap, ◌∙◌, arith}
 use Rattle.std.specs.Prelude.{slice_get, ◌&&◌}
-use Rattle.std.proofs.lemmas.List.{get_or-take, get_or_append_left, length-map}
+use Rattle.std.proofs.lemmas.List.{get_or-take, get_or_append_left}
 use Rattle.std.proofs.lemmas.Option.{slice_get_within, get_or_from_slice_get}
 use Rattle.linear_code.specs.Program.{LinearBody, LinearFunction, LinearFunclet, LinearProgram}
 use Rattle.linear_machine.specs.Frames.{BodyName, FunctionBody, FuncletBody, function_body, funclet_body, body_of}
@@ -16,10 +16,10 @@ use Rattle.program_tables.proofs.Lookups.{some_same, none_some}
 use Rattle.program_frames.specs.InMemory.{image_base}
 use Rattle.x64_code.specs.Linking.{address_or}
 use Rattle.program_shape.specs.Rows.{funclet_begin}
-use Rattle.program_shape.proofs.Placing.{IsPlaced, is_placed}
+use Rattle.program_shape.proofs.Placing.{is_placed}
 use Rattle.program_shape.proofs.Shape.{functions_count, no_funclet, as_long, funclet_is, begin_is}
 use Rattle.body_states.specs.Sites.{begin_of}
-use Rattle.image_states.specs.Plans.{or_nowhere, routine_if, routine_of, plan_of, sites_of}
+use Rattle.image_states.specs.Plans.{or_nowhere, routine_of, plan_of, sites_of}
 
 -- ---- lists
 

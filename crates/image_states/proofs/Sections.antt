@@ -1,9 +1,7 @@
 -- Which section is at an address, and what sections are like.
-use Rattle.std.proofs.Common.{◌≡◌, ℕ, zero, suc, ◌+◌, ◌-◌, ◌*◌, ◌/◌, ◌%◌, ◌^◌, ◌<◌, ◌≤◌, Bool, true, false, cond, leb, ltb, List, [], ◌∷◌, ◌++◌, length, get_or, replicate, Option, Some, None, refl, sym, ap, ◌∙◌, arith, inl, inr}
-use Rattle.std.specs.Prelude.{◌&&◌, ◌⊎◌}
+use Rattle.std.proofs.Common.{◌≡◌, ℕ, zero, suc, ◌+◌, ◌-◌, ◌/◌, ◌%◌, ◌^◌, ◌<◌, ◌≤◌, Bool, true, false, cond, leb, ltb, List, [], ◌∷◌, ◌++◌, get_or, replicate, Option, Some, None, refl, ap, ◌∙◌, arith}
 use Rattle.std.specs.List.{AllByRecursion}
-use Rattle.std.proofs.lemmas.Bool.{and_from, and_left, and_right, lt-ltb, le-ltb, le-leb, lt-leb, cases_lt, false≢true}
-use Rattle.std.proofs.lemmas.List.{get_or_past}
+use Rattle.std.proofs.lemmas.Bool.{and_from, and_left, and_right, lt-ltb, le-ltb, le-leb, lt-leb}
 use Rattle.flat_memory.specs.declared.protection.Protection.{Protection}
 use Rattle.flat_memory.specs.Protections.{is_writable}
 use Rattle.flat_memory.specs.Memory.{with_number, is_among, distance}
@@ -13,8 +11,7 @@ use Rattle.pe_image.specs.Imports.{Import}
 use Rattle.host_layout.specs.Ranges.{pages}
 use Rattle.host_layout.specs.declared.service.Service.{Service}
 use Rattle.host_layout.specs.Services.{address_of, service_named}
-use Rattle.host_model.specs.Loading.{covers, or_else, section_of, section_mode, stack_mode, mode_in, byte_in, with_address, with_slots}
-use Rattle.host_layout.specs.Ranges.{in_stack}
+use Rattle.host_model.specs.Loading.{covers, or_else, section_of, byte_in, with_address, with_slots}
 
 -- ---- which section
 

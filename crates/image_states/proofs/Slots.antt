@@ -1,21 +1,21 @@
 -- Where the slots of each body are.
-use Rattle.std.proofs.Common.{◌≡◌, ℕ, ◌+◌, ◌*◌, ◌%◌, ◌<◌, ◌≤◌, ◌==◌, Bool, true, false, not, List, length, get_or, Option, Some, None, refl, sym, ap, subst, ◌∙◌, arith}
+use Rattle.std.proofs.Common.{◌≡◌, ℕ, ◌+◌, ◌≤◌, ◌==◌, Bool, true, false, not, length, Option, Some, None, refl, sym, ap, subst, ◌∙◌, arith}
 use Rattle.std.specs.Prelude.{slice_get, ◌&&◌, nat_le}
 use Rattle.std.proofs.lemmas.Bool.{and_parts, and_right, leb-true}
-use Rattle.std.proofs.lemmas.Option.{slice_get_within, get_or_from_slice_get, slice_get-get_or}
+use Rattle.std.proofs.lemmas.Option.{slice_get_within, get_or_from_slice_get}
 use Rattle.linear_code.specs.Program.{LinearBody, LinearFunction, LinearFunclet, LinearProgram}
-use Rattle.linear_machine.specs.Frames.{BodyName, FunctionBody, FuncletBody, function_body, funclet_body, body_of}
+use Rattle.linear_machine.specs.Frames.{FunctionBody, FuncletBody, function_body, funclet_body}
 use Rattle.template_code.specs.declared.layout.Layout.{Layout}
 use Rattle.linked_stack.specs.ImagePlan.{ImagePlan}
-use Rattle.program_link.specs.Fits.{FitsBody, FitsFunction, FitsFunclet, FitsProgram}
+use Rattle.program_link.specs.Fits.{FitsBody, FitsFunction}
 use Rattle.program_link.specs.Routines.{RoutineView, has_call, leaf_if, function_frame, funclet_frame, funclet, nothing}
 use Rattle.program_link.specs.Routines as link
 use Rattle.x64_code.proofs.Nearby.{all_at}
 use Rattle.program_tables.proofs.Lookups.{some_same, none_some}
-use Rattle.body_states.specs.Layouts.{IsFunctionLayout, IsLeafLayout, IsFuncletLayout, IsLayoutIf, IsFuncletPlan, IsLaidOut, AreLaidOut}
+use Rattle.body_states.specs.Layouts.{IsFuncletLayout, IsLayoutIf, IsLaidOut, AreLaidOut}
 use Rattle.image_states.specs.Plans.{is_leaf, routine_of, plan_of}
 use Rattle.image_states.specs.Compiled.{IsFuncletSized, HasWholeImage}
-use Rattle.image_states.proofs.Places.{IsFunction, is_function, IsFunclet, is_funclet}
+use Rattle.image_states.proofs.Places.{is_function, is_funclet}
 
 -- ---- functions
 

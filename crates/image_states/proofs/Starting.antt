@@ -1,16 +1,16 @@
 -- The memory that a run starts with, and the load.
-use Rattle.std.proofs.Common.{◌≡◌, ℕ, ◌+◌, ◌/◌, ◌*◌, ◌^◌, ◌<◌, ◌≤◌, Bool, true, false, leb, ltb, List, [], ◌∷◌, length, Option, Some, None, refl, sym, ap, ◌∙◌, arith}
+use Rattle.std.proofs.Common.{◌≡◌, ◌+◌, ◌^◌, Bool, true, leb, List, [], ◌∷◌, Option, None, refl, ap, ◌∙◌, arith}
 use Rattle.std.specs.Prelude.{option_map}
-use Rattle.std.proofs.lemmas.Bool.{le-leb, lt-ltb, le-ltb}
-use Rattle.pe_image.specs.Image.{Section, Image}
+use Rattle.std.proofs.lemmas.Bool.{le-leb}
+use Rattle.pe_image.specs.Image.{Image}
 use Rattle.pe_image.specs.Imports.{Import}
-use Rattle.pe_write.specs.Program.{ImageContents, image_of, sections_of, sizes_of, text_at, end_at}
+use Rattle.pe_write.specs.Program.{ImageContents, image_of}
 use Rattle.pe_write.proofs.Programs.{listed}
 use Rattle.eh_tables.specs.Answer.{Table}
 use Rattle.eh_tables.specs.Tables.{Entry}
 use Rattle.host_model.specs.declared.refusal.LoadErr.{LoadErr}
 use Rattle.host_model.specs.declared.refusal.LoadErr.TheVariants as refusals
-use Rattle.host_model.specs.Loading.{section_of, reason_unless, first_of, of_tables, table_refusal, has_place, place_refusal, first_unknown, import_refusal, is_code, has_entry, entry_refusal, load_refusal}
+use Rattle.host_model.specs.Loading.{reason_unless, first_of, of_tables, table_refusal, has_place, place_refusal, first_unknown, import_refusal, is_code, has_entry, entry_refusal, load_refusal}
 use Rattle.linear_code.specs.Program.{LinearProgram}
 use Rattle.program_link.specs.Linked.{linked}
 use Rattle.program_tables.proofs.Table.{is, tables_are_read}

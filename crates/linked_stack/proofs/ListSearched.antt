@@ -5,7 +5,7 @@ use Rattle.std.specs.List.{AllByRecursion}
 use Rattle.eh_tables.specs.declared.scope.ScopeRecord.{ScopeRecord}
 use Rattle.virtual_unwind.specs.CallerOf.{Functions, distance}
 use Rattle.seh_walk.specs.Asked as rows
-use Rattle.seh_walk.specs.Asked.{AskedRecord, holding, first_with_jump_target}
+use Rattle.seh_walk.specs.Asked.{holding, first_with_jump_target}
 use Rattle.host_model.specs.declared.funclet.Funclet.{Funclet}
 use Rattle.host_model.specs.Dispatch.{row_before}
 use Rattle.linear_code.specs.declared.program.Region.{Region}

@@ -1,5 +1,5 @@
 -- What a routine does with what it is called with is code of a body.
-use Rattle.std.proofs.Common.{◌≡◌, ℕ, zero, suc, ◌+◌, ◌*◌, ◌^◌, ◌<◌, ◌≤◌, Bool, true, false, cond, ltb, List, [], ◌∷◌, ◌++◌, Option, Some, None, refl, arith}
+use Rattle.std.proofs.Common.{ℕ, zero, suc, ◌+◌, Bool, true, false, cond, ltb, [], ◌∷◌, Option, Some, None, refl, arith}
 use Rattle.seh_num.specs.declared.width.Width.TheVariants.{W32}
 use Rattle.x64_instr.specs.declared.register.Reg.TheVariants.{Rax, Rcx, Rsp}
 use Rattle.linear_code.specs.declared.slot.Slot.TheVariants.{Local}
@@ -7,8 +7,8 @@ use Rattle.template_code.specs.declared.layout.Layout.{Layout}
 use Rattle.template_code.specs.Operations.{move}
 use Rattle.template_code.specs.Slots.{fetched, keep, local_at}
 use Rattle.template_code.specs.Calls.{keep_register, parameter_register, stack_parameter, parameter_code, parameters_code}
-use Rattle.x64_code.specs.Near.{AreParametersNear, IsNear}
-use Rattle.x64_code.specs.Entries.{keep_base, IsParentNear, IsKeptNear}
+use Rattle.x64_code.specs.Near.{IsNear}
+use Rattle.x64_code.specs.Entries.{keep_base, IsParentNear}
 use Rattle.program_link.specs.declared.routine.Entry.{Entry}
 use Rattle.program_link.specs.declared.routine.Entry.TheVariants as entries
 use Rattle.program_link.specs.Near.{IsEntryNear}

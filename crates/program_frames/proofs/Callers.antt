@@ -1,46 +1,40 @@
 -- The caller of every frame is found, by the function table of the image.
-use Rattle.std.proofs.Common.{◌≡◌, ◌≢◌, ℕ, zero, suc, ◌+◌, ◌-◌, ◌^◌, ◌<◌, ◌≤◌, Bool, true, false, List, [], ◌∷◌, ◌++◌, length, Option, Some, None, Ok, refl, sym, ap, subst, ◌∙◌, arith, inl, inr, append_assoc}
-use Rattle.std.specs.Prelude.{slice_get, ◌⊎◌}
+use Rattle.std.proofs.Common.{◌≡◌, ◌≢◌, ℕ, ◌+◌, ◌^◌, ◌<◌, ◌≤◌, true, List, [], ◌∷◌, ◌++◌, length, Option, Some, None, refl, sym, ap, subst, ◌∙◌, arith, inl, inr}
 use Rattle.flat_memory.specs.Memory.{Memory}
-use Rattle.x64_instr.specs.declared.instruction.Instr.{Instr}
 use Rattle.x64_encode.specs.Chosen.{modrm}
 use Rattle.x64_machine.specs.Contexts.{context_of}
 use Rattle.x64_machine.specs.Effect.{State}
 use Rattle.eh_tables.specs.Tables as reading
-use Rattle.eh_tables.specs.Tables.{Entry, Tables, entries_of, holding, or_none}
-use Rattle.virtual_unwind.specs.Tail.{FetchedInstr, fetched_at}
-use Rattle.virtual_unwind.specs.CallerOf.{Functions, caller_in, caller_of, functions_of, distance}
+use Rattle.eh_tables.specs.Tables.{Entry, entries_of, holding, or_none}
+use Rattle.virtual_unwind.specs.Tail.{FetchedInstr}
+use Rattle.virtual_unwind.specs.CallerOf.{caller_in, caller_of, distance}
 use Rattle.frame_rules.specs.Frame.{left_to}
 use Rattle.frame_rules.specs.Prologue.{bytes, items}
 use Rattle.frame_rules.specs.Body.{Body, following, is_body}
-use Rattle.frame_rules.specs.Rules.{FramedFunction, IsRight, ops, InPrologue, IsBody, IsLeaving, IsFound}
+use Rattle.frame_rules.specs.Rules.{FramedFunction, IsRight, IsFound}
 use Rattle.frame_rules.specs.Rules as rules
 use Rattle.frame_rules.specs.States.{registers, return_address, IsEntry, InBody, HasItems}
 use Rattle.frame_rules.proofs.Callers.{entries_are_found, leaves_are_found}
-use Rattle.host_model.specs.Machine.{functions_in}
 use Rattle.pe_write.specs.Program.{image_of}
 use Rattle.host_layout.specs.declared.imported.ImportedService.{ImportedService}
 use Rattle.host_layout.specs.declared.imported.ImportedService.TheVariants.{RaiseException, CSpecificHandler, LocalUnwind, Protect, Put}
 use Rattle.linear_code.specs.Program.{LinearProgram}
-use Rattle.frame_layout.specs.declared.frame.FrameLayout.{FrameLayout}
-use Rattle.template_code.specs.Bytes.{thunk}
 use Rattle.program_link.specs.Fits.{FitsProgram}
-use Rattle.program_link.specs.Text.{routine_size, thunk_at, check_stack_at}
+use Rattle.program_link.specs.Text.{thunk_at}
 use Rattle.program_link.specs.Linked.{first, linked}
 use Rattle.program_link.proofs.Entries.{routine_small}
-use Rattle.program_tables.specs.Placed.{Placed, end_of, site_of, placed}
+use Rattle.program_tables.specs.Placed.{end_of, site_of}
 use Rattle.program_tables.specs.Ranges.{HasRegions}
 use Rattle.program_tables.specs.Entries.{entries}
 use Rattle.program_tables.specs.Entries as tables
 use Rattle.program_tables.proofs.Lookups.{entries_are_held, leaves_are_held_by_none, thunks_are_held_by_none}
 use Rattle.program_tables.proofs.Table.{table, table_entries, tables_are_read}
-use Rattle.program_frames.specs.InMemory.{image_base, HasText}
-use Rattle.program_frames.specs.Functions.{rest_of, function_of, leaf, thunk_of, probe}
-use Rattle.program_frames.specs.Laws.{IsFramed, FindsCaller, IsInRange, FramesAreFound, LeavesAreFound, ThunksAreFound, ProbesAreFound}
+use Rattle.program_frames.specs.InMemory.{image_base}
+use Rattle.program_frames.specs.Functions.{function_of, leaf, thunk_of, probe}
+use Rattle.program_frames.specs.Laws.{FindsCaller, FramesAreFound, LeavesAreFound, ThunksAreFound, ProbesAreFound}
 use Rattle.program_frames.proofs.CodeInMemory.{there}
 use Rattle.program_frames.proofs.Layouts.{size_of}
-use Rattle.program_frames.proofs.Rest.{with_size}
-use Rattle.program_frames.proofs.Right.{sizes, right, is_there, plan_near, rest_fine}
+use Rattle.program_frames.proofs.Right.{right, is_there, plan_near, rest_fine}
 use Rattle.program_frames.proofs.Waiting.{away}
 
 -- ---- instructions that are

@@ -1,5 +1,5 @@
 -- The code of each routine is where the text is.
-use Rattle.std.proofs.Common.{◌≡◌, ℕ, zero, suc, ◌+◌, ◌-◌, ◌*◌, ◌^◌, ◌<◌, ◌≤◌, true, List, [], ◌∷◌, ◌++◌, length, take, Option, Some, None, refl, sym, ap, subst, ◌∙◌, arith, append_assoc, length-append}
+use Rattle.std.proofs.Common.{◌≡◌, ℕ, zero, suc, ◌+◌, ◌≤◌, List, [], ◌∷◌, ◌++◌, length, Some, refl, sym, ap, subst, ◌∙◌, arith, append_assoc, length-append}
 use Rattle.std.specs.Prelude.{slice_get}
 use Rattle.std.specs.List.{AllByRecursion}
 use Rattle.std.proofs.lemmas.Grind.{flat_map-append}
@@ -17,10 +17,9 @@ use Rattle.x64_code.specs.Linking.{links_of}
 use Rattle.program_link.specs.Fits.{FitsProgram}
 use Rattle.program_link.specs.Routines.{RoutineView, routines}
 use Rattle.program_link.specs.Near.{IsRoutineNear}
-use Rattle.program_link.specs.Text.{SiteView, routine_size, routine_room, room, entry_code, entry_size, addresses, check_stack_at, front_code, routine_code, routine_bytes, routines_bytes, text_bytes}
+use Rattle.program_link.specs.Text.{SiteView, routine_size, routine_room, room, entry_code, entry_size, addresses, check_stack_at, front_code, routine_code, routine_bytes, routines_bytes}
 use Rattle.program_link.specs.Tables.{info_bytes}
 use Rattle.program_link.specs.Linked.{text_begin, first, linked}
-use Rattle.program_link.proofs.Bounds.{total_small}
 use Rattle.program_link.proofs.Entries.{entry_sizes, routine_small}
 use Rattle.program_link.proofs.Images.{has_places}
 use Rattle.program_link.proofs.Nearness.{routines_near}

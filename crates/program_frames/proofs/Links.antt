@@ -1,12 +1,12 @@
 -- What the code of a routine refers to is in the image.
-use Rattle.std.proofs.Common.{◌≡◌, ℕ, ◌+◌, ◌*◌, ◌^◌, ◌<◌, ◌≤◌, List, length, arith}
+use Rattle.std.proofs.Common.{ℕ, ◌+◌, ◌≤◌, length, arith}
 use Rattle.c_operations.specs.declared.built_in.BuiltIn.{BuiltIn}
 use Rattle.c_operations.specs.declared.built_in.BuiltIn.TheVariants.{Put, Protect, RaiseException}
 use Rattle.linear_code.specs.Program.{LinearProgram}
 use Rattle.x64_code.specs.Linking.{thunk_of}
 use Rattle.program_link.specs.Fits.{FitsProgram}
 use Rattle.program_link.specs.Routines.{routines}
-use Rattle.program_link.specs.Text.{routine_size, entry_size, own_addresses, thunks_at}
+use Rattle.program_link.specs.Text.{entry_size, own_addresses, thunks_at}
 use Rattle.program_link.specs.Linked.{text_begin, linked}
 use Rattle.program_link.proofs.Entries.{entry_small, routine_small, labels_near}
 use Rattle.program_link.proofs.Images.{site_near, has_places}

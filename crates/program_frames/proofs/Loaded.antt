@@ -1,5 +1,5 @@
 -- A loaded image has its text in memory.
-use Rattle.std.proofs.Common.{◌≡◌, ℕ, suc, inl, ◌+◌, ◌-◌, ◌*◌, ◌/◌, ◌^◌, ◌<◌, ◌≤◌, true, false, ltb, leb, List, [], ◌∷◌, length, get_or, Some, None, refl, sym, ap, subst, ◌∙◌, arith}
+use Rattle.std.proofs.Common.{◌≡◌, ℕ, suc, inl, ◌+◌, ◌-◌, ◌*◌, ◌/◌, ◌^◌, ◌<◌, true, false, ltb, leb, List, [], ◌∷◌, length, get_or, Some, refl, sym, ap, ◌∙◌, arith}
 use Rattle.std.specs.List.{AllByRecursion}
 use Rattle.std.proofs.lemmas.Bool.{lt-ltb, le-ltb, le-leb}
 use Rattle.flat_memory.specs.declared.protection.Protection.{Protection}
@@ -7,7 +7,6 @@ use Rattle.flat_memory.specs.Protections.{is_writable}
 use Rattle.flat_memory.specs.Memory.{Memory, may_write}
 use Rattle.pe_image.specs.Image.{Section, Image}
 use Rattle.pe_image.specs.Imports.{Import}
-use Rattle.pe_image.specs.Imports as importing
 use Rattle.pe_write.specs.ImportTables.{services, imported}
 use Rattle.pe_write.specs.Program.{ImageContents, image_of, sections_of, imports_of, rdata_at, text_at, sizes_of}
 use Rattle.pe_write.proofs.Programs.{listed}
@@ -21,8 +20,8 @@ use Rattle.program_link.specs.Linked.{text_begin, data_size, linked}
 use Rattle.program_link.specs.Routines.{routines}
 use Rattle.program_link.proofs.Images.{rdata_fits, has_places}
 use Rattle.program_link.proofs.Nearness.{routines_near}
-use Rattle.program_tables.proofs.Table.{is, text_is, rdata_is}
-use Rattle.program_frames.specs.InMemory.{image_base, HasText}
+use Rattle.program_tables.proofs.Table.{is, rdata_is}
+use Rattle.program_frames.specs.InMemory.{image_base}
 use Rattle.program_frames.specs.Laws.{ImagesHaveText, TextsAreFixed}
 
 module _ (p : LinearProgram) (fits : FitsProgram p) where

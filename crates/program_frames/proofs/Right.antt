@@ -1,11 +1,10 @@
 -- Routines with a frame keep the rules, and are where the text is.
-use Rattle.std.proofs.Common.{◌≡◌, ℕ, zero, suc, ◌+◌, ◌*◌, ◌^◌, ◌<◌, ◌≤◌, Bool, true, false, not, eqb, List, [], ◌∷◌, ◌++◌, length, Option, Some, None, refl, sym, ap, subst, ◌∙◌, arith, append_assoc}
+use Rattle.std.proofs.Common.{◌≡◌, ℕ, ◌+◌, ◌^◌, ◌<◌, Bool, true, false, not, eqb, List, [], ◌∷◌, ◌++◌, length, Option, Some, refl, sym, ap, subst, ◌∙◌, arith, append_assoc}
 use Rattle.std.specs.Prelude.{slice_get}
 use Rattle.std.specs.List.{flat_map}
 use Rattle.std.proofs.lemmas.Bool.{ne_eqb}
 use Rattle.flat_memory.specs.Memory.{Memory}
 use Rattle.x64_instr.specs.declared.instruction.Instr.{Instr}
-use Rattle.x64_encode.specs.Chosen.{chosen}
 use Rattle.eh_tables.specs.declared.code.UnwindOperation.{UnwindOperation}
 use Rattle.eh_tables.specs.declared.code.UnwindOperation.TheVariants.{Allocate}
 use Rattle.eh_tables.specs.declared.unwind_info.Trailer.TheVariants.{Nothing}
@@ -13,16 +12,16 @@ use Rattle.virtual_unwind.specs.Tail.{FetchedInstr}
 use Rattle.frame_rules.specs.Codes.{are_allowed}
 use Rattle.frame_rules.specs.Prologue.{bytes, items}
 use Rattle.frame_rules.specs.Body.{Body, following, is_body}
-use Rattle.frame_rules.specs.Plan.{FramePlan, IsPlan, spelled_by, all_encodable, allocation_then, operations_of, instructions_of, steps_of}
+use Rattle.frame_rules.specs.Plan.{FramePlan, IsPlan, spelled_by, allocation_then, operations_of, instructions_of, steps_of}
 use Rattle.frame_rules.specs.Plan as rules
 use Rattle.frame_rules.specs.States.{HasItems}
-use Rattle.frame_rules.specs.Rules.{FramedFunction, IsRight, ops}
+use Rattle.frame_rules.specs.Rules.{IsRight}
 use Rattle.frame_rules.specs.Bytes.{spell, IsExecutableAt, prologue_code}
 use Rattle.frame_rules.proofs.Bytes.{spells_all, items_are_at, plans_are_encodable}
 use Rattle.frame_rules.proofs.Emitting.{plans_are_right}
 use Rattle.linear_code.specs.Program.{LinearProgram}
 use Rattle.frame_layout.specs.declared.frame.FrameLayout.{FrameLayout}
-use Rattle.frame_layout.specs.Layout.{plan_of, info_of, taking_size, Describes}
+use Rattle.frame_layout.specs.Layout.{plan_of, info_of, taking_size}
 use Rattle.frame_layout.proofs.Sizes.{describes}
 use Rattle.template_code.specs.Bytes.{spelled}
 use Rattle.template_code.specs.Jumps.{distance}
@@ -30,7 +29,7 @@ use Rattle.template_code.specs.Template.{code_from}
 use Rattle.x64_code.proofs.Nearby.{near_signed}
 use Rattle.program_link.specs.Fits.{FitsProgram}
 use Rattle.program_link.specs.Near.{IsFrameNear}
-use Rattle.program_link.specs.Text.{routine_size, frame_code, argument_code, entry_size, check_stack_at, routine_code}
+use Rattle.program_link.specs.Text.{routine_size, frame_code, argument_code, check_stack_at, routine_code}
 use Rattle.program_link.specs.Linked.{text_begin, linked}
 use Rattle.program_link.proofs.Entries.{entry_small, routine_small}
 use Rattle.program_link.proofs.Images.{site_near, has_places}
@@ -41,7 +40,6 @@ use Rattle.program_frames.specs.InMemory.{image_base, HasText, links}
 use Rattle.program_frames.specs.Functions.{plan, rest_of, function_of}
 use Rattle.program_frames.specs.Laws.{IsFramed, FunctionsAreInMemory, FunctionsKeepTheRules}
 use Rattle.program_frames.proofs.CodeInMemory.{IsThere, there, code_length, routine_is_at}
-use Rattle.program_frames.proofs.Inner.{AllInner}
 use Rattle.program_frames.proofs.Arguments.{arguments_inner}
 use Rattle.program_frames.proofs.Layouts.{size_of, sized}
 use Rattle.program_frames.proofs.Links.{links_near}

@@ -1,14 +1,10 @@
 -- Each machine instruction of a template that is no return is one of a body.
-use Rattle.std.proofs.Common.{◌≡◌, ℕ, zero, suc, ◌+◌, ◌-◌, ◌*◌, ◌^◌, ◌<◌, ◌≤◌, Bool, true, false, ltb, List, [], ◌∷◌, ◌++◌, Option, Some, None, refl, arith}
-use Rattle.std.proofs.lemmas.Bool.{cases_lt}
-use Rattle.seh_num.specs.declared.width.Width.TheVariants.{W32, W64}
+use Rattle.std.proofs.Common.{ℕ, zero, suc, ◌+◌, ◌-◌, ◌*◌, ◌^◌, ◌<◌, [], ◌∷◌, ◌++◌, refl, arith}
 use Rattle.x64_instr.specs.declared.register.Reg.TheVariants.{Rax, Rcx}
-use Rattle.x64_instr.specs.declared.instruction.Instr.{Instr}
 use Rattle.x64_encode.specs.Chosen.{modrm, opcode_register}
 use Rattle.c_operations.specs.declared.built_in.BuiltIn.{BuiltIn}
 use Rattle.c_operations.specs.declared.field.Field.{Field}
 use Rattle.c_operations.specs.declared.field.Field.TheVariants.{ExceptionCode, ExceptionFlags, NumberParameters, ExceptionInformation}
-use Rattle.linear_code.specs.declared.slot.Slot.{Slot}
 use Rattle.linear_code.specs.declared.slot.Slot.TheVariants.{Temporary}
 use Rattle.linear_code.specs.declared.instruction.Instruction.{Instruction}
 use Rattle.linear_code.specs.declared.instruction.Instruction.TheVariants as instructions
@@ -19,7 +15,7 @@ use Rattle.template_code.specs.Slots.{temporary_at, fetch, keep, operands_code, 
 use Rattle.template_code.specs.Jumps.{call, compare_zero, jump_equal, test_code}
 use Rattle.template_code.specs.Calls.{arguments_code, begin_call, call_code, passing_code, finally_arguments, field_load}
 use Rattle.template_code.specs.Template.{Links, template}
-use Rattle.x64_code.specs.Near.{IsSlotNear, AreArgumentsNear, IsFieldNear, IsInstructionNear, IsNear}
+use Rattle.x64_code.specs.Near.{IsFieldNear, IsInstructionNear, IsNear}
 use Rattle.x64_code.proofs.Nearby.{near_signed, test_small, arguments_small, passing_small}
 use Rattle.program_frames.specs.InMemory.{IsReturn}
 use Rattle.program_frames.proofs.Inner.{AllInner, inner_both, signed, fetch_inner, fetch_second, keep_inner, before_inner, work_inner}

@@ -1,6 +1,6 @@
 -- Frames of bodies that wait.
-use Rattle.std.proofs.Common.{◌≡◌, ◌≢◌, ℕ, zero, suc, ◌+◌, ◌-◌, ◌*◌, ◌%◌, ◌^◌, ◌<◌, ◌≤◌, Bool, true, false, eqb, ltb, List, [], ◌∷◌, ◌++◌, length, Option, Some, None, Ok, refl, sym, ap, subst, ◌∙◌, arith, append_assoc}
-use Rattle.std.specs.Prelude.{slice_get, ◌&&◌}
+use Rattle.std.proofs.Common.{◌≡◌, ℕ, zero, suc, ◌+◌, ◌-◌, ◌%◌, ◌^◌, ◌<◌, ◌≤◌, Bool, true, false, ltb, List, [], ◌∷◌, ◌++◌, length, Option, Some, None, Ok, refl, sym, ap, subst, ◌∙◌, arith, append_assoc}
+use Rattle.std.specs.Prelude.{slice_get}
 use Rattle.std.specs.List.{AllByRecursion}
 use Rattle.std.proofs.lemmas.Bool.{and_from, ne_eqb, le-ltb}
 use Rattle.std.proofs.lemmas.List.{append-nil}
@@ -11,7 +11,7 @@ use Rattle.x64_machine.specs.declared.context.Context.{Context}
 use Rattle.x64_encode.proofs.Lengths.{longest}
 use Rattle.eh_tables.specs.Answer.{Table}
 use Rattle.eh_tables.specs.Tables.{Entry, holding, or_none}
-use Rattle.virtual_unwind.specs.CallerOf.{Functions, distance, entry_of}
+use Rattle.virtual_unwind.specs.CallerOf.{distance, entry_of}
 use Rattle.virtual_unwind.specs.declared.tail.Role.TheVariants.{Other}
 use Rattle.virtual_unwind.specs.declared.tail.Role.{Role}
 use Rattle.virtual_unwind.specs.Tail.{FetchedInstr, fetched_at, role_of, by_role, from_item, tail, tail_at}
@@ -24,17 +24,16 @@ use Rattle.frame_rules.specs.Bytes.{spell, IsExecutableAt}
 use Rattle.frame_rules.proofs.Bytes.{never_empty, items_are_at}
 use Rattle.pe_write.specs.Program.{image_of}
 use Rattle.linear_code.specs.declared.instruction.Instruction.{Instruction}
-use Rattle.linear_code.specs.declared.instruction.Instruction.TheVariants as instructions
 use Rattle.linear_code.specs.Program.{LinearProgram}
 use Rattle.frame_layout.specs.declared.frame.FrameLayout.{FrameLayout}
 use Rattle.frame_layout.specs.Layout.{taking_size}
 use Rattle.template_code.specs.Bytes.{spelled, size, sizes}
-use Rattle.template_code.specs.Template.{template, template_size, body_size, offset_of, code_from}
-use Rattle.template_code.proofs.Sizes.{sizes_append, sizes_spelled, template_sizes}
+use Rattle.template_code.specs.Template.{template, code_from}
+use Rattle.template_code.proofs.Sizes.{sizes_append, template_sizes}
 use Rattle.x64_code.specs.Near.{IsInstructionNear}
 use Rattle.program_link.specs.Fits.{FitsProgram}
 use Rattle.program_link.specs.Near.{IsFrameNear}
-use Rattle.program_link.specs.Text.{routine_size, entry_code, entry_size, check_stack_at, routine_code}
+use Rattle.program_link.specs.Text.{entry_code, entry_size, check_stack_at, routine_code}
 use Rattle.program_link.specs.Linked.{text_begin, linked}
 use Rattle.program_link.proofs.Entries.{entry_sizes, routine_small}
 use Rattle.program_tables.specs.Placed.{Placed, end_of, body_begin, site_of, placed}
@@ -44,8 +43,8 @@ use Rattle.program_tables.specs.Entries as tables
 use Rattle.program_tables.proofs.Lookups.{some_same, none_some, entries_are_held, leaves_are_held_by_none}
 use Rattle.program_tables.proofs.Prologues.{entry_least}
 use Rattle.program_tables.proofs.Table.{tables_are_read}
-use Rattle.program_frames.specs.InMemory.{image_base, HasText, template_at, links, IsReturn, IsInBody}
-use Rattle.program_frames.specs.Laws.{IsWaiting, stack_frame, BodiesHaveFrames, IsLeafWaiting, LeavesHaveReturns}
+use Rattle.program_frames.specs.InMemory.{image_base, template_at, links, IsInBody}
+use Rattle.program_frames.specs.Laws.{stack_frame, BodiesHaveFrames, LeavesHaveReturns}
 use Rattle.program_frames.proofs.CodeInMemory.{executable_split, code_split, IsThere, there, routine_is_at, template_there}
 use Rattle.program_frames.proofs.Inner.{Inner, AllInner, inner_at}
 use Rattle.program_frames.proofs.Templates.{template_inner}

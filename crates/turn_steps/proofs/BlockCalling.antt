@@ -31,7 +31,7 @@ use Rattle.x64_templates.proofs.Entries.{pushed_back}
 use Rattle.linked_stack.specs.WalkLaws.{context_below}
 use Rattle.linked_stack.specs.ImagePlan.{ImagePlan, InCode, by_parent, parent_body, IsFunclet}
 use Rattle.linked_stack.specs.Linked as linked
-use Rattle.linked_stack.specs.Linked.{Activation, HasActivation, return_of, ReturnsTo}
+use Rattle.linked_stack.specs.Linked.{HasActivation, return_of, ReturnsTo}
 use Rattle.linked_stack.specs.ListLaws.{KeepsAbove}
 use Rattle.linked_stack.proofs.ListKeeping.{reaches_above, kept_by_stores_below}
 use Rattle.linked_stack.specs.Records.{On}

@@ -21,7 +21,7 @@ use Rattle.linear_code.specs.declared.program.FuncletKind.TheVariants as funclet
 use Rattle.linear_code.specs.BodyState.{BodyState, with_slot}
 use Rattle.linear_code.specs.Program.{LinearProgram, LinearBody, LinearFunclet}
 use Rattle.linear_machine.specs.Frames as linear
-use Rattle.linear_machine.specs.Frames.{BodyName, FuncletBody, body_of, funclet_body, Item, Store, set_local, Configuration}
+use Rattle.linear_machine.specs.Frames.{BodyName, FuncletBody, funclet_body, Item, Store, set_local, Configuration}
 use Rattle.linear_machine.specs.Unwinding.{flag_in, flag_of}
 use Rattle.template_code.specs.declared.layout.Layout.{Layout}
 use Rattle.template_code.specs.Bytes.{sizes}

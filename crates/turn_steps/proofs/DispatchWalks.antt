@@ -1,11 +1,11 @@
 -- What the walk gives where the host dispatches: at the first byte of a funclet that it starts,
 -- where it lands, and at its services.
-use Rattle.std.proofs.Common.{◌≡◌, ◌≢◌, ℕ, ◌+◌, ◌%◌, ◌^◌, ◌<◌, ◌≤◌, true, false, Option, Some, None, Ok, List, [], ◌∷◌, length, refl, sym, ap, subst, ◌∙◌, arith}
+use Rattle.std.proofs.Common.{◌≡◌, ◌≢◌, ℕ, ◌+◌, ◌%◌, ◌^◌, ◌<◌, true, false, Option, Some, None, Ok, List, [], ◌∷◌, length, refl, sym, ap, subst, ◌∙◌, arith}
 use Rattle.std.specs.Prelude.{Result, slice_get, slice_index, slice_set}
 use Rattle.seh_num.specs.declared.width.Width.TheVariants.{W64}
 use Rattle.seh_num.specs.declared.event.Event.TheVariants as events
 use Rattle.flat_memory.specs.declared.access.RefusedAccess.{RefusedAccess}
-use Rattle.flat_memory.specs.Memory.{Memory, loaded, number_at}
+use Rattle.flat_memory.specs.Memory.{Memory, loaded}
 use Rattle.x64_instr.specs.declared.register.Reg.TheVariants.{Rdx, Rsp, Rbx, Rbp, Rsi, Rdi, R12, R13, R14, R15}
 use Rattle.x64_machine.specs.declared.cpu.Cpu.{Cpu}
 use Rattle.x64_machine.specs.declared.context.Context.{Context}
@@ -23,7 +23,7 @@ use Rattle.host_model.specs.HostStep.{back}
 use Rattle.c_model.specs.State.{Exception}
 use Rattle.linear_code.specs.Program.{LinearProgram, LinearFunclet}
 use Rattle.linear_machine.specs.Frames.{BodyName, FuncletBody, funclet_body, Handler, Resumption, Item, Configuration}
-use Rattle.linked_stack.specs.Stack.{StackItem, Framed, Searching, Unwinding, IsStack, after_frame}
+use Rattle.linked_stack.specs.Stack.{StackItem, Framed, IsStack, after_frame}
 use Rattle.linked_stack.specs.WalkLaws.{context_below}
 use Rattle.linked_stack.specs.PlainWalks.{state}
 use Rattle.linked_stack.specs.ImagePlan.{ImagePlan, parent_body, IsFunclet}
@@ -36,7 +36,7 @@ use Rattle.linked_stack.proofs.Entered.{few_items}
 use Rattle.whole_runs.specs.Shadow.{caller_at, drop_below, GivesCallers, WalkGives}
 use Rattle.whole_runs.proofs.Shadows.{none_below}
 use Rattle.body_states.specs.Sites.{Sites}
-use Rattle.body_states.specs.Callers.{callers, caller_above, HasCaller, FindsReturn}
+use Rattle.body_states.specs.Callers.{callers, caller_above, FindsReturn}
 use Rattle.body_states.specs.Programs.{IsMachineMemory, IsProgramImage}
 use Rattle.body_states.proofs.Resumed.{frame_size}
 use Rattle.body_states.proofs.StackWalks.{on_stack}

@@ -27,7 +27,7 @@ use Rattle.linked_stack.specs.ImagePlan.{ImagePlan}
 use Rattle.linked_stack.specs.Linked.{Activation, below_end, record_room}
 use Rattle.linked_stack.proofs.Ends.{in_stack}
 use Rattle.body_states.specs.Sites as sites
-use Rattle.body_states.specs.Sites.{Sites, begin_of, links_of, making, frame_code, parent_base, keep_argument, base_in, funclet_arguments, arguments_code, entry_code, code_of}
+use Rattle.body_states.specs.Sites.{Sites, links_of, making, frame_code, parent_base, keep_argument, funclet_arguments, arguments_code, entry_code}
 use Rattle.body_states.specs.Programs.{HasProgram, IsMachineMemory, IsProgramImage}
 use Rattle.body_steps.specs.Views.{seen_by_templates}
 use Rattle.body_steps.proofs.Activations.{activations_are_at}

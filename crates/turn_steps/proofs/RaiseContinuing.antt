@@ -2,7 +2,6 @@
 -- begins, with the result 0.
 use Rattle.std.proofs.Common.{◌≡◌, ℕ, suc, ◌+◌, ◌*◌, ◌≤◌, Bool, true, false, List, [], ◌∷◌, ◌++◌, length, Some, None, refl, sym, ap, subst, ◌∙◌, arith, length-append}
 use Rattle.std.specs.Prelude.{slice_get}
-use Rattle.flat_memory.specs.Memory.{Memory}
 use Rattle.x64_instr.specs.declared.register.Reg.TheVariants.{Rsp}
 use Rattle.x64_instr.specs.declared.instruction.Instr.{Instr}
 use Rattle.x64_machine.specs.declared.cpu.Cpu.{Cpu}
@@ -24,12 +23,10 @@ use Rattle.template_code.specs.Bytes.{sizes}
 use Rattle.template_code.specs.Slots.{put_back, keep, temporary_at}
 use Rattle.template_code.specs.Jumps.{call}
 use Rattle.template_code.specs.Calls.{arguments_code, return_at, begin_call, clear_result}
-use Rattle.template_code.specs.Template.{template, code_from, offset_of}
 use Rattle.template_code.proofs.Sizes.{sizes_append, call_size}
 use Rattle.x64_templates.specs.Runs.{HasCode}
 use Rattle.x64_templates.proofs.Computes.{code_split}
 use Rattle.x64_templates.proofs.Encoded.{near}
-use Rattle.x64_templates.proofs.Linked.{template_placed}
 use Rattle.linked_stack.specs.Stack.{StackItem}
 use Rattle.linked_stack.specs.ImagePlan.{ImagePlan}
 use Rattle.linked_stack.specs.Linked.{Activation, locals_of}
@@ -40,8 +37,8 @@ use Rattle.whole_runs.specs.Comes.{LeadsTo}
 use Rattle.ir_typed.specs.Depths.{depth_at, depth_in}
 use Rattle.ir_typed.proofs.Scans.{depth_next}
 use Rattle.body_states.specs.Layouts.{IsLayoutIf, IsLaidOut}
-use Rattle.body_states.specs.Sites.{Sites, links_of, begin_of, entry_code}
-use Rattle.body_states.specs.Programs.{HasProgram, ReturnsThere, IsMachineMemory, IsProgramImage}
+use Rattle.body_states.specs.Sites.{Sites}
+use Rattle.body_states.specs.Programs.{ReturnsThere, IsMachineMemory, IsProgramImage}
 use Rattle.body_states.specs.Bodies.{Begins}
 use Rattle.body_states.proofs.Finding.{template_there}
 use Rattle.body_states.proofs.QuietTurns.{reaches_quietly}
@@ -49,7 +46,7 @@ use Rattle.body_steps.specs.Known.{IsWellMade, IsKnown}
 use Rattle.body_steps.specs.Views.{counts_of}
 use Rattle.body_steps.proofs.Activations.{locals_count}
 use Rattle.body_steps.proofs.Around.{label_in, body_there, counted_here}
-use Rattle.body_steps.proofs.Running.{each, get_or_is}
+use Rattle.body_steps.proofs.Running.{each}
 use Rattle.body_steps.proofs.Viewed.{IsCounted}
 use Rattle.turn_steps.proofs.Kept as kept
 use Rattle.turn_steps.proofs.CallSteps.{surrounded}

@@ -1,21 +1,17 @@
 -- A service that has been called returns: its own call is over, and the walk gives the callers of
 -- the body again.
-use Rattle.std.proofs.Common.{◌≡◌, ℕ, ◌+◌, ◌-◌, ◌%◌, ◌^◌, ◌<◌, ◌≤◌, List, [], ◌∷◌, ◌++◌, length, drop, get_or, Option, Some, Ok, Err, refl, sym, ap, subst, ◌∙◌, arith}
-use Rattle.std.specs.Prelude.{Result, slice_get, slice_index, slice_set, if◌then◌else◌}
+use Rattle.std.proofs.Common.{◌≡◌, ℕ, ◌+◌, ◌^◌, ◌<◌, ◌≤◌, List, [], ◌∷◌, drop, Ok, Err, refl, ap, subst, ◌∙◌, arith}
+use Rattle.std.specs.Prelude.{Result, slice_index, slice_set, if◌then◌else◌}
 use Rattle.seh_num.specs.declared.width.Width.TheVariants.{W64}
 use Rattle.flat_memory.specs.declared.access.RefusedAccess.{RefusedAccess}
-use Rattle.seh_num.specs.declared.event.Event.{Event}
-use Rattle.host_layout.specs.declared.range.TheConstants.{STACK_START}
-use Rattle.host_layout.specs.declared.service.Service.{Service}
 use Rattle.host_layout.specs.Services.{address_of, service_at, in_host_page}
 use Rattle.flat_memory.specs.Memory.{Memory, executable, loaded}
 use Rattle.x64_instr.specs.declared.register.Reg.TheVariants.{Rsp}
-use Rattle.x64_instr.specs.declared.instruction.Instr.{Instr}
 use Rattle.x64_instr.specs.Spelling.{leading}
 use Rattle.x64_machine.specs.declared.context.Context.{Context}
 use Rattle.x64_machine.specs.declared.outcome.Stop.TheVariants as stops
 use Rattle.x64_machine.specs.Contexts.{kept_of, context_of}
-use Rattle.x64_machine.specs.Effect.{State, Answer, register, hosted, execute, step}
+use Rattle.x64_machine.specs.Effect.{State, register, hosted, execute, step}
 use Rattle.virtual_unwind.specs.Contexts.{rsp}
 use Rattle.virtual_unwind.specs.CallerOf.{Functions, distance}
 use Rattle.virtual_unwind.specs.Undone.{readable, word}
@@ -41,7 +37,7 @@ use Rattle.body_states.specs.Bodies.{Begins}
 use Rattle.body_states.proofs.StackWalks.{on_stack}
 use Rattle.body_states.proofs.Found.{gives_caller}
 use Rattle.body_steps.proofs.Viewed.{IsCounted, sp_low, frame_top}
-use Rattle.body_steps.proofs.Shadowed.{kept_here, caller_here, beyond_here, Below}
+use Rattle.body_steps.proofs.Shadowed.{kept_here, caller_here, Below}
 use Rattle.turn_steps.proofs.Elsewhere.{higher_stack}
 
 -- at a service of a built-in function the host continues

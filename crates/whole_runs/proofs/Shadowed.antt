@@ -1,7 +1,7 @@
 -- At every turn of a run that has not ended the walk gives the shadow.
-use Rattle.std.proofs.Common.{◌≡◌, inl, inr, ℕ, zero, suc, ◌+◌, ◌-◌, ◌<◌, ◌≤◌, Bool, true, false, Some, None, List, [], ◌++◌, refl, sym, ap, subst, ◌∙◌, arith}
+use Rattle.std.proofs.Common.{◌≡◌, inl, inr, ℕ, zero, suc, ◌+◌, ◌-◌, ◌≤◌, Some, None, List, [], ◌++◌, refl, sym, ap, subst, ◌∙◌, arith}
 use Rattle.std.proofs.lemmas.Bool.{cases_lt}
-use Rattle.std.specs.Prelude.{Option, ℤ, ◌==◌}
+use Rattle.std.specs.Prelude.{Option}
 use Rattle.seh_num.specs.declared.event.Event.{Event}
 use Rattle.seh_num.specs.declared.end.RunEnd.{RunEnd}
 use Rattle.seh_num.specs.declared.end.RunEnd.TheVariants as ends
@@ -20,13 +20,13 @@ use Rattle.linear_code.specs.declared.instruction.Instruction.{Instruction}
 use Rattle.linear_code.specs.Program.{LinearProgram}
 use Rattle.linear_machine.specs.Frames.{Configuration}
 use Rattle.linear_machine.specs.Instructions.{act}
-use Rattle.linear_machine.specs.Run.{instruction_at, exec, start, seen}
+use Rattle.linear_machine.specs.Run.{instruction_at, exec, start}
 use Rattle.whole_runs.specs.Shadow.{shadow_after, WalkGives}
-use Rattle.whole_runs.specs.Shadowed.{Shadowed, by_turn, unless_over, shadowed, WalkGivesShadow}
+use Rattle.whole_runs.specs.Shadowed.{by_turn, unless_over, shadowed, WalkGivesShadow}
 use Rattle.whole_runs.specs.Comes.{IsLive, Comes}
 use Rattle.whole_runs.specs.Ends.{IsCalm}
 use Rattle.whole_runs.specs.Matched.{Moves, Exits, Dies, IsMatched, Follows}
-use Rattle.whole_runs.specs.Laws.{RunBegins, ProgramsWalkTheShadow}
+use Rattle.whole_runs.specs.Laws.{ProgramsWalkTheShadow}
 use Rattle.whole_runs.proofs.Turns.{run_comes, run_returned, run_dies}
 use Rattle.whole_runs.proofs.Steps.{at_instruction, first_has_rule, none_has_no_rule}
 use Rattle.whole_runs.proofs.NoMore.{not_wild}

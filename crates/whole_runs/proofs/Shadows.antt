@@ -1,11 +1,9 @@
 -- Turns that keep the shadow: what a walk gives where they begin and where they end.
 use Rattle.std.proofs.Common.{◌≡◌, ℕ, zero, suc, ◌+◌, ◌<◌, ◌≤◌, Bool, true, false, Option, Some, None, Ok, Err, List, [], ◌∷◌, refl, sym, ap, subst, ◌∙◌, arith}
-use Rattle.std.specs.Prelude.{◌==◌, nat_lt, nat_eq, map}
+use Rattle.std.specs.Prelude.{nat_eq, map}
 use Rattle.std.proofs.lemmas.Bool.{lt-ltb, le-ltb}
 use Rattle.seh_num.specs.declared.event.Code.{Code}
 use Rattle.seh_num.specs.declared.event.Event.{Event}
-use Rattle.seh_num.specs.declared.event.Event.TheVariants as events
-use Rattle.host_layout.specs.declared.service.Service.{Service}
 use Rattle.host_layout.specs.Services.{service_at}
 use Rattle.flat_memory.specs.Memory.{Memory, executable}
 use Rattle.x64_instr.specs.declared.register.Reg.TheVariants.{Rsp}

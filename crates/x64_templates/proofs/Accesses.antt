@@ -19,9 +19,9 @@ use Rattle.x64_instr.specs.declared.instruction.Instr.TheVariants as instrs
 use Rattle.x64_machine.specs.declared.cpu.Flags.{Flags}
 use Rattle.x64_machine.specs.declared.outcome.Stop.TheVariants as stops
 use Rattle.seh_num.specs.Answers.{◌>>=◌}
-use Rattle.x64_machine.specs.Effect.{State, Answer, granted, refusal, effect}
+use Rattle.x64_machine.specs.Effect.{granted, refusal, effect}
 use Rattle.x64_machine.specs.Effect as machines
-use Rattle.c_operations.specs.Performed.{OperationResult, Gives, Raises, Undefined}
+use Rattle.c_operations.specs.Performed.{Gives}
 use Rattle.c_operations.specs.Performed as meaning
 use Rattle.x64_templates.specs.Straight.{MachineView, machine}
 use Rattle.x64_templates.specs.Frames.{Agrees}
