@@ -6,9 +6,8 @@
 
 use seh::top::top;
 use seh_io::plain::{SliceSource, VecSink};
-use std::alloc::{AllocError, Global};
+use std::alloc::Global;
 use std::process::Abort;
-use std::test::Fail;
 
 /// What was answered.
 #[derive(Drop)]
@@ -24,14 +23,15 @@ pub struct Shown {
 }
 
 /// The words of the parts of a line.
-pub fn words_of(alloc: Global, parts: [&str; 3]) -> Result<Vec<String>, AllocError> {
+pub fn words_of(rt: &impl Abort, alloc: Global, parts: &[&str]) -> Vec<String> {
     let mut words = Vec::new(alloc);
     for part in parts {
-        for word in part.split_ascii_whitespace() {
-            words.push(String::from_str(alloc, word)?)?;
+        for piece in part.split_ascii_whitespace() {
+            let word = String::from_str(alloc, piece).expect(rt, "memory");
+            words.push(word).expect(rt, "memory");
         }
     }
-    Ok(words)
+    words
 }
 
 /// What words answer for an input.
@@ -49,9 +49,9 @@ pub fn answer(alloc: Global, words: &[String], input: &[u8]) -> Shown {
 }
 
 /// The image that a text is compiled to; of a text that is refused, nothing.
-pub fn compiled(alloc: Global, text: &str) -> Result<Vec<u8>, AllocError> {
-    let words = words_of(alloc, ["compile", "", ""])?;
-    Ok(answer(alloc, &words, text.as_bytes()).out)
+pub fn compiled(rt: &impl Abort, alloc: Global, text: &str) -> Vec<u8> {
+    let words = words_of(rt, alloc, &["compile"]);
+    answer(alloc, &words, text.as_bytes()).out
 }
 
 /// Whether a line of a run's text is shown with `--trace` alone.
@@ -122,14 +122,7 @@ pub fn says(
 }
 
 /// Compares what the words of a line answer for an input with what is wanted.
-pub fn answers(
-    rt: &impl Abort,
-    alloc: Global,
-    line: &str,
-    input: &[u8],
-    wanted: &str,
-) -> Result<(), Fail> {
-    let words = words_of(alloc, [line, "", ""])?;
+pub fn answers(rt: &impl Abort, alloc: Global, line: &str, input: &[u8], wanted: &str) {
+    let words = words_of(rt, alloc, &[line]);
     says(rt, alloc, &words, input, wanted, true);
-    Ok(())
 }

@@ -2,7 +2,6 @@
 
 use crate::calls::{says, words_of};
 use seh::status::Status;
-use std::test::Fail;
 
 /// Lines of words.
 const LINES: &str = r"
@@ -28,17 +27,16 @@ help
 
 // There is no word, an empty one, and one with a space.
 #[test]
-fn words_are_no_command(rt: HostRuntime) -> Result<(), Fail> {
+fn words_are_no_command(rt: HostRuntime) {
     let alloc = rt.alloc();
     says(&rt, alloc, &[], b"MZ", "1 ! usage", true);
     says(&rt, alloc, &[String::new(alloc)], b"MZ", "1 ! usage", true);
-    let word = String::from_str(alloc, "exec ")?;
+    let word = String::from_str(alloc, "exec ").expect(&rt, "memory");
     says(&rt, alloc, &[word], b"MZ", "1 ! usage", true);
     for line in LINES.lines().skip(1) {
-        let words = words_of(alloc, [line, "", ""])?;
+        let words = words_of(&rt, alloc, &[line]);
         says(&rt, alloc, &words, b"MZ", "1 ! usage", true);
     }
-    Ok(())
 }
 
 /// All statuses.

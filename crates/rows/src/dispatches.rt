@@ -1,7 +1,6 @@
 //! What `exec` shows of images with filters and `__finally` blocks.
 
 use crate::inputs::all_answer;
-use std::test::Fail;
 
 /// In the last row one run has all that a trace shows: an access that its filter lets be made
 /// again; a search in which one filter answers 0 and the next accepts, from the callee up to
@@ -15,8 +14,8 @@ exec --trace | store_and_collision | 0 raise C0000005 0 write 0000000020000000 /
 ";
 
 #[test]
-fn dispatches_are_shown(rt: HostRuntime) -> Result<(), Fail> {
-    all_answer(&rt, rt.alloc(), TRACES)
+fn dispatches_are_shown(rt: HostRuntime) {
+    all_answer(&rt, rt.alloc(), TRACES);
 }
 
 /// The record of the raise is at 0x707FF990, and the walk that meets it can't continue; no record is
@@ -40,6 +39,6 @@ exec | compiled void g(void){ RaiseException(0xE0000001,0,0,0); } int main(void)
 ";
 
 #[test]
-fn harmed_records_stop_a_run(rt: HostRuntime) -> Result<(), Fail> {
-    all_answer(&rt, rt.alloc(), HARMED)
+fn harmed_records_stop_a_run(rt: HostRuntime) {
+    all_answer(&rt, rt.alloc(), HARMED);
 }

@@ -3,15 +3,12 @@
 //! A row is `COMMAND READ WRITE LINE MOST | INPUT | WANTED`: the call of the source, of `out` and of
 //! `err` that fails, 0 where none does, and how many bytes each call of all three moves.
 
-ghost use Rattle.std.specs.Prelude.{◌<◌};
-
 use crate::calls::{Shown, fits, words_of};
 use crate::inputs::{columns_of, input_of};
 use seh::top::top;
 use seh_io::planned::{MemSink, MemSource, Plan};
-use std::alloc::{AllocError, Global};
+use std::alloc::Global;
 use std::process::Abort;
-use std::test::Fail;
 
 /// Which calls fail, and how many bytes the others move at most.
 #[derive(Clone, Copy)]
@@ -36,47 +33,36 @@ fn calls_of(column: &str) -> Option<(&str, Calls)> {
 }
 
 /// A plan by which one call fails, if any.
-fn plan(alloc: Global, failing: u64, most: usize) -> Result<Plan, AllocError> {
-    let calls = [failing].to_vec(alloc)?;
-    Ok(Plan::new(calls, most.max(1)))
-}
-
-/// A sink that has taken nothing.
-fn sink(alloc: Global, failing: u64, most: usize) -> Result<MemSink, AllocError> {
-    let plan = plan(alloc, failing, most)?;
-    Ok(MemSink::new(Vec::new(alloc), plan))
+fn plan(rt: &impl Abort, alloc: Global, failing: u64, most: usize) -> Plan {
+    let calls = [failing].to_vec(alloc).expect(rt, "memory");
+    Plan::new(calls, most.max(1))
 }
 
 /// What a command answers for an input where calls fail.
-fn answer(alloc: Global, command: &str, input: &[u8], calls: Calls) -> Result<Shown, AllocError> {
-    let reads = plan(alloc, calls.read, calls.most)?;
-    let mut source = MemSource::new(input.to_vec(alloc)?, reads);
-    let mut out = sink(alloc, calls.write, calls.most)?;
-    let mut err = sink(alloc, calls.line, calls.most)?;
-    let words = words_of(alloc, [command, "", ""])?;
+fn answer(rt: &impl Abort, alloc: Global, command: &str, input: &[u8], calls: Calls) -> Shown {
+    let words = words_of(rt, alloc, &[command]);
+    let bytes = input.to_vec(alloc).expect(rt, "memory");
+    let mut source = MemSource::new(bytes, plan(rt, alloc, calls.read, calls.most));
+    let mut out = MemSink::new(Vec::new(alloc), plan(rt, alloc, calls.write, calls.most));
+    let mut err = MemSink::new(Vec::new(alloc), plan(rt, alloc, calls.line, calls.most));
     let status = top(alloc, &words, &mut source, &mut out, &mut err);
-    Ok(Shown {
+    Shown {
         code: status.code(),
         out: out.bytes,
         err: err.bytes,
         left: 0,
-    })
+    }
 }
 
 /// Compares what each row of a table answers with what is wanted.
-fn all_answer(rt: &impl Abort, alloc: Global, table: &str) -> Result<(), Fail> {
+fn all_answer(rt: &impl Abort, alloc: Global, table: &str) {
     for row in table.lines().skip(1) {
-        let Some((words, input, wanted)) = columns_of(row) else {
-            panic!(rt; "no row: {row}")
-        };
-        let Some((command, calls)) = calls_of(words) else {
-            panic!(rt; "no calls: {row}")
-        };
-        let bytes = input_of(alloc, input)?;
-        let shown = answer(alloc, command, &bytes, calls)?;
+        let (words, input, wanted) = columns_of(row).expect(rt, row);
+        let (command, calls) = calls_of(words).expect(rt, row);
+        let bytes = input_of(rt, alloc, input);
+        let shown = answer(rt, alloc, command, &bytes, calls);
         assert!(rt; fits(&shown, wanted, true), "{row}");
     }
-    Ok(())
 }
 
 /// In the eighth and ninth row the line of a refusal can't be written. An endless run stops at the
@@ -113,53 +99,54 @@ meaning 0 5 0 1 | text int main(void){ while (1) put(1); return 0; } | 5 1 / 1 !
 ";
 
 #[test]
-fn calls_fail(rt: HostRuntime) -> Result<(), Fail> {
-    all_answer(&rt, rt.alloc(), ROWS)
+fn calls_fail(rt: HostRuntime) {
+    all_answer(&rt, rt.alloc(), ROWS);
 }
 
-/// Each call of `out`, or of `err`, that takes one byte fails in turn: what was taken are the bytes
-/// before it, and nothing else is tried.
-fn fails_at_each(
-    rt: &impl Abort,
-    alloc: Global,
-    command: &str,
-    text: &[u8],
-    whole: &[u8],
-    of_err: bool,
-) -> Result<(), Fail> {
+/// Each call of `out` that takes one byte fails in turn: what was taken are the bytes before it, and
+/// nothing else is tried.
+fn fails_at_each(rt: &impl Abort, alloc: Global, command: &str, text: &[u8], whole: &[u8]) {
     for taken in 0..whole.len() {
-        let call = (taken as u64).saturating_add(1);
         let calls = Calls {
             read: 0,
-            write: if of_err { 0 } else { call },
-            line: if of_err { call } else { 0 },
+            write: (taken as u64).saturating_add(1),
+            line: 0,
             most: 1,
         };
-        let shown = answer(alloc, command, text, calls)?;
-        let (found, other, line) = if of_err {
-            (&shown.err, &shown.out, "")
-        } else {
-            (&shown.out, &shown.err, "write fault\n")
-        };
-        assert!(rt; shown.code == 5, "{command} {taken}");
+        let shown = answer(rt, alloc, command, text, calls);
+        let front = shown.out.len() == taken && whole.starts_with(&shown.out);
+        assert!(rt; front && shown.code == 5, "{command} {taken}");
         assert!(rt;
-            found.len() == taken && whole.starts_with(found),
+            shown.err.as_slice() == b"write fault\n".as_slice(),
             "{command} {taken}"
         );
-        assert!(rt; other.as_slice() == line.as_bytes(), "{command} {taken}");
     }
-    Ok(())
+}
+
+/// The same of `err`, while the line of a refused text is written.
+fn refuses_at_each(rt: &impl Abort, alloc: Global, command: &str, text: &[u8], whole: &[u8]) {
+    for taken in 0..whole.len() {
+        let calls = Calls {
+            read: 0,
+            write: 0,
+            line: (taken as u64).saturating_add(1),
+            most: 1,
+        };
+        let shown = answer(rt, alloc, command, text, calls);
+        let front = shown.err.len() == taken && whole.starts_with(&shown.err);
+        assert!(rt; front && shown.code == 5, "{command} {taken}");
+        assert!(rt; shown.out.is_empty(), "{command} {taken}");
+    }
 }
 
 #[test]
-fn each_call_fails(rt: HostRuntime) -> Result<(), Fail> {
+fn each_call_fails(rt: HostRuntime) {
     let alloc = rt.alloc();
     let text = b"int main(void){ put(1); put(23); put(-456); return 7; }";
-    for command in ["run", "meaning"] {
-        fails_at_each(&rt, alloc, command, text, b"1\n23\n-456\nexit 7\n", false)?;
-    }
+    let whole = b"1\n23\n-456\nexit 7\n";
+    fails_at_each(&rt, alloc, "run", text, whole);
+    fails_at_each(&rt, alloc, "meaning", text, whole);
     for command in ["compile", "run", "meaning"] {
-        fails_at_each(&rt, alloc, command, b"", b"refused NoMain 0\n", true)?;
+        refuses_at_each(&rt, alloc, command, b"", b"refused NoMain 0\n");
     }
-    Ok(())
 }

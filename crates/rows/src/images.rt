@@ -1,7 +1,6 @@
 //! What `exec` answers for images with imports and function tables, and with one change.
 
 use crate::inputs::all_answer;
-use std::test::Fail;
 
 /// An empty file, one of zeros, and an image without its last byte. Then one field is wrong, and the
 /// others are right: the base of `load Place` is no multiple of 65,536, below 4 GiB, and at 2^47; an
@@ -32,8 +31,8 @@ exec | fourteen @ sections+36 40 00 00 40 | 3 ! load Entry 4096
 ";
 
 #[test]
-fn each_check_refuses(rt: HostRuntime) -> Result<(), Fail> {
-    all_answer(&rt, rt.alloc(), FIELDS)
+fn each_check_refuses(rt: HostRuntime) {
+    all_answer(&rt, rt.alloc(), FIELDS);
 }
 
 /// A library more has its slot over the first one, or over halves of the first two. Then one byte of
@@ -52,8 +51,8 @@ exec | importing @ file+343 80 | 3 ! image ImportBad 0
 ";
 
 #[test]
-fn imports_are_bound_or_refused(rt: HostRuntime) -> Result<(), Fail> {
-    all_answer(&rt, rt.alloc(), IMPORTS)
+fn imports_are_bound_or_refused(rt: HostRuntime) {
+    all_answer(&rt, rt.alloc(), IMPORTS);
 }
 
 /// Of an image that is refused for four reasons one is mended after another. Then the infos, which
@@ -81,8 +80,8 @@ exec | tables @ file+272 01 | 3 ! load Entry 0
 ";
 
 #[test]
-fn tables_are_refused_in_order(rt: HostRuntime) -> Result<(), Fail> {
-    all_answer(&rt, rt.alloc(), TABLES)
+fn tables_are_refused_in_order(rt: HostRuntime) {
+    all_answer(&rt, rt.alloc(), TABLES);
 }
 
 /// One field of the headers or of `.rdata`, which begins at 1536, is changed; the image is cut, to
@@ -117,6 +116,6 @@ exec | compiled int main(void){ put(2+3*4); return 7; } @ cut 3071 | 3 ! image L
 ";
 
 #[test]
-fn compiled_images_are_refused(rt: HostRuntime) -> Result<(), Fail> {
-    all_answer(&rt, rt.alloc(), COMPILED)
+fn compiled_images_are_refused(rt: HostRuntime) {
+    all_answer(&rt, rt.alloc(), COMPILED);
 }

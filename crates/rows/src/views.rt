@@ -4,7 +4,6 @@ use crate::calls::{answer, compiled, words_of};
 use crate::inputs::all_answer;
 use std::alloc::Global;
 use std::process::Abort;
-use std::test::Fail;
 
 /// The infos of the first rows are of a prologue that pushes RBX and takes 32 bytes of stack; of one
 /// whose allocation has no room for its operand; and one of version 2. In the last row `main` has 39
@@ -24,19 +23,19 @@ show | compiled int main(void){} | 0 entry 0 00002033 0000205A 00004000 /  bytes
 const SIZE: usize = 3072;
 
 #[test]
-fn tables_are_shown(rt: HostRuntime) -> Result<(), Fail> {
-    let image = compiled(rt.alloc(), "int main(void){}")?;
+fn tables_are_shown(rt: HostRuntime) {
+    let image = compiled(&rt, rt.alloc(), "int main(void){}");
     assert!(rt; image.len() == SIZE);
-    all_answer(&rt, rt.alloc(), VIEWS)
+    all_answer(&rt, rt.alloc(), VIEWS);
 }
 
 /// The view of the image of a text.
-fn view_of(rt: &impl Abort, alloc: Global, text: &str) -> Result<Vec<u8>, Fail> {
-    let image = compiled(alloc, text)?;
-    let words = words_of(alloc, ["show", "", ""])?;
+fn view_of(rt: &impl Abort, alloc: Global, text: &str) -> Vec<u8> {
+    let image = compiled(rt, alloc, text);
+    let words = words_of(rt, alloc, &["show"]);
     let view = answer(alloc, &words, &image);
     assert!(rt; view.code == 0 && view.err.is_empty(), "{text}");
-    Ok(view.out)
+    view.out
 }
 
 /// Whether the scope records of a view are one with a `__finally` block, and one with a filter.
@@ -54,25 +53,23 @@ fn has_both_scopes(view: &str) -> bool {
 /// One scope record for each `__try`, the inner one first; filters and `__finally` blocks have
 /// entries.
 #[test]
-fn scope_records(rt: HostRuntime) -> Result<(), Fail> {
+fn scope_records(rt: HostRuntime) {
     let text =
         "int main(void){ __try{ __try{ RaiseException(0xE0000001,0,0,0); } __finally{ put(AbnormalTermination()); } } __except(2){ put(3); } return 0; }";
-    let view = view_of(&rt, rt.alloc(), text)?;
+    let view = view_of(&rt, rt.alloc(), text);
     let shown = str::from_utf8(&view).unwrap_or("");
     assert!(rt; has_both_scopes(shown), "{shown}");
     assert!(rt; shown.ends_with("\nentries 3\n"), "{shown}");
-    Ok(())
 }
 
 /// A leaf function has no entry in the function table: `main` alone has one.
 #[test]
-fn leaf_functions(rt: HostRuntime) -> Result<(), Fail> {
+fn leaf_functions(rt: HostRuntime) {
     for text in [
         "int f(int *p){ return *p; } int main(void){ __try{ put(f((int*)8)); } __except(1){ put(GetExceptionCode()==0xC0000005); } return 0; }",
         "int f(int *p){ return *p; } int main(void){ put(f((int*)8)); return 0; }",
     ] {
-        let view = view_of(&rt, rt.alloc(), text)?;
+        let view = view_of(&rt, rt.alloc(), text);
         assert!(rt; view.ends_with(b"\nentries 1\n"), "{text}");
     }
-    Ok(())
 }

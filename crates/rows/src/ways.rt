@@ -3,10 +3,9 @@
 //! The tables are those of `rows_texts`. Without `--trace` the lines of the numbers and of the end are
 //! left of what a row wants.
 
-use crate::calls::{compiled, says, words_of};
-use std::alloc::{AllocError, Global};
+use crate::calls::{answers, compiled, says, words_of};
+use std::alloc::Global;
 use std::process::Abort;
-use std::test::Fail;
 
 /// By `run`, by `compile` and then `exec`, and by `meaning`.
 pub const WAYS: [&str; 3] = ["run", "exec", "meaning"];
@@ -42,26 +41,17 @@ fn row_of(part: &str) -> Option<Row<'_>> {
 
 /// Compares what a way answers for a row's text with what is wanted; where that is a refusal of the
 /// text, what `compile` answers.
-fn shows(
-    rt: &impl Abort,
-    alloc: Global,
-    way: &str,
-    row: Row<'_>,
-    traced: bool,
-) -> Result<(), Fail> {
+fn shows(rt: &impl Abort, alloc: Global, way: &str, row: Row<'_>, traced: bool) {
     let trace = if traced { "--trace" } else { "" };
+    let words = words_of(rt, alloc, &[way, row.options, trace]);
     if way != "exec" {
-        let words = words_of(alloc, [way, row.options, trace])?;
         says(rt, alloc, &words, row.text.as_bytes(), row.wanted, traced);
     } else if row.wanted.contains('!') {
-        let words = words_of(alloc, ["compile", "", ""])?;
-        says(rt, alloc, &words, row.text.as_bytes(), row.wanted, traced);
+        answers(rt, alloc, "compile", row.text.as_bytes(), row.wanted);
     } else {
-        let image = compiled(alloc, row.text)?;
-        let words = words_of(alloc, [way, row.options, trace])?;
+        let image = compiled(rt, alloc, row.text);
         says(rt, alloc, &words, &image, row.wanted, traced);
     }
-    Ok(())
 }
 
 /// What stands for a place between two `$`: a column of what fills a program, by its number, or
@@ -77,7 +67,7 @@ fn filling<'a>(place: &'a str, fill: &'a str) -> (usize, &'a str) {
 }
 
 /// Adds a program with its places filled.
-fn push_filled(out: &mut String, program: &str, fill: &str) -> Result<(), AllocError> {
+fn push_filled(rt: &impl Abort, out: &mut String, program: &str, fill: &str) {
     for (number, piece) in program.split('$').enumerate() {
         let (times, text) = if number % 2 == 0 {
             (1, piece)
@@ -85,52 +75,34 @@ fn push_filled(out: &mut String, program: &str, fill: &str) -> Result<(), AllocE
             filling(piece, fill)
         };
         for _ in 0..times {
-            out.push_str(text)?;
+            out.push_str(text).expect(rt, "memory");
         }
     }
-    Ok(())
 }
 
 /// The program of these parts, with its places filled.
-fn filled(alloc: Global, parts: &[&str], fill: &str) -> Result<String, AllocError> {
+fn filled(rt: &impl Abort, alloc: Global, parts: &[&str], fill: &str) -> String {
     let mut text = String::new(alloc);
     for part in parts {
-        push_filled(&mut text, part, fill)?;
+        push_filled(rt, &mut text, part, fill);
     }
-    Ok(text)
+    text
 }
 
-/// Compares what each way answers for a program, with and without `--trace`.
-fn shows_by_all(
-    rt: &impl Abort,
-    alloc: Global,
-    ways: &[&str],
-    parts: &[&str],
-    part: &str,
-) -> Result<(), Fail> {
-    let Some(row) = row_of(part) else {
-        panic!(rt; "no row: {part}")
-    };
-    let text = filled(alloc, parts, row.text)?;
-    let row = Row { text: &text, ..row };
+/// Compares what each way answers for a row's program, with and without `--trace`.
+fn shows_by_all(rt: &impl Abort, alloc: Global, ways: &[&str], row: Row<'_>) {
     for way in ways {
-        shows(rt, alloc, way, row, true)?;
-        shows(rt, alloc, way, row, false)?;
+        shows(rt, alloc, way, row, true);
+        shows(rt, alloc, way, row, false);
     }
-    Ok(())
 }
 
 /// The same of each row of a table, whose text says for what a program is that is in parts.
-pub fn all_show(
-    rt: &impl Abort,
-    alloc: Global,
-    ways: &[&str],
-    parts: &[&str],
-    table: &str,
-) -> Result<(), Fail> {
+pub fn all_show(rt: &impl Abort, alloc: Global, ways: &[&str], parts: &[&str], table: &str) {
     for part in table.split("\n# ").skip(1) {
-        let row = filled(alloc, &[part], "")?;
-        shows_by_all(rt, alloc, ways, parts, &row)?;
+        let part = filled(rt, alloc, &[part], "");
+        let row = row_of(&part).expect(rt, &part);
+        let text = filled(rt, alloc, parts, row.text);
+        shows_by_all(rt, alloc, ways, Row { text: &text, ..row });
     }
-    Ok(())
 }
