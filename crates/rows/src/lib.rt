@@ -1,19 +1,26 @@
-//! Tests that cross the crates, on the program's one call.
+//! Whole commands on the program's one call: texts, images and streams, each with what is answered.
+//!
+//! The rows are texts that are read when a test runs, so that a row adds nothing to the proof of
+//! it.
 #![tactic(auto)]
 
 #[cfg(test)]
-mod compiles;
+mod calls;
+#[cfg(test)]
+mod commands;
 #[cfg(test)]
 mod dispatches;
 #[cfg(test)]
-mod image;
+mod failing;
 #[cfg(test)]
-mod linked;
+mod images;
 #[cfg(test)]
-mod loads;
+mod inputs;
 #[cfg(test)]
 mod runs;
 #[cfg(test)]
-mod streams;
+mod texts;
 #[cfg(test)]
 mod views;
+#[cfg(test)]
+mod ways;

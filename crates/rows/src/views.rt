@@ -1,94 +1,75 @@
-//! What `show` writes of images, over memory.
+//! What `show` writes of images.
 
-use crate::image::of_code;
-use crate::runs::answers_with;
-use seh::status::Status;
-use std::alloc::{AllocError, Global};
+use crate::calls::{answer, compiled, words_of};
+use crate::inputs::all_answer;
+use std::alloc::Global;
 use std::process::Abort;
-use std::test::Fail;
-use test_images::one_section::FOURTEEN;
 
-/// The headers of an image with one section of 60 bytes at 0x3000, and a function table of this
-/// many entries at 0x3018.
-fn headers(alloc: Global, count: u8) -> Result<Vec<u8>, AllocError> {
-    let mut out = Vec::new(alloc);
-    out.extend_from_slice(b"MZ")?;
-    out.extend_from_slice(&[0; 58])?;
-    out.extend_from_slice(&[64, 0, 0, 0])?; // e_lfanew
-    out.extend_from_slice(b"PE\0\0")?;
-    out.extend_from_slice(&[0x64, 0x86, 1, 0])?; // Machine, NumberOfSections
-    out.extend_from_slice(&[0; 12])?;
-    out.extend_from_slice(&[144, 0, 0x23, 0])?; // SizeOfOptionalHeader
-    out.extend_from_slice(&[0x0B, 0x02])?; // Magic
-    out.extend_from_slice(&[0; 22])?;
-    out.extend_from_slice(&[0, 0, 0, 0x40, 1, 0, 0, 0])?; // ImageBase
-    out.extend_from_slice(&[0; 24])?;
-    out.extend_from_slice(&[0, 0x40, 0, 0])?; // SizeOfImage
-    out.extend_from_slice(&[0; 48])?;
-    out.extend_from_slice(&[4, 0, 0, 0])?; // NumberOfRvaAndSizes
-    out.extend_from_slice(&[0; 24])?;
-    out.extend_from_slice(&[0x18, 0x30, 0, 0])?; // the exception directory
-    out.extend_from_slice(&[count.saturating_mul(12), 0, 0, 0])?;
-    out.extend_from_slice(b".xdata\0\0")?;
-    out.extend_from_slice(&[0, 0x10, 0, 0])?; // VirtualSize
-    out.extend_from_slice(&[0, 0x30, 0, 0])?; // VirtualAddress
-    out.extend_from_slice(&[60, 0, 0, 0])?; // SizeOfRawData
-    out.extend_from_slice(&[0x10, 1, 0, 0])?; // PointerToRawData
-    out.extend_from_slice(&[0; 12])?;
-    out.extend_from_slice(&[0x40, 0, 0, 0x40])?;
-    Ok(out)
-}
+/// The infos of the first rows are of a prologue that pushes RBX and takes 32 bytes of stack; of one
+/// whose allocation has no room for its operand; and one of version 2. In the last row `main` has 39
+/// bytes, after five thunks of 6 and the 21 of `__chkstk`. Its prologue is `sub rsp, 40`, of 4 bytes:
+/// home space and a temporary (UWOP_ALLOC_SMALL with 40 / 8 - 1).
+const VIEWS: &str = r"
+show | tables @ optional+140 24 @ file+272 01 05 02 00 05 32 01 30 01 07 01 00 07 01 00 00 02 7*00 | 0 entry 0 00002000 0000201F 00003000 /  bytes 0105020005320130 /  info prolog 5 flags 0 frame - 0 /  code 5 alloc 32 /  code 1 push rbx / refused 1 Op 0 / refused 2 Version 2 / entries 3
+show | tables @ optional+140 00 @ file+272 01 05 02 00 05 32 01 30 01 07 01 00 07 01 00 00 02 7*00 | 0 entries 0
+show | fourteen | 0 entries 0
+show | bytes 64*00 | 3 ! image NotPe 0
+show | bytes | 3 ! image Truncated 0
+show | compiled int main(void){} | 0 entry 0 00002033 0000205A 00004000 /  bytes 0104010004420000 /  info prolog 4 flags 0 frame - 0 /  code 4 alloc 40 / entries 1
+";
 
-/// The entry of a function of 31 bytes at 0x2000 and so many, with its info at 0x3000 and so many.
-fn entry(out: &mut Vec<u8>, begin: u8, info: u8) -> Result<(), AllocError> {
-    out.extend_from_slice(&[begin, 0x20, 0, 0])?;
-    out.extend_from_slice(&[begin | 31, 0x20, 0, 0])?;
-    out.extend_from_slice(&[info, 0x30, 0, 0])
-}
-
-/// An image of three unwind infos, each of eight bytes, and after them the first entries of three,
-/// each with its own.
-pub fn tables(alloc: Global, infos: &[u8], count: u8) -> Result<Vec<u8>, AllocError> {
-    let mut out = headers(alloc, count)?;
-    out.extend_from_slice(infos)?;
-    entry(&mut out, 0, 0)?;
-    entry(&mut out, 32, 8)?;
-    entry(&mut out, 64, 16)?;
-    Ok(out)
-}
-
-/// Compares what `show` answers for an image.
-pub fn shown(
-    rt: &impl Abort,
-    alloc: Global,
-    bytes: &[u8],
-    status: Status,
-    text: &str,
-    refusal: &str,
-) -> Result<(), Fail> {
-    answers_with(rt, alloc, "show", bytes, status, text, refusal)
-}
-
-/// The infos of a prologue that pushes RBX and takes 32 bytes of stack; of one whose allocation has
-/// no room for its operand; and one of version 2.
-const INFOS: [u8; 24] = [
-    1, 5, 2, 0, 5, 0x32, 1, 0x30, 1, 7, 1, 0, 7, 1, 0, 0, 2, 0, 0, 0, 0, 0, 0, 0,
-];
+/// How many bytes a compiled image has: the headers, and a block of 512 for each section but
+/// `.data`.
+const SIZE: usize = 3072;
 
 #[test]
-fn tables_are_shown(rt: HostRuntime) -> Result<(), Fail> {
-    let alloc = rt.alloc();
-    let done = Status::Done;
-    let whole = tables(alloc, &INFOS, 3)?;
-    let text = "entry 0 00002000 0000201F 00003000\n bytes 0105020005320130\n \
-                info prolog 5 flags 0 frame - 0\n code 5 alloc 32\n code 1 push rbx\n\
-                refused 1 Op 0\nrefused 2 Version 2\nentries 3\n";
-    shown(&rt, alloc, &whole, done, text, "")?;
-    let none = tables(alloc, &INFOS, 0)?;
-    shown(&rt, alloc, &none, done, "entries 0\n", "")?;
-    let code = of_code(alloc, &FOURTEEN)?;
-    shown(&rt, alloc, &code, done, "entries 0\n", "")?;
-    let refused = "image NotPe 0\n";
-    shown(&rt, alloc, &[0; 64], Status::Image, "", refused)?;
-    shown(&rt, alloc, b"", Status::Image, "", "image Truncated 0\n")
+fn tables_are_shown(rt: HostRuntime) {
+    let image = compiled(&rt, rt.alloc(), "int main(void){}");
+    assert!(rt; image.len() == SIZE);
+    all_answer(&rt, rt.alloc(), VIEWS);
+}
+
+/// The view of the image of a text.
+fn view_of(rt: &impl Abort, alloc: Global, text: &str) -> Vec<u8> {
+    let image = compiled(rt, alloc, text);
+    let words = words_of(rt, alloc, &["show"]);
+    let view = answer(alloc, &words, &image);
+    assert!(rt; view.code == 0 && view.err.is_empty(), "{text}");
+    view.out
+}
+
+/// Whether the scope records of a view are one with a `__finally` block, and one with a filter.
+fn has_both_scopes(view: &str) -> bool {
+    let mut scopes = view.lines().filter(|line| line.starts_with(" scope"));
+    let inner = scopes.next().unwrap_or("");
+    let outer = scopes.next().unwrap_or("");
+    inner.starts_with(" scope 0 ")
+        && inner.contains(" finally ")
+        && outer.starts_with(" scope 1 ")
+        && outer.contains(" filter ")
+        && scopes.next().is_none()
+}
+
+/// One scope record for each `__try`, the inner one first; filters and `__finally` blocks have
+/// entries.
+#[test]
+fn scope_records(rt: HostRuntime) {
+    let text =
+        "int main(void){ __try{ __try{ RaiseException(0xE0000001,0,0,0); } __finally{ put(AbnormalTermination()); } } __except(2){ put(3); } return 0; }";
+    let view = view_of(&rt, rt.alloc(), text);
+    let shown = str::from_utf8(&view).unwrap_or("");
+    assert!(rt; has_both_scopes(shown), "{shown}");
+    assert!(rt; shown.ends_with("\nentries 3\n"), "{shown}");
+}
+
+/// A leaf function has no entry in the function table: `main` alone has one.
+#[test]
+fn leaf_functions(rt: HostRuntime) {
+    for text in [
+        "int f(int *p){ return *p; } int main(void){ __try{ put(f((int*)8)); } __except(1){ put(GetExceptionCode()==0xC0000005); } return 0; }",
+        "int f(int *p){ return *p; } int main(void){ put(f((int*)8)); return 0; }",
+    ] {
+        let view = view_of(&rt, rt.alloc(), text);
+        assert!(rt; view.ends_with(b"\nentries 1\n"), "{text}");
+    }
 }

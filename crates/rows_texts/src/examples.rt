@@ -1,12 +1,9 @@
 //! The programs of examples/, as they are there, each with the text beside it.
 
-use crate::ways::{WAYS, all_show};
-use std::test::Fail;
-
-/// An exception that a filter accepts, or nobody.
-const ACCEPTED: &str = r"
-# sum:
-int main(void){ put(2+3*4); return 7; }
+/// An exception that a filter accepts, or nobody; a body that is left, and an exception that is
+/// continued; an exception in a filter and in a `__finally` block.
+pub const EXAMPLES: &str = r"
+# sum: int main(void){ put(2+3*4); return 7; }
 => 0 14 / exit 7
 # accept:
 // A filter decides: above 0 it accepts, and the block of the __except runs.
@@ -66,10 +63,6 @@ int main(void) {
   return 0;
 }
 => 10 raise C0000094 0 / unhandled C0000094
-";
-
-/// A body that is left, and an exception that is continued.
-const LEFT: &str = r"
 # leave:
 // AbnormalTermination is 0 after __leave, and 1 after a return out of the body.
 int f(int n) {
@@ -136,10 +129,6 @@ int main(void) {
   return 0;
 }
 => 0 raise E0000003 1 / filter 1 / answer -1 / raise C0000025 1 / filter 1 / answer 1 / except C0000025 / 3 / exit 0
-";
-
-/// An exception in a filter and in a `__finally` block.
-const NESTED: &str = r"
 # nested:
 // An exception in a filter searches from there, then from the first raise; accepted, it takes its
 // place.
@@ -183,21 +172,3 @@ int main(void) {
 }
 => 0 raise E0000001 0 / filter 2 / answer 0 / finally 1 1 / raise E0000002 0 / filter 2 / answer 1 / except E0000002 / 2 / exit 0
 ";
-
-/// Search, filters and blocks.
-#[test]
-fn accepted(rt: HostRuntime) -> Result<(), Fail> {
-    all_show(&rt, rt.alloc(), &WAYS, ACCEPTED)
-}
-
-/// Jumps, and continued execution.
-#[test]
-fn left(rt: HostRuntime) -> Result<(), Fail> {
-    all_show(&rt, rt.alloc(), &WAYS, LEFT)
-}
-
-/// Nested exceptions and collided unwinding.
-#[test]
-fn nested(rt: HostRuntime) -> Result<(), Fail> {
-    all_show(&rt, rt.alloc(), &WAYS, NESTED)
-}

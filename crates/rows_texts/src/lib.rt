@@ -1,27 +1,16 @@
-//! Whole programs on the program's one call: each text with what it has to show, by `run`, by
-//! `compile` and then `exec`, and by `meaning`.
+//! Whole texts, each with what it has to show: the tables that the tests of `rows` read.
 //!
-//! The rows are texts that are read when a test runs, so that a row adds nothing to the proof of
-//! it.
+//! A table is one text. A row is `# NAME; OPTIONS: TEXT`, and then a line `=> CODE LINES ! LINES`: the
+//! status as the number that the process ends with, the lines of `out` with `--trace`, and those of
+//! `err`, which are left out where there are none. Lines are joined by ` / ` or by line feeds.
+//! `$TIMES*PIECE$` stands for a piece so many times; in a program that many rows fill, `$0$`, `$1$`
+//! and `$2$` stand for the columns of a row's text.
 #![tactic(auto)]
 
-#[cfg(test)]
-mod binary;
-#[cfg(test)]
-mod depths;
-#[cfg(test)]
-mod examples;
-#[cfg(test)]
-mod handlers;
-#[cfg(test)]
-mod refused;
-#[cfg(test)]
-mod sinks;
-#[cfg(test)]
-mod texts;
-#[cfg(test)]
-mod unary;
-#[cfg(test)]
-mod views;
-#[cfg(test)]
-mod ways;
+pub mod binary;
+pub mod depths;
+pub mod examples;
+pub mod handlers;
+pub mod refused;
+pub mod texts;
+pub mod unary;

@@ -1,74 +1,65 @@
 //! Casts, unary operators, assignments that compute, and operands of two types.
 //!
-//! The values are those of C's rules (C11, 6.3 and 6.5) with the widths of the Microsoft compiler.
-
-use crate::ways::{WAYS, all_show, all_show_in};
-use std::test::Fail;
+//! The values are those of C's rules (C11, 6.3 and 6.5) with the widths of the Microsoft compiler. A
+//! row's text is the type with its edges and their number, or with its least and its greatest number.
 
 /// The casts and unary operators of a type's edges.
-const UNARY_PROGRAM: &str = r"
-@type@ edges[@count@] = {@edges@};
-void one(@type@ a){
+pub const UNARY_PROGRAM: &str = r"
+$0$ edges[$2$] = {$1$};
+void one($0$ a){
   put(-a); put(+a); put(~a); put(!a); put((char)a); put((unsigned char)a); put((short)a); put((unsigned short)a); put((int)a); put((unsigned)a); put((long long)a); put((unsigned long long)a);
   put(a++); put(a); put(--a); put(a--); put(++a);
-} int main(void){ int i; for (i = 0; i < @count@; i++) one(edges[i]); return 0; }";
+} int main(void){ int i; for (i = 0; i < $2$; i++) one(edges[i]); return 0; }";
 
-const UNARY: &str = r"
-# char:
-char | -128, -1, 0, 1, 127
+/// What they are, in the order of the program.
+pub const UNARY: &str = r"
+# char: char | -128, -1, 0, 1, 127 | 5
 => 0 128 / -128 / 127 / 0 / -128 / 128 / -128 / 65408 / -128 / 4294967168 / -128 / -128 / -128 / -127 / -128 / -128 / -128
 1 / -1 / 0 / 0 / -1 / 255 / -1 / 65535 / -1 / 4294967295 / -1 / -1 / -1 / 0 / -1 / -1 / -1
 0 / 0 / -1 / 1 / 0 / 0 / 0 / 0 / 0 / 0 / 0 / 0 / 0 / 1 / 0 / 0 / 0
 -1 / 1 / -2 / 0 / 1 / 1 / 1 / 1 / 1 / 1 / 1 / 1 / 1 / 2 / 1 / 1 / 1
 -127 / 127 / -128 / 0 / 127 / 127 / 127 / 127 / 127 / 127 / 127 / 127 / 127 / -128 / 127 / 127 / 127
 exit 0
-# unsigned char:
-unsigned char | 0, 1, 128, 255
+# unsigned char: unsigned char | 0, 1, 128, 255 | 4
 => 0 0 / 0 / -1 / 1 / 0 / 0 / 0 / 0 / 0 / 0 / 0 / 0 / 0 / 1 / 0 / 0 / 0
 -1 / 1 / -2 / 0 / 1 / 1 / 1 / 1 / 1 / 1 / 1 / 1 / 1 / 2 / 1 / 1 / 1
 -128 / 128 / -129 / 0 / -128 / 128 / 128 / 128 / 128 / 128 / 128 / 128 / 128 / 129 / 128 / 128 / 128
 -255 / 255 / -256 / 0 / -1 / 255 / 255 / 255 / 255 / 255 / 255 / 255 / 255 / 0 / 255 / 255 / 255
 exit 0
-# short:
-short | -32768, -1, 0, 1, 32767
+# short: short | -32768, -1, 0, 1, 32767 | 5
 => 0 32768 / -32768 / 32767 / 0 / 0 / 0 / -32768 / 32768 / -32768 / 4294934528 / -32768 / -32768 / -32768 / -32767 / -32768 / -32768 / -32768
 1 / -1 / 0 / 0 / -1 / 255 / -1 / 65535 / -1 / 4294967295 / -1 / -1 / -1 / 0 / -1 / -1 / -1
 0 / 0 / -1 / 1 / 0 / 0 / 0 / 0 / 0 / 0 / 0 / 0 / 0 / 1 / 0 / 0 / 0
 -1 / 1 / -2 / 0 / 1 / 1 / 1 / 1 / 1 / 1 / 1 / 1 / 1 / 2 / 1 / 1 / 1
 -32767 / 32767 / -32768 / 0 / -1 / 255 / 32767 / 32767 / 32767 / 32767 / 32767 / 32767 / 32767 / -32768 / 32767 / 32767 / 32767
 exit 0
-# unsigned short:
-unsigned short | 0, 1, 32768, 65535
+# unsigned short: unsigned short | 0, 1, 32768, 65535 | 4
 => 0 0 / 0 / -1 / 1 / 0 / 0 / 0 / 0 / 0 / 0 / 0 / 0 / 0 / 1 / 0 / 0 / 0
 -1 / 1 / -2 / 0 / 1 / 1 / 1 / 1 / 1 / 1 / 1 / 1 / 1 / 2 / 1 / 1 / 1
 -32768 / 32768 / -32769 / 0 / 0 / 0 / -32768 / 32768 / 32768 / 32768 / 32768 / 32768 / 32768 / 32769 / 32768 / 32768 / 32768
 -65535 / 65535 / -65536 / 0 / -1 / 255 / -1 / 65535 / 65535 / 65535 / 65535 / 65535 / 65535 / 0 / 65535 / 65535 / 65535
 exit 0
-# int:
-int | -2147483648, -1, 0, 1, 2147483647
+# int: int | -2147483648, -1, 0, 1, 2147483647 | 5
 => 0 -2147483648 / -2147483648 / 2147483647 / 0 / 0 / 0 / 0 / 0 / -2147483648 / 2147483648 / -2147483648 / -2147483648 / -2147483648 / -2147483647 / -2147483648 / -2147483648 / -2147483648
 1 / -1 / 0 / 0 / -1 / 255 / -1 / 65535 / -1 / 4294967295 / -1 / -1 / -1 / 0 / -1 / -1 / -1
 0 / 0 / -1 / 1 / 0 / 0 / 0 / 0 / 0 / 0 / 0 / 0 / 0 / 1 / 0 / 0 / 0
 -1 / 1 / -2 / 0 / 1 / 1 / 1 / 1 / 1 / 1 / 1 / 1 / 1 / 2 / 1 / 1 / 1
 -2147483647 / 2147483647 / -2147483648 / 0 / -1 / 255 / -1 / 65535 / 2147483647 / 2147483647 / 2147483647 / 2147483647 / 2147483647 / -2147483648 / 2147483647 / 2147483647 / 2147483647
 exit 0
-# unsigned:
-unsigned | 0, 1, 2147483648, 4294967295
+# unsigned: unsigned | 0, 1, 2147483648, 4294967295 | 4
 => 0 0 / 0 / 4294967295 / 1 / 0 / 0 / 0 / 0 / 0 / 0 / 0 / 0 / 0 / 1 / 0 / 0 / 0
 4294967295 / 1 / 4294967294 / 0 / 1 / 1 / 1 / 1 / 1 / 1 / 1 / 1 / 1 / 2 / 1 / 1 / 1
 2147483648 / 2147483648 / 2147483647 / 0 / 0 / 0 / 0 / 0 / -2147483648 / 2147483648 / 2147483648 / 2147483648 / 2147483648 / 2147483649 / 2147483648 / 2147483648 / 2147483648
 1 / 4294967295 / 0 / 0 / -1 / 255 / -1 / 65535 / -1 / 4294967295 / 4294967295 / 4294967295 / 4294967295 / 0 / 4294967295 / 4294967295 / 4294967295
 exit 0
-# long long:
-long long | -9223372036854775808, -1, 0, 1, 9223372036854775807
+# long long: long long | -9223372036854775808, -1, 0, 1, 9223372036854775807 | 5
 => 0 -9223372036854775808 / -9223372036854775808 / 9223372036854775807 / 0 / 0 / 0 / 0 / 0 / 0 / 0 / -9223372036854775808 / -9223372036854775808 / -9223372036854775808 / -9223372036854775807 / -9223372036854775808 / -9223372036854775808 / -9223372036854775808
 1 / -1 / 0 / 0 / -1 / 255 / -1 / 65535 / -1 / 4294967295 / -1 / -1 / -1 / 0 / -1 / -1 / -1
 0 / 0 / -1 / 1 / 0 / 0 / 0 / 0 / 0 / 0 / 0 / 0 / 0 / 1 / 0 / 0 / 0
 -1 / 1 / -2 / 0 / 1 / 1 / 1 / 1 / 1 / 1 / 1 / 1 / 1 / 2 / 1 / 1 / 1
 -9223372036854775807 / 9223372036854775807 / -9223372036854775808 / 0 / -1 / 255 / -1 / 65535 / -1 / 4294967295 / 9223372036854775807 / 9223372036854775807 / 9223372036854775807 / -9223372036854775808 / 9223372036854775807 / 9223372036854775807 / 9223372036854775807
 exit 0
-# unsigned long long:
-unsigned long long | 0, 1, 9223372036854775808, 18446744073709551615
+# unsigned long long: unsigned long long | 0, 1, 9223372036854775808, 18446744073709551615 | 4
 => 0 0 / 0 / -1 / 1 / 0 / 0 / 0 / 0 / 0 / 0 / 0 / 0 / 0 / 1 / 0 / 0 / 0
 -1 / 1 / -2 / 0 / 1 / 1 / 1 / 1 / 1 / 1 / 1 / 1 / 1 / 2 / 1 / 1 / 1
 -9223372036854775808 / -9223372036854775808 / 9223372036854775807 / 0 / 0 / 0 / 0 / 0 / 0 / 0 / -9223372036854775808 / -9223372036854775808 / -9223372036854775808 / -9223372036854775807 / -9223372036854775808 / -9223372036854775808 / -9223372036854775808
@@ -77,34 +68,33 @@ exit 0
 ";
 
 /// The assignments that compute, of a type's least and greatest number.
-const ASSIGNMENTS: &str = r"
-@type@ v;
+pub const ASSIGNMENTS: &str = r"
+$0$ v;
 int main(void){
-  v = @low@; v += 1; put(v); v = @low@; v += 3; put(v); v = @low@; v += -1; put(v); v = @high@; v += 1; put(v); v = @high@; v += 3; put(v); v = @high@; v += -1; put(v);
-  v = @low@; v -= 1; put(v); v = @low@; v -= 3; put(v); v = @low@; v -= -1; put(v); v = @high@; v -= 1; put(v); v = @high@; v -= 3; put(v); v = @high@; v -= -1; put(v);
-  v = @low@; v *= 1; put(v); v = @low@; v *= 3; put(v); v = @low@; v *= -1; put(v); v = @high@; v *= 1; put(v); v = @high@; v *= 3; put(v); v = @high@; v *= -1; put(v);
-  v = @low@; v &= 1; put(v); v = @low@; v &= 3; put(v); v = @low@; v &= -1; put(v); v = @high@; v &= 1; put(v); v = @high@; v &= 3; put(v); v = @high@; v &= -1; put(v);
-  v = @low@; v |= 1; put(v); v = @low@; v |= 3; put(v); v = @low@; v |= -1; put(v); v = @high@; v |= 1; put(v); v = @high@; v |= 3; put(v); v = @high@; v |= -1; put(v);
-  v = @low@; v ^= 1; put(v); v = @low@; v ^= 3; put(v); v = @low@; v ^= -1; put(v); v = @high@; v ^= 1; put(v); v = @high@; v ^= 3; put(v); v = @high@; v ^= -1; put(v);
-  v = @low@; v <<= 1; put(v); v = @low@; v <<= 7; put(v); v = @low@; v <<= 33; put(v); v = @high@; v <<= 1; put(v); v = @high@; v <<= 7; put(v); v = @high@; v <<= 33; put(v);
-  v = @low@; v >>= 1; put(v); v = @low@; v >>= 7; put(v); v = @low@; v >>= 33; put(v); v = @high@; v >>= 1; put(v); v = @high@; v >>= 7; put(v); v = @high@; v >>= 33; put(v);";
+  v = $1$; v += 1; put(v); v = $1$; v += 3; put(v); v = $1$; v += -1; put(v); v = $2$; v += 1; put(v); v = $2$; v += 3; put(v); v = $2$; v += -1; put(v);
+  v = $1$; v -= 1; put(v); v = $1$; v -= 3; put(v); v = $1$; v -= -1; put(v); v = $2$; v -= 1; put(v); v = $2$; v -= 3; put(v); v = $2$; v -= -1; put(v);
+  v = $1$; v *= 1; put(v); v = $1$; v *= 3; put(v); v = $1$; v *= -1; put(v); v = $2$; v *= 1; put(v); v = $2$; v *= 3; put(v); v = $2$; v *= -1; put(v);
+  v = $1$; v &= 1; put(v); v = $1$; v &= 3; put(v); v = $1$; v &= -1; put(v); v = $2$; v &= 1; put(v); v = $2$; v &= 3; put(v); v = $2$; v &= -1; put(v);
+  v = $1$; v |= 1; put(v); v = $1$; v |= 3; put(v); v = $1$; v |= -1; put(v); v = $2$; v |= 1; put(v); v = $2$; v |= 3; put(v); v = $2$; v |= -1; put(v);
+  v = $1$; v ^= 1; put(v); v = $1$; v ^= 3; put(v); v = $1$; v ^= -1; put(v); v = $2$; v ^= 1; put(v); v = $2$; v ^= 3; put(v); v = $2$; v ^= -1; put(v);
+  v = $1$; v <<= 1; put(v); v = $1$; v <<= 7; put(v); v = $1$; v <<= 33; put(v); v = $2$; v <<= 1; put(v); v = $2$; v <<= 7; put(v); v = $2$; v <<= 33; put(v);
+  v = $1$; v >>= 1; put(v); v = $1$; v >>= 7; put(v); v = $1$; v >>= 33; put(v); v = $2$; v >>= 1; put(v); v = $2$; v >>= 7; put(v); v = $2$; v >>= 33; put(v);";
 
 /// The divisions after them, of a type in which none overflows.
-const DIVISIONS: &str = r"
-  v = @low@; v /= 1; put(v); v = @low@; v /= 3; put(v); v = @low@; v /= -1; put(v); v = @high@; v /= 1; put(v); v = @high@; v /= 3; put(v); v = @high@; v /= -1; put(v);
-  v = @low@; v %= 1; put(v); v = @low@; v %= 3; put(v); v = @low@; v %= -1; put(v); v = @high@; v %= 1; put(v); v = @high@; v %= 3; put(v); v = @high@; v %= -1; put(v);
+pub const DIVISIONS: &str = r"
+  v = $1$; v /= 1; put(v); v = $1$; v /= 3; put(v); v = $1$; v /= -1; put(v); v = $2$; v /= 1; put(v); v = $2$; v /= 3; put(v); v = $2$; v /= -1; put(v);
+  v = $1$; v %= 1; put(v); v = $1$; v %= 3; put(v); v = $1$; v %= -1; put(v); v = $2$; v %= 1; put(v); v = $2$; v %= 3; put(v); v = $2$; v %= -1; put(v);
   return 0; }";
 
 /// The divisions of a type in which the least number divided by -1 overflows.
-const SIGNED_DIVISIONS: &str = r"
-  v = @low@; v /= 1; put(v); v = @low@; v /= 3; put(v); v = @high@; v /= 1; put(v); v = @high@; v /= 3; put(v); v = @high@; v /= -1; put(v);
-  v = @low@; v %= 1; put(v); v = @low@; v %= 3; put(v); v = @high@; v %= 1; put(v); v = @high@; v %= 3; put(v); v = @high@; v %= -1; put(v);
+pub const SIGNED_DIVISIONS: &str = r"
+  v = $1$; v /= 1; put(v); v = $1$; v /= 3; put(v); v = $2$; v /= 1; put(v); v = $2$; v /= 3; put(v); v = $2$; v /= -1; put(v);
+  v = $1$; v %= 1; put(v); v = $1$; v %= 3; put(v); v = $2$; v %= 1; put(v); v = $2$; v %= 3; put(v); v = $2$; v %= -1; put(v);
   return 0; }";
 
-/// Of 8 and 16 bits.
-const NARROW: &str = r"
-# char:
-char | -128, 127
+/// Of 8 and 16 bits, and unsigned of 32 and 64 bits.
+pub const NARROW_AND_UNSIGNED: &str = r"
+# char: char | -128 | 127
 => 0 -127 / -125 / 127 / -128 / -126 / 126
 127 / 125 / -127 / 126 / 124 / -128
 -128 / -128 / -128 / 127 / 125 / -127
@@ -116,8 +106,7 @@ char | -128, 127
 -128 / -42 / -128 / 127 / 42 / -127
 0 / -2 / 0 / 0 / 1 / 0
 exit 0
-# unsigned char:
-unsigned char | 0, 255
+# unsigned char: unsigned char | 0 | 255
 => 0 1 / 3 / 255 / 0 / 2 / 254
 255 / 253 / 1 / 254 / 252 / 0
 0 / 0 / 0 / 255 / 253 / 1
@@ -129,8 +118,7 @@ unsigned char | 0, 255
 0 / 0 / 0 / 255 / 85 / 1
 0 / 0 / 0 / 0 / 0 / 0
 exit 0
-# short:
-short | -32768, 32767
+# short: short | -32768 | 32767
 => 0 -32767 / -32765 / 32767 / -32768 / -32766 / 32766
 32767 / 32765 / -32767 / 32766 / 32764 / -32768
 -32768 / -32768 / -32768 / 32767 / 32765 / -32767
@@ -142,8 +130,7 @@ short | -32768, 32767
 -32768 / -10922 / -32768 / 32767 / 10922 / -32767
 0 / -2 / 0 / 0 / 1 / 0
 exit 0
-# unsigned short:
-unsigned short | 0, 65535
+# unsigned short: unsigned short | 0 | 65535
 => 0 1 / 3 / 65535 / 0 / 2 / 65534
 65535 / 65533 / 1 / 65534 / 65532 / 0
 0 / 0 / 0 / 65535 / 65533 / 1
@@ -155,12 +142,7 @@ unsigned short | 0, 65535
 0 / 0 / 0 / 65535 / 21845 / 1
 0 / 0 / 0 / 0 / 0 / 0
 exit 0
-";
-
-/// Of 32 and 64 bits, unsigned.
-const UNSIGNED: &str = r"
-# unsigned:
-unsigned | 0, 4294967295
+# unsigned: unsigned | 0 | 4294967295
 => 0 1 / 3 / 4294967295 / 0 / 2 / 4294967294
 4294967295 / 4294967293 / 1 / 4294967294 / 4294967292 / 0
 0 / 0 / 0 / 4294967295 / 4294967293 / 1
@@ -172,8 +154,7 @@ unsigned | 0, 4294967295
 0 / 0 / 0 / 4294967295 / 1431655765 / 1
 0 / 0 / 0 / 0 / 0 / 0
 exit 0
-# unsigned long long:
-unsigned long long | 0, 18446744073709551615
+# unsigned long long: unsigned long long | 0 | 18446744073709551615
 => 0 1 / 3 / -1 / 0 / 2 / -2
 -1 / -3 / 1 / -2 / -4 / 0
 0 / 0 / 0 / -1 / -3 / 1
@@ -188,9 +169,8 @@ exit 0
 ";
 
 /// Of 32 and 64 bits, signed.
-const SIGNED: &str = r"
-# int:
-int | -2147483648, 2147483647
+pub const SIGNED: &str = r"
+# int: int | -2147483648 | 2147483647
 => 0 -2147483647 / -2147483645 / 2147483647 / -2147483648 / -2147483646 / 2147483646
 2147483647 / 2147483645 / -2147483647 / 2147483646 / 2147483644 / -2147483648
 -2147483648 / -2147483648 / -2147483648 / 2147483647 / 2147483645 / -2147483647
@@ -202,8 +182,7 @@ int | -2147483648, 2147483647
 -2147483648 / -715827882 / 2147483647 / 715827882 / -2147483647
 0 / -2 / 0 / 1 / 0
 exit 0
-# long long:
-long long | -9223372036854775807 - 1, 9223372036854775807
+# long long: long long | -9223372036854775807 - 1 | 9223372036854775807
 => 0 -9223372036854775807 / -9223372036854775805 / 9223372036854775807 / -9223372036854775808 / -9223372036854775806 / 9223372036854775806
 9223372036854775807 / 9223372036854775805 / -9223372036854775807 / 9223372036854775806 / 9223372036854775804 / -9223372036854775808
 -9223372036854775808 / -9223372036854775808 / -9223372036854775808 / 9223372036854775807 / 9223372036854775805 / -9223372036854775807
@@ -218,7 +197,7 @@ exit 0
 ";
 
 /// The type of two operands.
-const MIXED: &str = r"
+pub const MIXED: &str = r"
 # operands of two types:
 void f0(int a, unsigned b){ put(a + b); put(a - b); put(a * b); put(a < b); put(a > b); put(a == b); put(a >> b); put(b >> a); put(a / b); put(a % b); }
 void f1(int a, long long b){ put(a + b); put(a - b); put(a * b); put(a < b); put(a > b); put(a == b); put(a >> b); put(b >> a); put(a / b); put(a % b); }
@@ -251,30 +230,3 @@ int main(void){ f0(-1, 1); f0(-2, 3); f0(5, -1); f1(-1, 1); f1(-2, 3); f1(5, -1)
 4 / 6 / -5 / 1 / 0 / 0 / 0 / 576460752303423487 / 0 / 5
 exit 0
 ";
-
-/// Casts to each type, and operators of one operand.
-#[test]
-fn unary_operators_and_casts(rt: HostRuntime) -> Result<(), Fail> {
-    all_show_in(&rt, rt.alloc(), &WAYS, &[UNARY_PROGRAM], UNARY)
-}
-
-/// Each operator that assigns, of 8 and 16 bits.
-#[test]
-fn narrow_assignments(rt: HostRuntime) -> Result<(), Fail> {
-    all_show_in(&rt, rt.alloc(), &WAYS, &[ASSIGNMENTS, DIVISIONS], NARROW)
-}
-
-/// Each operator that assigns, of 32 and 64 bits.
-#[test]
-fn wide_assignments(rt: HostRuntime) -> Result<(), Fail> {
-    let program = [ASSIGNMENTS, DIVISIONS];
-    all_show_in(&rt, rt.alloc(), &WAYS, &program, UNSIGNED)?;
-    let program = [ASSIGNMENTS, SIGNED_DIVISIONS];
-    all_show_in(&rt, rt.alloc(), &WAYS, &program, SIGNED)
-}
-
-/// An operand is converted to the common type.
-#[test]
-fn operands_of_two_types(rt: HostRuntime) -> Result<(), Fail> {
-    all_show(&rt, rt.alloc(), &WAYS, MIXED)
-}

@@ -1,0 +1,121 @@
+//! What `exec` answers for images with imports and function tables, and with one change.
+
+use crate::inputs::all_answer;
+
+/// An empty file, one of zeros, and an image without its last byte. Then one field is wrong, and the
+/// others are right: the base of `load Place` is no multiple of 65,536, below 4 GiB, and at 2^47; an
+/// image is a page more than 256 MiB; an entry point is in no section, and in one that isn't
+/// executable. In the second row of fields the headers end a byte after the file.
+const FIELDS: &str = r"
+exec | bytes | 3 ! image Truncated 0
+exec | bytes 64*00 | 3 ! image NotPe 0
+exec | fourteen @ cut 288 | 3 ! image Layout 0
+exec | fourteen @ file+1 7A | 3 ! image NotPe 0
+exec | fourteen @ file+60 0A 01 | 3 ! image Truncated 266
+exec | fourteen @ signature+3 01 | 3 ! image NotPe 64
+exec | fourteen @ signature+4 4C 01 | 3 ! image Machine 332
+exec | fourteen @ signature+20 6F | 3 ! image Truncated 88
+exec | fourteen @ optional+0 0B 01 | 3 ! image Magic 267
+exec | fourteen @ optional+108 01 | 3 ! image Truncated 200
+exec | fourteen @ signature+6 03 | 3 ! image Truncated 200
+exec | fourteen @ sections+20 F1 | 3 ! image Layout 0
+exec | fourteen @ sections+13 08 | 3 ! image Layout 0
+exec | fourteen @ sections+8 01 10 | 3 ! image Layout 0
+exec | fourteen @ optional+57 10 | 3 ! image Layout 0
+exec | fourteen @ optional+25 10 | 3 ! load Place 5368713216
+exec | fourteen @ optional+24 00 00 FF FF 00 | 3 ! load Place 4294901760
+exec | fourteen @ optional+24 00 00 00 00 00 80 | 3 ! load Place 140737488355328
+exec | fourteen @ optional+56 00 10 00 10 | 3 ! load Place 5368709120
+exec | fourteen @ optional+17 20 | 3 ! load Entry 8192
+exec | fourteen @ sections+36 40 00 00 40 | 3 ! load Entry 4096
+";
+
+#[test]
+fn each_check_refuses(rt: HostRuntime) {
+    all_answer(&rt, rt.alloc(), FIELDS);
+}
+
+/// A library more has its slot over the first one, or over halves of the first two. Then one byte of
+/// the names, which begin at 448 with 24 bytes for each, is changed; and the first entry of the
+/// lookup table, which is at 336, is an ordinal.
+const IMPORTS: &str = r"
+exec | importing | 0 2146435120 / 2146435136 / 2146435152 / 2146435104 / 2146435088 / exit 7
+exec | importing @ file+292 60 10 14*00 80 10 | 0 2146435088 / 2146435136 / 2146435152 / 2146435104 / 2146435088 / exit 7
+exec | importing @ file+292 60 10 14*00 84 10 | 0 9218868508093317168 / 0 / 2146435152 / 2146435104 / 2146435088 / exit 7
+exec | importing @ file+548 78 | 3 ! load Import 4
+exec | importing @ file+549 63 | 3 ! load Import 4
+exec | importing @ file+548 00 | 3 ! load Import 4
+exec | importing @ file+450 72 | 3 ! load Import 0
+exec | importing @ file+498 2D | 3 ! load Import 2
+exec | importing @ file+343 80 | 3 ! image ImportBad 0
+";
+
+#[test]
+fn imports_are_bound_or_refused(rt: HostRuntime) {
+    all_answer(&rt, rt.alloc(), IMPORTS);
+}
+
+/// Of an image that is refused for four reasons one is mended after another. Then the infos, which
+/// begin at 272 of the file: the first info is replaced, or the second, from 280 on; the entries
+/// begin at 296: a byte of the first two is changed; the directory counts 25 bytes, and in the last
+/// row the table is read.
+const TABLES: &str = r"
+exec | importing @ optional+17 20 | 3 ! load Entry 8232
+exec | importing @ optional+17 20 @ file+522 50 | 3 ! load Import 3
+exec | importing @ optional+17 20 @ file+522 50 @ optional+24 00 10 00 00 00 | 3 ! load Place 4096
+exec | importing @ optional+17 20 @ file+522 50 @ optional+24 00 10 00 00 00 @ optional+136 02 10 00 00 0C | 3 ! table Misaligned 4098
+exec | tables @ file+272 01 07 01 00 07 01 00 00 | 3 ! table Op 0 0
+exec | tables @ file+272 01 04 01 00 04 03 00 00 | 3 ! table Op 0 0
+exec | tables @ file+272 01 04 01 00 04 06 00 00 | 3 ! table Op 0 0
+exec | tables @ file+272 29 00 00 00 | 3 ! table Flags 0
+exec | tables @ file+272 01 05 02 00 02 32 05 32 | 3 ! table CodeOrder 0 1
+exec | tables @ file+272 21 00 00 00 00 20 00 00 1F 20 00 00 00 30 00 00 | 3 ! table ChainLong 0
+exec | tables @ file+280 02 00 00 00 | 3 ! table Version 1 2
+exec | tables @ file+308 00 | 3 ! table Unsorted 1
+exec | tables @ file+300 00 | 3 ! table EmptyRange 0
+exec | tables @ file+304 02 | 3 ! table Misaligned 12290
+exec | tables @ file+304 3C | 3 ! table Truncated 12348
+exec | tables @ optional+140 19 | 3 ! table Truncated 12312
+exec | tables @ file+272 01 | 3 ! load Entry 0
+";
+
+#[test]
+fn tables_are_refused_in_order(rt: HostRuntime) {
+    all_answer(&rt, rt.alloc(), TABLES);
+}
+
+/// One field of the headers or of `.rdata`, which begins at 1536, is changed; the image is cut, to
+/// the first and the last length of each refusal and one between.
+const COMPILED: &str = r"
+exec | compiled int main(void){ put(2+3*4); return 7; } | 0 14 / exit 7
+exec | compiled int main(void){ put(2+3*4); return 7; } @ signature+4 4C 01 | 3 ! image Machine 332
+exec | compiled int main(void){ put(2+3*4); return 7; } @ optional+0 0B 01 | 3 ! image Magic 267
+exec | compiled int main(void){ put(2+3*4); return 7; } @ file+1583 80 | 3 ! image ImportBad 0
+exec | compiled int main(void){ put(2+3*4); return 7; } @ file+1744 78 | 3 ! load Import 4
+exec | compiled int main(void){ put(2+3*4); return 7; } @ optional+24 00 10 00 00 00 | 3 ! load Place 4096
+exec | compiled int main(void){ put(2+3*4); return 7; } @ optional+16 00 10 | 3 ! load Entry 4096
+exec | compiled int main(void){ put(2+3*4); return 7; } @ cut 0 | 3 ! image Truncated 0
+exec | compiled int main(void){ put(2+3*4); return 7; } @ cut 63 | 3 ! image Truncated 0
+exec | compiled int main(void){ put(2+3*4); return 7; } @ cut 64 | 3 ! image Truncated 64
+exec | compiled int main(void){ put(2+3*4); return 7; } @ cut 87 | 3 ! image Truncated 64
+exec | compiled int main(void){ put(2+3*4); return 7; } @ cut 88 | 3 ! image Truncated 88
+exec | compiled int main(void){ put(2+3*4); return 7; } @ cut 100 | 3 ! image Truncated 88
+exec | compiled int main(void){ put(2+3*4); return 7; } @ cut 199 | 3 ! image Truncated 88
+exec | compiled int main(void){ put(2+3*4); return 7; } @ cut 200 | 3 ! image Truncated 200
+exec | compiled int main(void){ put(2+3*4); return 7; } @ cut 327 | 3 ! image Truncated 200
+exec | compiled int main(void){ put(2+3*4); return 7; } @ cut 328 | 3 ! image Truncated 328
+exec | compiled int main(void){ put(2+3*4); return 7; } @ cut 527 | 3 ! image Truncated 328
+exec | compiled int main(void){ put(2+3*4); return 7; } @ cut 528 | 3 ! image Layout 1
+exec | compiled int main(void){ put(2+3*4); return 7; } @ cut 1535 | 3 ! image Layout 1
+exec | compiled int main(void){ put(2+3*4); return 7; } @ cut 1536 | 3 ! image Layout 2
+exec | compiled int main(void){ put(2+3*4); return 7; } @ cut 2047 | 3 ! image Layout 2
+exec | compiled int main(void){ put(2+3*4); return 7; } @ cut 2048 | 3 ! image Layout 3
+exec | compiled int main(void){ put(2+3*4); return 7; } @ cut 2559 | 3 ! image Layout 3
+exec | compiled int main(void){ put(2+3*4); return 7; } @ cut 2560 | 3 ! image Layout 4
+exec | compiled int main(void){ put(2+3*4); return 7; } @ cut 3071 | 3 ! image Layout 4
+";
+
+#[test]
+fn compiled_images_are_refused(rt: HostRuntime) {
+    all_answer(&rt, rt.alloc(), COMPILED);
+}
