@@ -2,7 +2,7 @@
 use Rattle.std.proofs.Common.{◌≡◌, ℕ, ◌+◌, ◌<◌, ◌≤◌, List, [], ◌++◌, map, length, drop, get_or, append-nil, sym, ap, ◌∙◌, subst}
 use Rattle.std.specs.Prelude.{None, not}
 use Rattle.std.proofs.lemmas.List.{drop_all}
-use Rattle.c_check.proofs.ParametersInOrder.{next_of}
+use Rattle.c_checked.proofs.Items.{next_of}
 use Rattle.c_expressions.proofs.Kept.{kept_more}
 use Rattle.c_expressions.specs.Kept.{least_of, kept}
 use Rattle.c_expressions.specs.Views.{block_of}

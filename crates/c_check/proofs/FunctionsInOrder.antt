@@ -2,7 +2,7 @@
 use Rattle.std.proofs.Common.{◌≡◌, ℕ, ◌+◌, ◌<◌, ◌≤◌, List, [], ◌∷◌, ◌++◌, map, length, drop, get_or, append-nil, append_assoc, Option, refl, sym, ap, ◌∙◌, subst}
 use Rattle.std.proofs.lemmas.List.{drop_all, map-append}
 use Rattle.std.specs.Borrow.{Bor}
-use Rattle.c_check.proofs.ParametersInOrder.{next_of}
+use Rattle.c_checked.proofs.Items.{next_of}
 use Rattle.c_check.specs.declared.functions.Progress.{Progress}
 use Rattle.c_check.specs.Functions.{AddsFunctions}
 use Rattle.c_check.specs.Parameters.{sizes_of}

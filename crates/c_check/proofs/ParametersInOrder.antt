@@ -1,8 +1,9 @@
 -- Parameters, one after another.
-use Rattle.std.proofs.Common.{◌≡◌, ℕ, ◌+◌, ◌<◌, ◌≤◌, Bool, true, false, cond, List, [], ◌∷◌, ◌++◌, map, length, drop, suc, get_or, add-one, append-nil, append_assoc, Option, Some, refl, sym, ap, ◌∙◌}
+use Rattle.std.proofs.Common.{◌≡◌, ℕ, ◌+◌, ◌<◌, ◌≤◌, Bool, true, false, cond, List, [], ◌∷◌, ◌++◌, map, length, drop, get_or, add-one, append-nil, append_assoc, Option, Some, refl, sym, ap, ◌∙◌}
 use Rattle.std.specs.Prelude.{not}
 use Rattle.std.proofs.Math.Seq.{drop-cons}
 use Rattle.std.proofs.lemmas.List.{drop_all}
+use Rattle.c_checked.proofs.Items.{next_of}
 use Rattle.c_check.specs.Parameters.{sizes_of, faults_of_parameter}
 use Rattle.c_expressions.proofs.Kept.{kept_append}
 use Rattle.c_expressions.specs.Kept.{kept}
@@ -63,9 +64,6 @@ faults_numbered text p ps block k =
 
 pub next_at : {A : Type 0} (xs : List A) (i : ℕ) (d : A) → i < length xs → drop i xs ≡ get_or xs i d ∷ drop (i + 1) xs
 next_at xs i d lt = drop-cons xs i d lt ∙ ap (λ k. get_or xs i d ∷ drop k xs) (sym (add-one i))
-
-pub next_of : {A : Type 0} (xs : List A) (i : ℕ) (x : A) → i < length xs → x ≡ get_or xs i x → drop i xs ≡ x ∷ drop (i + 1) xs
-next_of xs i x lt is = drop-cons xs i x lt ∙ ap (λ y. y ∷ drop (suc i) xs) (sym is) ∙ ap (λ k. x ∷ drop k xs) (sym (add-one i))
 
 pub record StillParameters (text : List ℕ) (list : List Parameter) (i : ℕ) (block : Scope) (first w : Option FaultAt) : Type 0 where
   pub names : with_parameters text (drop i list) block i ≡ with_parameters text list [] 0

@@ -1,7 +1,7 @@
 -- The place of a function by its number.
 use Rattle.std.proofs.Common.{◌≡◌, ◌≢◌, ℕ, zero, suc, ◌+◌, ◌-◌, ◌<◌, ◌≤◌, List, ◌∷◌, map, length, drop, get_or, refl, sym, ap, ◌∙◌, arith}
 use Rattle.std.proofs.lemmas.List.{drop_all}
-use Rattle.c_check.proofs.ParametersInOrder.{next_of}
+use Rattle.c_checked.proofs.Items.{next_of}
 use Rattle.c_resolved.specs.Program.{place_of_function}
 use Rattle.c_syntax.specs.declared.declaration.ExternalDeclaration.{ExternalDeclaration as ExternalDeclaration'}
 use Rattle.c_syntax.specs.Program.{ExternalDeclaration, Globals, Function, external_declaration}

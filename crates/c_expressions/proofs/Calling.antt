@@ -1,8 +1,8 @@
 -- Arguments of a call, one after another.
-use Rattle.std.proofs.Math.Seq.{drop-cons}
 use Rattle.std.proofs.lemmas.List.{drop_all}
-use Rattle.std.proofs.Common.{◌≡◌, ℕ, Bool, suc, ◌+◌, ◌<◌, ◌≤◌, true, false, nat_eq, List, [], ◌∷◌, ◌++◌, map, length, drop, get_or, add-one, subst, Option, Some, None, refl, sym, ap, ◌∙◌}
+use Rattle.std.proofs.Common.{◌≡◌, ℕ, Bool, suc, ◌+◌, ◌<◌, ◌≤◌, true, false, nat_eq, List, [], ◌∷◌, ◌++◌, map, length, drop, get_or, subst, Option, Some, None, refl, sym, ap, ◌∙◌}
 use Rattle.std.specs.Prelude.{option_map}
+use Rattle.c_checked.proofs.Items.{next_of}
 use Rattle.c_checked.specs.Expression as nodes
 use Rattle.c_expressions.proofs.Kept.{kept_append}
 use Rattle.c_expressions.specs.Calls.{resolved_all, put_before, put_after}
@@ -101,9 +101,6 @@ called_for t make f None p h = ap (λ (o : Option nodes.Arguments). elim o [ Som
 called_for t make f (Some v) p h = ap (λ (o : Option nodes.Arguments). elim o [ Some es ↦ Some (typed t (make es)) | None ↦ None ]) h
 
 -- ---- lists that are walked
-
-next_of : {A : Type 0} (xs : List A) (i : ℕ) (x : A) → i < length xs → x ≡ get_or xs i x → drop i xs ≡ x ∷ drop (i + 1) xs
-next_of xs i x lt is = drop-cons xs i x lt ∙ ap (λ y. y ∷ drop (suc i) xs) (sym is) ∙ ap (λ k. x ∷ drop k xs) (sym (add-one i))
 
 -- the faults of one more argument are kept
 pub faults_on : (s : Names) (so_far w w1 : Option FaultAt) (given : List Expr) (i : ℕ) (e : Expr) → i < length given → e ≡ get_or given i e

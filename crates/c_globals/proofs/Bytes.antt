@@ -1,8 +1,8 @@
 -- Bytes of numbers and of lists, one after another.
-use Rattle.std.proofs.Common.{◌≡◌, ℕ, zero, suc, ◌+◌, ◌-◌, ◌/◌, ◌%◌, ◌<◌, ◌≤◌, ◌≢◌, List, [], ◌∷◌, ◌++◌, drop, length, get_or, add-one, refl, sym, ap, ◌∙◌, append_assoc, append-nil, arith}
+use Rattle.std.proofs.Common.{◌≡◌, ℕ, zero, suc, ◌+◌, ◌-◌, ◌/◌, ◌%◌, ◌<◌, ◌≤◌, ◌≢◌, List, [], ◌∷◌, ◌++◌, drop, length, get_or, refl, sym, ap, ◌∙◌, append_assoc, append-nil, arith}
 use Rattle.std.specs.Prelude.{replicate}
-use Rattle.std.proofs.Math.Seq.{drop-cons}
 use Rattle.std.proofs.lemmas.List.{drop_all}
+use Rattle.c_checked.proofs.Items.{next_of}
 use Rattle.c_resolved.specs.Program.{bytes_of_number, bytes_of_all, constant_value}
 use Rattle.c_syntax.specs.declared.declaration.Constant.{Constant}
 
@@ -19,9 +19,6 @@ zeros_step old zero h = absurd (h refl)
 zeros_step old (suc n) h =
     let e : suc n - 1 ≡ n = omega arith in
     append_assoc old (0 ∷ []) (replicate (suc n - 1) 0) ∙ ap (λ k. old ++ 0 ∷ replicate k 0) e
-
-next_of : {A : Type 0} (xs : List A) (i : ℕ) (x : A) → i < length xs → x ≡ get_or xs i x → drop i xs ≡ x ∷ drop (i + 1) xs
-next_of xs i x lt is = drop-cons xs i x lt ∙ ap (λ y. y ∷ drop (suc i) xs) (sym is) ∙ ap (λ k. x ∷ drop k xs) (sym (add-one i))
 
 -- the bytes of one constant more
 pub constant_on : (size : ℕ) (own own' all : List ℕ) (list : List Constant) (i : ℕ) (x : Constant) → i < length list → x ≡ get_or list i x → own' ≡ own ++ bytes_of_number size (constant_value x)

@@ -1,8 +1,8 @@
 -- A global in the file.
-use Rattle.std.proofs.Common.{◌≡◌, ℕ, ◌+◌, ◌<◌, ◌≤◌, List, ◌∷◌, ◌++◌, map, length, drop, suc, get_or, add-one, Option, Result, Ok, Err, sym, ap, ◌∙◌, subst}
-use Rattle.std.proofs.Math.Seq.{drop-cons}
+use Rattle.std.proofs.Common.{◌≡◌, ℕ, ◌+◌, ◌<◌, ◌≤◌, List, ◌++◌, map, length, drop, get_or, Option, Result, Ok, Err, sym, ap, ◌∙◌, subst}
 use Rattle.std.proofs.lemmas.List.{drop_all}
 use Rattle.std.specs.Prelude.{OnOk, None, not, option_map}
+use Rattle.c_checked.proofs.Items.{next_of}
 use Rattle.c_resolved.specs.declared.fault.Fault.TheVariants.{Duplicate, TypeClash}
 use Rattle.c_resolved.specs.Scopes.{spelled}
 use Rattle.c_resolved.specs.Statements.{with_name, is_taken, unless_holds}
@@ -63,9 +63,6 @@ placed text base g f f' d w1 w2 w3 names bytes functions k1 k2 k3 k4 h =
     })
 
 -- ---- globals, one after another
-
-next_of : {A : Type 0} (xs : List A) (i : ℕ) (x : A) → i < length xs → x ≡ get_or xs i x → drop i xs ≡ x ∷ drop (i + 1) xs
-next_of xs i x lt is = drop-cons xs i x lt ∙ ap (λ y. y ∷ drop (suc i) xs) (sym is) ∙ ap (λ k. x ∷ drop k xs) (sym (add-one i))
 
 -- the file so far, and what it is with the other globals
 abbrev pub StillGlobals : List ℕ → Base → List Global' → ℕ → File' → File' → Type 0

@@ -4,7 +4,7 @@ use Rattle.std.specs.Prelude.{ℤ, Option, slice_get, false}
 use Rattle.seh_num.specs.declared.event.Event.{Event}
 use Rattle.c_checked.specs.Program.{Program}
 use Rattle.c_model.specs.declared.ended.Ended.{Ended}
-use Rattle.c_model.specs.State.{State, Result, Value, End, Outcome, Gives, how_of, state_of}
+use Rattle.c_model.specs.State.{Result, Value, End, Outcome, Gives, how_of, state_of}
 use Rattle.c_model.specs.Meaning.{does, start, outside, main_arguments, ran, shows, meaning}
 use Rattle.c_model.specs.Laws.{IsPrefixOf}
 use Rattle.c_model.specs.Expressions.{no_exception, enter}

@@ -5,11 +5,11 @@ use Rattle.std.specs.Prelude.{Err}
 use Rattle.std.proofs.lemmas.List.{append-nil}
 use Rattle.seh_num.specs.declared.event.Event.{Event}
 use Rattle.c_checked.specs.Program.{Program}
-use Rattle.c_model.specs.State.{State, Result, Outcome, how_of, state_of}
+use Rattle.c_model.specs.State.{Result, Outcome, how_of, state_of}
 use Rattle.c_model.specs.Meaning.{does}
 use Rattle.c_model.specs.Laws.{IsPrefixOf}
 use Rattle.source_machine.specs.Frames.{Next, Over}
-use Rattle.source_machine.specs.Machine.{Machine, step}
+use Rattle.source_machine.specs.Machine.{Machine}
 use Rattle.source_machine.specs.Waiting.{comes_to}
 use Rattle.source_machine.specs.Laws.{is_over, distance}
 use Rattle.source_machine.proofs.KeepingSteps.{keeps_meaning}

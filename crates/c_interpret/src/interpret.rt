@@ -74,7 +74,8 @@ pub fn interpret<O: Sink>(
     ensures part { IfErr result (λ e. texts.TookFront e (O.taken sink.old)
         (texts.text trace budget (meaning.meaning (whole.program program.now) arg budget))
         (O.taken sink.new)) }
-    ensures cause { IfErr result (λ e. texts.MeaningHasCause e (O.faults sink.old) (O.faults sink.new)) }
+    ensures cause { IfErr result (λ e.
+        texts.MeaningHasCause e (O.faults sink.old) (O.faults sink.new)) }
     ensures faults { O.faults sink.old ≤ O.faults sink.new }
 {
     let mut lines = Lines::new(sink, trace);

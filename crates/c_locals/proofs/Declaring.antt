@@ -1,9 +1,9 @@
 -- Locals of a declaration, one after another.
-use Rattle.std.proofs.Common.{◌≡◌, ℕ, suc, ◌+◌, ◌<◌, ◌≤◌, List, [], ◌∷◌, ◌++◌, map, length, drop, get_or, add-one, append-nil, Option, refl, sym, ap, ◌∙◌, subst}
-use Rattle.std.proofs.Math.Seq.{drop-cons}
+use Rattle.std.proofs.Common.{◌≡◌, ℕ, ◌+◌, ◌<◌, ◌≤◌, List, [], ◌∷◌, ◌++◌, map, length, drop, get_or, append-nil, Option, refl, sym, ap, ◌∙◌, subst}
 use Rattle.std.proofs.lemmas.List.{drop_all, map-append}
 use Rattle.std.specs.Borrow.{Bor}
 use Rattle.std.specs.Prelude.{not, option_map}
+use Rattle.c_checked.proofs.Items.{next_of}
 use Rattle.c_checked.specs.declared.expression.Expr.{Expr}
 use Rattle.c_checked.specs.declared.statement.Declared.{Declared as Declared'}
 use Rattle.c_checked.specs.declared.statement.Stmt.TheVariants as statements
@@ -39,9 +39,6 @@ rest_of a base ls block w = declare_all a base (map local ls) (block_of block) (
 
 abbrev pub StillToDeclare : Environment → Base → ResolvedStatements → Walk → List Declared' → List Local' → List (Bor (List ℕ) × Entity') → Walk → Type 0
 StillToDeclare a base whole before made ls block w = StillToMake whole (least_of before.worst) (map declares made) (least_of w.worst) (rest_of a base ls block w)
-
-next_of : {A : Type 0} (xs : List A) (i : ℕ) (x : A) → i < length xs → x ≡ get_or xs i x → drop i xs ≡ x ∷ drop (i + 1) xs
-next_of xs i x lt is = drop-cons xs i x lt ∙ ap (λ y. y ∷ drop (suc i) xs) (sym is) ∙ ap (λ k. x ∷ drop k xs) (sym (add-one i))
 
 pub one_declared : (a : Environment) (base : Base) (whole : ResolvedStatements) (before w w' : Walk) (made made' : List Declared') (d : Declared') (ls : List Local') (i : ℕ) (l : Local') (block block' : List (Bor (List ℕ) × Entity'))
     → i < length ls → l ≡ get_or ls i l → Resolves block' w w' (declares d ∷ []) (declare a base (local l) (block_of block) (numbering w)) → made' ≡ made ++ d ∷ []

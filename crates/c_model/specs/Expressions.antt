@@ -1,6 +1,6 @@
 -- What expressions do, given what the tasks inside them do (C11, 6.5). Operands are evaluated from
 -- left to right.
-use Rattle.std.specs.Prelude.{ℕ, ◌+◌, ◌*◌, ◌%◌, Bool, true, false, not, nat_eq, if◌then◌else◌, List}
+use Rattle.std.specs.Prelude.{ℕ, ◌+◌, ◌*◌, ◌%◌, Bool, false, not, nat_eq, if◌then◌else◌, List}
 use Rattle.std.specs.Prelude.{[], ◌∷◌, ◌++◌, length, slice_get, get_or, take, replicate, pos}
 use Rattle.std.specs.Prelude.{int_div, Option, Some, None, is_some}
 use Rattle.seh_num.specs.declared.width.Width.{Width}

@@ -40,7 +40,8 @@ fn too_many_parameters(text: &[u8], tokens: &[Token]) -> ParseErr
 /// The parameter at the front, and what follows it.
 fn parameter<'a>(text: &[u8], tokens: &'a [Token]) -> Result<(Parameter, &'a [Token]), ParseErr>
     ensures found { IfOk result (λ x. IsParameter x.0 tokens.now x.1.now) }
-    ensures refused { IfErr result (λ e. IsPlacedRefusal e NoParameter HasParameter text.now tokens.now) }
+    ensures refused { IfErr result (λ e.
+        IsPlacedRefusal e NoParameter HasParameter text.now tokens.now) }
 {
     match c_type(tokens) {
         Some((of, following)) => match name(following) {
@@ -98,7 +99,8 @@ fn parameters<'a>(
 ) -> Result<(Vec<Parameter>, &'a [Token]), ParseErr>
     ensures found { IfOk result (λ x. AreParameters x.0.items tokens.now x.1.now) }
     ensures few { IfOk result (λ x. length x.0.items ≤ MOST_PARAMETERS) }
-    ensures refused { IfErr result (λ e. IsPlacedRefusal e NoParameters HasParameters text.now tokens.now) }
+    ensures refused { IfErr result (λ e.
+        IsPlacedRefusal e NoParameters HasParameters text.now tokens.now) }
 {
     if let Some(rest) = after(Punctuator::CloseParenthesis, tokens) {
         return Ok((Vec::new(alloc), rest));

@@ -57,7 +57,8 @@ pub fn stop(text: &[u8], level: u8, tokens: &[Token]) -> Result<(), ParseErr>
 /// The constant at the front, a literal or `-` and a literal, and what follows it.
 fn constant<'a>(text: &[u8], tokens: &'a [Token]) -> Result<(Constant, &'a [Token]), ParseErr>
     ensures found { IfOk result (λ x. IsConstant x.0 tokens.now x.1.now) }
-    ensures refused { IfErr result (λ e. IsPlacedRefusal e NoConstant HasConstant text.now tokens.now) }
+    ensures refused { IfErr result (λ e.
+        IsPlacedRefusal e NoConstant HasConstant text.now tokens.now) }
 {
     match punctuator_at(Punctuator::Minus, tokens) {
         Some((at, following)) => match literal(following) {
@@ -92,7 +93,8 @@ fn constants<'a>(
     tokens: &'a [Token],
 ) -> Result<(Vec<Constant>, &'a [Token]), ParseErr>
     ensures found { IfOk result (λ x. AreConstants x.0.items tokens.now x.1.now) }
-    ensures refused { IfErr result (λ e. IsPlacedRefusal e NoConstants HasConstants text.now tokens.now) }
+    ensures refused { IfErr result (λ e.
+        IsPlacedRefusal e NoConstants HasConstants text.now tokens.now) }
 {
     let (first, mut rest) = constant(text, tokens)?;
     let mut found = Vec::new(alloc);

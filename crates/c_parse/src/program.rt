@@ -102,8 +102,8 @@ fn function<'a>(
     inner: &'a [Token],
 ) -> Result<(ExternalDeclaration, Counts, &'a [Token]), ParseErr>
     requires bytes { counts.bytes ≤ MOST_GLOBALS }
-    requires head { IsDeclarationHead head.base head.pointers head.name tokens.now head.declarators.now
-        head.rest.now }
+    requires head { IsDeclarationHead head.base head.pointers head.name tokens.now
+        head.declarators.now head.rest.now }
     requires parenthesis { HasPunctuator punctuators.OpenParenthesis head.rest.now inner.now }
     ensures found { IfOk result (λ x.
         IsExternalDeclaration text.now (trees.external_declaration x.0) tokens.now x.2.now) }

@@ -9,7 +9,7 @@ ghost use Rattle.c_parse_stmt.specs.declared.openings.Head.TheVariants.{Do};
 ghost use Rattle.c_parse_stmt.specs.Endings.{Ends, ClauseIsTaken, ContinuesAfterKeyword, with_clause};
 ghost use Rattle.c_parse_stmt.specs.Refused.{RefusesEnd, RefusesClause, RefusesClauseAfter};
 
-use crate::build::{do_of, except_of, finally_of, for_of, if_of, while_of};
+use crate::build::{do_of, for_of, if_of, while_of};
 use crate::filters::{filter, too_many_funclets};
 use crate::left::Left;
 use crate::openings::Head;
@@ -18,6 +18,7 @@ use c_lex::keyword::Keyword;
 use c_lex::punctuator::Punctuator;
 use c_lex::token::Token;
 use c_parse_expr::refusal::{ParseErr, unexpected};
+use c_syntax::build::{except_of, finally_of};
 use c_syntax::expression::Expr;
 use c_syntax::statement::Stmt;
 use std::alloc::Global;

@@ -6,7 +6,6 @@ ghost use Rattle.c_syntax.specs.Tokens.{IsKeyword};
 ghost use Rattle.c_parse_stmt.specs.Openings.{Opens, OpensAfter};
 ghost use Rattle.c_parse_stmt.specs.Refused.{RefusesStatement, RefusesEvaluation, RefusesAfter};
 
-use crate::build::{break_of, continue_of, evaluate_of, leave_of, return_of};
 use crate::filters::too_many_funclets;
 use crate::left::Left;
 use crate::locals::for_initialiser;
@@ -16,6 +15,7 @@ use c_lex::punctuator::Punctuator;
 use c_lex::token::Token;
 use c_parse_expr::refusal::ParseErr;
 use c_parse_type::front::after;
+use c_syntax::build::{break_of, continue_of, evaluate_of, leave_of, return_of};
 use c_syntax::expression::Expr;
 use c_syntax::statement::{ForInitialiser, Stmt};
 use std::alloc::Global;

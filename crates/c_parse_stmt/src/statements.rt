@@ -10,7 +10,7 @@ ghost use Rattle.c_parse_stmt.specs.Openings.{ReadsAfterHead, ReadsAfterTry};
 ghost use Rattle.c_parse_stmt.specs.Within.{AllTaken, IsStatementWithin, ReadsBlockItem};
 ghost use Rattle.c_parse_stmt.specs.Refused.{RefusesStatement, RefusesBlockItem, RefusesBlockItems, RefusesAfterHead, RefusesAfterTry};
 
-use crate::build::{block_of, declare, if_else_of};
+use crate::build::if_else_of;
 use crate::endings::{Ending, read_clause, read_ending, try_of};
 use crate::left::Left;
 use crate::locals::declaration;
@@ -21,6 +21,7 @@ use c_lex::token::Token;
 use c_parse_expr::refusal::ParseErr;
 use c_parse_type::front::after;
 use c_parse_type::specifiers::base;
+use c_syntax::build::{block_of, declare};
 use c_syntax::limit::MOST_STATEMENTS;
 use c_syntax::statement::Stmt;
 use std::alloc::Global;

@@ -1,8 +1,8 @@
 -- The statements of a block, one after another.
-use Rattle.std.proofs.Math.Seq.{drop-cons}
-use Rattle.std.proofs.Common.{◌≡◌, ℕ, suc, add-one, ◌+◌, ◌<◌, ◌≤◌, List, [], ◌∷◌, ◌++◌, map, length, drop, get_or, refl, sym, ap, subst, ◌∙◌, append_assoc}
+use Rattle.std.proofs.Common.{◌≡◌, ℕ, ◌+◌, ◌<◌, ◌≤◌, List, [], ◌∷◌, ◌++◌, map, length, drop, get_or, refl, sym, ap, subst, ◌∙◌, append_assoc}
 use Rattle.std.proofs.lemmas.List.{append-nil, drop_all, map-append}
 use Rattle.std.specs.Borrow.{Bor}
+use Rattle.c_checked.proofs.Items.{next_of}
 use Rattle.c_checked.specs.declared.statement.Stmt.{Stmt as Checked}
 use Rattle.c_checked.specs.Statement as checked
 use Rattle.c_expressions.proofs.Kept.{kept_append}
@@ -56,9 +56,6 @@ step a s left es es' start w w' made more whole m g =
           ∙ sym (kept_append (least_of w.worst) r.faults there.faults)
           ∙ g.faults;
     }
-
-next_of : (list : List Stmt) (i : ℕ) (s : Stmt) → i < length list → s ≡ get_or list i s → drop i list ≡ s ∷ drop (i + 1) list
-next_of list i s lt is = drop-cons list i s lt ∙ ap (λ x. x ∷ drop (suc i) list) (sym is) ∙ ap (λ k. s ∷ drop k list) (sym (add-one i))
 
 pub goes : (a : Environment) (list : List Stmt) (i : ℕ) (s : Stmt) (es es' : Entries) (start w w' : Walk) (made made' more : List Checked) (whole : ResolvedStatements)
     → i < length list → s ≡ get_or list i s → made' ≡ made ++ more

@@ -2,7 +2,6 @@
 use Rattle.std.proofs.Common.{◌≡◌, ◌≤◌, ℕ, Bool, true, false, List, [], ◌∷◌, Option, Some, None}
 use Rattle.std.proofs.Common.{refl, sym, ap, ◌∙◌, arith, inl, inr}
 use Rattle.c_lex.specs.declared.keyword.Keyword.TheVariants as keywords
-use Rattle.c_lex.specs.declared.punctuator.Punctuator.{Punctuator}
 use Rattle.c_lex.specs.declared.punctuator.Punctuator.TheVariants as punctuators
 use Rattle.c_lex.specs.declared.token.Kind.TheVariants as kinds
 use Rattle.c_lex.specs.declared.token.Token.{Token}

@@ -11,9 +11,7 @@ use Rattle.c_syntax.specs.declared.expression.Base.{Base}
 use Rattle.c_syntax.specs.declared.expression.Base.TheVariants as bases
 use Rattle.c_syntax.specs.declared.expression.Literal.{Literal}
 use Rattle.c_syntax.specs.declared.expression.Identifier.{Identifier}
-use Rattle.c_syntax.specs.Expression.{Expression, Constant, Variable, Information, Call}
-use Rattle.c_syntax.specs.Expression.{Parentheses, Index, Postfix, Prefix, Unary, Cast, Binary}
-use Rattle.c_syntax.specs.Expression.{Conditional, Assign, Comma}
+use Rattle.c_syntax.specs.Expression.{Expression, Constant}
 use Rattle.c_syntax.specs.Expressions.{literal_kind, IsInteger}
 use Rattle.c_syntax.specs.Faults.{Alike, SameFirst}
 use Rattle.c_syntax.specs.Follow.{follows, Stops, NoElse, Closed}

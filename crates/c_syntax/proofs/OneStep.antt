@@ -8,9 +8,9 @@ use Rattle.c_syntax.specs.declared.operator.Arithmetic.{Arithmetic}
 use Rattle.c_syntax.specs.declared.operator.BinaryOperator.{BinaryOperator}
 use Rattle.c_syntax.specs.declared.operator.Increment.{Increment}
 use Rattle.c_syntax.specs.declared.operator.Increment.TheVariants as increments
-use Rattle.c_syntax.specs.Expression.{Expression, Constant, Variable, Information, Call}
-use Rattle.c_syntax.specs.Expression.{Parentheses, Index, Postfix, Prefix, Unary, Cast, Binary}
-use Rattle.c_syntax.specs.Expression.{Conditional, Assign, Comma, height}
+use Rattle.c_syntax.specs.Expression.{Expression}
+use Rattle.c_syntax.specs.Expression.{Binary}
+use Rattle.c_syntax.specs.Expression.{Comma, height}
 use Rattle.c_syntax.specs.Expressions.{rank, TighterThan, SpellsExpression, Derives}
 use Rattle.c_syntax.specs.Follow.{punctuator_follows, follows, Stops}
 use Rattle.c_syntax.specs.Operators.{conditional, assignment, comma, level, binary_punctuator}

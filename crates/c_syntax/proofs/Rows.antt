@@ -7,7 +7,7 @@ use Rattle.c_syntax.specs.Expressions.{rank, OfLevel, TighterThan, IsApplied, Is
 use Rattle.c_syntax.specs.Phrases.{IsEnclosed}
 use Rattle.c_syntax.specs.Rows.{Differences, Product, CastOfElement, Choices, Assignments}
 use Rattle.c_syntax.specs.Rows.{TwoArguments, NearestIf, NoOtherIf}
-use Rattle.c_syntax.specs.Tokens.{Phrase, IsPunctuator, HasPunctuator}
+use Rattle.c_syntax.specs.Tokens.{Phrase, HasPunctuator}
 
 -- ---- what derivations are made of
 

@@ -1,18 +1,13 @@
 -- What is read takes tokens, since each tree has a node.
-use Rattle.std.proofs.Common.{◌≤◌, ◌<◌, ℕ, List, ◌∷◌, length, arith}
+use Rattle.std.proofs.Common.{◌≤◌, ◌<◌, ℕ, List, length, arith}
 use Rattle.c_lex.specs.declared.token.Token.{Token}
 use Rattle.c_syntax.specs.declared.declaration.Constant.{Constant as Constant'}
-use Rattle.c_syntax.specs.Expression.{Expression, Constant, Variable, Information, Call}
-use Rattle.c_syntax.specs.Expression.{Parentheses, Index, Postfix, Prefix, Unary, Cast, Binary}
-use Rattle.c_syntax.specs.Expression.{Conditional, Assign, Comma}
+use Rattle.c_syntax.specs.Expression.{Expression, Constant}
 use Rattle.c_syntax.specs.Expressions.{SpellsExpression}
-use Rattle.c_syntax.specs.Nodes.{nodes, nodes_of_statement, nodes_of_globals}
-use Rattle.c_syntax.specs.Nodes.{nodes_of_external_declaration}
-use Rattle.c_syntax.specs.Program.{Global, ExternalDeclaration, Globals, Function}
+use Rattle.c_syntax.specs.Nodes.{nodes, nodes_of_statement}
+use Rattle.c_syntax.specs.Program.{Global, ExternalDeclaration}
 use Rattle.c_syntax.specs.Programs.{IsConstant, IsGlobal, IsExternalDeclaration}
-use Rattle.c_syntax.specs.Statement.{Statement, Declare, Block, Evaluate, If, IfElse, While}
-use Rattle.c_syntax.specs.Statement.{DoWhile, For, Return, Break, Continue, Leave, TryExcept}
-use Rattle.c_syntax.specs.Statement.{TryFinally}
+use Rattle.c_syntax.specs.Statement.{Statement, Declare}
 use Rattle.c_syntax.specs.Statements.{IsBlockItem}
 use Rattle.c_syntax.proofs.Nodes as counted
 

@@ -8,7 +8,6 @@
 -- comma := assignment | comma ',' assignment
 use Rattle.std.specs.Prelude.{◌≤◌, ◌<◌, ℕ, List, codes}
 use Rattle.c_lex.specs.declared.keyword.Keyword.TheVariants as keywords
-use Rattle.c_lex.specs.declared.punctuator.Punctuator.{Punctuator}
 use Rattle.c_lex.specs.declared.punctuator.Punctuator.TheVariants as punctuators
 use Rattle.c_lex.specs.declared.token.IntegerType.{IntegerType}
 use Rattle.c_lex.specs.declared.token.Kind.{Kind}

@@ -9,6 +9,7 @@
 //! with `specs/Programs.antt`, and for faults with `specs/Viable.antt`.
 #![tactic(auto)]
 
+pub mod build;
 pub mod declaration;
 pub mod expression;
 pub mod laws;

@@ -4,6 +4,7 @@ use Rattle.std.proofs.lemmas.Bool.{eq-eqb, ne_eqb, lt-ltb}
 use Rattle.std.proofs.lemmas.List.{append-nil, length-replicate, take_at, drop_at, drop-drop}
 use Rattle.std.specs.List.{flat_map}
 use Rattle.std.specs.Prelude.{◌&&◌, ◌==◌, nat_lt, nat_le}
+use Rattle.seh_num.specs.Widths.{if_set}
 use Rattle.byteorder.specs.Endian.{little_number}
 use Rattle.pe_image.specs.Field.{field}
 use Rattle.pe_image.specs.Image.{Image, stored}
@@ -23,7 +24,7 @@ use Rattle.eh_tables.specs.Infos as infos
 use Rattle.eh_tables.specs.Infos.{Info, range_at, info_of, info, stored_info, stored_scope_records, scope_records_at, scope_records_if}
 use Rattle.eh_tables.specs.Scopes as scopes
 use Rattle.pe_image.specs.Numbers.{u32}
-use Rattle.eh_tables.specs.Written.{codes_bytes, bit, trailer_flags, trailer_bytes, range_bytes, padded, header, unwind_bytes, is_framed, IsTrailer, CanBeWritten, scope_record_bytes, scope_bytes}
+use Rattle.eh_tables.specs.Written.{codes_bytes, trailer_flags, trailer_bytes, range_bytes, padded, header, unwind_bytes, is_framed, IsTrailer, CanBeWritten, scope_record_bytes, scope_bytes}
 use Rattle.eh_tables.specs.ReadAgain.{IsStoredAt, HasTrailer, IsUnwindInfo, handler_of, parent_of, is_c, has_c_handler, info_written, InfoIsReadAgain, ScopeRecordsAreReadAgain}
 use Rattle.eh_tables.proofs.CodesAgain.{codes_again, order_again, whole_slots}
 use Rattle.eh_tables.proofs.TablesAgain.{front_is_at, four_is, range_again, range_length, rows_again, rows_length}
@@ -58,7 +59,7 @@ handler_size rva = refl
 
 -- the flags of a handler
 abbrev handler_flags : Bool → Bool → ℕ
-handler_flags s u = bit s UNW_FLAG_EHANDLER + bit u UNW_FLAG_UHANDLER
+handler_flags s u = if_set s UNW_FLAG_EHANDLER + if_set u UNW_FLAG_UHANDLER
 
 handler_again : (s u : Bool) (rva : ℕ) → handled (handler_flags s u) ≡ true → nat_le (handler_flags s u) UNW_FLAG_CHAININFO ≡ true → (handler_flags s u == UNW_FLAG_CHAININFO) ≡ false → rva < 2 ^ 32 → TrailerAgain (Handler s u rva)
 handler_again s u rva is known other lt = record {

@@ -1,6 +1,7 @@
 -- The one form in which unwind infos, scope tables and function tables are written.
-use Rattle.std.specs.Prelude.{◌≡◌, ℕ, ◌+◌, ◌-◌, ◌*◌, ◌/◌, ◌%◌, ◌<◌, ◌≤◌, Bool, true, false, ◌&&◌, ◌==◌, nat_lt, nat_le, if◌then◌else◌, List, [], ◌∷◌, ◌++◌, length, replicate}
+use Rattle.std.specs.Prelude.{◌≡◌, ℕ, ◌+◌, ◌-◌, ◌*◌, ◌/◌, ◌%◌, ◌<◌, ◌≤◌, Bool, true, ◌&&◌, ◌==◌, nat_lt, nat_le, if◌then◌else◌, List, [], ◌∷◌, ◌++◌, length, replicate}
 use Rattle.std.specs.List.{flat_map, AllByRecursion}
+use Rattle.seh_num.specs.Widths.{if_set}
 pub use Rattle.pe_image.specs.Numbers.{u16, u32}
 use Rattle.eh_tables.specs.declared.layout.TheConstants.{MOST_SLOT_BYTES, UWOP_PUSH_NONVOL, UWOP_ALLOC_LARGE, UWOP_ALLOC_SMALL, UWOP_SET_FPREG, UWOP_SAVE_NONVOL, UWOP_SAVE_NONVOL_FAR, UWOP_SAVE_XMM128, UWOP_SAVE_XMM128_FAR, UWOP_PUSH_MACHFRAME, UNWIND_VERSION, UNW_FLAG_EHANDLER, UNW_FLAG_UHANDLER, UNW_FLAG_CHAININFO}
 use Rattle.eh_tables.specs.declared.code.UnwindOperation.{UnwindOperation}
@@ -55,13 +56,9 @@ codes_bytes cs = flat_map code_bytes cs
 
 -- ---- unwind infos
 
-abbrev pub bit : Bool → ℕ → ℕ
-bit true n = n
-bit false n = 0
-
 abbrev pub trailer_flags : Trailer → ℕ
 trailer_flags Nothing = 0
-trailer_flags (Handler s u rva) = bit s UNW_FLAG_EHANDLER + bit u UNW_FLAG_UHANDLER
+trailer_flags (Handler s u rva) = if_set s UNW_FLAG_EHANDLER + if_set u UNW_FLAG_UHANDLER
 trailer_flags (Parent r) = UNW_FLAG_CHAININFO
 
 abbrev pub range_bytes : RuntimeFunction → List ℕ

@@ -1,5 +1,5 @@
 -- Turns, one after another.
-use Rattle.std.proofs.Common.{◌≡◌, ℕ, zero, suc, ◌+◌, List, [], ◌++◌, Some, refl, sym, ap, ◌∙◌, arith, append_assoc}
+use Rattle.std.proofs.Common.{◌≡◌, ℕ, zero, suc, ◌+◌, List, ◌++◌, Some, refl, sym, ap, ◌∙◌, arith, append_assoc}
 use Rattle.std.proofs.lemmas.List.{append-nil}
 use Rattle.seh_num.specs.declared.event.Event.{Event}
 use Rattle.seh_num.specs.declared.end.RunEnd.{RunEnd}
@@ -8,7 +8,7 @@ use Rattle.virtual_unwind.specs.CallerOf.{Functions}
 use Rattle.host_model.specs.declared.funclet.Funclet.{Funclet}
 use Rattle.host_model.specs.Turns.{shown_in}
 use Rattle.host_model.specs.HostStep.{Host, Live, Ended, next, shown_next, turn, after, end_of}
-use Rattle.host_model.specs.Machine.{or_turn, run}
+use Rattle.host_model.specs.Machine.{run}
 use Rattle.host_model.specs.Laws.{after_turns, shown_in_turns, RunsAreTurns, TurnsSplit, EndsStay}
 
 -- a turn more, at the end

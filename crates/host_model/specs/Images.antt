@@ -1,12 +1,12 @@
 -- Images with handlers, made by hand: what each shows was given by another implementation of the
 -- machine as well, but for the last.
-use Rattle.std.specs.Prelude.{◌≡◌, ℕ, ◌+◌, ◌*◌, Bool, true, false, List, [], ◌∷◌, ◌++◌, length, codes, pos, negsuc, Some, None}
+use Rattle.std.specs.Prelude.{◌≡◌, ℕ, ◌+◌, ◌*◌, true, false, List, [], ◌∷◌, ◌++◌, length, codes, pos, negsuc, Some, None}
 use Rattle.seh_num.specs.declared.event.Code.{Code}
 use Rattle.seh_num.specs.declared.event.Event.{Event}
 use Rattle.seh_num.specs.declared.event.Event.TheVariants as events
 use Rattle.seh_num.specs.declared.end.RunEnd.{RunEnd}
 use Rattle.seh_num.specs.declared.end.RunEnd.TheVariants as ends
-use Rattle.pe_image.specs.Numbers.{u16, u32, u64, zeros}
+use Rattle.pe_image.specs.Numbers.{u32, u64, zeros}
 use Rattle.host_model.specs.Worked.{dos_header, file_header, optional_header, section, code_flags}
 use Rattle.host_model.specs.Machine.{machine}
 

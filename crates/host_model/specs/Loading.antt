@@ -1,7 +1,7 @@
 -- How an image is placed in memory, and the state that a run starts from (PE format, "Section
 -- Table", "Import Address Table"; the stack, the arena, the services and their places are the
 -- host's own).
-use Rattle.std.specs.Prelude.{ℕ, ◌+◌, ◌-◌, ◌*◌, ◌/◌, ◌%◌, ◌^◌, Bool, true, false, ◌&&◌, ◌==◌, nat_lt, nat_le, if◌then◌else◌, List, [], ◌∷◌, replicate, position, ℤ, codes, Option, Some, None, option_map, Ok, Err, slice_index}
+use Rattle.std.specs.Prelude.{ℕ, ◌+◌, ◌-◌, ◌%◌, Bool, true, false, ◌&&◌, ◌==◌, nat_lt, nat_le, List, [], ◌∷◌, replicate, position, ℤ, Option, Some, None, option_map, Ok, Err, slice_index}
 use Rattle.seh_num.specs.declared.width.Width.TheVariants.{W64}
 use Rattle.seh_num.specs.Widths.{wrapped}
 pub use Rattle.host_layout.specs.Ranges.{pages, in_stack}

@@ -1,10 +1,9 @@
 -- Where the image of a linked program has the code of its bodies.
-use Rattle.std.specs.Prelude.{ℕ, ◌+◌, Bool, true, false, ◌&&◌, ◌==◌, nat_lt, List, [], length, take, drop, slice_get, Option, Some, None}
+use Rattle.std.specs.Prelude.{ℕ, ◌+◌, Bool, true, false, ◌&&◌, ◌==◌, nat_lt, List, length, take, drop, slice_get, Option, Some, None}
 use Rattle.seh_num.specs.Widths.{low}
 use Rattle.x64_instr.specs.declared.register.Reg.TheVariants.{Rax, Rcx}
 use Rattle.x64_machine.specs.declared.cpu.Cpu.{Cpu}
 use Rattle.x64_machine.specs.Effect.{register}
-use Rattle.eh_tables.specs.Tables.{Entry}
 use Rattle.virtual_unwind.specs.CallerOf.{Functions}
 use Rattle.host_model.specs.declared.funclet.Funclet.{Funclet}
 use Rattle.host_model.specs.Funclets.{funclets}
@@ -30,7 +29,7 @@ use Rattle.x64_templates.specs.Straight.{MachineView}
 use Rattle.x64_templates.specs.Implements.{high_of}
 use Rattle.x64_code.specs.Linking.{address_or, thunk_of}
 use Rattle.program_link.specs.declared.routine.Entry.TheVariants as entries
-use Rattle.program_link.specs.Routines.{RoutineView, nothing}
+use Rattle.program_link.specs.Routines.{nothing}
 use Rattle.program_link.specs.Text.{thunks_at, check_stack_at}
 use Rattle.program_link.specs.Linked.{linked}
 use Rattle.program_tables.specs.Placed.{Placed, site_of, placed}

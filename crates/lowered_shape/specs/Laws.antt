@@ -1,5 +1,5 @@
 -- What the linear code of every checked program is like, and so the function table of its image.
-use Rattle.std.specs.Prelude.{◌≡◌, ◌==◌, length}
+use Rattle.std.specs.Prelude.{◌≡◌, length}
 use Rattle.std.specs.List.{count_by}
 use Rattle.c_checked.specs.Program.{Program}
 use Rattle.c_checked.specs.Sound.{IsSound}

@@ -1,5 +1,5 @@
 -- Where the code of a program is in memory, and the addresses in its bodies.
-use Rattle.std.specs.Prelude.{◌≡◌, ℕ, ◌+◌, List, [], ◌∷◌, ◌++◌, slice_get, Some}
+use Rattle.std.specs.Prelude.{◌≡◌, ℕ, ◌+◌, List, ◌∷◌, ◌++◌, slice_get, Some}
 use Rattle.host_layout.specs.declared.range.TheConstants.{IMAGE_BASE}
 use Rattle.flat_memory.specs.Memory.{Memory}
 use Rattle.x64_instr.specs.declared.instruction.Instr.{Instr}

@@ -4,7 +4,7 @@ use Rattle.std.specs.Prelude.{◌&&◌, nat_lt}
 use Rattle.std.specs.List.{count_by}
 use Rattle.std.proofs.lemmas.List.Sums.{sum_by-cons}
 use Rattle.eh_tables.specs.declared.scope.ScopeRecord.{ScopeRecord}
-use Rattle.eh_tables.specs.Written.{bit}
+use Rattle.seh_num.specs.Widths.{if_set}
 use Rattle.linear_code.specs.declared.program.Region.{Region}
 use Rattle.linear_code.specs.declared.program.RegionKind.{RegionKind}
 use Rattle.linear_code.specs.declared.program.RegionKind.TheVariants as kinds
@@ -61,13 +61,13 @@ handlers_are p (x ∷ rows) [] h = absurd h
 
 -- ---- flags
 
-pub searched_by : (a b : Bool) → ((bit a 1 + bit b 2) % 2 == 1) ≡ a
+pub searched_by : (a b : Bool) → ((if_set a 1 + if_set b 2) % 2 == 1) ≡ a
 searched_by true true = refl
 searched_by true false = refl
 searched_by false true = refl
 searched_by false false = refl
 
-pub unwound_by : (a b : Bool) → (nat_lt 1 (bit a 1 + bit b 2) && nat_lt (bit a 1 + bit b 2) 4) ≡ b
+pub unwound_by : (a b : Bool) → (nat_lt 1 (if_set a 1 + if_set b 2) && nat_lt (if_set a 1 + if_set b 2) 4) ≡ b
 unwound_by true true = refl
 unwound_by true false = refl
 unwound_by false true = refl

@@ -3,6 +3,7 @@ use Rattle.std.proofs.Common.{◌≡◌, ℕ, ◌+◌, ◌-◌, ◌*◌, ◌/◌
 use Rattle.std.specs.Prelude.{◌||◌, if◌then◌else◌}
 use Rattle.std.specs.List.{flat_map}
 use Rattle.std.proofs.lemmas.Bool.{cases_lt}
+use Rattle.seh_num.specs.Widths.{if_set}
 use Rattle.pe_image.specs.Image.{Image}
 use Rattle.eh_tables.specs.declared.scope.ScopeRecord.{ScopeRecord}
 use Rattle.eh_tables.specs.declared.unwind_info.Trailer.{Trailer}
@@ -10,7 +11,7 @@ use Rattle.eh_tables.specs.declared.unwind_info.Trailer.TheVariants.{Nothing}
 use Rattle.eh_tables.specs.Handler.{is_c_handler}
 use Rattle.eh_tables.specs.ReadAgain.{IsUnwindInfo, HasTrailer, has_c_handler, parent_of}
 use Rattle.pe_image.specs.Numbers.{u16, u32}
-use Rattle.eh_tables.specs.Written.{bit, slot, is_small, is_short, allocation, header, padded, unwind_bytes, trailer_bytes, scope_record_bytes, CanBeWritten, IsTrailer}
+use Rattle.eh_tables.specs.Written.{slot, is_small, is_short, allocation, header, padded, unwind_bytes, trailer_bytes, scope_record_bytes, CanBeWritten, IsTrailer}
 use Rattle.linear_code.specs.declared.program.Region.{Region}
 use Rattle.frame_layout.specs.declared.frame.FrameLayout.{FrameLayout}
 use Rattle.frame_layout.specs.Layout.{info_of, taking_size}
@@ -23,7 +24,7 @@ use Rattle.program_tables.specs.Entries.{has_rows}
 
 -- ---- what follows the codes
 
-flags_some : (b except finally : Bool) → bit (not b || except) 1 + bit (b || finally) 2 ≡ 0 → ⊥
+flags_some : (b except finally : Bool) → if_set (not b || except) 1 + if_set (b || finally) 2 ≡ 0 → ⊥
 flags_some true except finally e = omega arith
 flags_some false except finally e = omega arith
 

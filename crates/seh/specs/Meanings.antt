@@ -1,5 +1,5 @@
 -- What comes of a text that is run as its meaning says.
-use Rattle.std.specs.Prelude.{◌≡◌, ◌⊎◌, ℕ, List, ◌++◌, Result, Ok, Err}
+use Rattle.std.specs.Prelude.{◌≡◌, ◌⊎◌, ℕ, List, Result, Ok, Err}
 use Rattle.seh_num.specs.Shown.{Shown}
 use Rattle.seh_io.specs.Streams.{Grew}
 use Rattle.c_syntax.specs.Program.{ExternalDeclaration}

@@ -31,8 +31,8 @@ pub fn read_all<S: Source>(alloc: Global, src: &mut S, limit: u64) -> Result<Vec
     ensures all { IfOk result (λ v. ForSome (S.left src.old) (λ all. v.items ≡ all)) }
     ensures emptied { OnOk result (ForSome (S.left src.old) (λ _. S.left src.new ≡ Some [])) }
     ensures within { IfOk result (λ v. vec_len v ≤ limit) }
-    ensures cause { IfErr result
-        (ReadHasCause limit (S.left src.old) (S.left src.new) (S.faults src.old) (S.faults src.new)) }
+    ensures cause { IfErr result (ReadHasCause limit (S.left src.old) (S.left src.new)
+        (S.faults src.old) (S.faults src.new)) }
     ensures lost { OnErr result (LostAtMost (limit + 1) (S.left src.old) (S.left src.new)) }
     ensures faults { S.faults src.old ≤ S.faults src.new }
 {

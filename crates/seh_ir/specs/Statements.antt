@@ -3,7 +3,7 @@ use Rattle.std.specs.Prelude.{ℕ, ◌+◌, ◌-◌, List, [], ◌∷◌, ◌++�
 use Rattle.c_operations.specs.declared.operation.Operation.TheVariants.{Pure}
 use Rattle.c_operations.specs.declared.operation.Pure.TheVariants.{Constant}
 use Rattle.c_checked.specs.Expression.{Expression}
-use Rattle.c_checked.specs.Statement.{Declared, Filter, Statement, Declare, Block, Evaluate, If, IfElse, For, DoWhile, Break, Continue, Leave, TryExcept, TryFinally, Statements, Empty, Then}
+use Rattle.c_checked.specs.Statement.{Declared, Statement, Declare, Block, Evaluate, If, IfElse, For, DoWhile, Break, Continue, Leave, TryExcept, TryFinally, Statements, Empty, Then}
 use Rattle.c_checked.specs.Statement as statements
 use Rattle.linear_code.specs.declared.slot.Slot.TheVariants.{Local, Temporary}
 use Rattle.linear_code.specs.declared.instruction.Instruction.{Instruction}

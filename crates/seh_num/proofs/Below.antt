@@ -1,5 +1,5 @@
 -- Numbers of a width are below its limit.
-use Rattle.std.proofs.Common.{ℕ, ◌+◌, ◌-◌, ◌*◌, ◌%◌, ◌<◌, ℤ, pos, negsuc, arith}
+use Rattle.std.proofs.Common.{ℕ, ◌<◌, ℤ, pos, negsuc, arith}
 use Rattle.seh_num.specs.declared.width.Width.{Width}
 use Rattle.seh_num.specs.declared.width.Width.TheVariants.{W8, W16, W32, W64}
 use Rattle.seh_num.specs.Widths.{limit, low, wrapped}

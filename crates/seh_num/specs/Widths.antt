@@ -1,5 +1,5 @@
 -- The widths of numbers, and the numbers that bits represent.
-use Rattle.std.specs.Prelude.{◌≡◌, ℕ, ◌-◌, ◌%◌, ◌^◌, nat_lt, if◌then◌else◌, ℤ, pos, negsuc, ◌+ℤ◌, ◌-ℤ◌, ◌*ℤ◌}
+use Rattle.std.specs.Prelude.{◌≡◌, ℕ, Bool, true, false, ◌-◌, ◌%◌, ◌^◌, nat_lt, if◌then◌else◌, ℤ, pos, negsuc, ◌+ℤ◌, ◌-ℤ◌, ◌*ℤ◌}
 use Rattle.seh_num.specs.declared.width.Width.{Width}
 use Rattle.seh_num.specs.declared.width.Width.TheVariants.{W8, W16, W32, W64}
 
@@ -39,3 +39,8 @@ wrapped w (negsuc n) = limit w - 1 - n % limit w
 -- n differs from z by a multiple of the limit
 abbrev pub IsCongruent : Width → ℤ → ℕ → Type 0
 IsCongruent w z n = (k : ℤ) × (z ≡ pos n +ℤ (k *ℤ pos (limit w)))
+
+-- what a flag adds to a number: its value where it is set
+abbrev pub if_set : Bool → ℕ → ℕ
+if_set true v = v
+if_set false v = 0

@@ -2,6 +2,7 @@
 use Rattle.std.proofs.Common.{◌≡◌, ℕ, zero, suc, ◌+◌, ◌*◌, ◌%◌, ◌^◌, ◌<◌, ◌≤◌, Bool, true, false, Some, None, List, [], ◌∷◌, ◌++◌, length, get_or, append_assoc, length-append, refl, sym, ap, ◌∙◌, arith, lit<}
 use Rattle.std.proofs.lemmas.Bool.{eq-eqb}
 use Rattle.std.proofs.lemmas.List.{get_or-append-add, get_or_append_left, append-nil}
+use Rattle.seh_num.specs.Widths.{if_set}
 use Rattle.flat_memory.specs.Memory.{Memory, next, number_at, first_refused, may_read}
 use Rattle.x64_machine.specs.declared.cpu.Flags.{Flags}
 use Rattle.seh_records.specs.declared.dispatch.Kind.{Kind}
@@ -9,7 +10,7 @@ use Rattle.seh_records.specs.declared.dispatch.Kind.TheVariants.{Search, Excepti
 use Rattle.seh_records.specs.declared.dispatch.DispatchRecord.{DispatchRecord}
 use Rattle.seh_records.specs.Words.{words_at}
 use Rattle.seh_records.specs.Laws.{AreBytes, RecordFits, RecordIsFetched}
-use Rattle.seh_records.specs.Record.{words, head, front, back, mark, number_of, kind_of, fetched, if_readable, if_marked, of_kind, recorded, word, half, words_from, eflags, flags_of, bit}
+use Rattle.seh_records.specs.Record.{words, head, front, back, mark, number_of, kind_of, fetched, if_readable, if_marked, of_kind, recorded, word, half, words_from, eflags, flags_of}
 use Rattle.seh_records.specs.declared.layout.TheConstants.{RECORD_SIZE}
 
 -- ---- halves of words
@@ -88,12 +89,12 @@ flags_back f = go f.carry f.zero f.sign f.overflow
     go false false false true = refl
     go false false false false = refl
 
-bit_small : (b : Bool) (v : ℕ) → bit b v ≤ v
-bit_small true v = omega arith
-bit_small false v = omega arith
+if_set_small : (b : Bool) (v : ℕ) → if_set b v ≤ v
+if_set_small true v = omega arith
+if_set_small false v = omega arith
 
 pub eflags_small : (f : Flags) → eflags f < 4096
-eflags_small f = let a = bit_small f.carry 1 in let b = bit_small f.zero 64 in let c = bit_small f.sign 128 in let d = bit_small f.overflow 2048 in omega arith
+eflags_small f = let a = if_set_small f.carry 1 in let b = if_set_small f.zero 64 in let c = if_set_small f.sign 128 in let d = if_set_small f.overflow 2048 in omega arith
 
 kind_back : (k : Kind) → kind_of (number_of k) ≡ Some k
 kind_back Search = refl

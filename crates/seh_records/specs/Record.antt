@@ -1,5 +1,6 @@
 -- A dispatch record at its place.
 use Rattle.std.specs.Prelude.{◌≡◌, ℕ, ◌+◌, ◌-◌, ◌*◌, ◌/◌, ◌%◌, ◌^◌, Bool, true, false, ◌==◌, nat_lt, if◌then◌else◌, List, [], ◌∷◌, ◌++◌, replicate, Option, Some, None, Result, Ok, Err}
+use Rattle.seh_num.specs.Widths.{if_set}
 use Rattle.seh_num.specs.declared.size.TheConstants.{EXCEPTION_MAXIMUM_PARAMETERS}
 use Rattle.host_layout.specs.declared.range.TheConstants.{STACK_START}
 use Rattle.flat_memory.specs.Memory.{Memory, first_refused, number_at, with_bytes, may_read, may_write}
@@ -32,11 +33,8 @@ kind_of n =
 
 -- ---- EFlags
 
-abbrev pub bit : Bool → ℕ → ℕ
-bit b v = if b then v else 0
-
 abbrev pub eflags : Flags → ℕ
-eflags f = bit f.carry 1 + 2 + bit f.zero 64 + bit f.sign 128 + bit f.overflow 2048
+eflags f = if_set f.carry 1 + 2 + if_set f.zero 64 + if_set f.sign 128 + if_set f.overflow 2048
 
 abbrev pub is_bit : ℕ → ℕ → Bool
 is_bit k v = v / 2 ^ k % 2 == 1

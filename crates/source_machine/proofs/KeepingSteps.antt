@@ -1,7 +1,7 @@
 -- Each step keeps what the machine comes to.
 use Rattle.std.proofs.Common.{◌≡◌, ℕ, zero, suc, ◌+◌, ◌-◌, List, [], ◌∷◌, ◌++◌, length, take, refl}
 use Rattle.std.proofs.Common.{sym, ap, ◌∙◌, arith, Option, Some, None}
-use Rattle.std.specs.Prelude.{slice_get, reverse}
+use Rattle.std.specs.Prelude.{slice_get}
 use Rattle.std.proofs.lemmas.List.{append_assoc, append-nil, reverse-append, length-append}
 use Rattle.std.proofs.Math.Seq.{take-append_seam}
 use Rattle.c_operations.specs.declared.built_in.BuiltIn.{BuiltIn}
@@ -17,7 +17,7 @@ use Rattle.c_checked.specs.Statement as statements
 use Rattle.c_checked.specs.Statement.{Filter, Statements, Empty, Then as Followed, Declared}
 use Rattle.c_model.specs.declared.ended.Ended.TheVariants.{Undefined}
 use Rattle.c_model.specs.Source.{is_reserved}
-use Rattle.c_model.specs.State.{End, Outcome, Gives, deeper, with_value, and_then}
+use Rattle.c_model.specs.State.{End, Gives, deeper, with_value, and_then}
 use Rattle.c_model.specs.Tasks as tasks
 use Rattle.c_model.specs.Tasks.{Handler, Task, Does, counted}
 use Rattle.c_model.specs.Expressions.{tried, locate, read, write, each, all, ended_call, enter}

@@ -2,18 +2,16 @@
 use Rattle.std.proofs.Common.{◌≡◌, ℕ, ◌+◌, ◌-◌, ◌<◌, ◌≤◌, Bool, true, false, cond, List, length}
 use Rattle.std.proofs.Common.{refl, sym, ap, ◌∙◌, arith, inl, inr}
 use Rattle.std.specs.Prelude.{◌&&◌, ◌⊎◌, nat_le, nat_lt, get_or, slice_index}
-use Rattle.std.proofs.lemmas.Bool.{cases_Bool, ltb-true, ltb-false, lt-ltb, le-ltb, leb-true}
+use Rattle.std.proofs.lemmas.Bool.{cases_Bool, ltb-true, ltb-false}
 use Rattle.std.proofs.lemmas.Bool.{le-leb}
 use Rattle.std.proofs.lemmas.Bool.Decides.{leb_tells}
 use Rattle.std.proofs.lemmas.List.{get_or_past}
 use Rattle.host_layout.specs.declared.range.TheConstants.{FIRST_DATA}
-use Rattle.flat_memory.specs.declared.protection.Protection.{Protection}
 use Rattle.flat_memory.specs.declared.protection.Rights.TheVariants.{Nothing, ReadWrite}
-use Rattle.flat_memory.specs.Memory.{Memory}
 use Rattle.x64_memory.specs.declared.region.TheConstants.{ARENA}
 use Rattle.x64_memory.specs.Regions.{mapped, filled, covers}
 use Rattle.c_model.specs.Source.{data_end, is_data, plain_mode, first_memory}
-use Rattle.source_operations.specs.Regions.{data_region, regions}
+use Rattle.source_operations.specs.Regions.{regions}
 
 same_mode : (b c : Bool) → cond b (plain_mode ReadWrite)
     (cond c (plain_mode Nothing) (plain_mode Nothing))

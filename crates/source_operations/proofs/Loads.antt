@@ -1,5 +1,5 @@
 -- A number that was loaded has no more bits than were asked for.
-use Rattle.std.proofs.Common.{◌≡◌, ℕ, ◌<◌, ◌%◌, Option, Some, None, Ok, Err, Result, refl, ap, sym}
+use Rattle.std.proofs.Common.{◌≡◌, ℕ, ◌<◌, Option, Some, None, Ok, ap, sym}
 use Rattle.std.proofs.Common.{◌∙◌}
 use Rattle.std.specs.Prelude.{false}
 use Rattle.std.proofs.Math.Nat.{mod-eq_of_lt}

@@ -1,7 +1,7 @@
 -- What is in a list from an index on.
 use Rattle.std.proofs.Common.{◌≡◌, ℕ, ◌+◌, ◌<◌, ◌≤◌, List, [], ◌∷◌, length, map, refl, sym, ap}
-use Rattle.std.proofs.Common.{◌∙◌, arith, inl, inr, Some, None}
-use Rattle.std.specs.Prelude.{get_or, slice_get, option_map}
+use Rattle.std.proofs.Common.{◌∙◌, arith, inl, inr}
+use Rattle.std.specs.Prelude.{get_or, option_map}
 use Rattle.std.proofs.lemmas.Option.{slice_get_cases, slice_get_past, slice_get_read}
 use Rattle.std.proofs.Math.ListN.{drop_of_length-le}
 use Rattle.c_checked.proofs.Items.{next_of}
@@ -9,7 +9,7 @@ use Rattle.c_checked.specs.declared.expression.Expr.{Expr}
 use Rattle.c_checked.specs.declared.statement.Declared.{Declared}
 use Rattle.c_checked.specs.declared.statement.Stmt.{Stmt}
 use Rattle.c_checked.specs.Expression.{Done, Next, expression, arguments}
-use Rattle.c_checked.specs.Statement.{Statements, Empty, Then, Block, statement, statements}
+use Rattle.c_checked.specs.Statement.{Empty, Then, Block, statement, statements}
 use Rattle.c_checked.specs.Statement.{declared}
 use Rattle.source_plans.specs.Views.{some_statement, statement_at, statements_from, declared_from}
 use Rattle.source_plans.specs.Views.{arguments_from}

@@ -1,6 +1,5 @@
 -- What the code's frames and tasks represent.
 use Rattle.std.specs.Prelude.{ℕ, List, map, drop, slice_get, Option, Some, None, option_map}
-use Rattle.seh_num.specs.declared.event.Event.{Event}
 use Rattle.c_checked.specs.declared.expression.Expr.{Expr}
 use Rattle.c_checked.specs.declared.statement.Declared.{Declared}
 use Rattle.c_checked.specs.declared.statement.Stmt.{Stmt}

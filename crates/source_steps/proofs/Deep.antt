@@ -1,5 +1,5 @@
 -- Where the depth would rise above the greatest, and where not.
-use Rattle.std.proofs.Common.{◌≡◌, ℕ, ap, sym, ◌∙◌, true, false, Bool, Some}
+use Rattle.std.proofs.Common.{◌≡◌, ap, sym, ◌∙◌, true, false, Bool, Some}
 use Rattle.c_model.specs.declared.ended.Ended.TheVariants.{Deep}
 use Rattle.c_model.specs.State.{End}
 use Rattle.source_machine.specs.Machine.{Machine, over, unless_deep}

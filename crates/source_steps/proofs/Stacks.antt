@@ -1,8 +1,7 @@
 -- The code's stack, whose last frame is the model's first.
-use Rattle.std.proofs.Common.{◌≡◌, ℕ, List, [], ◌∷◌, ◌++◌, ap, ◌∙◌, map}
+use Rattle.std.proofs.Common.{◌≡◌, List, [], ◌∷◌, ◌++◌, ap, ◌∙◌, map}
 use Rattle.std.specs.Prelude.{reverse}
 use Rattle.std.proofs.lemmas.List.{map-append, reverse-append}
-use Rattle.source_machine.specs.Frames as frames
 use Rattle.source_plans.specs.declared.frame.ContinuationFrame.{ContinuationFrame}
 use Rattle.source_plans.specs.Views.{frame_of}
 

@@ -1,5 +1,5 @@
 -- The locals of activations.
-use Rattle.std.specs.Prelude.{ℕ, List, [], slice_get, slice_set, Option, Some, None}
+use Rattle.std.specs.Prelude.{ℕ, List, [], slice_get, slice_set, Some, None}
 
 abbrev pub frame_in : List (List ℕ) → ℕ → List ℕ
 frame_in frames k = elim (slice_get frames k) [ Some frame ↦ frame | None ↦ [] ]

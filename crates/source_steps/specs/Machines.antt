@@ -1,5 +1,5 @@
 -- What the code's machine represents, with what was shown.
-use Rattle.std.specs.Prelude.{◌≡◌, ℕ, List, [], ◌∷◌, ◌++◌, map, reverse, Option, Some, None}
+use Rattle.std.specs.Prelude.{◌≡◌, List, [], ◌∷◌, ◌++◌, map, reverse, Option, Some, None}
 use Rattle.seh_num.specs.declared.event.Event.{Event}
 use Rattle.x64_memory.specs.PageMaps.{memory_of}
 use Rattle.c_model.specs.State.{State}

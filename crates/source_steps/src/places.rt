@@ -113,8 +113,8 @@ impl<'p> Machine<'p> {
         place: Place,
         outcome: Performed,
     ) -> Result<Next<'p>, AllocError>
-        ensures { IfOk result (Moved self.old self.new (λ m. operation_finished m operation first second
-            (place_of place) outcome)) }
+        ensures { IfOk result (Moved self.old self.new (λ m.
+            operation_finished m operation first second (place_of place) outcome)) }
     {
         match outcome {
             Performed::Gives(value) => Ok(Next::Does(Action::Give(Completion::Value(value)))),

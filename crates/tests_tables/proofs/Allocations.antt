@@ -1,7 +1,6 @@
 -- The code of an allocation, whatever its size, takes few bytes.
-use Rattle.std.proofs.Common.{ℕ, ◌+◌, ◌-◌, ◌*◌, ◌/◌, ◌<◌, ◌≤◌, Bool, true, false, List, [], ◌∷◌, ◌++◌, length, arith}
+use Rattle.std.proofs.Common.{ℕ, ◌+◌, ◌-◌, ◌/◌, ◌≤◌, Bool, true, false, List, [], ◌∷◌, ◌++◌, length, arith}
 use Rattle.std.specs.Prelude.{if◌then◌else◌}
-use Rattle.eh_tables.specs.declared.code.UnwindCode.{UnwindCode}
 use Rattle.eh_tables.specs.declared.code.UnwindOperation.TheVariants.{Allocate}
 use Rattle.pe_image.specs.Numbers.{u16, u32}
 use Rattle.eh_tables.specs.Written.{codes_bytes, slot, is_small, is_short}

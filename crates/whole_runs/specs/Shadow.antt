@@ -1,7 +1,7 @@
 -- The shadow of a run: of each routine that has not returned, innermost first, what its caller goes
 -- on with. It is kept by what each turn does, with no look at unwind codes: of the tables it takes
 -- the funclets alone, which scope records name, to know where one starts.
-use Rattle.std.specs.Prelude.{◌≡◌, ℕ, zero, suc, ◌+◌, ◌≤◌, Bool, true, false, nat_lt, List, [], ◌∷◌, map, drop, option_map, Option, Some, None, Result, Ok, Err, slice_set}
+use Rattle.std.specs.Prelude.{◌≡◌, ℕ, zero, suc, ◌+◌, ◌≤◌, Bool, true, false, nat_lt, List, [], ◌∷◌, map, drop, option_map, Option, Some, None, Ok, Err, slice_set}
 use Rattle.seh_num.specs.declared.event.Event.{Event}
 use Rattle.seh_num.specs.declared.event.Event.TheVariants as events
 use Rattle.seh_num.specs.declared.size.TheConstants.{LONGEST_INSTRUCTION}

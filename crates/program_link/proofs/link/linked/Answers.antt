@@ -1,4 +1,4 @@
-use Rattle.std.proofs.Common.{◌≡◌, ℕ, ◌+◌, ◌-◌, List, length, get_or, sym, subst, ap, ◌∙◌, arith}
+use Rattle.std.proofs.Common.{◌≡◌, ◌+◌, ◌-◌, length, sym, subst, ◌∙◌, arith}
 use Rattle.pe_write.specs.Program.{ImageContents, CanBeImage}
 use Rattle.program_link.specs.Linked.{first, image_of}
 use Rattle.program_link.proofs.Images.{if_ok, there, past, IsMeasured, rdata_small, xdata_small, is_site_near, image_is, is_program, no_routine}

@@ -1,4 +1,4 @@
-use Rattle.std.proofs.Common.{◌+◌, ◌<◌, ◌≤◌, length, ap, sym, ◌∙◌, arith}
+use Rattle.std.proofs.Common.{◌<◌, ◌≤◌, length, ap, sym, ◌∙◌, arith}
 use Rattle.source_machine.specs.Frames as frames
 use Rattle.source_machine.specs.Plans as plans
 use Rattle.source_plans.specs.Views as views

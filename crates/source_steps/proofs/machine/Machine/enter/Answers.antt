@@ -1,4 +1,4 @@
-use Rattle.std.proofs.Common.{◌++◌, [], ◌∷◌, length, ap, sym, ◌∙◌, None, false}
+use Rattle.std.proofs.Common.{◌++◌, [], ◌∷◌, ap, sym, ◌∙◌, false}
 use Rattle.std.specs.Prelude.{replicate}
 use Rattle.c_model.specs.Expressions.{no_exception}
 use Rattle.source_machine.specs.Frames as frames

@@ -1,9 +1,7 @@
-use Rattle.std.proofs.Common.{◌≡◌, ◌+◌, ◌*◌, ◌≤◌, ◌++◌, [], ◌∷◌, length, ap, sym, ◌∙◌, arith}
+use Rattle.std.proofs.Common.{◌≡◌, ◌+◌, ◌≤◌, ◌++◌, [], ◌∷◌, length, ap, sym, ◌∙◌, arith}
 use Rattle.std.proofs.lemmas.Bool.{ltb-false}
 use Rattle.seh_num.specs.declared.event.Event.TheVariants as events
-use Rattle.c_checked.specs.Expression as tree
 use Rattle.source_machine.specs.Frames as frames
-use Rattle.source_machine.specs.Plans as plans
 use Rattle.source_machine.specs.Machine as model
 use Rattle.source_steps.specs.Activations.{frames_of}
 use Rattle.source_plans.specs.Views as views
