@@ -32,11 +32,13 @@ opcode_some : (op : Opcode) → 1 ≤ length (opcode_bytes op)
 opcode_some (opcodes.One b) = omega arith
 opcode_some (opcodes.Two b) = omega arith
 
-modrm_some : (w : Width) (op : Opcode) (r : ℕ) (at : RegisterOrMemory) → 1 ≤ length (modrm w op r at)
+modrm_some : (w : Width) (op : Opcode) (r : ℕ) (at : RegisterOrMemory)
+    → 1 ≤ length (modrm w op r at)
 unfolding modrm
 modrm_some w op r at =
     let bits = modrm_bits w r at in
-    omega (arith, opcode_some op, length-append (prefixes w bits ++ opcode_bytes op) (place_bytes (r % 8) at), length-append (prefixes w bits) (opcode_bytes op))
+    omega (arith, opcode_some op, length-append (prefixes w bits ++ opcode_bytes op)
+      (place_bytes (r % 8) at), length-append (prefixes w bits) (opcode_bytes op))
 
 fetched_some : (to base : Reg) (d : ℕ) → 1 ≤ size (fetched to base d)
 unfolding size
@@ -67,21 +69,32 @@ keep_some y (Local i) = keep_local_some y.base (local_at y i)
 pub template_some : (y : Layout) (i : Instruction) → 1 ≤ template_size y i
 unfolding template_size size
 template_some y (instructions.Compute to o first second) =
-    omega (arith, fetch_some y Rax first, sizes_append (operands_code y o first second) (finish_code y o to), sizes_append (fetch y Rax first) (fetch y Rcx second ++ before o))
-template_some y (instructions.Information to field) = let e = fetched_some Rax Rsp y.pointers in omega arith
+    omega (arith, fetch_some y Rax first, sizes_append (operands_code y o first second)
+      (finish_code y o to), sizes_append (fetch y Rax first) (fetch y Rcx second ++ before o))
+template_some y (instructions.Information to field) = let e = fetched_some Rax Rsp y.pointers in
+    omega arith
 template_some y (instructions.Landing to) = keep_some y to
 template_some y (instructions.Jump label) = let a = jump_size 5 0 in omega arith
-template_some y (instructions.JumpIfZero slot label) = let a = jump_if_zero_size y slot 0 0 in omega arith
-template_some y (instructions.Call function first count) = let a = passing_call_size y first count 0 0 in omega arith
-template_some y (instructions.CallBuiltIn function first) = let a = call_code_size y (Temporary first) first 0 0 in omega arith
-template_some y (instructions.CallFinally funclet) = let a = call_size (0 + sizes finally_arguments + 5) 0 in omega arith
+template_some y (instructions.JumpIfZero slot label) = let a = jump_if_zero_size y slot 0 0 in
+    omega arith
+template_some y (instructions.Call function first count) = let a = passing_call_size y first count 0
+    0 in omega arith
+template_some y (instructions.CallBuiltIn function first) = let a = call_code_size y
+    (Temporary first) first 0 0 in omega arith
+template_some y (instructions.CallFinally funclet) = let a = call_size
+    (0 + sizes finally_arguments + 5) 0 in omega arith
 template_some y (instructions.LocalUnwind label) = let a = call_size 15 0 in omega arith
 template_some y instructions.Separator = omega arith
-template_some y (instructions.Return from) = omega (arith, fetch_some y Rax from, sizes_append (fetch y Rax from) (epilogue y.frame))
+template_some y (instructions.Return from) = omega
+    (arith, fetch_some y Rax from, sizes_append (fetch y Rax from) (epilogue y.frame))
 
-module _ (t : Functions) (fs : List Funclet) (program : LinearProgram) (p : ImagePlan) (q : Sites) (image : IsProgramImage t fs program p q) where
+module _ (t : Functions) (fs : List Funclet) (program : LinearProgram) (p : ImagePlan) (q : Sites)
+    (image : IsProgramImage t fs program p q) where
   -- the next instruction's code begins where this one's ends
-  pub address_next : (name : BodyName) (b : LinearBody) (label : ℕ) → body_of program name ≡ Some b → label < length b.code → p.address name (label + 1) ≡ p.address name label + template_size (p.layout name) (get_or b.code label instructions.Separator)
+  pub address_next : (name : BodyName) (b : LinearBody) (label : ℕ) → body_of program name ≡ Some b
+      → label < length b.code → p.address name (label + 1)
+      ≡ p.address name label + template_size (p.layout name)
+        (get_or b.code label instructions.Separator)
   address_next name b label e lt =
       let a = (image.addresses name b e).labels in
       let n : label + 1 ≡ suc label = omega arith in
@@ -90,7 +103,8 @@ module _ (t : Functions) (fs : List Funclet) (program : LinearProgram) (p : Imag
       let z = ap (p.address name) n ∙ a (suc label) in
       omega arith
 
-  pub first_in_code : (name : BodyName) (b : LinearBody) (label : ℕ) → body_of program name ≡ Some b → label < length b.code → InCode p name label (p.address name label)
+  pub first_in_code : (name : BodyName) (b : LinearBody) (label : ℕ) → body_of program name ≡ Some b
+      → label < length b.code → InCode p name label (p.address name label)
   first_in_code name b label e lt =
       let x = address_next name b label e lt in
       let s = template_some (p.layout name) (get_or b.code label instructions.Separator) in

@@ -14,14 +14,18 @@ use Rattle.body_states.specs.Sites.{Sites}
 use Rattle.body_states.specs.Programs.{IsMachineMemory, IsProgramImage}
 use Rattle.body_steps.proofs.Programs.{KeepsImage, program_stays}
 
-module _ (t : Functions) (fs : List Funclet) (program : LinearProgram) (p : ImagePlan) (q : Sites) (image : IsProgramImage t fs program p q) where
+module _ (t : Functions) (fs : List Funclet) (program : LinearProgram) (p : ImagePlan) (q : Sites)
+    (image : IsProgramImage t fs program p q) where
   -- where each page may be used as before
-  pub memory_stays : (m m' old source : Memory) → KeepsImage program.globals m m' → AreBytes m'.byte → ((a : ℕ) → m'.protection a ≡ m.protection a) → Agrees (is_reserved program.globals) m' source
+  pub memory_stays : (m m' old source : Memory) → KeepsImage program.globals m m' → AreBytes m'.byte
+      → ((a : ℕ) → m'.protection a ≡ m.protection a)
+      → Agrees (is_reserved program.globals) m' source
       → IsMachineMemory t fs program p q m old → IsMachineMemory t fs program p q m' source
   memory_stays m m' old source keeps bytes same agrees h = record {
     data_alone = record {
       bytes = bytes;
-      no_code = λ a w. ap (λ (g : Protection). g.execute) (same a) ∙ h.data_alone.no_code a (ap (λ (g : Protection). is_writable g.rights) (sym (same a)) ∙ w);
+      no_code = λ a w. ap (λ (g : Protection). g.execute) (same a)
+        ∙ h.data_alone.no_code a (ap (λ (g : Protection). is_writable g.rights) (sym (same a)) ∙ w);
     };
     agrees = agrees;
     stack = λ a l u. ap (λ (g : Protection). is_writable g.rights) (same a) ∙ h.stack a l u;

@@ -17,22 +17,26 @@ pub record Keeps (s u : State) : Type 0 where
   pub small : AreSmall s.cpu.registers → AreSmall u.cpu.registers
 
 pub keeps_nothing : (s u : State) → s ≡ u → Keeps s u
-keeps_nothing s u e = subst (Keeps s) e (record { protection = refl; fixed = λ a f. refl; count = refl; small = λ h. h })
+keeps_nothing s u e = subst (Keeps s) e (record
+    { protection = refl; fixed = λ a f. refl; count = refl; small = λ h. h })
 
 pub keeps_then : (s t u : State) → Keeps s t → Keeps t u → Keeps s u
 keeps_then s t u a b = record {
   protection = b.protection ∙ a.protection;
-  fixed = λ x f. b.fixed x (ap (λ (g : ℕ → Protection). is_writable (g x).rights) a.protection ∙ f) ∙ a.fixed x f;
+  fixed = λ x f. b.fixed x (ap (λ (g : ℕ → Protection). is_writable (g x).rights) a.protection ∙ f)
+      ∙ a.fixed x f;
   count = b.count ∙ a.count;
   small = λ h. b.small (a.small h);
 }
 
 pub step_keeps : (s u : State) → Steps s u → Keeps s u
-step_keeps s u r = record { protection = r.protection; fixed = r.fixed; count = r.count; small = r.small }
+step_keeps s u r = record { protection = r.protection; fixed = r.fixed; count = r.count;
+    small = r.small }
 
 pub reaches_keeps : (n : ℕ) (s u : State) → Reaches n s u → Keeps s u
 reaches_keeps zero s u r = keeps_nothing s u r
-reaches_keeps (suc n) s u r = keeps_then s r.0 u (step_keeps s r.0 r.1.steps) (reaches_keeps n r.0 u r.2)
+reaches_keeps (suc n) s u r = keeps_then s r.0 u (step_keeps s r.0 r.1.steps)
+    (reaches_keeps n r.0 u r.2)
 
 pub enters_keeps : (n : ℕ) (s u : State) → Enters n s u → Keeps s u
 enters_keeps zero s u r = keeps_nothing s u r
@@ -50,4 +54,5 @@ are_all (r ∷ rs) h zero lt = h.0
 are_all (r ∷ rs) h (suc j) lt = are_all rs h.1 j (omega arith)
 
 pub stays_sane : (s u : State) → Keeps s u → u.cpu.rip < 2 ^ 64 → IsSane s → IsSane u
-stays_sane s u k lt h = record { rip_small = lt; count = k.count ∙ h.count; small = are_all u.cpu.registers (k.small (all_are s.cpu.registers h.small)) }
+stays_sane s u k lt h = record { rip_small = lt; count = k.count ∙ h.count;
+    small = are_all u.cpu.registers (k.small (all_are s.cpu.registers h.small)) }

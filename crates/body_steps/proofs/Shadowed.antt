@@ -46,7 +46,8 @@ use Rattle.body_steps.proofs.Reaching.{Keeps}
 use Rattle.body_steps.proofs.Viewed.{IsCounted, placed, count, frame_top, room_here, holds_here, slots_here, locals_here}
 use Rattle.body_steps.proofs.Next.{Ran, returns, new_on}
 
-some_length : (code : List Instr) → 1 ≤ length code → (item : Instr) × (left : List Instr) × (code ≡ item ∷ left)
+some_length : (code : List Instr) → 1 ≤ length code
+    → (item : Instr) × (left : List Instr) × (code ≡ item ∷ left)
 some_length [] le = absurd (omega arith)
 some_length (i ∷ is) le = (i, is, refl)
 
@@ -60,7 +61,9 @@ kept_dropped (a ∷ b ∷ c ∷ xs) = refl
 pub kept_by_rest : (rest xs : List ℕ) → rest ≡ drop 3 xs → kept_of (0 ∷ 0 ∷ 0 ∷ rest) ≡ kept_of xs
 kept_by_rest rest xs e = ap (λ (r : List ℕ). kept_of (0 ∷ 0 ∷ 0 ∷ r)) e ∙ kept_dropped xs
 
-module _ (t : Functions) (fs : List Funclet) (program : LinearProgram) (p : ImagePlan) (q : Sites) (image : IsProgramImage t fs program p q) (s : State) (c : Configuration) (b : Begins t fs program p q s c) (counted : IsCounted t fs program p q image c) where
+module _ (t : Functions) (fs : List Funclet) (program : LinearProgram) (p : ImagePlan) (q : Sites)
+    (image : IsProgramImage t fs program p q) (s : State) (c : Configuration)
+    (b : Begins t fs program p q s c) (counted : IsCounted t fs program p q image c) where
   abbrev code_here : LinearBody
   code_here = b.body.slots.code
 
@@ -84,31 +87,51 @@ module _ (t : Functions) (fs : List Funclet) (program : LinearProgram) (p : Imag
   enough = let h = frame_top t fs program p q image s c b counted in omega arith
 
   pub is_here : Below s.memory
-  is_here = record { program_there = b.memory.code; returns = b.body.returns; beyond = on_stack t s.memory caller_here 0 b.body.is (b.body.below (drop 1 kept_here) refl).is_there.stack }
+  is_here = record { program_there = b.memory.code; returns = b.body.returns;
+      beyond = on_stack t s.memory caller_here 0 b.body.is
+      (b.body.below (drop 1 kept_here) refl).is_there.stack }
 
   -- after a run of a template
-  pub is_after : (u : State) (d : BodyState) (values ts : List ℕ) → Ran t fs program p q image s c b counted u d values ts
-      → (p.leaf c.frame.body ≡ true → CallerHasFrame p c.below) → ((k : ℕ) → c.frame.body ≡ FuncletBody k → OwnerHasFrame t fs program p c.frame.activation c.below b.body.acts) → Below u.memory
+  pub is_after : (u : State) (d : BodyState) (values ts : List ℕ)
+      → Ran t fs program p q image s c b counted u d values ts
+      → (p.leaf c.frame.body ≡ true → CallerHasFrame p c.below)
+      → ((k : ℕ) → c.frame.body ≡ FuncletBody k
+      → OwnerHasFrame t fs program p c.frame.activation c.below b.body.acts) → Below u.memory
   is_after u d values ts r caller owner = record {
-    program_there = program_kept t fs program p q s.memory u.memory (record { protection = r.changed.keeps.protection; fixed = r.changed.keeps.fixed }) b.memory.code;
+    program_there = program_kept t fs program p q s.memory u.memory
+      (record { protection = r.changed.keeps.protection; fixed = r.changed.keeps.fixed })
+      b.memory.code;
     returns = returns t fs program p q image s c b counted u d values ts r;
-    beyond = on_stack t u.memory caller_here 0 b.body.is (new_on t fs program p q image s c b counted u d values ts r caller owner (drop 1 kept_here) refl).is_there.stack;
+    beyond = on_stack t u.memory caller_here 0 b.body.is
+      (new_on t fs program p q image s c b counted u d values ts r caller owner (drop 1 kept_here)
+      refl).is_there.stack;
   }
 
   -- where no reserved byte has changed the slots are as they were
-  pub ran_same : (u : State) (source : Memory) → Keeps s u → ((a : ℕ) → is_reserved program.globals a ≡ true → u.memory.byte a ≡ s.memory.byte a) → (IsBytes s.memory → IsBytes u.memory) → Agrees (is_reserved program.globals) u.memory source → register u.cpu Rsp ≡ register s.cpu Rsp
-      → Ran t fs program p q image s c b counted u (record { slots = (state_of program p s c (placed t fs program p q image s c b counted).base).slots; memory = source }) (placed t fs program p q image s c b counted).values []
+  pub ran_same : (u : State) (source : Memory) → Keeps s u
+      → ((a : ℕ) → is_reserved program.globals a ≡ true → u.memory.byte a ≡ s.memory.byte a)
+      → (IsBytes s.memory → IsBytes u.memory) → Agrees (is_reserved program.globals) u.memory source
+      → register u.cpu Rsp ≡ register s.cpu Rsp
+      → Ran t fs program p q image s c b counted u
+        (record { slots = (state_of program p s c
+        (placed t fs program p q image s c b counted).base).slots; memory = source })
+        (placed t fs program p q image s c b counted).values []
   ran_same u source keeps own bytes agrees sp =
       let base = (placed t fs program p q image s c b counted).base in
       let room = room_here t fs program p q image s c b counted in
       let w = slots_here t fs program p q image s c b counted in
       record {
-        changed = record { changes = changes_same layout_here (counts_of code_here) (is_reserved program.globals) (register s.cpu Rsp) base room s.memory u.memory own keeps.protection bytes; keeps = keeps };
-        holds = holds_same layout_here (counts_of code_here) (is_reserved program.globals) (register s.cpu Rsp) base room s.memory u.memory source (state_of program p s c base) own keeps.protection agrees (holds_here t fs program p q image s c b counted);
+        changed = record { changes = changes_same layout_here (counts_of code_here)
+          (is_reserved program.globals) (register s.cpu Rsp) base room s.memory u.memory own
+          keeps.protection bytes; keeps = keeps };
+        holds = holds_same layout_here (counts_of code_here) (is_reserved program.globals)
+          (register s.cpu Rsp) base room s.memory u.memory source (state_of program p s c base) own
+          keeps.protection agrees (holds_here t fs program p q image s c b counted);
         stack = sp;
         leaves = record {
           count = count t fs program p q image s c b counted;
-          locals = λ i lt. w.locals i lt ∙ ap (λ xs. slice_index xs i) (locals_here t fs program p q image s c b counted);
+          locals = λ i lt. w.locals i lt ∙ ap (λ xs. slice_index xs i)
+            (locals_here t fs program p q image s c b counted);
           few = omega arith;
           temporaries = λ i v e. cc;
         };
@@ -123,24 +146,30 @@ module _ (t : Functions) (fs : List Funclet) (program : LinearProgram) (p : Imag
     pub finds : FindsReturn t u.memory u.cpu.rip layout_here.frame
 
   -- at an instruction of the body
-  pub ends_at : (u : State) (label : ℕ) → u.cpu.rip ≡ p.address c.frame.body label → label < length code_here.code → kept_of u.cpu.registers ≡ kept_here → Below u.memory → Ends u
+  pub ends_at : (u : State) (label : ℕ) → u.cpu.rip ≡ p.address c.frame.body label
+      → label < length code_here.code → kept_of u.cpu.registers ≡ kept_here → Below u.memory
+      → Ends u
   ends_at u label rip lt registers is_there = record {
     registers = registers;
     is_there = is_there;
-    finds = subst (λ a. FindsReturn t u.memory a layout_here.frame) (sym rip) (begin_finds t fs program p q image u.memory c.frame.body code_here label b.body.slots.body is_there.program_there lt);
+    finds = subst (λ a. FindsReturn t u.memory a layout_here.frame) (sym rip)
+      (begin_finds t fs program p q image u.memory c.frame.body code_here label b.body.slots.body
+      is_there.program_there lt);
   }
 
   -- there the walk gives these callers
   pub ends_gives : (u : State) → Ends u → WalkGives t u (caller_here ∷ beyond_here)
   ends_gives u e =
       let nine : length kept_here ≡ 9 = refl in
-      from_state t fs program p q u kept_here layout_here.frame b.body.back beyond_here e.finds e.registers nine enough e.is_there
+      from_state t fs program p q u kept_here layout_here.frame b.body.back beyond_here e.finds
+        e.registers nine enough e.is_there
 
   -- each turn of a run that ends so keeps the shadow
   abbrev pub RunsKeep : ℕ → State → Type 0
   RunsKeep n x = (u : State) → Reaches n x u → Ends u → AllKeep t fs n x
 
-  module _ (i : Instruction) (at : slice_get code_here.code c.frame.next ≡ Some i) (goes : IsReturn i → ⊥) where
+  module _ (i : Instruction) (at : slice_get code_here.code c.frame.next ≡ Some i)
+      (goes : IsReturn i → ⊥) where
     abbrev pub whole : List Instr
     whole = template (links_of p q c.frame.body) layout_here (p.address c.frame.body c.frame.next) i
 
@@ -154,43 +183,66 @@ module _ (t : Functions) (fs : List Funclet) (program : LinearProgram) (p : Imag
     past_none = let e = b.rip in record { rip = omega arith; registers = refl; is_there = is_here }
 
     -- the rest of the template
-    pub one_piece : (before code : List Instr) (x : State) → whole ≡ before ++ code → IsFlow code → IsPast before x → RunsKeep (length code) x
+    pub one_piece : (before code : List Instr) (x : State) → whole ≡ before ++ code → IsFlow code
+      → IsPast before x → RunsKeep (length code) x
     one_piece before code x parts flow past u r ends =
-        piece_keeps t fs program p q image c.frame.body code_here c.frame.next i b.body.slots.body at goes before code [] (parts ∙ ap (λ (xs : List Instr). before ++ xs) (sym (append-nil code)))
-        x u kept_here b.body.back beyond_here flow r past.rip past.registers ends.registers enough past.is_there ends.is_there ends.finds
+        piece_keeps t fs program p q image c.frame.body code_here c.frame.next i b.body.slots.body
+          at goes before code [] (parts ∙ ap (λ (xs : List Instr). before ++ xs)
+          (sym (append-nil code)))
+        x u kept_here b.body.back beyond_here flow r past.rip past.registers ends.registers enough
+          past.is_there ends.is_there ends.finds
 
     -- where another instruction of the template is left, the walk finds the return address
-    pub past_ends : (before left : List Instr) (x : State) → whole ≡ before ++ left → 1 ≤ length left → IsPast before x → Ends x
+    pub past_ends : (before left : List Instr) (x : State) → whole ≡ before ++ left
+      → 1 ≤ length left → IsPast before x → Ends x
     past_ends before left x parts some past =
         let z = some_length left some in
         let begin = p.address c.frame.body c.frame.next + sizes before in
         let none : begin + sizes [] ≡ begin = omega arith in
-        let parts_after : whole ≡ before ++ (left ++ []) = parts ∙ ap (λ (xs : List Instr). before ++ xs) (sym (append-nil left)) in
-        let finds = piece_finds t fs program p q image c.frame.body code_here c.frame.next i b.body.slots.body at goes before left [] parts_after x.memory begin [] z.1 z.0 refl past.is_there.program_there z.2 in
-        record { registers = past.registers; is_there = past.is_there; finds = subst (λ a. FindsReturn t x.memory a layout_here.frame) (none ∙ sym past.rip) finds }
+        let parts_after : whole ≡ before ++ (left ++ []) = parts
+          ∙ ap (λ (xs : List Instr). before ++ xs) (sym (append-nil left)) in
+        let finds = piece_finds t fs program p q image c.frame.body code_here c.frame.next i
+          b.body.slots.body at goes before left [] parts_after x.memory begin [] z.1 z.0 refl
+          past.is_there.program_there z.2 in
+        record { registers = past.registers; is_there = past.is_there;
+          finds = subst (λ a. FindsReturn t x.memory a layout_here.frame) (none ∙ sym past.rip)
+          finds }
 
     -- a piece before others, up to where they begin
-    pub piece_to : (before first second : List Instr) (x mid : State) → whole ≡ before ++ (first ++ second) → IsFlow first → 1 ≤ length second → IsPast before x → Reaches (length first) x mid → IsPast (before ++ first) mid → AllKeep t fs (length first) x
+    pub piece_to : (before first second : List Instr) (x mid : State)
+      → whole ≡ before ++ (first ++ second) → IsFlow first → 1 ≤ length second → IsPast before x
+      → Reaches (length first) x mid → IsPast (before ++ first) mid → AllKeep t fs (length first) x
     piece_to before first second x mid parts flow some past comes there =
-        let ends = past_ends (before ++ first) second mid (parts ∙ sym (append_assoc before first second)) some there in
-        piece_keeps t fs program p q image c.frame.body code_here c.frame.next i b.body.slots.body at goes before first second parts x mid kept_here b.body.back beyond_here flow comes past.rip past.registers ends.registers enough past.is_there ends.is_there ends.finds
+        let ends = past_ends (before ++ first) second mid
+          (parts ∙ sym (append_assoc before first second)) some there in
+        piece_keeps t fs program p q image c.frame.body code_here c.frame.next i b.body.slots.body
+          at goes before first second parts x mid kept_here b.body.back beyond_here flow comes
+          past.rip past.registers ends.registers enough past.is_there ends.is_there ends.finds
 
     -- and with them, where they do so too
-    pub piece_then : (before first second : List Instr) (x mid : State) → whole ≡ before ++ (first ++ second) → IsFlow first → 1 ≤ length second → IsPast before x → Reaches (length first) x mid → IsPast (before ++ first) mid → AllKeep t fs (length second) mid → AllKeep t fs (length (first ++ second)) x
+    pub piece_then : (before first second : List Instr) (x mid : State)
+      → whole ≡ before ++ (first ++ second) → IsFlow first → 1 ≤ length second → IsPast before x
+      → Reaches (length first) x mid → IsPast (before ++ first) mid
+      → AllKeep t fs (length second) mid → AllKeep t fs (length (first ++ second)) x
     piece_then before first second x mid parts flow some past comes there rest =
         subst (λ k. AllKeep t fs k x) (sym (length-append first second))
-        (keep_then t fs (length first) (length second) x mid comes (piece_to before first second x mid parts flow some past comes there) rest)
+        (keep_then t fs (length first) (length second) x mid comes
+          (piece_to before first second x mid parts flow some past comes there) rest)
 
     -- the labels that it goes to are near
-    pub near_here : LabelsNear (links_of p q c.frame.body) layout_here (p.address c.frame.body c.frame.next) i
+    pub near_here : LabelsNear (links_of p q c.frame.body) layout_here
+      (p.address c.frame.body c.frame.next) i
     near_here =
         let a = image.addresses c.frame.body code_here b.body.slots.body in
         let lt = slice_get_within code_here.code c.frame.next i at in
-        let same = ap (template_size layout_here) (get_or_from_slice_get code_here.code c.frame.next i instructions.Separator at) in
+        let same = ap (template_size layout_here)
+          (get_or_from_slice_get code_here.code c.frame.next i instructions.Separator at) in
         let next = offset_next layout_here code_here.code c.frame.next instructions.Separator lt in
         let most = body_most layout_here code_here.code (suc c.frame.next) in
         let low = a.inside.low in
         let high = a.inside.high in
         let first = a.first in
-        subst (λ x. LabelsNear (links_of p q c.frame.body) layout_here x i) (sym (a.labels c.frame.next))
-        (labels_near (links_of p q c.frame.body) layout_here (p.address c.frame.body 0) code_here.code c.frame.next i a.labels (omega arith) (omega arith) (omega arith))
+        subst (λ x. LabelsNear (links_of p q c.frame.body) layout_here x i)
+          (sym (a.labels c.frame.next))
+        (labels_near (links_of p q c.frame.body) layout_here (p.address c.frame.body 0)
+          code_here.code c.frame.next i a.labels (omega arith) (omega arith) (omega arith))

@@ -45,61 +45,125 @@ abbrev is_landing : Instruction → Bool
 is_landing (instructions.Landing to) = true
 is_landing i = false
 
-lands_at : (program : LinearProgram) (c : Configuration) (i : Instruction) (landed : Option ℕ) → LandsWell program c.frame.body c.frame.next landed → instruction_at program c ≡ Some i → is_landing i ≡ false → landed ≡ None
+lands_at : (program : LinearProgram) (c : Configuration) (i : Instruction) (landed : Option ℕ)
+    → LandsWell program c.frame.body c.frame.next landed → instruction_at program c ≡ Some i
+    → is_landing i ≡ false → landed ≡ None
 lands_at program c i None h e f = refl
 lands_at program c i (Some v) h e f =
-    let same : instructions.Landing (Local h.0) ≡ i = same_instruction (instruction_at program c) (instructions.Landing (Local h.0)) i h.1 e in
+    let same : instructions.Landing (Local h.0)
+      ≡ i = same_instruction (instruction_at program c) (instructions.Landing (Local h.0)) i h.1
+        e in
     absurd (let x : true ≡ false = ap is_landing same ∙ f in cc)
 
-module _ (t : Functions) (fs : List Funclet) (program : LinearProgram) (p : ImagePlan) (q : Sites) (image : IsProgramImage t fs program p q) (made : IsWellMade program p) (s : State) (c : Configuration) (b : Begins t fs program p q s c) (known : IsKnown program c) where
-  free : (i : Instruction) → instruction_at program c ≡ Some i → is_landing i ≡ false → c.frame.landed ≡ None
+module _ (t : Functions) (fs : List Funclet) (program : LinearProgram) (p : ImagePlan) (q : Sites)
+    (image : IsProgramImage t fs program p q) (made : IsWellMade program p) (s : State)
+    (c : Configuration) (b : Begins t fs program p q s c) (known : IsKnown program c) where
+  free : (i : Instruction) → instruction_at program c ≡ Some i → is_landing i ≡ false
+      → c.frame.landed ≡ None
   free i e f = lands_at program c i c.frame.landed known.stacked.landed e f
 
   -- the operands that linear code reads are those in the slots
-  completes : (to : Slot) (o : Operation) (first second : Slot) → instruction_at program c ≡ Some (instructions.Compute to o first second) → (d : Completes program c o first second)
-      → outcome_here t fs program p q image made.room s c b (counted_here t fs program p q image made c known) (around_here t fs program p q image made s c b known) o first second ≡ Gives d.value d.memory
+  completes : (to : Slot) (o : Operation) (first second : Slot)
+      → instruction_at program c ≡ Some (instructions.Compute to o first second)
+      → (d : Completes program c o first second)
+      → outcome_here t fs program p q image made.room s c b
+        (counted_here t fs program p q image made c known)
+        (around_here t fs program p q image made s c b known) o first second
+      ≡ Gives d.value d.memory
   completes to o first second e d =
-      let there = has_slots t fs program p q image made.room s c b (counted_here t fs program p q image made c known) (instructions.Compute to o first second) (code_at t fs program p q image made s c b known (instructions.Compute to o first second) e) in
-      let r = ready_here t fs program p q image made s c b known (instructions.Compute to o first second) e in
+      let there = has_slots t fs program p q image made.room s c b
+        (counted_here t fs program p q image made c known) (instructions.Compute to o first second)
+        (code_at t fs program p q image made s c b known (instructions.Compute to o first second)
+        e) in
+      let r = ready_here t fs program p q image made s c b known
+        (instructions.Compute to o first second) e in
       by (is_constant o) refl there.1 there.2 r.0 r.1 d.reads_first d.reads_second
     where
-      by : (constant : Bool) → is_constant o ≡ constant → IsSlot (counts_of (code t fs program p q image made.room s c b (counted_here t fs program p q image made c known))) first → IsSlot (counts_of (code t fs program p q image made.room s c b (counted_here t fs program p q image made c known))) second
-          → ready.IsRead constant (ready.held c) first → ready.IsRead constant (ready.held c) second → operand constant c first ≡ Some d.a → operand constant c second ≡ Some d.b
-          → outcome_here t fs program p q image made.room s c b (counted_here t fs program p q image made c known) (around_here t fs program p q image made s c b known) o first second ≡ Gives d.value d.memory
+      by : (constant : Bool) → is_constant o ≡ constant
+        → IsSlot (counts_of (code t fs program p q image made.room s c b
+          (counted_here t fs program p q image made c known))) first
+        → IsSlot (counts_of (code t fs program p q image made.room s c b
+          (counted_here t fs program p q image made c known))) second
+          → ready.IsRead constant (ready.held c) first → ready.IsRead constant (ready.held c) second
+          → operand constant c first ≡ Some d.a → operand constant c second ≡ Some d.b
+          → outcome_here t fs program p q image made.room s c b
+            (counted_here t fs program p q image made c known)
+            (around_here t fs program p q image made s c b known) o first second
+          ≡ Gives d.value d.memory
       by true k f g hf hg rf rg =
-          same_constant (is_reserved program.globals) o ((slots t fs program p q image made.room s c b (counted_here t fs program p q image made c known)).slots first) ((slots t fs program p q image made.room s c b (counted_here t fs program p q image made c known)).slots second) d.a d.b c.store.memory k ∙ d.gives
+          same_constant (is_reserved program.globals) o
+            ((slots t fs program p q image made.room s c b
+            (counted_here t fs program p q image made c known)).slots first)
+            ((slots t fs program p q image made.room s c b
+            (counted_here t fs program p q image made c known)).slots second) d.a d.b c.store.memory
+            k ∙ d.gives
       by false k f g hf hg rf rg =
-          let x = is_read t fs program p q image made.room s c b (counted_here t fs program p q image made c known) (around_here t fs program p q image made s c b known) first f hf in
-          let y = is_read t fs program p q image made.room s c b (counted_here t fs program p q image made c known) (around_here t fs program p q image made s c b known) second g hg in
+          let x = is_read t fs program p q image made.room s c b
+            (counted_here t fs program p q image made c known)
+            (around_here t fs program p q image made s c b known) first f hf in
+          let y = is_read t fs program p q image made.room s c b
+            (counted_here t fs program p q image made c known)
+            (around_here t fs program p q image made s c b known) second g hg in
           let a : x.value ≡ d.a = some_number x.value d.a (sym x.reads ∙ rf) in
           let e : y.value ≡ d.b = some_number y.value d.b (sym y.reads ∙ rg) in
-          ap (λ z. performed (is_reserved program.globals) o z ((slots t fs program p q image made.room s c b (counted_here t fs program p q image made c known)).slots second) c.store.memory) (x.same ∙ a)
-          ∙ ap (λ z. performed (is_reserved program.globals) o d.a z c.store.memory) (y.same ∙ e) ∙ d.gives
+          ap (λ z. performed (is_reserved program.globals) o z
+            ((slots t fs program p q image made.room s c b
+            (counted_here t fs program p q image made c known)).slots second) c.store.memory)
+            (x.same ∙ a)
+          ∙ ap (λ z. performed (is_reserved program.globals) o d.a z c.store.memory) (y.same ∙ e)
+          ∙ d.gives
 
   small_code : (o : Option ℕ) (value : ℕ) → o ≡ Some value → IsSmallCode o → value < 2 ^ 64
   small_code None value e h = cc
   small_code (Some x) value e h = let n = some_number x value e in omega arith
 
-  step : (i : Instruction) → instruction_at program c ≡ Some i → IsWithinBody program c i → HasRule (act program i (exec program zero) c) → Moves t fs program pace turns_left (Begins t fs program p q) s c i
+  step : (i : Instruction) → instruction_at program c ≡ Some i → IsWithinBody program c i
+      → HasRule (act program i (exec program zero) c)
+      → Moves t fs program pace turns_left (Begins t fs program p q) s c i
   step (instructions.Compute to o first second) e h rule =
-      let r = ready_here t fs program p q image made s c b known (instructions.Compute to o first second) e in
-      compute_step t fs program p q image made.room s c b (counted_here t fs program p q image made c known) (around_here t fs program p q image made s c b known) to o first second h.value h.memory
-      (free (instructions.Compute to o first second) e refl) (code_at t fs program p q image made s c b known (instructions.Compute to o first second) e) (held_here t fs program p q image made s c b known) r.0 r.1 rule
-      (goes_inside t fs program p q image made s c b known (instructions.Compute to o first second) e) (completes to o first second e h)
+      let r = ready_here t fs program p q image made s c b known
+        (instructions.Compute to o first second) e in
+      compute_step t fs program p q image made.room s c b
+        (counted_here t fs program p q image made c known)
+        (around_here t fs program p q image made s c b known) to o first second h.value h.memory
+      (free (instructions.Compute to o first second) e refl)
+        (code_at t fs program p q image made s c b known (instructions.Compute to o first second) e)
+        (held_here t fs program p q image made s c b known) r.0 r.1 rule
+      (goes_inside t fs program p q image made s c b known (instructions.Compute to o first second)
+        e) (completes to o first second e h)
   step (instructions.Jump label) e h rule =
-      jump_step t fs program p q image made.room s c b (counted_here t fs program p q image made c known) (around_here t fs program p q image made s c b known) label
-      (free (instructions.Jump label) e refl) (code_at t fs program p q image made s c b known (instructions.Jump label) e) (held_here t fs program p q image made s c b known) (goes_inside t fs program p q image made s c b known (instructions.Jump label) e)
+      jump_step t fs program p q image made.room s c b
+        (counted_here t fs program p q image made c known)
+        (around_here t fs program p q image made s c b known) label
+      (free (instructions.Jump label) e refl)
+        (code_at t fs program p q image made s c b known (instructions.Jump label) e)
+        (held_here t fs program p q image made s c b known)
+        (goes_inside t fs program p q image made s c b known (instructions.Jump label) e)
   step (instructions.JumpIfZero slot label) e h rule =
-      jump_if_zero_step t fs program p q image made.room s c b (counted_here t fs program p q image made c known) (around_here t fs program p q image made s c b known) slot label
-      (free (instructions.JumpIfZero slot label) e refl) (code_at t fs program p q image made s c b known (instructions.JumpIfZero slot label) e) (held_here t fs program p q image made s c b known)
-      (ready_here t fs program p q image made s c b known (instructions.JumpIfZero slot label) e) (goes_inside t fs program p q image made s c b known (instructions.JumpIfZero slot label) e)
+      jump_if_zero_step t fs program p q image made.room s c b
+        (counted_here t fs program p q image made c known)
+        (around_here t fs program p q image made s c b known) slot label
+      (free (instructions.JumpIfZero slot label) e refl)
+        (code_at t fs program p q image made s c b known (instructions.JumpIfZero slot label) e)
+        (held_here t fs program p q image made s c b known)
+      (ready_here t fs program p q image made s c b known (instructions.JumpIfZero slot label) e)
+        (goes_inside t fs program p q image made s c b known (instructions.JumpIfZero slot label) e)
   step (instructions.Landing to) e h rule =
       let r = ready_here t fs program p q image made s c b known (instructions.Landing to) e in
-      landing_step t fs program p q image made.room s c b (counted_here t fs program p q image made c known) (around_here t fs program p q image made s c b known) to r.0.0 r.0.1 (small_code c.frame.landed r.0.0 r.0.1 known.small.items.0.landed)
-      (code_at t fs program p q image made s c b known (instructions.Landing to) e) (held_here t fs program p q image made s c b known) r.1 (goes_inside t fs program p q image made s c b known (instructions.Landing to) e)
+      landing_step t fs program p q image made.room s c b
+        (counted_here t fs program p q image made c known)
+        (around_here t fs program p q image made s c b known) to r.0.0 r.0.1
+        (small_code c.frame.landed r.0.0 r.0.1 known.small.items.0.landed)
+      (code_at t fs program p q image made s c b known (instructions.Landing to) e)
+        (held_here t fs program p q image made s c b known) r.1
+        (goes_inside t fs program p q image made s c b known (instructions.Landing to) e)
   step instructions.Separator e h rule =
-      separator_step t fs program p q image made.room s c b (counted_here t fs program p q image made c known) (around_here t fs program p q image made s c b known)
-      (free instructions.Separator e refl) (code_at t fs program p q image made s c b known instructions.Separator e) (held_here t fs program p q image made s c b known) (goes_inside t fs program p q image made s c b known instructions.Separator e)
+      separator_step t fs program p q image made.room s c b
+        (counted_here t fs program p q image made c known)
+        (around_here t fs program p q image made s c b known)
+      (free instructions.Separator e refl) (code_at t fs program p q image made s c b known
+        instructions.Separator e) (held_here t fs program p q image made s c b known)
+        (goes_inside t fs program p q image made s c b known instructions.Separator e)
   step (instructions.Information to field) e h rule = absurd h
   step (instructions.Call f first count) e h rule = absurd h
   step (instructions.CallBuiltIn f first) e h rule = absurd h
@@ -108,4 +172,5 @@ module _ (t : Functions) (fs : List Funclet) (program : LinearProgram) (p : Imag
   step (instructions.Return from) e h rule = absurd h
 
 pub within_body : StepsWithinBodiesAreMatched
-within_body t fs program p q image made s c i b known e h rule = step t fs program p q image made s c b known i e h rule
+within_body t fs program p q image made s c i b known e h rule = step t fs program p q image made s
+    c b known i e h rule

@@ -41,7 +41,8 @@ KeepsSlot m y None sp base = base ≡ sp
 KeepsSlot m y (Some slot) sp base = KeepsWord m y slot sp base
 
 -- where a body's slots are: its activation's locals with their numbers, and the room of both
-pub record SlotsPlaced (m : Memory) (y : Layout) (temporaries sp k : ℕ) (acts : List Activation) : Type 0 where
+pub record SlotsPlaced (m : Memory) (y : Layout) (temporaries sp k : ℕ)
+    (acts : List Activation) : Type 0 where
   pub base : ℕ
   pub values : List ℕ
   pub number : slice_get (locals_of acts) k ≡ Some values
@@ -52,21 +53,30 @@ pub record SlotsPlaced (m : Memory) (y : Layout) (temporaries sp k : ℕ) (acts 
   pub base_high : base + y.locals + 8 * length values ≤ STACK_END
   pub temporaries_small : y.temporaries + 8 * temporaries < 2 ^ 31
   pub locals_small : y.locals + 8 * length values < 2 ^ 31
-  pub apart : (base + (y.locals + 8 * length values) ≤ sp + y.temporaries) ⊎ (sp + (y.temporaries + 8 * temporaries) ≤ base + y.locals)
+  pub apart : (base + (y.locals + 8 * length values) ≤ sp + y.temporaries)
+      ⊎ (sp + (y.temporaries + 8 * temporaries) ≤ base + y.locals)
   pub kept : KeepsSlot m y y.base sp base
 
 -- ---- a function's own activation
 
-own_number : (a : Activation) (outer : List Activation) (k : ℕ) → k ≡ length outer → slice_get (locals_of (a ∷ outer)) k ≡ Some a.values
+own_number : (a : Activation) (outer : List Activation) (k : ℕ) → k ≡ length outer
+    → slice_get (locals_of (a ∷ outer)) k ≡ Some a.values
 own_number a outer k e =
     let n : length (locals_of outer) ≡ k = locals_count outer ∙ sym e in
-    subst (λ x. slice_get (locals_of outer ++ a.values ∷ []) x ≡ Some a.values) n (got_last (locals_of outer) a.values)
+    subst (λ x. slice_get (locals_of outer ++ a.values ∷ []) x ≡ Some a.values) n
+      (got_last (locals_of outer) a.values)
 
 -- locals and temporaries lie apart in the first bytes from RSP on
-own_placed : (m : Memory) (y : Layout) (temporaries sp size k f room : ℕ) (a : Activation) (outer : List Activation) → y.base ≡ None → HasActivation m y sp size k (a ∷ outer) (FunctionBody f)
-    → STACK_START ≤ sp → sp + room ≤ STACK_END → room < 2 ^ 31 → y.temporaries + 8 * temporaries ≤ room → y.locals + 8 * length a.values ≤ room
-    → (sp + (y.locals + 8 * length a.values) ≤ sp + y.temporaries) ⊎ (sp + (y.temporaries + 8 * temporaries) ≤ sp + y.locals) → SlotsPlaced m y temporaries sp k (a ∷ outer)
-own_placed m y temporaries sp size k f room a outer none h low high small temps locals apart = record {
+own_placed : (m : Memory) (y : Layout) (temporaries sp size k f room : ℕ) (a : Activation)
+    (outer : List Activation) → y.base ≡ None
+    → HasActivation m y sp size k (a ∷ outer) (FunctionBody f)
+    → STACK_START ≤ sp → sp + room ≤ STACK_END → room < 2 ^ 31
+    → y.temporaries + 8 * temporaries ≤ room → y.locals + 8 * length a.values ≤ room
+    → (sp + (y.locals + 8 * length a.values) ≤ sp + y.temporaries)
+    ⊎ (sp + (y.temporaries + 8 * temporaries) ≤ sp + y.locals)
+    → SlotsPlaced m y temporaries sp k (a ∷ outer)
+own_placed m y temporaries sp size k f room a outer none h low high small temps locals
+    apart = record {
   base = sp;
   values = a.values;
   number = own_number a outer k h.activation.number;
@@ -81,23 +91,30 @@ own_placed m y temporaries sp size k f room a outer none h low high small temps 
   kept = subst (λ o. KeepsSlot m y o sp sp) (sym none) refl;
 }
 
-pub function_placed : (m : Memory) (y : Layout) (b : LinearBody) (sp k f : ℕ) (acts : List Activation) → IsFunctionLayout y b → STACK_START ≤ sp → sp + y.frame ≤ STACK_END → HasActivation m y sp y.frame k acts (FunctionBody f) → SlotsPlaced m y b.temporaries sp k acts
+pub function_placed : (m : Memory) (y : Layout) (b : LinearBody) (sp k f : ℕ)
+    (acts : List Activation) → IsFunctionLayout y b → STACK_START ≤ sp → sp + y.frame ≤ STACK_END
+    → HasActivation m y sp y.frame k acts (FunctionBody f) → SlotsPlaced m y b.temporaries sp k acts
 function_placed m y b sp k f [] l low high h = absurd h
 function_placed m y b sp k f (a ∷ outer) l low high h =
     let w = words_fit m (sp + y.locals) (sp + y.frame) a.values h.values in
     let t = l.temporaries in
     let small = l.small in
     let more = l.locals in
-    own_placed m y b.temporaries sp y.frame k f y.frame a outer l.none h low high (omega arith) (omega arith) (omega arith) (inr (omega arith))
+    own_placed m y b.temporaries sp y.frame k f y.frame a outer l.none h low high (omega arith)
+      (omega arith) (omega arith) (inr (omega arith))
 
-pub leaf_placed : (m : Memory) (y : Layout) (b : LinearBody) (sp k f : ℕ) (acts : List Activation) → IsLeafLayout y b → STACK_START ≤ sp → sp + home_end ≤ STACK_END → HasActivation m y sp y.temporaries k acts (FunctionBody f) → SlotsPlaced m y b.temporaries sp k acts
+pub leaf_placed : (m : Memory) (y : Layout) (b : LinearBody) (sp k f : ℕ) (acts : List Activation)
+    → IsLeafLayout y b → STACK_START ≤ sp → sp + home_end ≤ STACK_END
+    → HasActivation m y sp y.temporaries k acts (FunctionBody f)
+    → SlotsPlaced m y b.temporaries sp k acts
 leaf_placed m y b sp k f [] l low high h = absurd h
 leaf_placed m y b sp k f (a ∷ outer) l low high h =
     let w = words_fit m (sp + y.locals) (sp + y.temporaries) a.values h.values in
     let t = l.temporaries in
     let few = l.few in
     let first = l.locals in
-    own_placed m y b.temporaries sp y.temporaries k f home_end a outer l.none h low high (omega arith) (omega arith) (omega arith) (inl (omega arith))
+    own_placed m y b.temporaries sp y.temporaries k f home_end a outer l.none h low high
+      (omega arith) (omega arith) (omega arith) (inl (omega arith))
 
 -- ---- a funclet's, further up
 
@@ -105,11 +122,17 @@ same_slot : (x y : ℕ) → Some x ≡ Some y → x ≡ y
 same_slot x y e = cc
 
 module _ (t : Functions) (fs : List Funclet) (program : LinearProgram) (p : ImagePlan) where
-  pub funclet_placed : (m : Memory) (y function : Layout) (b : LinearBody) (sp k j : ℕ) (acts : List Activation) (c : Context) (is : List StackItem) (items : List Item) → IsFuncletLayout y function b → STACK_START ≤ sp
-      → rsp c ≡ sp + y.frame + 8 → IsLinkedStack t fs program p m c is items acts → HasActivation m y sp y.frame k acts (FuncletBody j) → ((values : List ℕ) → slice_get (locals_of acts) k ≡ Some values → 8 * length values < 2 ^ 30) → function.locals < 2 ^ 30
+  pub funclet_placed : (m : Memory) (y function : Layout) (b : LinearBody) (sp k j : ℕ)
+      (acts : List Activation) (c : Context) (is : List StackItem) (items : List Item)
+      → IsFuncletLayout y function b → STACK_START ≤ sp
+      → rsp c ≡ sp + y.frame + 8 → IsLinkedStack t fs program p m c is items acts
+      → HasActivation m y sp y.frame k acts (FuncletBody j)
+      → ((values : List ℕ) → slice_get (locals_of acts) k ≡ Some values
+      → 8 * length values < 2 ^ 30) → function.locals < 2 ^ 30
       → SlotsPlaced m y b.temporaries sp k acts
   funclet_placed m y function b sp k j acts c is items l low at list h few near =
-      let a = activations_are_at t fs program p m c is items acts k h.base y.locals list h.activation in
+      let a = activations_are_at t fs program p m c is items acts k h.base y.locals list
+        h.activation in
       let n = few a.values a.number in
       let up = a.low_end in
       let top = a.high_end in
@@ -131,19 +154,24 @@ module _ (t : Functions) (fs : List Funclet) (program : LinearProgram) (p : Imag
         temporaries_small = omega arith;
         locals_small = omega arith;
         apart = inr (omega arith);
-        kept = subst (λ o. KeepsSlot m y o sp h.base) (sym h.some) (record { word_is = h.kept; below_temporaries = omega arith; below_locals = omega arith; in_stack = omega arith; above_frame = omega arith });
+        kept = subst (λ o. KeepsSlot m y o sp h.base) (sym h.some)
+          (record { word_is = h.kept; below_temporaries = omega arith; below_locals = omega arith;
+          in_stack = omega arith; above_frame = omega arith });
       }
 
 -- ---- what templates hold
 
-pub stack_is_reserved : (globals : List ℕ) (a : ℕ) → STACK_START ≤ a → a < STACK_END → is_reserved globals a ≡ true
+pub stack_is_reserved : (globals : List ℕ) (a : ℕ) → STACK_START ≤ a → a < STACK_END
+    → is_reserved globals a ≡ true
 stack_is_reserved globals a l u =
     let low : nat_le 0x6FFF0000 a ≡ true = le-leb 0x6FFF0000 a (omega arith) in
     let high : nat_lt a 0x70800000 ≡ true = lt-ltb a 0x70800000 u in
     rw (low, high) refl
 
 -- the room of a body's slots
-pub room_of : (m : Memory) (y : Layout) (n : Counts) (sp k : ℕ) (acts : List Activation) → (h : SlotsPlaced m y n.temporaries sp k acts) → length h.values ≡ n.locals → SlotsHaveRoom y n sp h.base
+pub room_of : (m : Memory) (y : Layout) (n : Counts) (sp k : ℕ) (acts : List Activation)
+    → (h : SlotsPlaced m y n.temporaries sp k acts) → length h.values ≡ n.locals
+    → SlotsHaveRoom y n sp h.base
 room_of m y n sp k acts h count =
     let t = h.temporaries_small in
     let l = h.locals_small in
@@ -162,28 +190,42 @@ room_of m y n sp k acts h count =
     based None e = e
     based (Some slot) e = (e.below_temporaries, e.below_locals)
 
-keeps_base : (m : Memory) (y : Layout) (o : Option ℕ) (sp base : ℕ) → ((a : ℕ) → STACK_START ≤ a → a < STACK_END → may_write m a ≡ true) → STACK_START ≤ sp → KeepsSlot m y o sp base → MemoryKeepsBase o sp base m
+keeps_base : (m : Memory) (y : Layout) (o : Option ℕ) (sp base : ℕ)
+    → ((a : ℕ) → STACK_START ≤ a → a < STACK_END → may_write m a ≡ true) → STACK_START ≤ sp
+    → KeepsSlot m y o sp base → MemoryKeepsBase o sp base m
 keeps_base m y None sp base may low h = tt
-keeps_base m y (Some slot) sp base may low h = let top = h.in_stack in (word_is m (sp + slot) base h.word_is, λ a l u. may a (omega arith) (omega arith))
+keeps_base m y (Some slot) sp base may low h = let top = h.in_stack in
+    (word_is m (sp + slot) base h.word_is, λ a l u. may a (omega arith) (omega arith))
 
-keeps_reserved : (globals : List ℕ) (m : Memory) (y : Layout) (o : Option ℕ) (sp base : ℕ) → STACK_START ≤ sp → KeepsSlot m y o sp base → KeepsReserved o sp (is_reserved globals)
+keeps_reserved : (globals : List ℕ) (m : Memory) (y : Layout) (o : Option ℕ) (sp base : ℕ)
+    → STACK_START ≤ sp → KeepsSlot m y o sp base → KeepsReserved o sp (is_reserved globals)
 keeps_reserved globals m y None sp base low h = tt
-keeps_reserved globals m y (Some slot) sp base low h = let top = h.in_stack in λ a l u. stack_is_reserved globals a (omega arith) (omega arith)
+keeps_reserved globals m y (Some slot) sp base low h = let top = h.in_stack in
+    λ a l u. stack_is_reserved globals a (omega arith) (omega arith)
 
-pub in_stack_slots : (m : Memory) (y : Layout) (n : Counts) (sp k : ℕ) (acts : List Activation) (a : ℕ) → (h : SlotsPlaced m y n.temporaries sp k acts) → length h.values ≡ n.locals → InTemporaries y n sp a ⊎ InLocals y n h.base a → (STACK_START ≤ a) × (a < STACK_END)
+pub in_stack_slots : (m : Memory) (y : Layout) (n : Counts) (sp k : ℕ) (acts : List Activation)
+    (a : ℕ) → (h : SlotsPlaced m y n.temporaries sp k acts) → length h.values ≡ n.locals
+    → InTemporaries y n sp a ⊎ InLocals y n h.base a → (STACK_START ≤ a) × (a < STACK_END)
 in_stack_slots m y n sp k acts a h count i =
     let low = h.sp_low in
     let high = h.sp_high in
     let base = h.base_low in
     let top = h.base_high in
-    elim i [ inl x ↦ (let l = x.0 in let u = x.1 in (omega arith, omega arith)) | inr x ↦ (let l = x.0 in let u = x.1 in (omega arith, omega arith)) ]
+    elim i [ inl x ↦ (let l = x.0 in let u = x.1 in (omega arith, omega arith)) | inr
+      x ↦ (let l = x.0 in let u = x.1 in (omega arith, omega arith)) ]
 
-pub holds_of : (globals : List ℕ) (m source : Memory) (y : Layout) (n : Counts) (sp k : ℕ) (acts : List Activation) → (h : SlotsPlaced m y n.temporaries sp k acts) → length h.values ≡ n.locals → IsBytes m → ((a : ℕ) → STACK_START ≤ a → a < STACK_END → may_write m a ≡ true) → Agrees (is_reserved globals) m source
+pub holds_of : (globals : List ℕ) (m source : Memory) (y : Layout) (n : Counts) (sp k : ℕ)
+    (acts : List Activation) → (h : SlotsPlaced m y n.temporaries sp k acts)
+    → length h.values ≡ n.locals → IsBytes m →
+      ((a : ℕ) → STACK_START ≤ a → a < STACK_END → may_write m a ≡ true)
+    → Agrees (is_reserved globals) m source
     → HoldsBody y n (is_reserved globals) sp h.base m (body_in_memory y sp h.base m source)
 holds_of globals m source y n sp k acts h count bytes may agrees =
-    holds_body_in_memory y n (is_reserved globals) sp h.base m source bytes (keeps_base m y y.base sp h.base may h.sp_low h.kept)
+    holds_body_in_memory y n (is_reserved globals) sp h.base m source bytes
+      (keeps_base m y y.base sp h.base may h.sp_low h.kept)
     (λ a i. let r = in_stack_slots m y n sp k acts a h count i in may a r.0 r.1)
-    (λ a i. let r = in_stack_slots m y n sp k acts a h count i in stack_is_reserved globals a r.0 r.1)
+    (λ a i. let r = in_stack_slots m y n sp k acts a h count i in
+      stack_is_reserved globals a r.0 r.1)
     (keeps_reserved globals m y y.base sp h.base h.sp_low h.kept)
     agrees
 
@@ -200,16 +242,25 @@ got (x ∷ vs) zero lt = refl
 got (x ∷ vs) (suc i) lt = got vs i (omega arith)
 
 -- a local's slot has the number that linear code has in it
-pub local_is : (m : Memory) (y : Layout) (temporaries sp i : ℕ) (acts : List Activation) (c : Configuration) → c.store.activations ≡ locals_of acts → (h : SlotsPlaced m y temporaries sp c.frame.activation acts) → i < length h.values
+pub local_is : (m : Memory) (y : Layout) (temporaries sp i : ℕ) (acts : List Activation)
+    (c : Configuration) → c.store.activations ≡ locals_of acts
+    → (h : SlotsPlaced m y temporaries sp c.frame.activation acts) → i < length h.values
     → number_at m.byte 8 (h.base + (y.locals + 8 * i)) ≡ local_of c.store c.frame.activation i
 local_is m y temporaries sp i acts c store h lt =
-    let w = word_in m (h.base + y.locals) (h.base + y.locals + 8 * length h.values) h.values i (slice_index h.values i) h.holds (got h.values i lt) in
+    let w = word_in m (h.base + y.locals) (h.base + y.locals + 8 * length h.values) h.values i
+      (slice_index h.values i) h.holds (got h.values i lt) in
     let at : h.base + y.locals + 8 * i ≡ h.base + (y.locals + 8 * i) = omega arith in
     let same : linear.locals_of c.store c.frame.activation ≡ h.values =
-    ap (λ x. elim (slice_get x c.frame.activation) [ Some locals ↦ locals | None ↦ [] ]) store ∙ ap (λ x. elim x [ Some locals ↦ locals | None ↦ [] ]) h.number in
-    word_is m (h.base + (y.locals + 8 * i)) (slice_index h.values i) (subst (λ a. word m a ≡ Ok (slice_index h.values i)) at w) ∙ sym (ap (λ x. slice_index x i) same)
+    ap (λ x. elim (slice_get x c.frame.activation) [ Some locals ↦ locals | None ↦ [] ]) store
+      ∙ ap (λ x. elim x [ Some locals ↦ locals | None ↦ [] ]) h.number in
+    word_is m (h.base + (y.locals + 8 * i)) (slice_index h.values i)
+      (subst (λ a. word m a ≡ Ok (slice_index h.values i)) at w)
+      ∙ sym (ap (λ x. slice_index x i) same)
 
-pub temporary_is : (m : Memory) (y : Layout) (sp end i v : ℕ) (ts : List ℕ) → HoldsWords m (sp + y.temporaries) end ts → slice_get ts i ≡ Some v → number_at m.byte 8 (sp + (y.temporaries + 8 * i)) ≡ v
+pub temporary_is : (m : Memory) (y : Layout) (sp end i v : ℕ) (ts : List ℕ)
+    → HoldsWords m (sp + y.temporaries) end ts → slice_get ts i ≡ Some v
+    → number_at m.byte 8 (sp + (y.temporaries + 8 * i)) ≡ v
 temporary_is m y sp end i v ts h e =
     let at : sp + y.temporaries + 8 * i ≡ sp + (y.temporaries + 8 * i) = omega arith in
-    word_is m (sp + (y.temporaries + 8 * i)) v (subst (λ a. word m a ≡ Ok v) at (word_in m (sp + y.temporaries) end ts i v h e))
+    word_is m (sp + (y.temporaries + 8 * i)) v
+      (subst (λ a. word m a ≡ Ok v) at (word_in m (sp + y.temporaries) end ts i v h e))

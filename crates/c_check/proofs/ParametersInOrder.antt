@@ -29,14 +29,17 @@ has_is : (s : Scope) (n : List ℕ) → is_some (meaning_in s n) ≡ has (names_
 has_is [] n = refl
 has_is (x ∷ rest) n = by (same_bytes x.0 n) (has_is rest n)
   where
-    by : (b : Bool) → is_some (meaning_in rest n) ≡ has (names_in rest) n → is_some (cond b (Some x.1) (meaning_in rest n)) ≡ cond b true (has (names_in rest) n)
+    by : (b : Bool) → is_some (meaning_in rest n) ≡ has (names_in rest) n
+      → is_some (cond b (Some x.1) (meaning_in rest n)) ≡ cond b true (has (names_in rest) n)
     by true h = refl
     by false h = h
 
 taken_same : (s t : Scope) (n : List ℕ) → names_in s ≡ names_in t → is_taken s n ≡ is_taken t n
-taken_same s t n e = has_is (built_ins ++ s) n ∙ ap (λ ks. has (names_in built_ins ++ ks) n) e ∙ sym (has_is (built_ins ++ t) n)
+taken_same s t n e = has_is (built_ins ++ s) n ∙ ap (λ ks. has (names_in built_ins ++ ks) n) e
+    ∙ sym (has_is (built_ins ++ t) n)
 
-with_same : (s t : Scope) (n : List ℕ) (d e : Entity) → names_in s ≡ names_in t → names_in (with_name s n d) ≡ names_in (with_name t n e)
+with_same : (s t : Scope) (n : List ℕ) (d e : Entity) → names_in s ≡ names_in t
+    → names_in (with_name s n d) ≡ names_in (with_name t n e)
 with_same s t n d e p = by (is_taken s n) (is_taken t n) (taken_same s t n p)
   where
     by : (a b : Bool) → a ≡ b → names_in (cond a s ((n, d) ∷ s)) ≡ names_in (cond b t ((n, e) ∷ t))
@@ -45,49 +48,69 @@ with_same s t n d e p = by (is_taken s n) (is_taken t n) (taken_same s t n p)
     by false true h = absurd (cc)
     by false false h = ap (λ ks. n ∷ ks) p
 
-faults_same : (text : List ℕ) (ps : List Parameter) (s t : Scope) → names_in s ≡ names_in t → parameter_faults text ps s ≡ parameter_faults text ps t
+faults_same : (text : List ℕ) (ps : List Parameter) (s t : Scope) → names_in s ≡ names_in t
+    → parameter_faults text ps s ≡ parameter_faults text ps t
 faults_same text [] s t e = refl
 faults_same text (p ∷ ps) s t e =
     let n = spelled text p.name in
     let scalar = unless_holds (is_scalar p.of) p.name.start TypeClash in
-    ap (λ b. unless_holds (not b) p.name.start Duplicate ++ scalar ++ parameter_faults text ps (with_name s n (LocalVariable 0 p.of))) (taken_same s t n e)
-    ∙ ap (λ fs. faults_of_parameter text p t ++ fs) (faults_same text ps (with_name s n (LocalVariable 0 p.of)) (with_name t n (LocalVariable 0 p.of)) (with_same s t n (LocalVariable 0 p.of) (LocalVariable 0 p.of) e))
+    ap (λ b. unless_holds (not b) p.name.start Duplicate ++ scalar
+      ++ parameter_faults text ps (with_name s n (LocalVariable 0 p.of))) (taken_same s t n e)
+    ∙ ap (λ fs. faults_of_parameter text p t ++ fs)
+      (faults_same text ps (with_name s n (LocalVariable 0 p.of))
+      (with_name t n (LocalVariable 0 p.of)) (with_same s t n (LocalVariable 0 p.of)
+      (LocalVariable 0 p.of) e))
 
 -- the faults of parameters where the block has the first one under another number
 faults_numbered : (text : List ℕ) (p : Parameter) (ps : List Parameter) (block : Scope) (k : ℕ)
-    → parameter_faults text (p ∷ ps) block ≡ faults_of_parameter text p block ++ parameter_faults text ps (with_name block (spelled text p.name) (LocalVariable k p.of))
+    → parameter_faults text (p ∷ ps) block ≡ faults_of_parameter text p block
+    ++ parameter_faults text ps (with_name block (spelled text p.name) (LocalVariable k p.of))
 faults_numbered text p ps block k =
     let n = spelled text p.name in
-    ap (λ fs. faults_of_parameter text p block ++ fs) (faults_same text ps (with_name block n (LocalVariable 0 p.of)) (with_name block n (LocalVariable k p.of)) (with_same block block n (LocalVariable 0 p.of) (LocalVariable k p.of) refl))
+    ap (λ fs. faults_of_parameter text p block ++ fs)
+      (faults_same text ps (with_name block n (LocalVariable 0 p.of))
+      (with_name block n (LocalVariable k p.of))
+      (with_same block block n (LocalVariable 0 p.of) (LocalVariable k p.of) refl))
 
 -- ---- the loop over parameters
 
-pub next_at : {A : Type 0} (xs : List A) (i : ℕ) (d : A) → i < length xs → drop i xs ≡ get_or xs i d ∷ drop (i + 1) xs
+pub next_at : {A : Type 0} (xs : List A) (i : ℕ) (d : A) → i < length xs
+    → drop i xs ≡ get_or xs i d ∷ drop (i + 1) xs
 next_at xs i d lt = drop-cons xs i d lt ∙ ap (λ k. get_or xs i d ∷ drop k xs) (sym (add-one i))
 
-pub record StillParameters (text : List ℕ) (list : List Parameter) (i : ℕ) (block : Scope) (first w : Option FaultAt) : Type 0 where
+pub record StillParameters (text : List ℕ) (list : List Parameter) (i : ℕ) (block : Scope)
+    (first w : Option FaultAt) : Type 0 where
   pub names : with_parameters text (drop i list) block i ≡ with_parameters text list [] 0
-  pub faults : kept w (parameter_faults text (drop i list) block) ≡ kept first (parameter_faults text list [])
+  pub faults : kept w (parameter_faults text (drop i list) block)
+      ≡ kept first (parameter_faults text list [])
 
-pub parameters_on : (text : List ℕ) (list : List Parameter) (i : ℕ) (p : Parameter) (block block' : Scope) (first w w' : Option FaultAt) → drop i list ≡ p ∷ drop (i + 1) list
-    → block' ≡ with_name block (spelled text p.name) (LocalVariable i p.of) → w' ≡ kept w (faults_of_parameter text p block)
+pub parameters_on : (text : List ℕ) (list : List Parameter) (i : ℕ) (p : Parameter)
+    (block block' : Scope) (first w w' : Option FaultAt) → drop i list ≡ p ∷ drop (i + 1) list
+    → block' ≡ with_name block (spelled text p.name) (LocalVariable i p.of)
+    → w' ≡ kept w (faults_of_parameter text p block)
     → StillParameters text list i block first w → StillParameters text list (i + 1) block' first w'
 parameters_on text list i p block block' first w w' next e q h =
     let rest = drop (i + 1) list in
     let made = with_name block (spelled text p.name) (LocalVariable i p.of) in
     record {
-      names = ap (λ b. with_parameters text rest b (i + 1)) e ∙ ap (λ l. with_parameters text l block i) (sym next) ∙ h.names;
+      names = ap (λ b. with_parameters text rest b (i + 1)) e
+        ∙ ap (λ l. with_parameters text l block i) (sym next) ∙ h.names;
       faults =
-          ap (λ b. kept w' (parameter_faults text rest b)) e ∙ ap (λ k. kept k (parameter_faults text rest made)) q
-          ∙ sym (kept_append w (faults_of_parameter text p block) (parameter_faults text rest made)) ∙ ap (kept w) (sym (faults_numbered text p rest block i))
+          ap (λ b. kept w' (parameter_faults text rest b)) e
+            ∙ ap (λ k. kept k (parameter_faults text rest made)) q
+          ∙ sym (kept_append w (faults_of_parameter text p block) (parameter_faults text rest made))
+          ∙ ap (kept w) (sym (faults_numbered text p rest block i))
           ∙ ap (λ l. kept w (parameter_faults text l block)) (sym next) ∙ h.faults;
     }
 
-pub record AreParameters (text : List ℕ) (list : List Parameter) (block : Scope) (first w : Option FaultAt) : Type 0 where
+pub record AreParameters (text : List ℕ) (list : List Parameter) (block : Scope)
+    (first w : Option FaultAt) : Type 0 where
   pub names : block ≡ with_parameters text list [] 0
   pub faults : w ≡ kept first (parameter_faults text list [])
 
-pub parameters_end : (text : List ℕ) (list : List Parameter) (i : ℕ) (block : Scope) (first w : Option FaultAt) → length list ≤ i → StillParameters text list i block first w → AreParameters text list block first w
+pub parameters_end : (text : List ℕ) (list : List Parameter) (i : ℕ) (block : Scope)
+    (first w : Option FaultAt) → length list ≤ i → StillParameters text list i block first w
+    → AreParameters text list block first w
 parameters_end text list i block first w past h =
     let none = drop_all i list past in
     record {
@@ -97,11 +120,16 @@ parameters_end text list i block first w past h =
 
 -- ---- sizes
 
-pub sizes_on : (list : List Parameter) (i : ℕ) (p : Parameter) (sizes sizes' : List Size) → i < length list → p ≡ get_or list i p → sizes' ≡ sizes ++ size_of p.of ∷ []
-    → sizes ++ sizes_of (drop i list) ≡ sizes_of list → sizes' ++ sizes_of (drop (i + 1) list) ≡ sizes_of list
+pub sizes_on : (list : List Parameter) (i : ℕ) (p : Parameter) (sizes sizes' : List Size)
+    → i < length list → p ≡ get_or list i p → sizes' ≡ sizes ++ size_of p.of ∷ []
+    → sizes ++ sizes_of (drop i list) ≡ sizes_of list
+    → sizes' ++ sizes_of (drop (i + 1) list) ≡ sizes_of list
 sizes_on list i p sizes sizes' lt is e h =
     let rest = sizes_of (drop (i + 1) list) in
-    ap (λ k. k ++ rest) e ∙ append_assoc sizes (size_of p.of ∷ []) rest ∙ ap (λ l. sizes ++ sizes_of l) (sym (next_of list i p lt is)) ∙ h
+    ap (λ k. k ++ rest) e ∙ append_assoc sizes (size_of p.of ∷ []) rest
+      ∙ ap (λ l. sizes ++ sizes_of l) (sym (next_of list i p lt is)) ∙ h
 
-pub sizes_end : (list : List Parameter) (i : ℕ) (sizes : List Size) → length list ≤ i → sizes ++ sizes_of (drop i list) ≡ sizes_of list → sizes ≡ sizes_of list
-sizes_end list i sizes past h = sym (append-nil sizes) ∙ ap (λ l. sizes ++ sizes_of l) (sym (drop_all i list past)) ∙ h
+pub sizes_end : (list : List Parameter) (i : ℕ) (sizes : List Size) → length list ≤ i
+    → sizes ++ sizes_of (drop i list) ≡ sizes_of list → sizes ≡ sizes_of list
+sizes_end list i sizes past h = sym (append-nil sizes)
+    ∙ ap (λ l. sizes ++ sizes_of l) (sym (drop_all i list past)) ∙ h

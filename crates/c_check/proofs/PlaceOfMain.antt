@@ -15,29 +15,48 @@ use Rattle.c_syntax.specs.Statement.{Statements}
 abbrev pub place_from : List ExternalDeclaration' → ℕ → ℕ → ℕ
 place_from list i k = place_of_function (map external_declaration (drop i list)) k
 
-first_place : (list : List ExternalDeclaration') (i : ℕ) (x : ExternalDeclaration') (y : ExternalDeclaration) (k : ℕ) → i < length list → x ≡ get_or list i x → external_declaration x ≡ y
+first_place : (list : List ExternalDeclaration') (i : ℕ) (x : ExternalDeclaration')
+    (y : ExternalDeclaration) (k : ℕ) → i < length list → x ≡ get_or list i x
+    → external_declaration x ≡ y
     → place_from list i k ≡ place_of_function (y ∷ map external_declaration (drop (i + 1) list)) k
 first_place list i x y k lt is e =
-    ap (λ l. place_of_function (map external_declaration l) k) (next_of list i x lt is) ∙ ap (λ z. place_of_function (z ∷ map external_declaration (drop (i + 1) list)) k) e
+    ap (λ l. place_of_function (map external_declaration l) k) (next_of list i x lt is)
+      ∙ ap (λ z. place_of_function (z ∷ map external_declaration (drop (i + 1) list)) k) e
 
 -- the function that is there
-pub place_here : (list : List ExternalDeclaration') (i : ℕ) (x : ExternalDeclaration') (t : CType) (n : Identifier) (ps : List Parameter) (body : Statements) (k : ℕ) → i < length list → x ≡ get_or list i x → external_declaration x ≡ Function t n ps body
+pub place_here : (list : List ExternalDeclaration') (i : ℕ) (x : ExternalDeclaration') (t : CType)
+    (n : Identifier) (ps : List Parameter) (body : Statements) (k : ℕ) → i < length list
+    → x ≡ get_or list i x → external_declaration x ≡ Function t n ps body
     → k ≡ 0 → n.start ≡ place_from list i k
-place_here list i x t n ps body k lt is e none = sym (first_place list i x (Function t n ps body) k lt is e ∙ ap (place_of_function (Function t n ps body ∷ map external_declaration (drop (i + 1) list))) none)
+place_here list i x t n ps body k lt is e none = sym
+    (first_place list i x (Function t n ps body) k lt is e
+    ∙ ap (place_of_function (Function t n ps body ∷ map external_declaration (drop (i + 1) list)))
+      none)
 
-past : (t : CType) (n : Identifier) (ps : List Parameter) (body : Statements) (rest : List ExternalDeclaration) (k : ℕ) → k ≢ 0 → place_of_function (Function t n ps body ∷ rest) k ≡ place_of_function rest (k - 1)
+past : (t : CType) (n : Identifier) (ps : List Parameter) (body : Statements)
+    (rest : List ExternalDeclaration) (k : ℕ) → k ≢ 0
+    → place_of_function (Function t n ps body ∷ rest) k ≡ place_of_function rest (k - 1)
 past t n ps body rest zero h = absurd (h refl)
-past t n ps body rest (suc k) h = let e : suc k - 1 ≡ k = omega arith in ap (place_of_function rest) (sym e)
+past t n ps body rest (suc k) h = let e : suc k - 1 ≡ k = omega arith in
+    ap (place_of_function rest) (sym e)
 
 -- a later one
-pub place_past : (list : List ExternalDeclaration') (i : ℕ) (x : ExternalDeclaration') (t : CType) (n : Identifier) (ps : List Parameter) (body : Statements) (k : ℕ) → i < length list → x ≡ get_or list i x → external_declaration x ≡ Function t n ps body
+pub place_past : (list : List ExternalDeclaration') (i : ℕ) (x : ExternalDeclaration') (t : CType)
+    (n : Identifier) (ps : List Parameter) (body : Statements) (k : ℕ) → i < length list
+    → x ≡ get_or list i x → external_declaration x ≡ Function t n ps body
     → k ≢ 0 → place_from list (i + 1) (k - 1) ≡ place_from list i k
-place_past list i x t n ps body k lt is e some = sym (first_place list i x (Function t n ps body) k lt is e ∙ past t n ps body (map external_declaration (drop (i + 1) list)) k some)
+place_past list i x t n ps body k lt is e some = sym
+    (first_place list i x (Function t n ps body) k lt is e
+    ∙ past t n ps body (map external_declaration (drop (i + 1) list)) k some)
 
 -- globals have no number
-pub place_beside : (list : List ExternalDeclaration') (i : ℕ) (x : ExternalDeclaration') (base : Base) (gs : List syntax.Global) (k : ℕ) → i < length list → x ≡ get_or list i x → external_declaration x ≡ Globals base gs
+pub place_beside : (list : List ExternalDeclaration') (i : ℕ) (x : ExternalDeclaration')
+    (base : Base) (gs : List syntax.Global) (k : ℕ) → i < length list → x ≡ get_or list i x
+    → external_declaration x ≡ Globals base gs
     → place_from list (i + 1) k ≡ place_from list i k
 place_beside list i x base gs k lt is e = sym (first_place list i x (Globals base gs) k lt is e)
 
-pub place_of_none : (list : List ExternalDeclaration') (i k : ℕ) → length list ≤ i → place_from list i k ≡ 0
-place_of_none list i k p = ap (λ l. place_of_function (map external_declaration l) k) (drop_all i list p)
+pub place_of_none : (list : List ExternalDeclaration') (i k : ℕ) → length list ≤ i
+    → place_from list i k ≡ 0
+place_of_none list i k p = ap (λ l. place_of_function (map external_declaration l) k)
+    (drop_all i list p)

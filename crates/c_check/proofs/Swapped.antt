@@ -23,7 +23,8 @@ fault_of (suc (suc (suc (suc (suc (suc (suc zero))))))) = JumpOutOfFinally
 fault_of (suc (suc (suc (suc (suc (suc (suc (suc zero)))))))) = JumpOutsideLoop
 fault_of (suc (suc (suc (suc (suc (suc (suc (suc (suc zero))))))))) = CodeOutsideFilter
 fault_of (suc (suc (suc (suc (suc (suc (suc (suc (suc (suc zero)))))))))) = InfoOutsideFilter
-fault_of (suc (suc (suc (suc (suc (suc (suc (suc (suc (suc (suc zero))))))))))) = AbnormalOutsideFinally
+fault_of (suc (suc (suc (suc (suc (suc (suc (suc (suc (suc (suc zero))))))))))) =
+    AbnormalOutsideFinally
 fault_of (suc (suc (suc (suc (suc (suc (suc (suc (suc (suc (suc (suc n)))))))))))) = BadInitialiser
 
 fault_of_rank : (f : Fault) → fault_of (rank f) ≡ f
@@ -44,10 +45,12 @@ fault_of_rank BadInitialiser = refl
 rank_is : (f g : Fault) → rank f ≡ rank g → f ≡ g
 rank_is f g p = sym (fault_of_rank f) ∙ ap fault_of p ∙ fault_of_rank g
 
-same_place : (fa fr ga gr : ℕ) → (nat_lt fa ga || (nat_eq fa ga && nat_lt fr gr)) ≡ false → (nat_lt ga fa || (nat_eq ga fa && nat_lt gr fr)) ≡ false → fa ≡ ga
+same_place : (fa fr ga gr : ℕ) → (nat_lt fa ga || (nat_eq fa ga && nat_lt fr gr)) ≡ false
+    → (nat_lt ga fa || (nat_eq ga fa && nat_lt gr fr)) ≡ false → fa ≡ ga
 same_place fa fr ga gr p q = grind (arith, nat_tests)
 
-same_rank : (fa fr ga gr : ℕ) → (nat_lt fa ga || (nat_eq fa ga && nat_lt fr gr)) ≡ false → (nat_lt ga fa || (nat_eq ga fa && nat_lt gr fr)) ≡ false → fr ≡ gr
+same_rank : (fa fr ga gr : ℕ) → (nat_lt fa ga || (nat_eq fa ga && nat_lt fr gr)) ≡ false
+    → (nat_lt ga fa || (nat_eq ga fa && nat_lt gr fr)) ≡ false → fr ≡ gr
 same_rank fa fr ga gr p q = grind (arith, nat_tests)
 
 -- neither is earlier
@@ -58,10 +61,13 @@ same f g p q =
     λ i. record { at = at i; fault = fault i }
 
 -- not both are earlier
-apart : (fa fr ga gr : ℕ) → (nat_lt fa ga || (nat_eq fa ga && nat_lt fr gr)) ≡ true → (nat_lt ga fa || (nat_eq ga fa && nat_lt gr fr)) ≡ true → ⊥
+apart : (fa fr ga gr : ℕ) → (nat_lt fa ga || (nat_eq fa ga && nat_lt fr gr)) ≡ true
+    → (nat_lt ga fa || (nat_eq ga fa && nat_lt gr fr)) ≡ true → ⊥
 apart fa fr ga gr p q = grind (arith, nat_tests)
 
-through : (ba br fa fr ga gr : ℕ) → (nat_lt ba fa || (nat_eq ba fa && nat_lt br fr)) ≡ true → (nat_lt fa ga || (nat_eq fa ga && nat_lt fr gr)) ≡ true → (nat_lt ba ga || (nat_eq ba ga && nat_lt br gr)) ≡ true
+through : (ba br fa fr ga gr : ℕ) → (nat_lt ba fa || (nat_eq ba fa && nat_lt br fr)) ≡ true
+    → (nat_lt fa ga || (nat_eq fa ga && nat_lt fr gr)) ≡ true
+    → (nat_lt ba ga || (nat_eq ba ga && nat_lt br gr)) ≡ true
 through ba br fa fr ga gr p q = grind (arith, nat_tests)
 
 -- ---- two faults in either order
@@ -82,37 +88,55 @@ two f g = by (is_earlier g f) (is_earlier f g) refl refl
 abbrev after_first : Bool → Bool → Bool → FaultAt → FaultAt → FaultAt → Option FaultAt
 after_first first second third h f g = cond first (of_two third f g) (cond second (Some g) (Some h))
 
-kept_after : (first : Bool) (h f g : FaultAt) → kept_one (cond first (Some f) (Some h)) g ≡ cond first (of_two (is_earlier g f) f g) (of_two (is_earlier g h) h g)
+kept_after : (first : Bool) (h f g : FaultAt)
+    → kept_one (cond first (Some f) (Some h)) g
+    ≡ cond first (of_two (is_earlier g f) f g) (of_two (is_earlier g h) h g)
 kept_after true h f g = refl
 kept_after false h f g = refl
 
 three : (h f g : FaultAt) → kept_one (kept_one (Some h) f) g ≡ kept_one (kept_one (Some h) g) f
-three h f g = kept_after (is_earlier f h) h f g ∙ by (is_earlier f h) (is_earlier g h) (is_earlier g f) (is_earlier f g) refl refl refl refl ∙ sym (kept_after (is_earlier g h) h g f)
+three h f g = kept_after (is_earlier f h) h f g
+    ∙ by (is_earlier f h) (is_earlier g h) (is_earlier g f) (is_earlier f g) refl refl refl refl
+    ∙ sym (kept_after (is_earlier g h) h g f)
   where
-    by : (p q r s : Bool) → is_earlier f h ≡ p → is_earlier g h ≡ q → is_earlier g f ≡ r → is_earlier f g ≡ s
-        → cond (is_earlier f h) (of_two (is_earlier g f) f g) (of_two (is_earlier g h) h g) ≡ cond (is_earlier g h) (of_two (is_earlier f g) g f) (of_two (is_earlier f h) h f)
-    by true true r s e e' e'' e''' = ap (λ k. cond k (of_two (is_earlier g f) f g) (of_two (is_earlier g h) h g)) e ∙ two f g ∙ sym (ap (λ k. cond k (of_two (is_earlier f g) g f) (of_two (is_earlier f h) h f)) e')
+    by : (p q r s : Bool) → is_earlier f h ≡ p → is_earlier g h ≡ q → is_earlier g f ≡ r
+      → is_earlier f g ≡ s
+        → cond (is_earlier f h) (of_two (is_earlier g f) f g) (of_two (is_earlier g h) h g)
+        ≡ cond (is_earlier g h) (of_two (is_earlier f g) g f) (of_two (is_earlier f h) h f)
+    by true true r s e e' e'' e''' = ap (λ k. cond k (of_two (is_earlier g f) f g)
+      (of_two (is_earlier g h) h g)) e ∙ two f g
+      ∙ sym (ap (λ k. cond k (of_two (is_earlier f g) g f) (of_two (is_earlier f h) h f)) e')
     by true false true s e e' e'' e''' =
-        absurd (let t = through g.at (rank g.fault) f.at (rank f.fault) h.at (rank h.fault) e'' e in cc)
+        absurd (let t = through g.at (rank g.fault) f.at (rank f.fault) h.at (rank h.fault) e'' e in
+          cc)
     by true false false s e e' e'' e''' =
-        ap (λ k. cond k (of_two (is_earlier g f) f g) (of_two (is_earlier g h) h g)) e ∙ ap (λ k. of_two k f g) e''
-        ∙ sym (ap (λ k. cond k (of_two (is_earlier f g) g f) (of_two (is_earlier f h) h f)) e' ∙ ap (λ k. of_two k h f) e)
+        ap (λ k. cond k (of_two (is_earlier g f) f g) (of_two (is_earlier g h) h g)) e
+          ∙ ap (λ k. of_two k f g) e''
+        ∙ sym (ap (λ k. cond k (of_two (is_earlier f g) g f) (of_two (is_earlier f h) h f)) e'
+        ∙ ap (λ k. of_two k h f) e)
     by false true r true e e' e'' e''' =
-        absurd (let t = through f.at (rank f.fault) g.at (rank g.fault) h.at (rank h.fault) e''' e' in cc)
+        absurd (let t = through f.at (rank f.fault) g.at (rank g.fault) h.at (rank h.fault) e'''
+          e' in cc)
     by false true r false e e' e'' e''' =
-        ap (λ k. cond k (of_two (is_earlier g f) f g) (of_two (is_earlier g h) h g)) e ∙ ap (λ k. of_two k h g) e'
-        ∙ sym (ap (λ k. cond k (of_two (is_earlier f g) g f) (of_two (is_earlier f h) h f)) e' ∙ ap (λ k. of_two k g f) e''')
+        ap (λ k. cond k (of_two (is_earlier g f) f g) (of_two (is_earlier g h) h g)) e
+          ∙ ap (λ k. of_two k h g) e'
+        ∙ sym (ap (λ k. cond k (of_two (is_earlier f g) g f) (of_two (is_earlier f h) h f)) e'
+        ∙ ap (λ k. of_two k g f) e''')
     by false false r s e e' e'' e''' =
-        ap (λ k. cond k (of_two (is_earlier g f) f g) (of_two (is_earlier g h) h g)) e ∙ ap (λ k. of_two k h g) e'
-        ∙ sym (ap (λ k. cond k (of_two (is_earlier f g) g f) (of_two (is_earlier f h) h f)) e' ∙ ap (λ k. of_two k h f) e)
+        ap (λ k. cond k (of_two (is_earlier g f) f g) (of_two (is_earlier g h) h g)) e
+          ∙ ap (λ k. of_two k h g) e'
+        ∙ sym (ap (λ k. cond k (of_two (is_earlier f g) g f) (of_two (is_earlier f h) h f)) e'
+        ∙ ap (λ k. of_two k h f) e)
 
-one_after : (w : Option FaultAt) (f g : FaultAt) → kept_one (kept_one w f) g ≡ kept_one (kept_one w g) f
+one_after : (w : Option FaultAt) (f g : FaultAt)
+    → kept_one (kept_one w f) g ≡ kept_one (kept_one w g) f
 one_after None f g = two f g
 one_after (Some h) f g = three h f g
 
 -- ---- lists in either order
 
-one_last : (w : Option FaultAt) (f : FaultAt) (fs : List FaultAt) → kept (kept_one w f) fs ≡ kept_one (kept w fs) f
+one_last : (w : Option FaultAt) (f : FaultAt) (fs : List FaultAt)
+    → kept (kept_one w f) fs ≡ kept_one (kept w fs) f
 one_last w f [] = refl
 one_last w f (g ∷ fs) = ap (λ k. kept k fs) (one_after w f g) ∙ one_last (kept_one w g) f fs
 
@@ -121,5 +145,6 @@ kept_swapped w [] b = refl
 kept_swapped w (f ∷ a) b = kept_swapped (kept_one w f) a b ∙ ap (λ k. kept k a) (one_last w f b)
 
 -- two parts in the other order
-pub kept_after_other : (w : Option FaultAt) (a b : List FaultAt) → kept w (a ++ b) ≡ kept (kept w b) a
+pub kept_after_other : (w : Option FaultAt) (a b : List FaultAt)
+    → kept w (a ++ b) ≡ kept (kept w b) a
 kept_after_other w a b = kept_append w a b ∙ kept_swapped w a b

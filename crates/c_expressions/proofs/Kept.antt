@@ -3,10 +3,12 @@ use Rattle.std.proofs.Common.{◌≡◌, List, [], ◌∷◌, ◌++◌, Option, 
 use Rattle.c_expressions.specs.Kept.{kept_one, kept}
 use Rattle.c_resolved.specs.Expressions.{FaultAt}
 
-pub kept_append : (first : Option FaultAt) (a b : List FaultAt) → kept first (a ++ b) ≡ kept (kept first a) b
+pub kept_append : (first : Option FaultAt) (a b : List FaultAt)
+    → kept first (a ++ b) ≡ kept (kept first a) b
 kept_append first [] b = refl
 kept_append first (f ∷ a) b = kept_append (kept_one first f) a b
 
 -- two parts, one after another
-pub kept_more : (first w w' : Option FaultAt) (a b : List FaultAt) → w ≡ kept first a → w' ≡ kept w b → w' ≡ kept first (a ++ b)
+pub kept_more : (first w w' : Option FaultAt) (a b : List FaultAt) → w ≡ kept first a
+    → w' ≡ kept w b → w' ≡ kept first (a ++ b)
 kept_more first w w' a b p q = q ∙ ap (λ x. kept x b) p ∙ sym (kept_append first a b)

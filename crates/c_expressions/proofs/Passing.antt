@@ -12,43 +12,63 @@ use Rattle.c_resolved.specs.Operators.{TypedNode}
 use Rattle.c_resolved.specs.Program.{parameter_types}
 use Rattle.c_syntax.specs.declared.declaration.Parameter.{Parameter}
 
-pub put_is : (fs : List FaultAt) (e : nodes.Expression) (rest : Passed) → put_before (Some e) rest.found ≡ (before fs e rest).found
+pub put_is : (fs : List FaultAt) (e : nodes.Expression) (rest : Passed)
+    → put_before (Some e) rest.found ≡ (before fs e rest).found
 put_is fs e rest = by rest.found
   where
-    by : (o : Option nodes.Arguments) → put_before (Some e) o ≡ elim o [ Some es ↦ Some (nodes.Next e es) | None ↦ None ]
+    by : (o : Option nodes.Arguments) → put_before (Some e) o
+      ≡ elim o [ Some es ↦ Some (nodes.Next e es) | None ↦ None ]
     by None = refl
     by (Some es) = refl
 
 -- what is kept of an argument's faults and then of the others' is kept of both
-pub both_kept : (first w : Option FaultAt) (fs more : List FaultAt) → w ≡ kept first fs → kept w more ≡ kept first (fs ++ more)
+pub both_kept : (first w : Option FaultAt) (fs more : List FaultAt) → w ≡ kept first fs
+    → kept w more ≡ kept first (fs ++ more)
 both_kept first w fs more p = ap (λ k. kept k more) p ∙ sym (kept_append first fs more)
 
 -- the same where the argument isn't what is wanted
-pub clash_kept : (first old w : Option FaultAt) (fs extra more : List FaultAt) → old ≡ kept first fs → w ≡ kept old extra → kept w more ≡ kept first ((fs ++ extra) ++ more)
+pub clash_kept : (first old w : Option FaultAt) (fs extra more : List FaultAt) → old ≡ kept first fs
+    → w ≡ kept old extra → kept w more ≡ kept first ((fs ++ extra) ++ more)
 clash_kept first old w fs extra more p q =
-    ap (λ k. kept k more) (q ∙ ap (λ k. kept k extra) p) ∙ sym (kept_append first (fs ++ extra) more ∙ ap (λ k. kept k more) (kept_append first fs extra))
+    ap (λ k. kept k more) (q ∙ ap (λ k. kept k extra) p)
+      ∙ sym (kept_append first (fs ++ extra) more
+      ∙ ap (λ k. kept k more) (kept_append first fs extra))
 
 -- ---- one argument, by whether it is what is wanted
 
-pub missing_kept : (first old : Option FaultAt) (w : Wanted) (at : ℕ) (fs : List FaultAt) (rest : Passed)
+pub missing_kept : (first old : Option FaultAt) (w : Wanted) (at : ℕ) (fs : List FaultAt)
+    (rest : Passed)
     → old ≡ kept first fs → kept old rest.faults ≡ kept first (pass w at fs None rest).faults
 missing_kept first old w at fs rest p = both_kept first old fs rest.faults p
 
-pub fits_kept : (first old : Option FaultAt) (w : Wanted) (at : ℕ) (fs : List FaultAt) (a : TypedNode) (rest : Passed)
-    → fits w a ≡ true → old ≡ kept first fs → kept old rest.faults ≡ kept first (pass w at fs (Some a) rest).faults
+pub fits_kept : (first old : Option FaultAt) (w : Wanted) (at : ℕ) (fs : List FaultAt)
+    (a : TypedNode) (rest : Passed)
+    → fits w a ≡ true → old ≡ kept first fs → kept old rest.faults
+    ≡ kept first (pass w at fs (Some a) rest).faults
 fits_kept first old w at fs a rest e p =
-    both_kept first old fs rest.faults p ∙ sym (ap (λ b. kept first (cond b (before fs (passed w a) rest) (spoiled (fs ++ fault_at at TypeClash) rest)).faults) e)
+    both_kept first old fs rest.faults p ∙ sym
+      (ap (λ b. kept first (cond b (before fs (passed w a) rest)
+      (spoiled (fs ++ fault_at at TypeClash) rest)).faults) e)
 
-pub unfit_kept : (first old new : Option FaultAt) (w : Wanted) (at : ℕ) (fs : List FaultAt) (a : TypedNode) (rest : Passed)
-    → fits w a ≡ false → old ≡ kept first fs → new ≡ kept old (fault_at at TypeClash) → kept new rest.faults ≡ kept first (pass w at fs (Some a) rest).faults
+pub unfit_kept : (first old new : Option FaultAt) (w : Wanted) (at : ℕ) (fs : List FaultAt)
+    (a : TypedNode) (rest : Passed)
+    → fits w a ≡ false → old ≡ kept first fs → new ≡ kept old (fault_at at TypeClash)
+    → kept new rest.faults ≡ kept first (pass w at fs (Some a) rest).faults
 unfit_kept first old new w at fs a rest e p q =
-    clash_kept first old new fs (fault_at at TypeClash) rest.faults p q ∙ sym (ap (λ b. kept first (cond b (before fs (passed w a) rest) (spoiled (fs ++ fault_at at TypeClash) rest)).faults) e)
+    clash_kept first old new fs (fault_at at TypeClash) rest.faults p q
+      ∙ sym (ap (λ b. kept first (cond b (before fs (passed w a) rest)
+        (spoiled (fs ++ fault_at at TypeClash) rest)).faults) e)
 
-pub fits_put : (w : Wanted) (at : ℕ) (fs : List FaultAt) (a : TypedNode) (rest : Passed) → fits w a ≡ true → put_before (Some (passed w a)) rest.found ≡ (pass w at fs (Some a) rest).found
-fits_put w at fs a rest e = put_is fs (passed w a) rest ∙ sym (ap (λ b. (cond b (before fs (passed w a) rest) (spoiled (fs ++ fault_at at TypeClash) rest)).found) e)
+pub fits_put : (w : Wanted) (at : ℕ) (fs : List FaultAt) (a : TypedNode) (rest : Passed)
+    → fits w a ≡ true → put_before (Some (passed w a)) rest.found
+    ≡ (pass w at fs (Some a) rest).found
+fits_put w at fs a rest e = put_is fs (passed w a) rest
+    ∙ sym (ap (λ b. (cond b (before fs (passed w a) rest)
+      (spoiled (fs ++ fault_at at TypeClash) rest)).found) e)
 
 -- ---- what arguments of a function have to be
 
-pub wants_are : (ps : List Parameter) → map wanted (map (λ (p : Parameter). wants.OfType p.«of») ps) ≡ map OfType (parameter_types ps)
+pub wants_are : (ps : List Parameter) → map wanted (map (λ (p : Parameter). wants.OfType p.«of») ps)
+    ≡ map OfType (parameter_types ps)
 wants_are [] = refl
 wants_are (p ∷ ps) = ap (λ k. OfType p.«of» ∷ k) (wants_are ps)

@@ -96,9 +96,11 @@ no_name text b k ts d a is far s z none =
         name = named;
         is = λ other.
             let rest = name ∷ other in
-            following (λ x. (g : List Token) × IsDeclarationHead b k named x g other) (far.front ++ ms.front)
+            following (λ x. (g : List Token) × IsDeclarationHead b k named x g other)
+              (far.front ++ ms.front)
             (name ∷ []) other
-            (following (λ x. (g : List Token) × IsDeclarationHead b k named x g other) far.front ms.front rest (
+            (following (λ x. (g : List Token) × IsDeclarationHead b k named x g other) far.front
+              ms.front rest (
               ms.front ++ rest,
               record {
                 after_stars = rest;
@@ -162,7 +164,8 @@ has_head n text b k called ts d rest m =
       base = b;
       pointers = k;
       name = called;
-      is = λ other. following (λ x. (g : List Token) × IsDeclarationHead b k called x g other) m.front
+      is = λ other. following (λ x. (g : List Token) × IsDeclarationHead b k called x g other)
+        m.front
           m.declared
           other (m.declared ++ other, is_head b k called ts d rest m other);
     }
@@ -249,7 +252,8 @@ not_globals text b base n called gs ts d rest inner end h o g =
 
 -- a function has one head
 head_once : (base other : Base) (n m : ℕ) (called again : Identifier) (ts d e rest end : List Token)
-    → IsDeclarationHead base n called ts d rest → IsDeclarationHead other m again ts e end → rest ≡ end
+    → IsDeclarationHead base n called ts d rest → IsDeclarationHead other m again ts e end
+    → rest ≡ end
 head_once base other n m called again ts d e rest end h g =
     let b = base_once base other ts ts d e refl
     (declarators_type n called d h.after_stars rest h.stars h.name)
@@ -260,7 +264,8 @@ head_once base other n m called again ts d e rest end h g =
     (name_same called again h.after_stars g.after_stars rest end s.1 h.name g.name).1
 
 pub function : (text : List ℕ) (base : Base) (n : ℕ) (called : Identifier) (ps : List Parameter)
-    (body : Statements) (ts d rest inner end : List Token) → IsDeclarationHead base n called ts d rest
+    (body : Statements) (ts d rest inner end : List Token)
+      → IsDeclarationHead base n called ts d rest
     → HasPunctuator punctuators.OpenParenthesis rest inner → IsTail text ps body inner end
     → IsExternalDeclaration text (Function (typed base n) called ps body) ts end
 function text base n called ps body ts d rest inner end h o t = record {
@@ -289,7 +294,8 @@ nothing = punctuator punctuators.CloseParenthesis ∷ punctuator punctuators.Ope
     punctuators.CloseBrace ∷ []
 
 pub functions_full : (text : List ℕ) (counts : Counts) (base : Base) (n : ℕ) (called : Identifier)
-    (ts d rest inner : List Token) → counts.bytes ≤ 1048576 → IsDeclarationHead base n called ts d rest
+    (ts d rest inner : List Token) → counts.bytes ≤ 1048576
+      → IsDeclarationHead base n called ts d rest
     → HasPunctuator punctuators.OpenParenthesis rest inner → counts.functions ≡ 0
     → Failed 4 (place text rest) (NoExternalDeclaration counts) (HasExternalDeclaration counts) text
     ts
@@ -377,7 +383,8 @@ no_tail counts k text base n called ts d rest inner h o none (Function t again p
     }) w.each.0 (λ six. let a = w.funclets six in omega arith)
 
 pub in_tail : (text : List ℕ) (counts : Counts) (base : Base) (n : ℕ) (called : Identifier)
-    (ts d rest inner : List Token) → counts.bytes ≤ 1048576 → IsDeclarationHead base n called ts d rest
+    (ts d rest inner : List Token) → counts.bytes ≤ 1048576
+      → IsDeclarationHead base n called ts d rest
     → HasPunctuator punctuators.OpenParenthesis rest inner → (counts.functions ≡ 0 → ⊥)
     → Wraps (NoTail counts.funclets) (HasTail counts.funclets) (NoExternalDeclaration counts)
     (HasExternalDeclaration counts) text inner ts

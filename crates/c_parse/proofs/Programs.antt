@@ -226,7 +226,8 @@ bytes_grow (Globals b gs ∷ xs) at = let a = grows b gs at in let c =
 bytes_grow (Function r name ps body ∷ xs) at = bytes_grow xs at
 
 one : (n : ℕ) (text : List ℕ) (counts : Counts) (x : ExternalDeclaration)
-    (xs : List ExternalDeclaration) → FitsCounts n text counts (x ∷ xs) → FitsCounts n text counts (x ∷ [])
+    (xs : List ExternalDeclaration) → FitsCounts n text counts (x ∷ xs)
+      → FitsCounts n text counts (x ∷ [])
 one n text counts (Globals b gs) xs w =
     let a = bytes_grow xs (end_of_globals b gs counts.bytes) in record {
       each = tt;
@@ -260,7 +261,8 @@ stuck n text text' ts rest other found counts xs d a e none h w =
     by r.0 r.2 (d.fits n text' a r.0
     (subst (λ (z : List ExternalDeclaration). WithinFirst n text' z) r.1 w))
   where
-    by : (ys : List ExternalDeclaration) → IsProgram text' ys other → FitsCounts n text' counts ys → ⊥
+    by : (ys : List ExternalDeclaration) → IsProgram text' ys other → FitsCounts n text' counts ys
+      → ⊥
     by [] g f = e g
     by (y ∷ ys) g f = none y g.0 g.1 (one n text' counts y ys f)
 

@@ -23,7 +23,8 @@ use Rattle.c_parse_expr.specs.Refusals.{IsPlacedRefusal}
 
 -- in a greater phrase
 pub placed_in : (e : ParseErr) (No Has No' Has' : Family) (text : List ℕ) (ts ts' : List Token)
-    → Wraps No Has No' Has' text ts ts' → IsPlacedRefusal e No Has text ts → IsPlacedRefusal e No' Has' text ts'
+    → Wraps No Has No' Has' text ts ts' → IsPlacedRefusal e No Has text ts
+    → IsPlacedRefusal e No' Has' text ts'
 placed_in (Unexpected at) No Has No' Has' text ts ts' w p =
     wrapped No Has No' Has' 0 at text ts ts' w p
 placed_in (TooDeep at) No Has No' Has' text ts ts' w p =
@@ -44,7 +45,8 @@ placed_so Memory No Has No' Has' text ts ts' w p = tt
 pub refused_so : {A : Type 0} (r : Result A ParseErr) (No Has No' Has' : Family) (text : List ℕ)
     (ts ts' : List Token)
     → ((kind at : ℕ) → Failed kind at No Has text ts → Failed kind at No' Has' text ts')
-    → IfErr r (λ e. IsPlacedRefusal e No Has text ts) → IfErr r (λ e. IsPlacedRefusal e No' Has' text ts')
+    → IfErr r (λ e. IsPlacedRefusal e No Has text ts)
+    → IfErr r (λ e. IsPlacedRefusal e No' Has' text ts')
 refused_so (Ok x) No Has No' Has' text ts ts' w p = tt
 refused_so (Err e) No Has No' Has' text ts ts' w p = placed_so e No Has No' Has' text ts ts' w p
 

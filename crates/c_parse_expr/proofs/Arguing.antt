@@ -44,28 +44,40 @@ pub first_wraps : (room : ℕ) (text : List ℕ) (ts : List Token) → 1 ≤ roo
 first_wraps room text ts r c = record {
   before = [];
   split = refl;
-  no = λ n text' other a s x. no_first text' n room other (firsts.no_punctuator punctuators.CloseParenthesis ts other s c) x;
-  has = λ n text' inner a k h. record { more = close ∷ []; has = one_argument room n text' inner (λ q. r) h };
+  no = λ n text' other a s x. no_first text' n room other
+      (firsts.no_punctuator punctuators.CloseParenthesis ts other s c) x;
+  has = λ n text' inner a k h. record { more = close ∷ [];
+      has = one_argument room n text' inner (λ q. r) h };
 }
 
 has_none : (room n : ℕ) (text : List ℕ) → HasArguments room n text (close ∷ [])
-has_none room n text = record { trees = Done; spells = λ other. (0, (0, refl)); low = λ k. omega arith }
+has_none room n text = record { trees = Done; spells = λ other. (0, (0, refl));
+    low = λ k. omega arith }
 
-pub deep_there : (text : List ℕ) (ts : List Token) → ((rest : List Token) → HasPunctuator punctuators.CloseParenthesis ts rest → ⊥) → CanBeginExpression ts → Failed 1 (place text ts) (NoArguments 0) (HasArguments 0) text ts
+pub deep_there : (text : List ℕ) (ts : List Token)
+    → ((rest : List Token) → HasPunctuator punctuators.CloseParenthesis ts rest → ⊥)
+    → CanBeginExpression ts → Failed 1 (place text ts) (NoArguments 0) (HasArguments 0) text ts
 deep_there text ts c b =
     deep_at (NoArguments 0) (HasArguments 0) text ts [] ts refl
-    (λ text' other a s. no_place text' other (firsts.no_punctuator punctuators.CloseParenthesis ts other s c))
+    (λ text' other a s. no_place text' other (firsts.no_punctuator punctuators.CloseParenthesis ts
+      other s c))
     (λ text' a k. record { more = close ∷ []; has = has_none 0 6 text' })
     (λ text' a k.
     let o = b text' k in
-    record { token = o.token; rest = o.rest; more = o.more ++ (close ∷ []); is = o.is; has = one_argument 0 0 text' (o.token ∷ o.more) (λ q. omega arith) o.has })
+    record { token = o.token; rest = o.rest; more = o.more ++ (close ∷ []); is = o.is;
+      has = one_argument 0 0 text' (o.token ∷ o.more) (λ q. omega arith) o.has })
 
-no_argument : (text : List ℕ) (n room : ℕ) (ts other : List Token) → SameFirst ts other → ((rest : List Token) → HasPunctuator punctuators.CloseParenthesis ts rest → ⊥) → NeverBegins ts → NoArguments room n text other
-no_argument text n room ts other s c b Done end g low = firsts.no_punctuator punctuators.CloseParenthesis ts other s c end g
+no_argument : (text : List ℕ) (n room : ℕ) (ts other : List Token) → SameFirst ts other
+    → ((rest : List Token) → HasPunctuator punctuators.CloseParenthesis ts rest → ⊥)
+    → NeverBegins ts → NoArguments room n text other
+no_argument text n room ts other s c b Done end g low = firsts.no_punctuator
+    punctuators.CloseParenthesis ts other s c end g
 no_argument text n room ts other s c b (Next x xs) end g low =
     b text other s x g.after_first g.first.spells
 
-pub none_there : (text : List ℕ) (ts : List Token) → ((rest : List Token) → HasPunctuator punctuators.CloseParenthesis ts rest → ⊥) → NeverBegins ts → Failed 0 (place text ts) (NoArguments 0) (HasArguments 0) text ts
+pub none_there : (text : List ℕ) (ts : List Token)
+    → ((rest : List Token) → HasPunctuator punctuators.CloseParenthesis ts rest → ⊥)
+    → NeverBegins ts → Failed 0 (place text ts) (NoArguments 0) (HasArguments 0) text ts
 none_there text ts c b =
     unexpected_at (NoArguments 0) (HasArguments 0) text ts [] ts refl
     (λ text' other a s. no_argument text' 0 0 ts other s c b)
@@ -73,7 +85,8 @@ none_there text ts c b =
 
 -- ---- after others
 
-more_moves : (text : List ℕ) (es : List Expression) (ts rest : List Token) → AreMoreExpressions text es ts rest → Moves (λ t. AreMoreExpressions t es) text ts rest
+more_moves : (text : List ℕ) (es : List Expression) (ts rest : List Token)
+    → AreMoreExpressions text es ts rest → Moves (λ t. AreMoreExpressions t es) text ts rest
 more_moves text [] ts rest h = moved.nothing text ts rest h
 more_moves text (e ∷ es) ts rest h =
     moved.map
@@ -88,7 +101,8 @@ more_moves text (e ∷ es) ts rest h =
       others = g.2.2;
     })
 
-listed_moves : (text : List ℕ) (es : List Expression) (ts rest : List Token) → AreListed text es ts rest → Moves (λ t. AreListed t es) text ts rest
+listed_moves : (text : List ℕ) (es : List Expression) (ts rest : List Token)
+    → AreListed text es ts rest → Moves (λ t. AreListed t es) text ts rest
 listed_moves text [] ts rest h = absurd h
 listed_moves text (e ∷ es) ts rest h =
     moved.map
@@ -106,21 +120,32 @@ next_wraps room es text ts rest following r h st c low =
     let comma = token (kinds.Punctuator punctuators.Comma) c.0 c.1.0 in
     record {
       before = m.front ++ (comma ∷ []);
-      split = m.split ∙ ap (λ z. m.front ++ z) c.1.1 ∙ sym (append_append m.front (comma ∷ []) following);
+      split = m.split ∙ ap (λ z. m.front ++ z) c.1.1
+        ∙ sym (append_append m.front (comma ∷ []) following);
       no = λ n text' other a s x.
-          subst (λ (z : List Token). NoArguments room n text' z) (sym (append_append m.front (comma ∷ []) other))
-          (no_next text' n room es (m.front ++ comma ∷ other) (comma ∷ other) other (m.again text' (comma ∷ other) a) (omega arith) (c.0, (c.1.0, refl)) x);
+          subst (λ (z : List Token). NoArguments room n text' z)
+            (sym (append_append m.front (comma ∷ []) other))
+          (no_next text' n room es (m.front ++ comma ∷ other) (comma ∷ other) other
+            (m.again text' (comma ∷ other) a) (omega arith) (c.0, (c.1.0, refl)) x);
       has = λ n text' inner a k g. record {
         more = close ∷ [];
         has = record {
           trees = arguments (es ++ g.tree ∷ []);
           spells = λ other.
-              let q : (((m.front ++ (comma ∷ [])) ++ inner) ++ (close ∷ [])) ++ other ≡ m.front ++ (comma ∷ (inner ++ (close ∷ other))) =
-              append_append ((m.front ++ (comma ∷ [])) ++ inner) (close ∷ []) other ∙ append_append (m.front ++ (comma ∷ [])) inner (close ∷ other) ∙ append_append m.front (comma ∷ []) (inner ++ close ∷ other) in
-              let l = listed_after text' es g.tree (m.front ++ (comma ∷ (inner ++ (close ∷ other)))) (comma ∷ (inner ++ (close ∷ other))) (inner ++ (close ∷ other)) (close ∷ other)
-              (m.again text' (comma ∷ (inner ++ (close ∷ other))) a) (c.0, (c.1.0, refl)) (g.derives (close ∷ other)) in
-              subst (λ (z : List Token). SpellsArguments text' (arguments (es ++ g.tree ∷ [])) z other) (sym q)
-              (listed_spelled text' (es ++ g.tree ∷ []) (m.front ++ (comma ∷ (inner ++ (close ∷ other)))) (close ∷ other) other l (0, (0, refl)));
+              let q : (((m.front ++ (comma ∷ [])) ++ inner) ++ (close ∷ [])) ++ other
+                ≡ m.front ++ (comma ∷ (inner ++ (close ∷ other))) =
+              append_append ((m.front ++ (comma ∷ [])) ++ inner) (close ∷ []) other
+                ∙ append_append (m.front ++ (comma ∷ [])) inner (close ∷ other)
+                ∙ append_append m.front (comma ∷ []) (inner ++ close ∷ other) in
+              let l = listed_after text' es g.tree (m.front ++ (comma ∷ (inner ++ (close ∷ other))))
+                (comma ∷ (inner ++ (close ∷ other))) (inner ++ (close ∷ other)) (close ∷ other)
+              (m.again text' (comma ∷ (inner ++ (close ∷ other))) a) (c.0, (c.1.0, refl))
+                (g.derives (close ∷ other)) in
+              subst (λ (z : List Token). SpellsArguments text' (arguments (es ++ g.tree ∷ [])) z
+                other) (sym q)
+              (listed_spelled text' (es ++ g.tree ∷ [])
+                (m.front ++ (comma ∷ (inner ++ (close ∷ other)))) (close ∷ other) other l
+                (0, (0, refl)));
           low = λ q. let y = g.low q in let z = heights_after es g.tree in omega arith;
         };
       };
@@ -144,8 +169,10 @@ stuck_there room es text ts rest h st n c low =
       has = record {
         trees = arguments es;
         spells = λ other.
-            subst (λ (z : List Token). SpellsArguments text' (arguments es) z other) (sym (append_append m.front (close ∷ []) other))
-            (listed_spelled text' es (m.front ++ (close ∷ other)) (close ∷ other) other (m.again text' (close ∷ other) a) (0, (0, refl)));
+            subst (λ (z : List Token). SpellsArguments text' (arguments es) z other)
+              (sym (append_append m.front (close ∷ []) other))
+            (listed_spelled text' es (m.front ++ (close ∷ other)) (close ∷ other) other
+              (m.again text' (close ∷ other) a) (0, (0, refl)));
         low = λ q. low;
       };
     })

@@ -42,14 +42,18 @@ Open at ts rest = IsPunctuator punctuators.OpenParenthesis at ts rest
 
 -- ---- names and the exception's record
 
-pub call_wraps : (l room : ℕ) (x : Identifier) (text : List ℕ) (ts rest b : List Token) → IsIdentifier x ts rest → HasPunctuator punctuators.OpenParenthesis rest b → Wraps (NoArguments room) (HasArguments room) (NoOperand l room) (HasExpression l room) text b ts
+pub call_wraps : (l room : ℕ) (x : Identifier) (text : List ℕ) (ts rest b : List Token)
+    → IsIdentifier x ts rest → HasPunctuator punctuators.OpenParenthesis rest b
+    → Wraps (NoArguments room) (HasArguments room) (NoOperand l room) (HasExpression l room) text b
+      ts
 call_wraps l room x text ts rest b i h =
     let name = token kinds.Identifier x.start x.end in
     let paren = token (kinds.Punctuator punctuators.OpenParenthesis) h.0 h.1.0 in
     record {
       before = name ∷ paren ∷ [];
       split = i ∙ ap (λ (z : List Token). name ∷ z) h.1.1;
-      no = λ n text' other a s y. no_call text' n l room x (name ∷ paren ∷ other) (paren ∷ other) other refl (h.0, (h.1.0, refl)) y;
+      no = λ n text' other a s y. no_call text' n l room x (name ∷ paren ∷ other) (paren ∷ other)
+        other refl (h.0, (h.1.0, refl)) y;
       has = λ n text' inner a k g. able_now (HasExpression l room) n text' (name ∷ paren ∷ inner)
           (record {
             tree = Call x g.trees;
@@ -82,7 +86,9 @@ information_wraps l room text ts no_literal no_name no_punctuator = record {
       x
       (λ y. firsts.no_kind (kinds.Punctuator y) ts other s (no_punctuator y));
   has = λ n text' inner a k h. able_now (HasExpression l room) n text' inner
-      (record { tree = Information h.at h.field; derives = λ other. record { fits = omega arith; spells = h.spells other }; low = λ q. omega arith });
+      (record { tree = Information h.at h.field;
+        derives = λ other. record { fits = omega arith; spells = h.spells other };
+        low = λ q. omega arith });
 }
 
 -- ---- operators before an operand
@@ -139,8 +145,11 @@ pub prefix_wraps : (l room : ℕ) (s : Punctuator) (op : Increment) (at : ℕ) (
 prefix_wraps l room s op at text ts rest p r h e = record {
   before = token (kinds.Punctuator s) at h.0 ∷ [];
   split = h.1;
-  no = λ n text' other a f x. no_prefixed text' n l room s op at (token (kinds.Punctuator s) at h.0 ∷ other) other (h.0, refl) e x;
-  has = λ n text' inner a k g. able_now (HasExpression l room) n text' (token (kinds.Punctuator s) at h.0 ∷ inner) (prefixed l room n s op at h.0 text' inner p (λ q. r) e g);
+  no = λ n text' other a f x. no_prefixed text' n l room s op at
+      (token (kinds.Punctuator s) at h.0 ∷ other) other (h.0, refl) e x;
+  has = λ n text' inner a k g. able_now (HasExpression l room) n text'
+      (token (kinds.Punctuator s) at h.0 ∷ inner)
+      (prefixed l room n s op at h.0 text' inner p (λ q. r) e g);
 }
 
 pub unary_wraps : (l room : ℕ) (s : Punctuator) (op : UnaryOperator) (at : ℕ) (text : List ℕ)
@@ -150,13 +159,19 @@ pub unary_wraps : (l room : ℕ) (s : Punctuator) (op : UnaryOperator) (at : ℕ
 unary_wraps l room s op at text ts rest p r h e = record {
   before = token (kinds.Punctuator s) at h.0 ∷ [];
   split = h.1;
-  no = λ n text' other a f x. no_unary text' n l room s op at (token (kinds.Punctuator s) at h.0 ∷ other) other (h.0, refl) e x;
-  has = λ n text' inner a k g. able_now (HasExpression l room) n text' (token (kinds.Punctuator s) at h.0 ∷ inner) (unaried l room n s op at h.0 text' inner p (λ q. r) e g);
+  no = λ n text' other a f x. no_unary text' n l room s op at
+      (token (kinds.Punctuator s) at h.0 ∷ other) other (h.0, refl) e x;
+  has = λ n text' inner a k g. able_now (HasExpression l room) n text'
+      (token (kinds.Punctuator s) at h.0 ∷ inner)
+      (unaried l room n s op at h.0 text' inner p (λ q. r) e g);
 }
 
 -- ---- after `(`
 
-grouped : (l room n at end : ℕ) (text : List ℕ) (inner : List Token) → HasEnclosed punctuators.CloseParenthesis room n text inner → HasExpression l (room + 1) n text (token (kinds.Punctuator punctuators.OpenParenthesis) at end ∷ inner)
+grouped : (l room n at end : ℕ) (text : List ℕ) (inner : List Token)
+    → HasEnclosed punctuators.CloseParenthesis room n text inner
+    → HasExpression l (room + 1) n text (token (kinds.Punctuator punctuators.OpenParenthesis) at end
+    ∷ inner)
 grouped l room n at end text inner h = record {
   tree = Parentheses at h.tree;
   derives = λ other.
@@ -176,21 +191,27 @@ grouped l room n at end text inner h = record {
 
 pub group_wraps : (l room at : ℕ) (text : List ℕ) (ts rest : List Token) → Open at ts rest
     → ((cast ≤ l) → NoBase rest)
-    → Wraps (NoneEnclosed punctuators.CloseParenthesis room) (HasEnclosed punctuators.CloseParenthesis room) (NoOperand l (room + 1)) (HasExpression l (room + 1)) text rest ts
+    → Wraps (NoneEnclosed punctuators.CloseParenthesis room)
+      (HasEnclosed punctuators.CloseParenthesis room) (NoOperand l (room + 1))
+      (HasExpression l (room + 1)) text rest ts
 group_wraps l room at text ts rest h b =
     let paren = token (kinds.Punctuator punctuators.OpenParenthesis) at h.0 in
     record {
       before = paren ∷ [];
       split = h.1;
-      no = λ n text' other a s x. no_group text' n l room at (paren ∷ other) other (h.0, refl) (λ q. firsts.no_base rest other s (b q)) x;
-      has = λ n text' inner a k g. able_now (HasExpression l (room + 1)) n text' (paren ∷ inner) (grouped l room n at h.0 text' inner g);
+      no = λ n text' other a s x. no_group text' n l room at (paren ∷ other) other (h.0, refl)
+        (λ q. firsts.no_base rest other s (b q)) x;
+      has = λ n text' inner a k g. able_now (HasExpression l (room + 1)) n text' (paren ∷ inner)
+        (grouped l room n at h.0 text' inner g);
     }
 
 -- the type that is read there is read there with other tokens after it that begin alike
-only_there : (to : CType) (rest mid front other : List Token) → EndsType to rest mid → rest ≡ front ++ mid → SameFirst mid other → OnlyType (front ++ other) other
+only_there : (to : CType) (rest mid front other : List Token) → EndsType to rest mid
+    → rest ≡ front ++ mid → SameFirst mid other → OnlyType (front ++ other) other
 only_there to rest mid front other w p s =
     let q : w.front ≡ front = append_cancel_right w.front front mid (sym w.split ∙ p) in
-    λ u end t n m. (w.only other s u end (subst (λ (z : List Token). IsType u (z ++ other) end) (sym q) t) n m).1
+    λ u end t n m. (w.only other s u end (subst (λ (z : List Token). IsType u (z ++ other) end)
+      (sym q) t) n m).1
 
 pub cast_wraps : (l room at : ℕ) (to : CType) (text : List ℕ) (ts rest mid after : List Token)
     → cast ≤ l → Open at ts rest → IsType to rest mid → EndsType to rest mid
@@ -203,20 +224,30 @@ cast_wraps l room at to text ts rest mid after p h t w g =
     let close = token (kinds.Punctuator punctuators.CloseParenthesis) g.0 g.1.0 in
     record {
       before = paren ∷ (m.front ++ (close ∷ []));
-      split = h.1 ∙ ap (λ (z : List Token). paren ∷ z) (m.split ∙ ap (λ z. m.front ++ z) g.1.1 ∙ sym (append_append m.front (close ∷ []) after));
+      split = h.1 ∙ ap (λ (z : List Token). paren ∷ z)
+        (m.split ∙ ap (λ z. m.front ++ z) g.1.1 ∙ sym (append_append m.front (close ∷ []) after));
       no = λ n text' other a s x.
           let b = alike_inner text text' (paren ∷ []) rest ts h.1 a in
-          subst (λ (z : List Token). NoOperand l (room + 1) n text' (paren ∷ z)) (sym (append_append m.front (close ∷ []) other))
-          (not_cast text' n l room at to (paren ∷ (m.front ++ close ∷ other)) (m.front ++ close ∷ other) (close ∷ other) other (h.0, refl) (m.again text' (close ∷ other) b)
-          (only_there to rest mid m.front (close ∷ other) w m.split (subst (λ (z : List Token). SameFirst z (close ∷ other)) (sym g.1.1) (other, refl))) (g.0, (g.1.0, refl)) x);
-      has = λ n text' inner a k f. able_now (HasExpression l (room + 1)) n text' (paren ∷ ((m.front ++ (close ∷ [])) ++ inner))
+          subst (λ (z : List Token). NoOperand l (room + 1) n text' (paren ∷ z))
+            (sym (append_append m.front (close ∷ []) other))
+          (not_cast text' n l room at to (paren ∷ (m.front ++ close ∷ other))
+            (m.front ++ close ∷ other) (close ∷ other) other (h.0, refl)
+            (m.again text' (close ∷ other) b)
+          (only_there to rest mid m.front (close ∷ other) w m.split
+            (subst (λ (z : List Token). SameFirst z (close ∷ other)) (sym g.1.1) (other, refl)))
+            (g.0, (g.1.0, refl)) x);
+      has = λ n text' inner a k f. able_now (HasExpression l (room + 1)) n text'
+        (paren ∷ ((m.front ++ (close ∷ [])) ++ inner))
           (record {
             tree = Cast at to f.tree;
             derives = λ other.
                 let b = alike_inner text text' (paren ∷ []) rest ts h.1 a in
-                let e : ((m.front ++ (close ∷ [])) ++ inner) ++ other ≡ m.front ++ (close ∷ (inner ++ other)) =
-                append_append (m.front ++ (close ∷ [])) inner other ∙ append_append m.front (close ∷ []) (inner ++ other) in
-                let y = subst (λ (z : List Token). IsType to z (close ∷ (inner ++ other))) (sym e) (m.again text' (close ∷ (inner ++ other)) b) in
+                let e : ((m.front ++ (close ∷ [])) ++ inner) ++ other
+                  ≡ m.front ++ (close ∷ (inner ++ other)) =
+                append_append (m.front ++ (close ∷ [])) inner other
+                  ∙ append_append m.front (close ∷ []) (inner ++ other) in
+                let y = subst (λ (z : List Token). IsType to z (close ∷ (inner ++ other))) (sym e)
+                  (m.again text' (close ∷ (inner ++ other)) b) in
                 record {
                   fits = p;
                   spells = record {
@@ -243,9 +274,12 @@ cast_unclosed l room at to text ts rest mid p h t w x =
     let m = moved.type to text rest mid t in
     let paren = token (kinds.Punctuator punctuators.OpenParenthesis) at h.0 in
     let close = punctuator_token punctuators.CloseParenthesis in
-    unexpected_at (NoOperand l (room + 1)) (HasExpression l (room + 1)) text ts (paren ∷ m.front) mid (h.1 ∙ ap (λ (z : List Token). paren ∷ z) m.split)
+    unexpected_at (NoOperand l (room + 1)) (HasExpression l (room + 1)) text ts (paren ∷ m.front)
+      mid (h.1 ∙ ap (λ (z : List Token). paren ∷ z) m.split)
     (λ text' other a s.
-    no_cast text' 0 l room at to (paren ∷ (m.front ++ other)) (m.front ++ other) other (h.0, refl) (m.again text' other (alike_inner text text' (paren ∷ []) rest ts h.1 a)) (only_there to rest mid m.front other w m.split s)
+    no_cast text' 0 l room at to (paren ∷ (m.front ++ other)) (m.front ++ other) other (h.0, refl)
+      (m.again text' other (alike_inner text text' (paren ∷ []) rest ts h.1 a))
+      (only_there to rest mid m.front other w m.split s)
     (λ e c end z d st low. firsts.no_punctuator punctuators.CloseParenthesis mid other s x c z))
     (λ text' a k. record {
       more = close ∷ one ∷ [];
@@ -253,7 +287,9 @@ cast_unclosed l room at to text ts rest mid p h t w x =
         tree = Cast at to one_tree;
         derives = λ other.
             let b = alike_inner text text' (paren ∷ []) rest ts h.1 a in
-            let y = subst (λ (z : List Token). IsType to z (close ∷ one ∷ other)) (sym (append_append m.front (close ∷ one ∷ []) other)) (m.again text' (close ∷ one ∷ other) b) in
+            let y = subst (λ (z : List Token). IsType to z (close ∷ one ∷ other))
+              (sym (append_append m.front (close ∷ one ∷ []) other))
+              (m.again text' (close ∷ one ∷ other) b) in
             record {
               fits = p;
               spells = record {
@@ -278,10 +314,15 @@ none_of : {A : Type 0} (o : Option A) → ((x : A) → o ≡ Some x → ⊥) →
 none_of None n = refl
 none_of (Some x) n = absurd (n x refl)
 
-pub no_operand_there : (l room : ℕ) (s : Punctuator) (at : ℕ) (text : List ℕ) (ts rest : List Token) → IsPunctuator s at ts rest → (BeginsOperand s → ⊥) → Failed 0 (place text ts) (NoOperand l room) (HasExpression l room) text ts
+pub no_operand_there : (l room : ℕ) (s : Punctuator) (at : ℕ) (text : List ℕ) (ts rest : List Token)
+    → IsPunctuator s at ts rest → (BeginsOperand s → ⊥)
+    → Failed 0 (place text ts) (NoOperand l room) (HasExpression l room) text ts
 no_operand_there l room s at text ts rest h x =
     unexpected_at (NoOperand l room) (HasExpression l room) text ts [] ts refl
-    (λ text' other q f. let g = subst (λ (z : List Token). SameFirst z other) h.1 f in no_operator text' 0 l room s at other g.0 (h.0, g.1) (λ e. x (Parenthesis e)) (none_of (increment_of s) (λ op e. x (Steps op e))) (none_of (unary_of s) (λ op e. x (Operates op e))))
+    (λ text' other q f. let g = subst (λ (z : List Token). SameFirst z other) h.1 f in
+      no_operator text' 0 l room s at other g.0 (h.0, g.1) (λ e. x (Parenthesis e))
+      (none_of (increment_of s) (λ op e. x (Steps op e)))
+      (none_of (unary_of s) (λ op e. x (Operates op e))))
     (λ text' q k. record { more = one ∷ []; has = has_one l room 6 text' })
 
 abbrev pub shortest : (s : Punctuator) → BeginsOperand s → List Token
@@ -291,10 +332,16 @@ shortest s (Operates op e) = one ∷ []
 
 pub has_shortest : (l room : ℕ) (s : Punctuator) (o : BeginsOperand s) (at end : ℕ) (text : List ℕ)
     → unary ≤ l → HasExpression l room 0 text (token (kinds.Punctuator s) at end ∷ shortest s o)
-has_shortest l room s (Parenthesis e) at end text p = subst (λ (z : Punctuator). HasExpression l room 0 text (token (kinds.Punctuator z) at end ∷ one ∷ punctuator_token punctuators.CloseParenthesis ∷ [])) (sym e)
-    (loosen l (0 + 1) room text (token (kinds.Punctuator punctuators.OpenParenthesis) at end ∷ one ∷ punctuator_token punctuators.CloseParenthesis ∷ [])
+has_shortest l room s (Parenthesis e) at end text p = subst
+    (λ (z : Punctuator). HasExpression l room 0 text
+    (token (kinds.Punctuator z) at end ∷ one ∷ punctuator_token punctuators.CloseParenthesis ∷ []))
+    (sym e)
+    (loosen l (0 + 1) room text (token (kinds.Punctuator punctuators.OpenParenthesis) at end ∷ one
+      ∷ punctuator_token punctuators.CloseParenthesis ∷ [])
     (grouped l 0 0 at end text (one ∷ punctuator_token punctuators.CloseParenthesis ∷ [])
-    (record { tree = one_tree; encloses = λ other. record { mid = punctuator_token punctuators.CloseParenthesis ∷ other; spells = (0, refl); closed = (0, (0, refl)) }; low = λ k. omega arith })))
+    (record { tree = one_tree; encloses = λ other.
+      record { mid = punctuator_token punctuators.CloseParenthesis ∷ other; spells = (0, refl);
+      closed = (0, (0, refl)) }; low = λ k. omega arith })))
 has_shortest l room s (Steps op e) at end text p =
     prefixed l room 0 s op at end text (one ∷ []) p (λ k. omega arith) e
     (has_one unary (room - 1) 0 text)
@@ -307,37 +354,45 @@ pub no_room_there : (l : ℕ) (s : Punctuator) (at : ℕ) (text : List ℕ) (ts 
     → Failed 1 (place text ts) (NoOperand l 0) (HasExpression l 0) text ts
 no_room_there l s at text ts rest p h o =
     deep_at (NoOperand l 0) (HasExpression l 0) text ts [] ts refl
-    (λ text' other q f. let g = subst (λ (z : List Token). SameFirst z other) h.1 f in no_room text' l s at other g.0 (h.0, g.1))
+    (λ text' other q f. let g = subst (λ (z : List Token). SameFirst z other) h.1 f in
+      no_room text' l s at other g.0 (h.0, g.1))
     (λ text' q k. record { more = one ∷ []; has = has_one l 0 6 text' })
-    (λ text' q k. record { token = token (kinds.Punctuator s) at h.0; rest = rest; more = shortest s o; is = h.1; has = has_shortest l 0 s o at h.0 text' p })
+    (λ text' q k. record { token = token (kinds.Punctuator s) at h.0; rest = rest;
+      more = shortest s o; is = h.1; has = has_shortest l 0 s o at h.0 text' p })
 
 -- only what it leaves after: `(`
-pub only_parenthesis : (s : Punctuator) → BeginsOperand s → increment_of s ≡ None → unary_of s ≡ None → s ≡ punctuators.OpenParenthesis
+pub only_parenthesis : (s : Punctuator) → BeginsOperand s → increment_of s ≡ None
+    → unary_of s ≡ None → s ≡ punctuators.OpenParenthesis
 only_parenthesis s (Parenthesis e) a b = e
 only_parenthesis s (Steps op e) a b = let q = sym a ∙ e in absurd cc
 only_parenthesis s (Operates op e) a b = let q = sym b ∙ e in absurd cc
 
 -- ---- whether an expression begins with a token
 
-pub name_begins : (start end : ℕ) (rest : List Token) → CanBeginExpression (token kinds.Identifier start end ∷ rest)
+pub name_begins : (start end : ℕ) (rest : List Token)
+    → CanBeginExpression (token kinds.Identifier start end ∷ rest)
 name_begins start end rest = λ text k. record {
   token = token kinds.Identifier start end;
   rest = rest;
   more = [];
   is = refl;
-  has = record { tree = Variable (record { start = start; end = end }); derives = λ other. record { fits = omega arith; spells = refl }; low = λ q. omega arith };
+  has = record { tree = Variable (record { start = start; end = end });
+      derives = λ other. record { fits = omega arith; spells = refl }; low = λ q. omega arith };
 }
 
-pub literal_begins : (x : Literal) (start end : ℕ) (rest : List Token) → CanBeginExpression (token (literal_kind x) start end ∷ rest)
+pub literal_begins : (x : Literal) (start end : ℕ) (rest : List Token)
+    → CanBeginExpression (token (literal_kind x) start end ∷ rest)
 literal_begins x start end rest = λ text k. record {
   token = token (literal_kind x) start end;
   rest = rest;
   more = [];
   is = refl;
-  has = record { tree = Constant start x; derives = λ other. record { fits = omega arith; spells = (end, refl) }; low = λ q. omega arith };
+  has = record { tree = Constant start x; derives = λ other.
+      record { fits = omega arith; spells = (end, refl) }; low = λ q. omega arith };
 }
 
-pub keyword_begins : (start end : ℕ) (rest : List Token) → CanBeginExpression (token (kinds.Keyword keywords.GetExceptionInformation) start end ∷ rest)
+pub keyword_begins : (start end : ℕ) (rest : List Token)
+    → CanBeginExpression (token (kinds.Keyword keywords.GetExceptionInformation) start end ∷ rest)
 keyword_begins start end rest = λ text k.
     let h = has_information 0 text k start end in
     record {
@@ -345,10 +400,13 @@ keyword_begins start end rest = λ text k.
       rest = rest;
       more = ends text k introduction;
       is = refl;
-      has = record { tree = Information h.at h.field; derives = λ other. record { fits = omega arith; spells = h.spells other }; low = λ q. omega arith };
+      has = record { tree = Information h.at h.field;
+        derives = λ other. record { fits = omega arith; spells = h.spells other };
+        low = λ q. omega arith };
     }
 
-pub punctuator_begins : (s : Punctuator) (start end : ℕ) (rest : List Token) → BeginsOperand s → CanBeginExpression (token (kinds.Punctuator s) start end ∷ rest)
+pub punctuator_begins : (s : Punctuator) (start end : ℕ) (rest : List Token) → BeginsOperand s
+    → CanBeginExpression (token (kinds.Punctuator s) start end ∷ rest)
 punctuator_begins s start end rest o =
     λ text k. record {
       token = token (kinds.Punctuator s) start end;
@@ -359,7 +417,8 @@ punctuator_begins s start end rest o =
       has = has_shortest assignment 0 s o start end text (omega arith);
     }
 
-pub never_kind : (k : Kind) (start end : ℕ) (rest : List Token) → 5 < kind_class k → NeverBegins (token k start end ∷ rest)
+pub never_kind : (k : Kind) (start end : ℕ) (rest : List Token) → 5 < kind_class k
+    → NeverBegins (token k start end ∷ rest)
 never_kind k start end rest p = λ text other s e after h.
     let a = expression_front text e other after h in
     let b : front other ≡ kind_class k = ap front s.1 in
@@ -371,11 +430,13 @@ never_end = λ text other s e after h.
     let b : front other ≡ 6 = ap front s in
     absurd (omega arith)
 
-pub other_keyword : (k : Keyword) → (k ≡ keywords.GetExceptionInformation → ⊥) → 5 < kind_class (kinds.Keyword k)
+pub other_keyword : (k : Keyword) → (k ≡ keywords.GetExceptionInformation → ⊥)
+    → 5 < kind_class (kinds.Keyword k)
 other_keyword keywords.GetExceptionInformation n = absurd (n refl)
 other_keyword k n = omega arith
 
-pub other_punctuator : (s : Punctuator) → (BeginsOperand s → ⊥) → 5 < kind_class (kinds.Punctuator s)
+pub other_punctuator : (s : Punctuator) → (BeginsOperand s → ⊥)
+    → 5 < kind_class (kinds.Punctuator s)
 other_punctuator punctuators.OpenParenthesis n = absurd (n (Parenthesis refl))
 other_punctuator punctuators.Ampersand n = absurd (n (Operates unary_operators.AddressOf refl))
 other_punctuator punctuators.Plus n = absurd (n (Operates unary_operators.Plus refl))
@@ -387,10 +448,19 @@ other_punctuator punctuators.PlusPlus n = absurd (n (Steps increments.Increment 
 other_punctuator punctuators.MinusMinus n = absurd (n (Steps increments.Decrement refl))
 other_punctuator s n = omega arith
 
-pub plain_begins : (k : Kind) → (k ≡ kinds.Identifier) ⊎ (((value : ℕ) × (type : IntegerType) × (k ≡ kinds.Integer value type)) ⊎ ((value : ℤ) × (k ≡ kinds.CharacterConstant value))) → (start end : ℕ) (rest : List Token) → CanBeginExpression (token k start end ∷ rest)
-plain_begins k (inl e) start end rest = subst (λ (z : Kind). CanBeginExpression (token z start end ∷ rest)) (sym e) (name_begins start end rest)
-plain_begins k (inr (inl e)) start end rest = subst (λ (z : Kind). CanBeginExpression (token z start end ∷ rest)) (sym e.2) (literal_begins (literals.Integer e.0 e.1) start end rest)
-plain_begins k (inr (inr e)) start end rest = subst (λ (z : Kind). CanBeginExpression (token z start end ∷ rest)) (sym e.1) (literal_begins (literals.CharacterConstant e.0) start end rest)
+pub plain_begins : (k : Kind) → (k ≡ kinds.Identifier)
+    ⊎ (((value : ℕ) × (type : IntegerType) × (k ≡ kinds.Integer value type))
+    ⊎ ((value : ℤ) × (k ≡ kinds.CharacterConstant value))) → (start end : ℕ) (rest : List Token)
+    → CanBeginExpression (token k start end ∷ rest)
+plain_begins k (inl e) start end rest = subst
+    (λ (z : Kind). CanBeginExpression (token z start end ∷ rest)) (sym e)
+    (name_begins start end rest)
+plain_begins k (inr (inl e)) start end rest = subst
+    (λ (z : Kind). CanBeginExpression (token z start end ∷ rest)) (sym e.2)
+    (literal_begins (literals.Integer e.0 e.1) start end rest)
+plain_begins k (inr (inr e)) start end rest = subst
+    (λ (z : Kind). CanBeginExpression (token z start end ∷ rest)) (sym e.1)
+    (literal_begins (literals.CharacterConstant e.0) start end rest)
 
 some_of : {A : Type 0} (o : Option A) → is_some o ≡ true → (x : A) × (o ≡ Some x)
 some_of None e = absurd cc
@@ -402,9 +472,11 @@ steps_by s e = let h = some_of (increment_of s) e in Steps h.0 h.1
 pub operates_by : (s : Punctuator) → is_some (unary_of s) ≡ true → BeginsOperand s
 operates_by s e = let h = some_of (unary_of s) e in Operates h.0 h.1
 
-pub first_is : (ts : List Token) (t : Token) (rest : List Token) → first ts ≡ Some (t, rest) → ts ≡ t ∷ rest
+pub first_is : (ts : List Token) (t : Token) (rest : List Token) → first ts ≡ Some (t, rest)
+    → ts ≡ t ∷ rest
 first_is [] t rest e = absurd cc
-first_is (u ∷ us) t rest e = let q : ◌≡◌ {A = Token × List Token} (u, us) (t, rest) = cc in ap (λ (z : Token × List Token). z.0 ∷ z.1) q
+first_is (u ∷ us) t rest e = let q : ◌≡◌ {A = Token × List Token} (u, us) (t, rest) = cc in
+    ap (λ (z : Token × List Token). z.0 ∷ z.1) q
 
 pub first_none : (ts : List Token) → first ts ≡ None → ts ≡ []
 first_none [] e = refl

@@ -16,23 +16,31 @@ use Rattle.c_parse_expr.specs.Readings.{NoExpression, Encloses, NoneEnclosed, No
 
 -- ---- operand and steps
 
-pub no_operand : (text : List ℕ) (w l room : ℕ) (ts : List Token) → NoOperand l room w text ts → NoExpression l room w text ts
+pub no_operand : (text : List ℕ) (w l room : ℕ) (ts : List Token) → NoOperand l room w text ts
+    → NoExpression l room w text ts
 no_operand text w l room ts n e end d s low =
     let x = spine text e ts end d.spells in
     let a = run_rank text x.head x.steps x.after e end x.run in
     let b = run_height text x.head x.steps x.after e end x.run in
     let fits = d.fits in
     n x.head x.after
-    (record { derives = record { fits = omega arith; spells = x.spells }; head = x.is_head; closes = closes x.head x.after (run_reach text x.head x.steps x.after e end l x.run d.fits s) })
+    (record { derives = record { fits = omega arith; spells = x.spells }; head = x.is_head;
+      closes = closes x.head x.after (run_reach text x.head x.steps x.after e end l x.run d.fits s)
+      })
     (omega arith)
 
-pub no_step : (text : List ℕ) (w l room : ℕ) (left : Expression) (ts rest : List Token) → Derives text l left ts rest → Closes left rest → follows rest ≤ l → NoStep room left w text rest → NoExpression l room w text ts
+pub no_step : (text : List ℕ) (w l room : ℕ) (left : Expression) (ts rest : List Token)
+    → Derives text l left ts rest → Closes left rest → follows rest ≤ l
+    → NoStep room left w text rest → NoExpression l room w text ts
 no_step text w l room left ts rest h c f n e end d s low =
     let g = passes text l left ts rest e end h.spells h.fits c f d s in
     let k = run_height text (apply left g.step) g.steps g.mid e end g.run in
-    n g.step g.mid (record { fits = g.fits; tail = g.tail; closes = g.ends }) (λ q. let r = low q in omega arith)
+    n g.step g.mid (record { fits = g.fits; tail = g.tail; closes = g.ends })
+      (λ q. let r = low q in omega arith)
 
-pub joined : (text : List ℕ) (e : Expression) (s : Step) (ts mid end : List Token) → SpellsExpression text e ts mid → rank e ≤ bound s → Tail text s mid end → SpellsExpression text (apply e s) ts end
+pub joined : (text : List ℕ) (e : Expression) (s : Step) (ts mid end : List Token)
+    → SpellsExpression text e ts mid → rank e ≤ bound s → Tail text s mid end
+    → SpellsExpression text (apply e s) ts end
 joined text e (At at i) ts mid end h f t =
     record { after_operand = mid; operand = record { fits = f; spells = h }; step = t }
 joined text e (After op at) ts mid end h f t =
@@ -46,7 +54,9 @@ joined text e (Set at op g) ts mid end h f t =
 joined text e (And at g) ts mid end h f t =
     record { after_operand = mid; operand = record { fits = f; spells = h }; step = t }
 
-pub continues : (text : List ℕ) (l : ℕ) (left : Expression) (s : Step) (ts rest end : List Token) → Derives text l left ts rest → follows rest ≤ l → IsStep text left s rest end → Derives text l (apply left s) ts end
+pub continues : (text : List ℕ) (l : ℕ) (left : Expression) (s : Step) (ts rest end : List Token)
+    → Derives text l left ts rest → follows rest ≤ l → IsStep text left s rest end
+    → Derives text l (apply left s) ts end
 continues text l left s ts rest end h f x =
     let p = step_follows text left s rest end x.tail in
     record { fits = omega arith; spells = joined text left s ts rest end h.spells x.fits x.tail }
@@ -73,9 +83,12 @@ pub not_closed : (text : List ℕ) (w : ℕ) (close : Punctuator) (room : ℕ) (
     (ts mid : List Token) → punctuator_follows close ≡ never → Derives text comma e ts mid → Stops
     comma mid → ((end : List Token) → HasPunctuator close mid end → ⊥) → NoneEnclosed close room w
     text ts
-not_closed text w close room e ts mid p h s n f end x low = n end (inside text close e f ts mid end p h s x).1
+not_closed text w close room e ts mid p h s n f end x low = n end
+    (inside text close e f ts mid end p h s x).1
 
-pub enclosed_once : (text : List ℕ) (close : Punctuator) (e f : Expression) (ts rest end : List Token) → punctuator_follows close ≡ never → Encloses text close e ts rest → Encloses text close f ts end → (e ≡ f) × (rest ≡ end)
+pub enclosed_once : (text : List ℕ) (close : Punctuator) (e f : Expression)
+    (ts rest end : List Token) → punctuator_follows close ≡ never → Encloses text close e ts rest
+    → Encloses text close f ts end → (e ≡ f) × (rest ≡ end)
 enclosed_once text close e f ts rest end p x y =
     let q = inside text close e f ts x.mid end p (record { fits = rank_low e; spells = x.spells })
     (has_stops close x.mid rest comma x.closed (omega arith)) y in

@@ -47,10 +47,13 @@ pub record HasForm (ps : List Piece) (n : ℕ) (text : List ℕ) (ts : List Toke
   pub field : Field
   pub is : (other : List Token) → Form ps text field (ts ++ other) other
 
-alike_head : (text text' : List ℕ) (t : Token) (ts rest : List Token) → ts ≡ t ∷ rest → Alike text text' ts → slice_range text t.start t.end ≡ slice_range text' t.start t.end
+alike_head : (text text' : List ℕ) (t : Token) (ts rest : List Token) → ts ≡ t ∷ rest
+    → Alike text text' ts → slice_range text t.start t.end ≡ slice_range text' t.start t.end
 alike_head text text' t ts rest e a = (subst (λ (z : List Token). Alike text text' z) e a).0
 
-test_again : (text text' : List ℕ) (p : Piece) (t : Token) → slice_range text t.start t.end ≡ slice_range text' t.start t.end → Test text p t → Test text' p t
+test_again : (text text' : List ℕ) (p : Piece) (t : Token)
+    → slice_range text t.start t.end ≡ slice_range text' t.start t.end → Test text p t
+    → Test text' p t
 test_again text text' (Mark s) t e h = h
 test_again text text' Record t e h = (h.0, sym e ∙ h.1)
 
@@ -66,7 +69,8 @@ abbrev pub ends : (text : List ℕ) → Speaks text → List Piece → List Toke
 ends text k [] = token kinds.Identifier k.of_code.start k.of_code.end ∷ []
 ends text k (p ∷ ps) = piece text k p ∷ ends text k ps
 
-ends_are : (text : List ℕ) (k : Speaks text) (ps : List Piece) (other : List Token) → Form ps text fields.Code (ends text k ps ++ other) other
+ends_are : (text : List ℕ) (k : Speaks text) (ps : List Piece) (other : List Token)
+    → Form ps text fields.Code (ends text k ps ++ other) other
 ends_are text k [] other = (k.of_code, refl, k.spells_code)
 ends_are text k (p ∷ ps) other = record {
   first = piece text k p;
@@ -76,19 +80,24 @@ ends_are text k (p ∷ ps) other = record {
   others = ends_are text k ps other;
 }
 
-gone : (p : Piece) (ps : List Piece) (text : List ℕ) (ts : List Token) → ((t : Token) (rest : List Token) → ts ≡ t ∷ rest → Test text p t → ⊥) → Failed 0 (place text ts) (NoForm (p ∷ ps)) (HasForm (p ∷ ps)) text ts
+gone : (p : Piece) (ps : List Piece) (text : List ℕ) (ts : List Token)
+    → ((t : Token) (rest : List Token) → ts ≡ t ∷ rest → Test text p t → ⊥)
+    → Failed 0 (place text ts) (NoForm (p ∷ ps)) (HasForm (p ∷ ps)) text ts
 gone p ps text ts n =
     unexpected_at (NoForm (p ∷ ps)) (HasForm (p ∷ ps)) text ts [] ts refl
     (λ text' other a s field end f.
     let b = firsts.first_token f.first f.after_first ts other s f.split in
     let same = sym (alike_head text text' f.first ts b.0 b.1 a) in
     n f.first b.0 b.1 (test_again text' text p f.first same f.passes))
-    (λ text' a k. record { more = ends text' k (p ∷ ps); has = record { field = fields.Code; is = ends_are text' k (p ∷ ps) } })
+    (λ text' a k. record { more = ends text' k (p ∷ ps);
+      has = record { field = fields.Code; is = ends_are text' k (p ∷ ps) } })
 
 same_tail : (t u : Token) (xs ys : List Token) → t ∷ xs ≡ u ∷ ys → xs ≡ ys
 same_tail t u xs ys e = cc
 
-there : (p : Piece) (ps : List Piece) (text : List ℕ) (t : Token) (ts rest : List Token) → ts ≡ t ∷ rest → Test text p t → Wraps (NoForm ps) (HasForm ps) (NoForm (p ∷ ps)) (HasForm (p ∷ ps)) text rest ts
+there : (p : Piece) (ps : List Piece) (text : List ℕ) (t : Token) (ts rest : List Token)
+    → ts ≡ t ∷ rest → Test text p t → Wraps (NoForm ps) (HasForm ps) (NoForm (p ∷ ps))
+      (HasForm (p ∷ ps)) text rest ts
 there p ps text t ts rest e h = record {
   before = t ∷ [];
   split = e;
@@ -108,24 +117,35 @@ there p ps text t ts rest e h = record {
       });
 }
 
-pub punctuator_gone : (s : Punctuator) (ps : List Piece) (text : List ℕ) (ts : List Token) → ((rest : List Token) → HasPunctuator s ts rest → ⊥) → Failed 0 (place text ts) (NoForm (Mark s ∷ ps)) (HasForm (Mark s ∷ ps)) text ts
-punctuator_gone s ps text ts n = gone (Mark s) ps text ts (λ t rest e h. n rest (t.start, (t.end, e ∙ ap (λ z. token z t.start t.end ∷ rest) h)))
+pub punctuator_gone : (s : Punctuator) (ps : List Piece) (text : List ℕ) (ts : List Token)
+    → ((rest : List Token) → HasPunctuator s ts rest → ⊥)
+    → Failed 0 (place text ts) (NoForm (Mark s ∷ ps)) (HasForm (Mark s ∷ ps)) text ts
+punctuator_gone s ps text ts n = gone (Mark s) ps text ts
+    (λ t rest e h. n rest (t.start, (t.end, e ∙ ap (λ z. token z t.start t.end ∷ rest) h)))
 
-pub punctuator_there : (s : Punctuator) (ps : List Piece) (text : List ℕ) (ts rest : List Token) → HasPunctuator s ts rest → Wraps (NoForm ps) (HasForm ps) (NoForm (Mark s ∷ ps)) (HasForm (Mark s ∷ ps)) text rest ts
-punctuator_there s ps text ts rest h = there (Mark s) ps text (token (kinds.Punctuator s) h.0 h.1.0) ts rest h.1.1 refl
+pub punctuator_there : (s : Punctuator) (ps : List Piece) (text : List ℕ) (ts rest : List Token)
+    → HasPunctuator s ts rest → Wraps (NoForm ps) (HasForm ps) (NoForm (Mark s ∷ ps))
+      (HasForm (Mark s ∷ ps)) text rest ts
+punctuator_there s ps text ts rest h = there (Mark s) ps text (token (kinds.Punctuator s) h.0 h.1.0)
+    ts rest h.1.1 refl
 
 pub record_gone : (ps : List Piece) (text : List ℕ) (ts : List Token) → ((rest : List Token) → HasWord text (codes "ExceptionRecord") ts rest → ⊥) → Failed 0 (place text ts) (NoForm (Record ∷ ps)) (HasForm (Record ∷ ps)) text ts
-record_gone ps text ts n = gone Record ps text ts (λ t rest e h. n rest (record { start = t.start; end = t.end }, e ∙ ap (λ z. token z t.start t.end ∷ rest) h.0, h.1))
+record_gone ps text ts n = gone Record ps text ts
+    (λ t rest e h. n rest (record { start = t.start; end = t.end }, e
+    ∙ ap (λ z. token z t.start t.end ∷ rest) h.0, h.1))
 
 pub record_there : (ps : List Piece) (text : List ℕ) (ts rest : List Token) → HasWord text (codes "ExceptionRecord") ts rest → Wraps (NoForm ps) (HasForm ps) (NoForm (Record ∷ ps)) (HasForm (Record ∷ ps)) text rest ts
-record_there ps text ts rest h = there Record ps text (token kinds.Identifier h.0.start h.0.end) ts rest h.1 (refl, h.2)
+record_there ps text ts rest h = there Record ps text (token kinds.Identifier h.0.start h.0.end) ts
+    rest h.1 (refl, h.2)
 
-pub field_there : (text : List ℕ) (ts : List Token) → Wraps NoField HasField (NoForm []) (HasForm []) text ts ts
+pub field_there : (text : List ℕ) (ts : List Token)
+    → Wraps NoField HasField (NoForm []) (HasForm []) text ts ts
 field_there text ts = record {
   before = [];
   split = refl;
   no = λ n text' other a s x. x;
-  has = λ n text' inner a k h. able_now (HasForm []) n text' inner (record { field = h.field; is = h.is });
+  has = λ n text' inner a k h. able_now (HasForm []) n text' inner
+      (record { field = h.field; is = h.is });
 }
 
 -- ---- the keyword before them
@@ -175,13 +195,17 @@ formed text at field ts end h =
     end
     i.opening closing
 
-marked : (s : Punctuator) (t : Token) (ts rest : List Token) → ts ≡ t ∷ rest → t.kind ≡ kinds.Punctuator s → HasPunctuator s ts rest
+marked : (s : Punctuator) (t : Token) (ts rest : List Token) → ts ≡ t ∷ rest
+    → t.kind ≡ kinds.Punctuator s → HasPunctuator s ts rest
 marked s t ts rest e h = (t.start, (t.end, e ∙ ap (λ z. token z t.start t.end ∷ rest) h))
 
 worded : (text : List ℕ) (t : Token) (ts rest : List Token) → ts ≡ t ∷ rest → Test text Record t → HasWord text (codes "ExceptionRecord") ts rest
-worded text t ts rest e h = (record { start = t.start; end = t.end }, e ∙ ap (λ z. token z t.start t.end ∷ rest) h.0, h.1)
+worded text t ts rest e h = (record { start = t.start; end = t.end }, e
+    ∙ ap (λ z. token z t.start t.end ∷ rest) h.0, h.1)
 
-spelled : (text : List ℕ) (at : ℕ) (field : Field) (ts a end : List Token) → IsKeyword keywords.GetExceptionInformation at ts a → Form introduction text field a end → SpellsExpression text (Information at field) ts end
+spelled : (text : List ℕ) (at : ℕ) (field : Field) (ts a end : List Token)
+    → IsKeyword keywords.GetExceptionInformation at ts a → Form introduction text field a end
+    → SpellsExpression text (Information at field) ts end
 spelled text at field ts a end k opening =
     let closing = opening.others in
     let arrow = closing.others in
@@ -216,7 +240,9 @@ spelled text at field ts a end k opening =
       field = last_arrow.others;
     }
 
-pub keyword_gone : (text : List ℕ) (ts : List Token) → ((at : ℕ) (rest : List Token) → IsKeyword keywords.GetExceptionInformation at ts rest → ⊥) → Failed 0 (place text ts) NoInformation HasInformation text ts
+pub keyword_gone : (text : List ℕ) (ts : List Token)
+    → ((at : ℕ) (rest : List Token) → IsKeyword keywords.GetExceptionInformation at ts rest → ⊥)
+    → Failed 0 (place text ts) NoInformation HasInformation text ts
 keyword_gone text ts n =
     unexpected_at NoInformation HasInformation text ts [] ts refl
     (λ text' other a s at field end h. firsts.no_kind
@@ -228,11 +254,15 @@ keyword_gone text ts n =
         at = 0;
         field = fields.Code;
         spells = λ other.
-            spelled text' 0 fields.Code (token (kinds.Keyword keywords.GetExceptionInformation) 0 0 ∷ (ends text' k introduction ++ other)) (ends text' k introduction ++ other) other (0, refl) (ends_are text' k introduction other);
+            spelled text' 0 fields.Code (token (kinds.Keyword keywords.GetExceptionInformation) 0 0
+              ∷ (ends text' k introduction ++ other)) (ends text' k introduction ++ other) other
+                (0, refl) (ends_are text' k introduction other);
       };
     })
 
-pub keyword_there : (text : List ℕ) (at : ℕ) (ts rest : List Token) → IsKeyword keywords.GetExceptionInformation at ts rest → Wraps (NoForm introduction) (HasForm introduction) NoInformation HasInformation text rest ts
+pub keyword_there : (text : List ℕ) (at : ℕ) (ts rest : List Token)
+    → IsKeyword keywords.GetExceptionInformation at ts rest
+    → Wraps (NoForm introduction) (HasForm introduction) NoInformation HasInformation text rest ts
 keyword_there text at ts rest k =
     let word = token (kinds.Keyword keywords.GetExceptionInformation) at k.0 in
     record {
@@ -246,16 +276,22 @@ keyword_there text at ts rest k =
           (subst (λ (z : List Token). Form introduction text' field z end) (sym same)
           (formed text' to field (word ∷ other) end h));
       has = λ n text' inner a z f. able_now HasInformation n text' (word ∷ inner)
-          (record { at = at; field = f.field; spells = λ other. spelled text' at f.field (word ∷ (inner ++ other)) (inner ++ other) other (k.0, refl) (f.is other) });
+          (record { at = at; field = f.field;
+            spells = λ other. spelled text' at f.field (word ∷ (inner ++ other)) (inner ++ other)
+            other (k.0, refl) (f.is other) });
     }
 
 -- the shortest reading, by which some expression begins with the keyword
-pub has_information : (n : ℕ) (text : List ℕ) (k : Speaks text) (at end : ℕ) → HasInformation n text (token (kinds.Keyword keywords.GetExceptionInformation) at end ∷ ends text k introduction)
+pub has_information : (n : ℕ) (text : List ℕ) (k : Speaks text) (at end : ℕ)
+    → HasInformation n text (token (kinds.Keyword keywords.GetExceptionInformation) at end
+    ∷ ends text k introduction)
 has_information n text k at end = record {
   at = at;
   field = fields.Code;
   spells = λ other.
-      spelled text at fields.Code (token (kinds.Keyword keywords.GetExceptionInformation) at end ∷ (ends text k introduction ++ other)) (ends text k introduction ++ other) other (end, refl) (ends_are text k introduction other);
+      spelled text at fields.Code (token (kinds.Keyword keywords.GetExceptionInformation) at end
+        ∷ (ends text k introduction ++ other)) (ends text k introduction ++ other) other (end, refl)
+          (ends_are text k introduction other);
 }
 
 -- ---- fields
@@ -263,7 +299,8 @@ has_information n text k at end = record {
 abbrev element : List ℕ
 element = codes "ExceptionInformation"
 
-none_again : (n : ℕ) (text text' : List ℕ) (ts other : List Token) → NoField 0 text ts → Alike text text' ts → SameFirst ts other → NoElement text' other → NoField n text' other
+none_again : (n : ℕ) (text text' : List ℕ) (ts other : List Token) → NoField 0 text ts
+    → Alike text text' ts → SameFirst ts other → NoElement text' other → NoField n text' other
 none_again n text text' ts other x a s e =
     no_field text' other
     (firsts.no_word (codes "ExceptionCode") text text' ts other a s (x fields.Code))
@@ -272,25 +309,36 @@ none_again n text text' ts other x a s e =
     e
 
 -- no field's name is at the front
-pub nameless : (text : List ℕ) (ts : List Token) → NoField 0 text ts → ((rest : List Token) → HasWord text element ts rest → ⊥) → Failed 0 (place text ts) NoField HasField text ts
+pub nameless : (text : List ℕ) (ts : List Token) → NoField 0 text ts
+    → ((rest : List Token) → HasWord text element ts rest → ⊥)
+    → Failed 0 (place text ts) NoField HasField text ts
 nameless text ts x n =
     unexpected_at NoField HasField text ts [] ts refl
-    (λ text' other a s. none_again 0 text text' ts other x a s (no_element text' other (firsts.no_word element text text' ts other a s n)))
-    (λ text' a k. record { more = ends text' k []; has = record { field = fields.Code; is = ends_are text' k [] } })
+    (λ text' other a s. none_again 0 text text' ts other x a s
+      (no_element text' other (firsts.no_word element text text' ts other a s n)))
+    (λ text' a k. record { more = ends text' k [];
+      has = record { field = fields.Code; is = ends_are text' k [] } })
 
 first_there : (t : Token) (ts rest other : List Token) → ts ≡ t ∷ rest → SameFirst ts (t ∷ other)
-first_there t ts rest other e = subst (λ (z : List Token). SameFirst z (t ∷ other)) (sym e) (other, refl)
+first_there t ts rest other e = subst (λ (z : List Token). SameFirst z (t ∷ other)) (sym e)
+    (other, refl)
 
 abbrev index_end : List Token
 index_end = one ∷ punctuator_token punctuators.CloseBracket ∷ []
 
-pub no_bracket_there : (text : List ℕ) (ts a : List Token) → NoField 0 text ts → HasWord text element ts a → ((rest : List Token) → HasPunctuator punctuators.OpenBracket a rest → ⊥) → Failed 0 (place text a) NoField HasField text ts
+pub no_bracket_there : (text : List ℕ) (ts a : List Token) → NoField 0 text ts
+    → HasWord text element ts a → ((rest : List Token)
+    → HasPunctuator punctuators.OpenBracket a rest → ⊥)
+    → Failed 0 (place text a) NoField HasField text ts
 no_bracket_there text ts a x w n =
     let t = token kinds.Identifier w.0.start w.0.end in
     unexpected_at NoField HasField text ts (t ∷ []) a w.1
     (λ text' other l s.
-    let v : HasWord text' element (t ∷ other) other = (w.0, refl, sym (alike_head text text' t ts a w.1 l) ∙ w.2) in
-    none_again 0 text text' ts (t ∷ other) x l (first_there t ts a other w.1) (no_bracket text' (t ∷ other) other v (firsts.no_punctuator punctuators.OpenBracket a other s n)))
+    let v : HasWord text' element (t ∷ other)
+      other = (w.0, refl, sym (alike_head text text' t ts a w.1 l) ∙ w.2) in
+    none_again 0 text text' ts (t ∷ other) x l (first_there t ts a other w.1)
+      (no_bracket text' (t ∷ other) other v (firsts.no_punctuator punctuators.OpenBracket a other s
+      n)))
     (λ text' l k. record {
       more = punctuator_token punctuators.OpenBracket ∷ index_end;
       has = record {
@@ -307,15 +355,21 @@ no_bracket_there text ts a x w n =
       };
     })
 
-pub no_index_there : (text : List ℕ) (ts a b : List Token) → NoField 0 text ts → HasWord text element ts a → HasPunctuator punctuators.OpenBracket a b → ((value at : ℕ) (rest : List Token) → IsInteger value at b rest → ⊥) → Failed 0 (place text b) NoField HasField text ts
+pub no_index_there : (text : List ℕ) (ts a b : List Token) → NoField 0 text ts
+    → HasWord text element ts a → HasPunctuator punctuators.OpenBracket a b
+    → ((value at : ℕ) (rest : List Token) → IsInteger value at b rest → ⊥)
+    → Failed 0 (place text b) NoField HasField text ts
 no_index_there text ts a b x w h n =
     let t = token kinds.Identifier w.0.start w.0.end in
     let u = token (kinds.Punctuator punctuators.OpenBracket) h.0 h.1.0 in
-    unexpected_at NoField HasField text ts (t ∷ u ∷ []) b (w.1 ∙ ap (λ (z : List Token). t ∷ z) h.1.1)
+    unexpected_at NoField HasField text ts (t ∷ u ∷ []) b
+      (w.1 ∙ ap (λ (z : List Token). t ∷ z) h.1.1)
     (λ text' other l s.
-    let v : HasWord text' element (t ∷ u ∷ other) (u ∷ other) = (w.0, refl, sym (alike_head text text' t ts a w.1 l) ∙ w.2) in
+    let v : HasWord text' element (t ∷ u ∷ other)
+      (u ∷ other) = (w.0, refl, sym (alike_head text text' t ts a w.1 l) ∙ w.2) in
     none_again 0 text text' ts (t ∷ u ∷ other) x l (first_there t ts a (u ∷ other) w.1)
-    (no_index text' (t ∷ u ∷ other) (u ∷ other) other v (h.0, (h.1.0, refl)) (firsts.no_integer b other s n)))
+    (no_index text' (t ∷ u ∷ other) (u ∷ other) other v (h.0, (h.1.0, refl))
+      (firsts.no_integer b other s n)))
     (λ text' l k. record {
       more = index_end;
       has = record {
@@ -332,16 +386,21 @@ no_index_there text ts a b x w h n =
       };
     })
 
-pub no_close_there : (text : List ℕ) (ts a b c : List Token) (value at : ℕ) → NoField 0 text ts → HasWord text element ts a → HasPunctuator punctuators.OpenBracket a b → IsInteger value at b c → Failed 0 (place text c) NoField HasField text ts
+pub no_close_there : (text : List ℕ) (ts a b c : List Token) (value at : ℕ) → NoField 0 text ts
+    → HasWord text element ts a → HasPunctuator punctuators.OpenBracket a b → IsInteger value at b c
+    → Failed 0 (place text c) NoField HasField text ts
 no_close_there text ts a b c value at x w h i =
     let t = token kinds.Identifier w.0.start w.0.end in
     let u = token (kinds.Punctuator punctuators.OpenBracket) h.0 h.1.0 in
     let v = token (kinds.Integer value i.0) at i.1.0 in
-    unexpected_at NoField HasField text ts (t ∷ u ∷ v ∷ []) c (w.1 ∙ ap (λ (z : List Token). t ∷ z) (h.1.1 ∙ ap (λ (z : List Token). u ∷ z) i.1.1))
+    unexpected_at NoField HasField text ts (t ∷ u ∷ v ∷ []) c
+      (w.1 ∙ ap (λ (z : List Token). t ∷ z) (h.1.1 ∙ ap (λ (z : List Token). u ∷ z) i.1.1))
     (λ text' other l s.
-    let y : HasWord text' element (t ∷ u ∷ v ∷ other) (u ∷ v ∷ other) = (w.0, refl, sym (alike_head text text' t ts a w.1 l) ∙ w.2) in
+    let y : HasWord text' element (t ∷ u ∷ v ∷ other)
+      (u ∷ v ∷ other) = (w.0, refl, sym (alike_head text text' t ts a w.1 l) ∙ w.2) in
     none_again 0 text text' ts (t ∷ u ∷ v ∷ other) x l (first_there t ts a (u ∷ v ∷ other) w.1)
-    (no_close text' (t ∷ u ∷ v ∷ other) (u ∷ v ∷ other) (v ∷ other) other value at y (h.0, (h.1.0, refl)) (i.0, (i.1.0, refl))
+    (no_close text' (t ∷ u ∷ v ∷ other) (u ∷ v ∷ other) (v ∷ other) other value at y
+      (h.0, (h.1.0, refl)) (i.0, (i.1.0, refl))
     (firsts.no_punctuator punctuators.CloseBracket c other s
     (λ rest g. x (fields.Information value at) rest
     (record {

@@ -7,13 +7,18 @@ use Rattle.c_syntax.specs.Tokens.{IsPunctuator}
 use Rattle.c_parse_type.specs.Fronts.{after_punctuator}
 use Rattle.c_parse_type.proofs.Types.{punctuator_at, punctuator_is}
 
-pub front_found : {A : Type 0} (r : Option A) (f : A → Punctuator × ℕ × List Token) (ts : List Token) → option_map f r ≡ after_punctuator ts → IfSome r (λ x. IsPunctuator (f x).0 (f x).1 ts (f x).2)
+pub front_found : {A : Type 0} (r : Option A) (f : A → Punctuator × ℕ × List Token)
+    (ts : List Token) → option_map f r ≡ after_punctuator ts
+    → IfSome r (λ x. IsPunctuator (f x).0 (f x).1 ts (f x).2)
 front_found None f ts e = tt
 front_found (Some x) f ts e = punctuator_is ts (f x).2 (f x).0 (f x).1 (sym e)
 
-absent : (ts : List Token) → None ≡ after_punctuator ts → (s : Punctuator) (at : ℕ) (rest : List Token) → IsPunctuator s at ts rest → ⊥
+absent : (ts : List Token) → None ≡ after_punctuator ts
+    → (s : Punctuator) (at : ℕ) (rest : List Token) → IsPunctuator s at ts rest → ⊥
 absent ts e s at rest h = let q : None ≡ Some (s, at, rest) = e ∙ punctuator_at s at ts rest h in cc
 
-pub front_none : {A : Type 0} (r : Option A) (f : A → Punctuator × ℕ × List Token) (ts : List Token) → option_map f r ≡ after_punctuator ts → IfNone r ((s : Punctuator) (at : ℕ) (rest : List Token) → IsPunctuator s at ts rest → ⊥)
+pub front_none : {A : Type 0} (r : Option A) (f : A → Punctuator × ℕ × List Token) (ts : List Token)
+    → option_map f r ≡ after_punctuator ts → IfNone r
+      ((s : Punctuator) (at : ℕ) (rest : List Token) → IsPunctuator s at ts rest → ⊥)
 front_none None f ts e = absent ts e
 front_none (Some x) f ts e = tt

@@ -32,7 +32,8 @@ use Rattle.c_parse_expr.specs.Readings.{NoExpression, Encloses, NoneEnclosed, No
 pub none_begins : (text : List ℕ) (w l room : ℕ) (ts : List Token)
     → ((x : Literal) (at : ℕ) (rest : List Token) → IsKind (literal_kind x) at ts rest → ⊥)
     → ((x : Identifier) (rest : List Token) → IsIdentifier x ts rest → ⊥)
-    → ((at : ℕ) (x : Field) (rest : List Token) → SpellsExpression text (Information at x) ts rest → ⊥)
+    → ((at : ℕ) (x : Field) (rest : List Token) → SpellsExpression text (Information at x) ts rest
+    → ⊥)
     → ((s : Punctuator) (at : ℕ) (rest : List Token) → IsPunctuator s at ts rest → ⊥)
     → NoOperand l room w text ts
 none_begins text w l room ts a b c d (Constant at x) end o low = a x at end o.derives.spells
@@ -63,10 +64,12 @@ literal_punctuator : (x : Literal) (s : Punctuator) → literal_kind x ≡ kinds
 literal_punctuator (literals.Integer value type) s e = cc
 literal_punctuator (literals.CharacterConstant value) s e = cc
 
-other_kind : (k j : Kind) (at to : ℕ) (ts rest end : List Token) → IsKind k at ts rest → IsKind j to ts end → k ≡ j
+other_kind : (k j : Kind) (at to : ℕ) (ts rest end : List Token) → IsKind k at ts rest
+    → IsKind j to ts end → k ≡ j
 other_kind k j at to ts rest end h g = (kind_same k j at to ts ts rest end refl h g).0
 
-identifier_kind : (x : Identifier) (ts rest : List Token) → IsIdentifier x ts rest → IsKind kinds.Identifier x.start ts rest
+identifier_kind : (x : Identifier) (ts rest : List Token) → IsIdentifier x ts rest
+    → IsKind kinds.Identifier x.start ts rest
 identifier_kind x ts rest h = (x.end, h)
 
 punctuator_not_name : (s : Punctuator) → kinds.Punctuator s ≡ kinds.Identifier → ⊥
@@ -75,7 +78,8 @@ punctuator_not_name s e = cc
 keyword_not_name : kinds.Keyword keywords.GetExceptionInformation ≡ kinds.Identifier → ⊥
 keyword_not_name e = cc
 
-keyword_not_punctuator : (s : Punctuator) → kinds.Keyword keywords.GetExceptionInformation ≡ kinds.Punctuator s → ⊥
+keyword_not_punctuator : (s : Punctuator) → kinds.Keyword keywords.GetExceptionInformation
+    ≡ kinds.Punctuator s → ⊥
 keyword_not_punctuator s e = cc
 
 name_not_punctuator : (s : Punctuator) → kinds.Identifier ≡ kinds.Punctuator s → ⊥
@@ -83,13 +87,17 @@ name_not_punctuator s e = cc
 
 -- ---- after a name
 
-pub none_named : (text : List ℕ) (w l room : ℕ) (x : Identifier) (ts rest : List Token) → IsIdentifier x ts rest
+pub none_named : (text : List ℕ) (w l room : ℕ) (x : Identifier) (ts rest : List Token)
+    → IsIdentifier x ts rest
     → (primary < follows rest → ⊥)
-    → ((es : Arguments) (b end : List Token) → HasPunctuator punctuators.OpenParenthesis rest b → SpellsArguments text es b end → (1 ≤ w → heights es ≤ room) → ⊥)
+    → ((es : Arguments) (b end : List Token) → HasPunctuator punctuators.OpenParenthesis rest b
+    → SpellsArguments text es b end → (1 ≤ w → heights es ≤ room) → ⊥)
     → NoOperand l room w text ts
-none_named text w l room x ts rest n v c (Constant at y) end o low = literal_name y (other_kind _ _ at x.start ts end rest o.derives.spells (identifier_kind x ts rest n))
+none_named text w l room x ts rest n v c (Constant at y) end o low = literal_name y
+    (other_kind _ _ at x.start ts end rest o.derives.spells (identifier_kind x ts rest n))
 none_named text w l room x ts rest n v c (Variable y) end o low =
-    let q = (name_same x y ts ts rest end refl n o.derives.spells).1 in let p = ap follows q in let k = o.closes in v (omega arith)
+    let q = (name_same x y ts ts rest end refl n o.derives.spells).1 in let p = ap follows q in
+      let k = o.closes in v (omega arith)
 none_named text w l room x ts rest n v c (Information at y) end o low =
     let h = o.derives.spells in
     keyword_not_name (other_kind _ _ at x.start ts h.introduction.after_keyword rest
@@ -118,32 +126,43 @@ none_named text w l room x ts rest n v c (Cast at to e) end o low =
     h.operator.opening (identifier_kind x ts rest n))
 none_named text w l room x ts rest n v c k end o low = o.head
 
-call_follows : (rest b : List Token) → HasPunctuator punctuators.OpenParenthesis rest b → follows rest ≡ primary
+call_follows : (rest b : List Token) → HasPunctuator punctuators.OpenParenthesis rest b
+    → follows rest ≡ primary
 call_follows rest b h = ap follows h.1.1
 
-pub no_call : (text : List ℕ) (w l room : ℕ) (x : Identifier) (ts rest b : List Token) → IsIdentifier x ts rest → HasPunctuator punctuators.OpenParenthesis rest b → NoArguments room w text b → NoOperand l room w text ts
+pub no_call : (text : List ℕ) (w l room : ℕ) (x : Identifier) (ts rest b : List Token)
+    → IsIdentifier x ts rest → HasPunctuator punctuators.OpenParenthesis rest b
+    → NoArguments room w text b → NoOperand l room w text ts
 no_call text w l room x ts rest b n h a =
     none_named text w l room x ts rest n
     (λ p. let q = call_follows rest b h in absurd (omega arith))
-    (λ es d end g s low. a es end (subst (λ (z : List Token). SpellsArguments text es z end) (has_same punctuators.OpenParenthesis rest rest d b refl g h) s) low)
+    (λ es d end g s low. a es end (subst (λ (z : List Token). SpellsArguments text es z end)
+      (has_same punctuators.OpenParenthesis rest rest d b refl g h) s) low)
 
 -- no `(` is at the front
-positive_sign : (s : Punctuator) → (s ≡ punctuators.OpenParenthesis → ⊥) → primary < punctuator_follows s
+positive_sign : (s : Punctuator) → (s ≡ punctuators.OpenParenthesis → ⊥)
+    → primary < punctuator_follows s
 positive_sign punctuators.OpenParenthesis n = absurd (n refl)
 positive_sign s n = omega arith
 
-positive_kind : (k : Kind) (at end : ℕ) (ts : List Token) → ((b : List Token) → HasPunctuator punctuators.OpenParenthesis (token k at end ∷ ts) b → ⊥) → primary < kind_follows k
-positive_kind (kinds.Punctuator s) at end ts n = positive_sign s (λ e. n ts (at, (end, ap (λ (z : Punctuator). token (kinds.Punctuator z) at end ∷ ts) e)))
+positive_kind : (k : Kind) (at end : ℕ) (ts : List Token)
+    → ((b : List Token) → HasPunctuator punctuators.OpenParenthesis (token k at end ∷ ts) b → ⊥)
+    → primary < kind_follows k
+positive_kind (kinds.Punctuator s) at end ts n = positive_sign s
+    (λ e. n ts (at, (end, ap (λ (z : Punctuator). token (kinds.Punctuator z) at end ∷ ts) e)))
 positive_kind k at end ts n = omega arith
 
-pub no_parenthesis : (ts : List Token) → ((b : List Token) → HasPunctuator punctuators.OpenParenthesis ts b → ⊥) → primary < follows ts
+pub no_parenthesis : (ts : List Token) → ((b : List Token)
+    → HasPunctuator punctuators.OpenParenthesis ts b → ⊥) → primary < follows ts
 no_parenthesis [] n = omega arith
 no_parenthesis (t ∷ ts) n = positive_kind t.kind t.start t.end ts n
 
 -- ---- after a punctuator
 
-pub none_signed : (text : List ℕ) (w l room : ℕ) (s : Punctuator) (at : ℕ) (ts rest : List Token) → IsPunctuator s at ts rest
-    → ((e : Expression) (end : List Token) → s ≡ punctuators.OpenParenthesis → Encloses text punctuators.CloseParenthesis e rest end → (1 ≤ w → height e < room) → ⊥)
+pub none_signed : (text : List ℕ) (w l room : ℕ) (s : Punctuator) (at : ℕ) (ts rest : List Token)
+    → IsPunctuator s at ts rest
+    → ((e : Expression) (end : List Token) → s ≡ punctuators.OpenParenthesis
+    → Encloses text punctuators.CloseParenthesis e rest end → (1 ≤ w → height e < room) → ⊥)
     → ((op : Increment) (e : Expression) (end : List Token) → s ≡ increment_punctuator op → Derives
     text unary e rest end → Stops unary end → (1 ≤ w → height e < room) → ⊥)
     → ((op : UnaryOperator) (e : Expression) (end : List Token) → s ≡ unary_punctuator op → Derives
@@ -152,8 +171,10 @@ pub none_signed : (text : List ℕ) (w l room : ℕ) (s : Punctuator) (at : ℕ)
     cast ≤ l → IsType to rest b → HasPunctuator punctuators.CloseParenthesis b c → Derives text cast
     e c end → Stops cast end → (1 ≤ w → height e < room) → ⊥)
     → NoOperand l room w text ts
-none_signed text w l room s at ts rest n pa pr un ca (Constant to y) end o low = literal_punctuator y s (other_kind _ _ to at ts end rest o.derives.spells n)
-none_signed text w l room s at ts rest n pa pr un ca (Variable y) end o low = name_not_punctuator s (other_kind _ _ y.start at ts end rest (identifier_kind y ts end o.derives.spells) n)
+none_signed text w l room s at ts rest n pa pr un ca (Constant to y) end o low = literal_punctuator
+    y s (other_kind _ _ to at ts end rest o.derives.spells n)
+none_signed text w l room s at ts rest n pa pr un ca (Variable y) end o low = name_not_punctuator s
+    (other_kind _ _ y.start at ts end rest (identifier_kind y ts end o.derives.spells) n)
 none_signed text w l room s at ts rest n pa pr un ca (Information to y) end o low =
     let h = o.derives.spells in
     keyword_not_punctuator s (other_kind _ _ to at ts h.introduction.after_keyword rest
@@ -194,30 +215,44 @@ none_signed text w l room s at ts rest n pa pr un ca (Cast to type e) end o low 
     h.operator.closing h.operand o.closes (λ k. let a = low k in omega arith)
 none_signed text w l room s at ts rest n pa pr un ca k end o low = o.head
 
-pub not_open : (s : Punctuator) → s ≡ punctuators.OpenParenthesis → (op : Increment) → increment_of s ≡ Some op → ⊥
-not_open s e op p = let q : increment_of punctuators.OpenParenthesis ≡ Some op = ap increment_of (sym e) ∙ p in cc
+pub not_open : (s : Punctuator) → s ≡ punctuators.OpenParenthesis → (op : Increment)
+    → increment_of s ≡ Some op → ⊥
+not_open s e op p = let q : increment_of punctuators.OpenParenthesis
+    ≡ Some op = ap increment_of (sym e) ∙ p in cc
 
-pub not_open_unary : (s : Punctuator) → s ≡ punctuators.OpenParenthesis → (op : UnaryOperator) → unary_of s ≡ Some op → ⊥
-not_open_unary s e op p = let q : unary_of punctuators.OpenParenthesis ≡ Some op = ap unary_of (sym e) ∙ p in cc
+pub not_open_unary : (s : Punctuator) → s ≡ punctuators.OpenParenthesis → (op : UnaryOperator)
+    → unary_of s ≡ Some op → ⊥
+not_open_unary s e op p = let q : unary_of punctuators.OpenParenthesis
+    ≡ Some op = ap unary_of (sym e) ∙ p in cc
 
 -- a punctuator that is no operator before an operand and no parenthesis
-pub no_operator : (text : List ℕ) (w l room : ℕ) (s : Punctuator) (at : ℕ) (ts rest : List Token) → IsPunctuator s at ts rest → (s ≡ punctuators.OpenParenthesis → ⊥) → increment_of s ≡ None → unary_of s ≡ None → NoOperand l room w text ts
+pub no_operator : (text : List ℕ) (w l room : ℕ) (s : Punctuator) (at : ℕ) (ts rest : List Token)
+    → IsPunctuator s at ts rest → (s ≡ punctuators.OpenParenthesis → ⊥) → increment_of s ≡ None
+    → unary_of s ≡ None → NoOperand l room w text ts
 no_operator text w l room s at ts rest n a b c =
     none_signed text w l room s at ts rest n
     (λ e end p x low. a p)
-    (λ op e end p d st low. let q : None ≡ Some op = sym b ∙ ap increment_of p ∙ increment_again op in cc)
+    (λ op e end p d st low. let q : None ≡ Some op = sym b ∙ ap increment_of p
+      ∙ increment_again op in cc)
     (λ op e end p d st low. let q : None ≡ Some op = sym c ∙ ap unary_of p ∙ unary_again op in cc)
     (λ to e b c end p f t z d st low. a p)
 
-pub no_room : (text : List ℕ) (l : ℕ) (s : Punctuator) (at : ℕ) (ts rest : List Token) → IsPunctuator s at ts rest → NoOperand l 0 1 text ts
+pub no_room : (text : List ℕ) (l : ℕ) (s : Punctuator) (at : ℕ) (ts rest : List Token)
+    → IsPunctuator s at ts rest → NoOperand l 0 1 text ts
 no_room text l s at ts rest n =
-    none_signed text 1 l 0 s at ts rest n (λ e end p x low. let a = low (omega arith) in absurd (omega arith)) (λ op e end p d st low. let a = low (omega arith) in absurd (omega arith)) (λ op e end p d st low. let a = low (omega arith) in absurd (omega arith)) (λ to e b c end p f t z d st low. let a = low (omega arith) in absurd (omega arith))
+    none_signed text 1 l 0 s at ts rest n (λ e end p x low. let a = low (omega arith) in
+      absurd (omega arith)) (λ op e end p d st low. let a = low (omega arith) in
+      absurd (omega arith)) (λ op e end p d st low. let a = low (omega arith) in
+      absurd (omega arith)) (λ to e b c end p f t z d st low. let a = low (omega arith) in
+      absurd (omega arith))
 
-unary_no_increment : (o : UnaryOperator) (op : Increment) → increment_of (unary_punctuator o) ≡ Some op → ⊥
+unary_no_increment : (o : UnaryOperator) (op : Increment)
+    → increment_of (unary_punctuator o) ≡ Some op → ⊥
 unary_no_increment unary_operators.Plus op e = cc
 unary_no_increment o op e = cc
 
-increment_no_unary : (o : Increment) (op : UnaryOperator) → unary_of (increment_punctuator o) ≡ Some op → ⊥
+increment_no_unary : (o : Increment) (op : UnaryOperator)
+    → unary_of (increment_punctuator o) ≡ Some op → ⊥
 increment_no_unary increments.Increment op e = cc
 increment_no_unary increments.Decrement op e = cc
 
@@ -236,7 +271,8 @@ no_prefixed text w l room s op at ts rest n p x =
     none_signed text w l room s at ts rest n
     (λ e end q y low. not_open s q op p)
     (λ o e end q d st low. x e end d st (λ k. let a = low k in omega arith))
-    (λ o e end q d st low. let r : increment_of (unary_punctuator o) ≡ Some op = ap increment_of (sym q) ∙ p in unary_no_increment o op r)
+    (λ o e end q d st low. let r : increment_of (unary_punctuator o)
+      ≡ Some op = ap increment_of (sym q) ∙ p in unary_no_increment o op r)
     (λ to e b c end q f t z d st low. not_open s q op p)
 
 pub no_unary : (text : List ℕ) (w l room : ℕ) (s : Punctuator) (op : UnaryOperator) (at : ℕ)
@@ -245,7 +281,8 @@ pub no_unary : (text : List ℕ) (w l room : ℕ) (s : Punctuator) (op : UnaryOp
 no_unary text w l room s op at ts rest n p x =
     none_signed text w l room s at ts rest n
     (λ e end q y low. not_open_unary s q op p)
-    (λ o e end q d st low. let r : unary_of (increment_punctuator o) ≡ Some op = ap unary_of (sym q) ∙ p in increment_no_unary o op r)
+    (λ o e end q d st low. let r : unary_of (increment_punctuator o) ≡ Some op = ap unary_of (sym q)
+      ∙ p in increment_no_unary o op r)
     (λ o e end q d st low. x e end d st (λ k. let a = low k in omega arith))
     (λ to e b c end q f t z d st low. not_open_unary s q op p)
 
@@ -255,7 +292,8 @@ abbrev Open : ℕ → List Token → List Token → Type 0
 Open at ts rest = IsPunctuator punctuators.OpenParenthesis at ts rest
 
 pub none_open : (text : List ℕ) (w l room at : ℕ) (ts rest : List Token) → Open at ts rest
-    → ((e : Expression) (end : List Token) → Encloses text punctuators.CloseParenthesis e rest end → (1 ≤ w → height e ≤ room) → ⊥)
+    → ((e : Expression) (end : List Token) → Encloses text punctuators.CloseParenthesis e rest end
+    → (1 ≤ w → height e ≤ room) → ⊥)
     → ((to : CType) (e : Expression) (b c end : List Token) → cast ≤ l → IsType to rest b →
     HasPunctuator punctuators.CloseParenthesis b c → Derives text cast e c end → Stops cast end →
     (1 ≤ w → height e ≤ room) → ⊥)
@@ -265,29 +303,37 @@ none_open text w l room at ts rest n pa ca =
     (λ e end q x low. pa e end x (λ k. let a = low k in omega arith))
     (λ o e end q d st low. open_no_increment o q)
     (λ o e end q d st low. open_no_unary o q)
-    (λ to e b c end q f t z d st low. ca to e b c end f t z d st (λ k. let a = low k in omega arith))
+    (λ to e b c end q f t z d st low. ca to e b c end f t z d st
+      (λ k. let a = low k in omega arith))
 
 type_front : (to : CType) (ts rest : List Token) → IsType to ts rest → front ts ≡ 7
 type_front to ts rest t = base_front to.base ts t.0 t.1
 
-no_type_inside : (text : List ℕ) (to : CType) (e : Expression) (ts rest end : List Token) → IsType to ts rest → Encloses text punctuators.CloseParenthesis e ts end → ⊥
-no_type_inside text to e ts rest end t x = let a = type_front to ts rest t in let b = expression_front text e ts x.mid x.spells in absurd (omega arith)
+no_type_inside : (text : List ℕ) (to : CType) (e : Expression) (ts rest end : List Token)
+    → IsType to ts rest → Encloses text punctuators.CloseParenthesis e ts end → ⊥
+no_type_inside text to e ts rest end t x = let a = type_front to ts rest t in
+    let b = expression_front text e ts x.mid x.spells in absurd (omega arith)
 
 close_base : (ts rest : List Token) → HasPunctuator punctuators.CloseParenthesis ts rest → NoBase ts
-close_base ts rest h b end g = let a = base_front b ts end g in let q : front ts ≡ 6 = ap front h.1.1 in absurd (omega arith)
+close_base ts rest h b end g = let a = base_front b ts end g in
+    let q : front ts ≡ 6 = ap front h.1.1 in absurd (omega arith)
 
 -- the type at the front, where nothing of a type follows
 abbrev pub OnlyType : List Token → List Token → Type 0
-OnlyType ts mid = (to : CType) (rest : List Token) → IsType to ts rest → NoBase rest → NoStar rest → mid ≡ rest
+OnlyType ts mid = (to : CType) (rest : List Token) → IsType to ts rest → NoBase rest → NoStar rest
+    → mid ≡ rest
 
-pub no_cast : (text : List ℕ) (w l room at : ℕ) (to : CType) (ts rest mid : List Token) → Open at ts rest → IsType to rest mid → OnlyType rest mid
+pub no_cast : (text : List ℕ) (w l room at : ℕ) (to : CType) (ts rest mid : List Token)
+    → Open at ts rest → IsType to rest mid → OnlyType rest mid
     → ((e : Expression) (c end : List Token) → HasPunctuator punctuators.CloseParenthesis mid c →
     Derives text cast e c end → Stops cast end → (1 ≤ w → height e ≤ room) → ⊥)
     → NoOperand l (room + 1) w text ts
 no_cast text w l room at to ts rest mid n t only x =
     none_open text w l room at ts rest n
     (λ e end y low. no_type_inside text to e rest mid end t y)
-    (λ u e b c end f g z d st low. x e c end (subst (λ (y : List Token). HasPunctuator punctuators.CloseParenthesis y c) (sym (only u b g (close_base b c z) (close_star b c z))) z) d st low)
+    (λ u e b c end f g z d st low. x e c end (subst
+      (λ (y : List Token). HasPunctuator punctuators.CloseParenthesis y c)
+      (sym (only u b g (close_base b c z) (close_star b c z))) z) d st low)
 
 pub not_cast : (text : List ℕ) (w l room at : ℕ) (to : CType) (ts rest mid after : List Token)
     → Open at ts rest → IsType to rest mid → OnlyType rest mid
@@ -303,4 +349,5 @@ pub no_group : (text : List ℕ) (w l room at : ℕ) (ts rest : List Token) → 
     → ((cast ≤ l) → NoBase rest) → NoneEnclosed punctuators.CloseParenthesis room w text rest
     → NoOperand l (room + 1) w text ts
 no_group text w l room at ts rest n b x =
-    none_open text w l room at ts rest n (λ e end y low. x e end y low) (λ u e m c end f g z d st low. b f u.base g.0 g.1)
+    none_open text w l room at ts rest n (λ e end y low. x e end y low)
+      (λ u e m c end f g z d st low. b f u.base g.0 g.1)

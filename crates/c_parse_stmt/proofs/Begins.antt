@@ -48,9 +48,12 @@ variable = Variable a_name
 
 -- ---- expressions
 
-expressed_by_keyword : (text : List ℕ) → Speaks text → (k : Keyword) (at end : ℕ) → keyword_class k ≤ 5 → Expressed text (token (kinds.Keyword k) at end)
+expressed_by_keyword : (text : List ℕ) → Speaks text → (k : Keyword) (at end : ℕ)
+    → keyword_class k ≤ 5 → Expressed text (token (kinds.Keyword k) at end)
 expressed_by_keyword text s keywords.GetExceptionInformation at end h = record {
-  more = punctuator punctuators.OpenParenthesis ∷ punctuator punctuators.CloseParenthesis ∷ punctuator punctuators.Arrow ∷ token kinds.Identifier s.of_record.start s.of_record.end ∷ punctuator punctuators.Arrow ∷ token kinds.Identifier s.of_code.start s.of_code.end ∷ [];
+  more = punctuator punctuators.OpenParenthesis ∷ punctuator punctuators.CloseParenthesis
+      ∷ punctuator punctuators.Arrow ∷ token kinds.Identifier s.of_record.start s.of_record.end
+      ∷ punctuator punctuators.Arrow ∷ token kinds.Identifier s.of_code.start s.of_code.end ∷ [];
   tree = Information at fields.Code;
   derives = λ other. record {
     fits = omega arith;
@@ -76,7 +79,8 @@ expressed_by_keyword text s keywords.GetExceptionInformation at end h = record {
 }
 expressed_by_keyword text s k at end h = absurd (omega arith)
 
-expressed_by_unary : (text : List ℕ) (op : UnaryOperator) (at end : ℕ) → Expressed text (token (kinds.Punctuator (unary_punctuator op)) at end)
+expressed_by_unary : (text : List ℕ) (op : UnaryOperator) (at end : ℕ)
+    → Expressed text (token (kinds.Punctuator (unary_punctuator op)) at end)
 expressed_by_unary text op at end = record {
   more = name ∷ [];
   tree = Unary at op variable;
@@ -91,7 +95,8 @@ expressed_by_unary text op at end = record {
   over = refl;
 }
 
-expressed_by_increment : (text : List ℕ) (op : Increment) (at end : ℕ) → Expressed text (token (kinds.Punctuator (increment_punctuator op)) at end)
+expressed_by_increment : (text : List ℕ) (op : Increment) (at end : ℕ)
+    → Expressed text (token (kinds.Punctuator (increment_punctuator op)) at end)
 expressed_by_increment text op at end = record {
   more = name ∷ [];
   tree = Prefix at op variable;
@@ -106,7 +111,8 @@ expressed_by_increment text op at end = record {
   over = refl;
 }
 
-expressed_by_punctuator : (text : List ℕ) (s : Punctuator) (at end : ℕ) → punctuator_class s ≤ 5 → Expressed text (token (kinds.Punctuator s) at end)
+expressed_by_punctuator : (text : List ℕ) (s : Punctuator) (at end : ℕ) → punctuator_class s ≤ 5
+    → Expressed text (token (kinds.Punctuator s) at end)
 expressed_by_punctuator text punctuators.OpenParenthesis at end h = record {
   more = name ∷ punctuator punctuators.CloseParenthesis ∷ [];
   tree = Parentheses at variable;
@@ -122,38 +128,60 @@ expressed_by_punctuator text punctuators.OpenParenthesis at end h = record {
   };
   over = refl;
 }
-expressed_by_punctuator text punctuators.Ampersand at end h = expressed_by_unary text unary_operators.AddressOf at end
-expressed_by_punctuator text punctuators.Plus at end h = expressed_by_unary text unary_operators.Plus at end
-expressed_by_punctuator text punctuators.Minus at end h = expressed_by_unary text unary_operators.Minus at end
-expressed_by_punctuator text punctuators.Star at end h = expressed_by_unary text unary_operators.Indirection at end
-expressed_by_punctuator text punctuators.Exclamation at end h = expressed_by_unary text unary_operators.LogicalNot at end
-expressed_by_punctuator text punctuators.Tilde at end h = expressed_by_unary text unary_operators.Complement at end
-expressed_by_punctuator text punctuators.PlusPlus at end h = expressed_by_increment text increments.Increment at end
-expressed_by_punctuator text punctuators.MinusMinus at end h = expressed_by_increment text increments.Decrement at end
+expressed_by_punctuator text punctuators.Ampersand at end h = expressed_by_unary text
+    unary_operators.AddressOf at end
+expressed_by_punctuator text punctuators.Plus at end h = expressed_by_unary text
+    unary_operators.Plus at end
+expressed_by_punctuator text punctuators.Minus at end h = expressed_by_unary text
+    unary_operators.Minus at end
+expressed_by_punctuator text punctuators.Star at end h = expressed_by_unary text
+    unary_operators.Indirection at end
+expressed_by_punctuator text punctuators.Exclamation at end h = expressed_by_unary text
+    unary_operators.LogicalNot at end
+expressed_by_punctuator text punctuators.Tilde at end h = expressed_by_unary text
+    unary_operators.Complement at end
+expressed_by_punctuator text punctuators.PlusPlus at end h = expressed_by_increment text
+    increments.Increment at end
+expressed_by_punctuator text punctuators.MinusMinus at end h = expressed_by_increment text
+    increments.Decrement at end
 expressed_by_punctuator text s at end h = absurd (omega arith)
 
-expressed_by : (text : List ℕ) → Speaks text → (k : Kind) (at end : ℕ) → kind_class k ≤ 5 → Expressed text (token k at end)
-expressed_by text s kinds.Identifier at end h = record { more = []; tree = Variable (record { start = at; end = end }); derives = λ other. record { fits = omega arith; spells = refl }; over = refl }
+expressed_by : (text : List ℕ) → Speaks text → (k : Kind) (at end : ℕ) → kind_class k ≤ 5
+    → Expressed text (token k at end)
+expressed_by text s kinds.Identifier at end h =
+    record { more = []; tree = Variable (record { start = at; end = end });
+    derives = λ other. record { fits = omega arith; spells = refl }; over = refl }
 expressed_by text s (kinds.Keyword k) at end h = expressed_by_keyword text s k at end h
 expressed_by text s (kinds.Reserved r) at end h = absurd (omega arith)
-expressed_by text s (kinds.Integer value type) at end h = record { more = []; tree = Constant at (literals.Integer value type); derives = λ other. record { fits = omega arith; spells = (end, refl) }; over = refl }
-expressed_by text s (kinds.CharacterConstant value) at end h = record { more = []; tree = Constant at (literals.CharacterConstant value); derives = λ other. record { fits = omega arith; spells = (end, refl) }; over = refl }
+expressed_by text s (kinds.Integer value type) at end
+    h = record { more = []; tree = Constant at (literals.Integer value type);
+    derives = λ other. record { fits = omega arith; spells = (end, refl) }; over = refl }
+expressed_by text s (kinds.CharacterConstant value) at end
+    h = record { more = []; tree = Constant at (literals.CharacterConstant value);
+    derives = λ other. record { fits = omega arith; spells = (end, refl) }; over = refl }
 expressed_by text s (kinds.Punctuator z) at end h = expressed_by_punctuator text z at end h
 
-pub expressed : (text : List ℕ) → Speaks text → (t : Token) → kind_class t.kind ≤ 5 → Expressed text t
+pub expressed : (text : List ℕ) → Speaks text → (t : Token) → kind_class t.kind ≤ 5
+    → Expressed text t
 expressed text s t h = expressed_by text s t.kind t.start t.end h
 
 pub begins_expression : (ts : List Token) → front ts ≤ 5 → BeginsExpression ts
 begins_expression [] h = absurd (omega arith)
-begins_expression (t ∷ ts) h = record { first = t; rest = ts; split = refl; holds = λ text s. expressed text s t h }
+begins_expression (t ∷ ts) h = record { first = t; rest = ts; split = refl;
+    holds = λ text s. expressed text s t h }
 
 pub begins_none : (ts : List Token) → (front ts ≤ 5 → ⊥) → BeginsNoExpression ts
-begins_none ts shut text other same e rest h = let p = front_first ts other same in let q = expression_front text e other rest h.spells in shut (omega arith)
+begins_none ts shut text other same e rest h = let p = front_first ts other same in
+    let q = expression_front text e other rest h.spells in shut (omega arith)
 
 -- ---- which punctuators and keywords begin an expression
 
 abbrev Opening : Punctuator → Type 0
-Opening s = (s ≡ punctuators.OpenParenthesis) ⊎ ((s ≡ punctuators.PlusPlus) ⊎ ((s ≡ punctuators.MinusMinus) ⊎ ((s ≡ punctuators.Plus) ⊎ ((s ≡ punctuators.Minus) ⊎ ((s ≡ punctuators.Exclamation) ⊎ ((s ≡ punctuators.Tilde) ⊎ ((s ≡ punctuators.Star) ⊎ (s ≡ punctuators.Ampersand))))))))
+Opening s = (s ≡ punctuators.OpenParenthesis)
+    ⊎ ((s ≡ punctuators.PlusPlus) ⊎ ((s ≡ punctuators.MinusMinus)
+    ⊎ ((s ≡ punctuators.Plus) ⊎ ((s ≡ punctuators.Minus)
+    ⊎ ((s ≡ punctuators.Exclamation) ⊎ ((s ≡ punctuators.Tilde)
+    ⊎ ((s ≡ punctuators.Star) ⊎ (s ≡ punctuators.Ampersand))))))))
 
 punctuator_low : (s z : Punctuator) → s ≡ z → punctuator_class z ≤ 5 → punctuator_class s ≤ 5
 punctuator_low s z e h = let p = ap punctuator_class e in omega arith
@@ -166,8 +194,10 @@ opening_class s (inr (inr (inr (inl e)))) = punctuator_low s _ e (omega arith)
 opening_class s (inr (inr (inr (inr (inl e))))) = punctuator_low s _ e (omega arith)
 opening_class s (inr (inr (inr (inr (inr (inl e)))))) = punctuator_low s _ e (omega arith)
 opening_class s (inr (inr (inr (inr (inr (inr (inl e))))))) = punctuator_low s _ e (omega arith)
-opening_class s (inr (inr (inr (inr (inr (inr (inr (inl e)))))))) = punctuator_low s _ e (omega arith)
-opening_class s (inr (inr (inr (inr (inr (inr (inr (inr e)))))))) = punctuator_low s _ e (omega arith)
+opening_class s (inr (inr (inr (inr (inr (inr (inr (inl e)))))))) = punctuator_low s _ e
+    (omega arith)
+opening_class s (inr (inr (inr (inr (inr (inr (inr (inr e)))))))) = punctuator_low s _ e
+    (omega arith)
 
 class_opening : (s : Punctuator) → punctuator_class s ≤ 5 → Opening s
 class_opening punctuators.OpenParenthesis h = inl refl
@@ -185,7 +215,10 @@ class_intrinsic : (k : Keyword) → keyword_class k ≤ 5 → k ≡ keywords.Get
 class_intrinsic keywords.GetExceptionInformation h = refl
 class_intrinsic k h = absurd (omega arith)
 
-unopened : (s : Punctuator) → (s ≡ punctuators.OpenParenthesis → ⊥) → (s ≡ punctuators.PlusPlus → ⊥) → (s ≡ punctuators.MinusMinus → ⊥) → (s ≡ punctuators.Plus → ⊥) → (s ≡ punctuators.Minus → ⊥) → (s ≡ punctuators.Exclamation → ⊥) → (s ≡ punctuators.Tilde → ⊥) → (s ≡ punctuators.Star → ⊥) → (s ≡ punctuators.Ampersand → ⊥) → Opening s → ⊥
+unopened : (s : Punctuator) → (s ≡ punctuators.OpenParenthesis → ⊥) → (s ≡ punctuators.PlusPlus → ⊥)
+    → (s ≡ punctuators.MinusMinus → ⊥) → (s ≡ punctuators.Plus → ⊥) → (s ≡ punctuators.Minus → ⊥)
+    → (s ≡ punctuators.Exclamation → ⊥) → (s ≡ punctuators.Tilde → ⊥) → (s ≡ punctuators.Star → ⊥)
+    → (s ≡ punctuators.Ampersand → ⊥) → Opening s → ⊥
 unopened s a b c d e f g i j (inl h) = a h
 unopened s a b c d e f g i j (inr (inl h)) = b h
 unopened s a b c d e f g i j (inr (inr (inl h))) = c h
@@ -196,31 +229,39 @@ unopened s a b c d e f g i j (inr (inr (inr (inr (inr (inr (inl h))))))) = g h
 unopened s a b c d e f g i j (inr (inr (inr (inr (inr (inr (inr (inl h)))))))) = i h
 unopened s a b c d e f g i j (inr (inr (inr (inr (inr (inr (inr (inr h)))))))) = j h
 
-pub shut_punctuator : (s : Punctuator) → (s ≡ punctuators.OpenParenthesis → ⊥) → (s ≡ punctuators.PlusPlus → ⊥) → (s ≡ punctuators.MinusMinus → ⊥) → (s ≡ punctuators.Plus → ⊥) → (s ≡ punctuators.Minus → ⊥) → (s ≡ punctuators.Exclamation → ⊥) → (s ≡ punctuators.Tilde → ⊥) → (s ≡ punctuators.Star → ⊥) → (s ≡ punctuators.Ampersand → ⊥) → punctuator_class s ≤ 5 → ⊥
+pub shut_punctuator : (s : Punctuator) → (s ≡ punctuators.OpenParenthesis → ⊥)
+    → (s ≡ punctuators.PlusPlus → ⊥) → (s ≡ punctuators.MinusMinus → ⊥) → (s ≡ punctuators.Plus → ⊥)
+    → (s ≡ punctuators.Minus → ⊥) → (s ≡ punctuators.Exclamation → ⊥) → (s ≡ punctuators.Tilde → ⊥)
+    → (s ≡ punctuators.Star → ⊥) → (s ≡ punctuators.Ampersand → ⊥) → punctuator_class s ≤ 5 → ⊥
 shut_punctuator s a b c d e f g i j h = unopened s a b c d e f g i j (class_opening s h)
 
-pub shut_keyword : (k : Keyword) → (k ≡ keywords.GetExceptionInformation → ⊥) → keyword_class k ≤ 5 → ⊥
+pub shut_keyword : (k : Keyword) → (k ≡ keywords.GetExceptionInformation → ⊥) → keyword_class k ≤ 5
+    → ⊥
 shut_keyword k other h = other (class_intrinsic k h)
 
 -- ---- by the token that was found at the front
 
 pub front_is : (ts rest : List Token) (t : Token) → Some (t, rest) ≡ first ts → ts ≡ t ∷ rest
 front_is [] rest t e = cc
-front_is (x ∷ xs) rest t e = let p : (t, rest) ≡ (x, xs) = cc in ap (λ (z : Token × List Token). z.0 ∷ z.1) (sym p)
+front_is (x ∷ xs) rest t e = let p : (t, rest) ≡ (x, xs) = cc in
+    ap (λ (z : Token × List Token). z.0 ∷ z.1) (sym p)
 
 pub front_none : (ts : List Token) → None ≡ first ts → ts ≡ []
 front_none [] e = refl
 front_none (x ∷ xs) e = cc
 
-pub class_is : (ts rest : List Token) (t : Token) (k : Kind) → Some (t, rest) ≡ first ts → t.kind ≡ k → front ts ≡ kind_class k
+pub class_is : (ts rest : List Token) (t : Token) (k : Kind) → Some (t, rest) ≡ first ts
+    → t.kind ≡ k → front ts ≡ kind_class k
 class_is ts rest t k e q = ap front (front_is ts rest t e) ∙ ap kind_class q
 
 -- ---- types
 
-keyword_base : (k : Keyword) (at end : ℕ) (xs : List Token) → keyword_class k ≡ 7 → (b : Base) × IsBase b (token (kinds.Keyword k) at end ∷ xs) xs
+keyword_base : (k : Keyword) (at end : ℕ) (xs : List Token) → keyword_class k ≡ 7
+    → (b : Base) × IsBase b (token (kinds.Keyword k) at end ∷ xs) xs
 keyword_base keywords.Char at end xs h = (bases.Char, inl (xs, (at, (end, refl)), refl))
 keyword_base keywords.Int at end xs h = (bases.Int, inl (xs, (at, (end, refl)), refl))
-keyword_base keywords.Long at end xs h = (bases.Int, inr (inr (inr (inl (xs, (at, (end, refl)), refl)))))
+keyword_base keywords.Long at end xs h = (bases.Int,
+    inr (inr (inr (inl (xs, (at, (end, refl)), refl)))))
 keyword_base keywords.Short at end xs h = (bases.Short, inl (xs, (at, (end, refl)), refl))
 keyword_base keywords.Signed at end xs h = (bases.Int, inr (inl (xs, (at, (end, refl)), refl)))
 keyword_base keywords.Unsigned at end xs h = (bases.Unsigned, inl (xs, (at, (end, refl)), refl))
@@ -231,7 +272,8 @@ pub punctuator_untyped : (s : Punctuator) → punctuator_class s ≡ 7 → ⊥
 punctuator_untyped punctuators.OpenParenthesis h = absurd (omega arith)
 punctuator_untyped s h = absurd (omega arith)
 
-kind_base : (k : Kind) (at end : ℕ) (xs : List Token) → kind_class k ≡ 7 → (b : Base) × IsBase b (token k at end ∷ xs) xs
+kind_base : (k : Kind) (at end : ℕ) (xs : List Token) → kind_class k ≡ 7
+    → (b : Base) × IsBase b (token k at end ∷ xs) xs
 kind_base kinds.Identifier at end xs h = absurd (omega arith)
 kind_base (kinds.Keyword k) at end xs h = keyword_base k at end xs h
 kind_base (kinds.Reserved r) at end xs h = absurd (omega arith)
@@ -239,7 +281,8 @@ kind_base (kinds.Integer value type) at end xs h = absurd (omega arith)
 kind_base (kinds.CharacterConstant value) at end xs h = absurd (omega arith)
 kind_base (kinds.Punctuator s) at end xs h = absurd (punctuator_untyped s h)
 
-pub base_at : (t : Token) (xs : List Token) → kind_class t.kind ≡ 7 → (b : Base) × IsBase b (t ∷ xs) xs
+pub base_at : (t : Token) (xs : List Token) → kind_class t.kind ≡ 7
+    → (b : Base) × IsBase b (t ∷ xs) xs
 base_at t xs h = kind_base t.kind t.start t.end xs h
 
 pub untyped : (ts : List Token) → NoBase ts → front ts ≡ 7 → ⊥

@@ -37,7 +37,9 @@ pub record Except (at : ℕ) (f : Expression) (last : Statements) (text : List �
 abbrev pub Finally : ℕ → Statements → List ℕ → Phrase
 Finally at last text = InTurn (IsKeyword keywords.Finally at) (IsBraced text last)
 
-pub excepted : (body last : Statements) (at : ℕ) (f : Expression) (text : List ℕ) (ts rest : List Token) → Both (Guard body) (Except at f last) text ts rest → IsBlockItem text (TryExcept body at f last) ts rest
+pub excepted : (body last : Statements) (at : ℕ) (f : Expression) (text : List ℕ)
+    (ts rest : List Token) → Both (Guard body) (Except at f last) text ts rest
+    → IsBlockItem text (TryExcept body at f last) ts rest
 excepted body last at f text ts rest x = record {
   after_try = x.first.first.0;
   after_body = x.mid;
@@ -50,7 +52,9 @@ excepted body last at f text ts rest x = record {
   handler = x.second.handler;
 }
 
-pub finished : (body last : Statements) (at : ℕ) (text : List ℕ) (ts rest : List Token) → Both (Guard body) (Finally at last) text ts rest → IsBlockItem text (TryFinally body at last) ts rest
+pub finished : (body last : Statements) (at : ℕ) (text : List ℕ) (ts rest : List Token)
+    → Both (Guard body) (Finally at last) text ts rest
+    → IsBlockItem text (TryFinally body at last) ts rest
 finished body last at text ts rest x = record {
   after_try = x.first.first.0;
   after_body = x.mid;
@@ -63,8 +67,11 @@ finished body last at text ts rest x = record {
 
 pub try_moves : (text : List ℕ) (ts rest : List Token) → IsTry ts rest → Moves Tries text ts rest
 try_moves text ts rest t =
-    moves_so (Both (λ s. HasKeyword keywords.Try) (Sig punctuators.OpenBrace)) Tries text ts rest (λ t us end x. (x.mid, x.first, x.second))
-    (both_moves (λ s. HasKeyword keywords.Try) (Sig punctuators.OpenBrace) text ts t.0 rest (has_keyword keywords.Try text ts t.0 t.1) (has_punctuator punctuators.OpenBrace text t.0 rest t.2))
+    moves_so (Both (λ s. HasKeyword keywords.Try) (Sig punctuators.OpenBrace)) Tries text ts rest
+      (λ t us end x. (x.mid, x.first, x.second))
+    (both_moves (λ s. HasKeyword keywords.Try) (Sig punctuators.OpenBrace) text ts t.0 rest
+      (has_keyword keywords.Try text ts t.0 t.1)
+      (has_punctuator punctuators.OpenBrace text t.0 rest t.2))
 
 -- ---- what always ends it
 
@@ -86,7 +93,8 @@ unit_braces = in_parentheses ++ braces
 abbrev pub except : List Token
 except = word keywords.Except ∷ unit_braces
 
-pub is_except : (text : List ℕ) (at end : ℕ) → Fixed (Except at unit Empty) text (token (kinds.Keyword keywords.Except) at end ∷ unit_braces)
+pub is_except : (text : List ℕ) (at end : ℕ) → Fixed (Except at unit Empty) text
+    (token (kinds.Keyword keywords.Except) at end ∷ unit_braces)
 is_except text at end other = record {
   after_keyword = in_parentheses ++ braces ++ other;
   after_filter = braces ++ other;
@@ -95,7 +103,8 @@ is_except text at end other = record {
   handler = is_braces text other;
 }
 
-pub is_finally : (text : List ℕ) (at end : ℕ) → Fixed (Finally at Empty) text (token (kinds.Keyword keywords.Finally) at end ∷ braces)
+pub is_finally : (text : List ℕ) (at end : ℕ)
+    → Fixed (Finally at Empty) text (token (kinds.Keyword keywords.Finally) at end ∷ braces)
 is_finally text at end other = (braces ++ other, (end, refl), is_braces text other)
 
 -- `}`

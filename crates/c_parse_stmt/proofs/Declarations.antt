@@ -28,30 +28,42 @@ use Rattle.c_parse_stmt.proofs.Placing.{Lacks, lacks_first}
 
 -- What was read of the locals, and what is left: they continue with what is at the rest, and there
 -- are none if none are there.
-pub record Begun (text : List ℕ) (room whole : ℕ) (ts : List Token) (found : List Local') (rest : List Token) (left : ℕ) : Type 0 where
+pub record Begun (text : List ℕ) (room whole : ℕ) (ts : List Token) (found : List Local')
+    (rest : List Token) (left : ℕ) : Type 0 where
   pub before : List Token
   pub split : ts ≡ before ++ rest
-  pub forward : (text' : List ℕ) (other : List Token) → Alike text text' ts → (ls : List Local) (end : List Token) → AreMoreLocals text' ls other end → AreLocals text' (map local found ++ ls) (before ++ other) end
+  pub forward : (text' : List ℕ) (other : List Token) → Alike text text' ts
+      → (ls : List Local) (end : List Token) → AreMoreLocals text' ls other end
+      → AreLocals text' (map local found ++ ls) (before ++ other) end
   pub expressions : height_of_locals (map local found) ≤ 64
   pub statements : one_over_locals (map local found) ≤ room
   pub count : left + length (map local found) ≡ whole
-  pub back : (n : ℕ) (text' : List ℕ) (other : List Token) → Alike text text' ts → SameFirst rest other → NoMoreLocals room left n text' other → NoLocals room whole n text' (before ++ other)
+  pub back : (n : ℕ) (text' : List ℕ) (other : List Token) → Alike text text' ts
+      → SameFirst rest other → NoMoreLocals room left n text' other
+      → NoLocals room whole n text' (before ++ other)
 
 -- those after the first
-less : (n room whole left : ℕ) (l : Local) (ls : List Local) → left + 1 ≡ whole → LocalsWithin n room whole (l ∷ ls) → LocalsWithin n room left ls
+less : (n room whole left : ℕ) (l : Local) (ls : List Local) → left + 1 ≡ whole
+    → LocalsWithin n room whole (l ∷ ls) → LocalsWithin n room left ls
 less n room whole left l ls c w = record {
   expressions = λ k. let e = w.expressions k in omega arith;
   statements = λ k. let e = w.statements k in omega arith;
   count = λ k. let e = w.count k in omega arith;
 }
 
-first_back : (text : List ℕ) (room whole left n : ℕ) (ts rest : List Token) (x : Local) → IsLocal text x ts rest → Stops assignment rest → left + 1 ≡ whole → NoMoreLocals room left n text rest → NoLocals room whole n text ts
+first_back : (text : List ℕ) (room whole left n : ℕ) (ts rest : List Token) (x : Local)
+    → IsLocal text x ts rest → Stops assignment rest → left + 1 ≡ whole
+    → NoMoreLocals room left n text rest → NoLocals room whole n text ts
 first_back text room whole left n ts rest x is st c none [] end h w = absurd h
 first_back text room whole left n ts rest x is st c none (l ∷ ls) end h w =
     let u = one_local text x l ts ts rest h.0 refl st (locals_stop text ls h.0 end h.2) is h.1 in
-    none ls end (subst (λ (z : List Token). AreMoreLocals text ls z end) (sym u.1) h.2) (less n room whole left l ls c w)
+    none ls end (subst (λ (z : List Token). AreMoreLocals text ls z end) (sym u.1) h.2)
+      (less n room whole left l ls c w)
 
-pub begins : (text : List ℕ) (room whole left : ℕ) (ts rest : List Token) (x : Local') → IsLocal text (local x) ts rest → Stops assignment rest → height_of (local x).initialiser ≤ 64 → one_over (local x).initialiser ≤ room → left + 1 ≡ whole → Begun text room whole ts (x ∷ []) rest left
+pub begins : (text : List ℕ) (room whole left : ℕ) (ts rest : List Token) (x : Local')
+    → IsLocal text (local x) ts rest → Stops assignment rest → height_of (local x).initialiser ≤ 64
+    → one_over (local x).initialiser ≤ room → left + 1 ≡ whole
+    → Begun text room whole ts (x ∷ []) rest left
 begins text room whole left ts rest x is st low over c =
     let m = local_moves (local x) text ts rest is in
     record {
@@ -61,18 +73,22 @@ begins text room whole left ts rest x is st low over c =
       expressions = omega arith;
       statements = omega arith;
       count = c;
-      back = λ n text' other a same. first_back text' room whole left n (m.front ++ other) other (local x) (m.again text' other a) (stops_first assignment rest other same st) c;
+      back = λ n text' other a same. first_back text' room whole left n (m.front ++ other) other
+        (local x) (m.again text' other a) (stops_first assignment rest other same st) c;
     }
 
-map_snoc : (xs : List Local') (x : Local') (ls : List Local) → map local (xs ++ x ∷ []) ++ ls ≡ map local xs ++ local x ∷ ls
+map_snoc : (xs : List Local') (x : Local') (ls : List Local)
+    → map local (xs ++ x ∷ []) ++ ls ≡ map local xs ++ local x ∷ ls
 map_snoc [] x ls = refl
 map_snoc (y ∷ xs) x ls = ap (λ (z : List Local). local y ∷ z) (map_snoc xs x ls)
 
-height_more : (n : ℕ) (xs : List Local) (x : Local) → height_of_locals xs ≤ n → height_of x.initialiser ≤ n → height_of_locals (xs ++ x ∷ []) ≤ n
+height_more : (n : ℕ) (xs : List Local) (x : Local) → height_of_locals xs ≤ n
+    → height_of x.initialiser ≤ n → height_of_locals (xs ++ x ∷ []) ≤ n
 height_more n [] x h g = omega arith
 height_more n (y ∷ xs) x h g = let r = height_more n xs x (omega arith) g in omega arith
 
-over_more : (n : ℕ) (xs : List Local) (x : Local) → one_over_locals xs ≤ n → one_over x.initialiser ≤ n → one_over_locals (xs ++ x ∷ []) ≤ n
+over_more : (n : ℕ) (xs : List Local) (x : Local) → one_over_locals xs ≤ n
+    → one_over x.initialiser ≤ n → one_over_locals (xs ++ x ∷ []) ≤ n
 over_more n [] x h g = omega arith
 over_more n (y ∷ xs) x h g = let r = over_more n xs x (omega arith) g in omega arith
 
@@ -83,11 +99,16 @@ length_more (y ∷ xs) x = let r = length_more xs x in omega arith
 map_more : (xs : List Local') (x : Local') → map local (xs ++ x ∷ []) ≡ map local xs ++ local x ∷ []
 map_more xs x = sym (append-nil (map local (xs ++ x ∷ []))) ∙ map_snoc xs x []
 
-other_punctuator : (s z : Punctuator) (ts rest end : List Token) → HasPunctuator s ts rest → HasPunctuator z ts end → s ≡ z
+other_punctuator : (s z : Punctuator) (ts rest end : List Token) → HasPunctuator s ts rest
+    → HasPunctuator z ts end → s ≡ z
 other_punctuator s z ts rest end h g = (punctuator_same s z h.0 g.0 ts ts rest end refl h.1 g.1).0
 
-next_back : (text : List ℕ) (room left more n : ℕ) (rest b after : List Token) (x : Local) → HasPunctuator punctuators.Comma rest b → IsLocal text x b after → Stops assignment after → more + 1 ≡ left → NoMoreLocals room more n text after → NoMoreLocals room left n text rest
-next_back text room left more n rest b after x c is st e none [] end h w = let e : punctuators.Comma ≡ punctuators.Semicolon = other_punctuator punctuators.Comma punctuators.Semicolon rest b end c h in cc
+next_back : (text : List ℕ) (room left more n : ℕ) (rest b after : List Token) (x : Local)
+    → HasPunctuator punctuators.Comma rest b → IsLocal text x b after → Stops assignment after
+    → more + 1 ≡ left → NoMoreLocals room more n text after → NoMoreLocals room left n text rest
+next_back text room left more n rest b after x c is st e none [] end h w = let e : punctuators.Comma
+    ≡ punctuators.Semicolon = other_punctuator punctuators.Comma punctuators.Semicolon rest b end c
+      h in cc
 next_back text room left more n rest b after x c is st e none (l ∷ ls) end h w =
     let p = has_same punctuators.Comma rest rest b h.after_comma refl c h.comma in
     let u = one_local text x l b h.after_comma after h.after_element p st
@@ -95,9 +116,15 @@ next_back text room left more n rest b after x c is st e none (l ∷ ls) end h w
     none ls end (subst (λ (z : List Token). AreMoreLocals text ls z end) (sym u.1) h.others)
     (less n room left more l ls e w)
 
-pub continues : (text : List ℕ) (room whole left more : ℕ) (ts rest b after : List Token) (found : List Local') (x : Local') → Begun text room whole ts found rest left → HasPunctuator punctuators.Comma rest b → IsLocal text (local x) b after → Stops assignment after → height_of (local x).initialiser ≤ 64 → one_over (local x).initialiser ≤ room → more + 1 ≡ left → Begun text room whole ts (found ++ x ∷ []) after more
+pub continues : (text : List ℕ) (room whole left more : ℕ) (ts rest b after : List Token)
+    (found : List Local') (x : Local') → Begun text room whole ts found rest left
+    → HasPunctuator punctuators.Comma rest b → IsLocal text (local x) b after
+    → Stops assignment after → height_of (local x).initialiser ≤ 64
+    → one_over (local x).initialiser ≤ room → more + 1 ≡ left
+    → Begun text room whole ts (found ++ x ∷ []) after more
 continues text room whole left more ts rest b after found x d c is st low over e =
-    let m = both (has_punctuator punctuators.Comma text rest b c) (local_moves (local x) text b after is) in
+    let m = both (has_punctuator punctuators.Comma text rest b c)
+      (local_moves (local x) text b after is) in
     record {
       before = d.before ++ m.front;
       split = d.split ∙ ap (λ z. d.before ++ z) m.split ∙ sym (append_assoc d.before m.front after);
@@ -110,28 +137,47 @@ continues text room whole left more ts rest b after found x d c is st low over e
             element = g.2;
             others = h;
           }) in
-          subst (λ (z : List Local). AreLocals text' z (d.before ++ m.front ++ other) end) (sym (map_snoc found x ls)) (subst (λ (z : List Token). AreLocals text' (map local found ++ local x ∷ ls) z end) (sym (append_assoc d.before m.front other)) f);
-      expressions = subst (λ (z : List Local). height_of_locals z ≤ 64) (sym (map_more found x)) (height_more 64 (map local found) (local x) d.expressions low);
-      statements = subst (λ (z : List Local). one_over_locals z ≤ room) (sym (map_more found x)) (over_more room (map local found) (local x) d.statements over);
-      count = let p = ap length (map_more found x) in let q = length_more (map local found) (local x) in let f = d.count in omega arith;
+          subst (λ (z : List Local). AreLocals text' z (d.before ++ m.front ++ other) end)
+            (sym (map_snoc found x ls)) (subst
+            (λ (z : List Token). AreLocals text' (map local found ++ local x ∷ ls) z end)
+            (sym (append_assoc d.before m.front other)) f);
+      expressions = subst (λ (z : List Local). height_of_locals z ≤ 64) (sym (map_more found x))
+        (height_more 64 (map local found) (local x) d.expressions low);
+      statements = subst (λ (z : List Local). one_over_locals z ≤ room) (sym (map_more found x))
+        (over_more room (map local found) (local x) d.statements over);
+      count = let p = ap length (map_more found x) in
+        let q = length_more (map local found) (local x) in let f = d.count in omega arith;
       back = λ n text' other a same none.
           let g = m.again text' other (alike_inner text text' d.before rest ts d.split a) in
-          subst (λ (z : List Token). NoLocals room whole n text' z) (sym (append_assoc d.before m.front other))
-          (d.back n text' (m.front ++ other) a (same_after m.front after rest other m.split same) (next_back text' room left more n (m.front ++ other) g.0 other (local x) g.1 g.2 (stops_first assignment after other same st) e none));
+          subst (λ (z : List Token). NoLocals room whole n text' z)
+            (sym (append_assoc d.before m.front other))
+          (d.back n text' (m.front ++ other) a (same_after m.front after rest other m.split same)
+            (next_back text' room left more n (m.front ++ other) g.0 other (local x) g.1 g.2
+            (stops_first assignment after other same st) e none));
     }
 
-pub ends : (text : List ℕ) (room whole left : ℕ) (ts rest end : List Token) (found : List Local') → Begun text room whole ts found rest left → HasPunctuator punctuators.Semicolon rest end → AreLocals text (map local found) ts end
+pub ends : (text : List ℕ) (room whole left : ℕ) (ts rest end : List Token) (found : List Local')
+    → Begun text room whole ts found rest left → HasPunctuator punctuators.Semicolon rest end
+    → AreLocals text (map local found) ts end
 ends text room whole left ts rest end found d h =
     subst (λ (z : List Token). AreLocals text (map local found) z end) (sym d.split)
-    (subst (λ (z : List Local). AreLocals text z (d.before ++ rest) end) (append-nil (map local found)) (d.forward text rest (alike_same text ts) [] end h))
+    (subst (λ (z : List Local). AreLocals text z (d.before ++ rest) end)
+      (append-nil (map local found)) (d.forward text rest (alike_same text ts) [] end h))
 
 -- ---- where they fail
 
 -- the locals found so far and further ones, up to the semicolon
-closed : (text : List ℕ) (room whole left : ℕ) (ts rest : List Token) (found : List Local') (d : Begun text room whole ts found rest left) (text' : List ℕ) (other end : List Token) → Alike text text' ts → HasPunctuator punctuators.Semicolon other end → AreLocals text' (map local found) (d.before ++ other) end
-closed text room whole left ts rest found d text' other end a h = subst (λ (z : List Local). AreLocals text' z (d.before ++ other) end) (append-nil (map local found)) (d.forward text' other a [] end h)
+closed : (text : List ℕ) (room whole left : ℕ) (ts rest : List Token) (found : List Local')
+    (d : Begun text room whole ts found rest left) (text' : List ℕ) (other end : List Token)
+    → Alike text text' ts → HasPunctuator punctuators.Semicolon other end
+    → AreLocals text' (map local found) (d.before ++ other) end
+closed text room whole left ts rest found d text' other end a h = subst
+    (λ (z : List Local). AreLocals text' z (d.before ++ other) end) (append-nil (map local found))
+    (d.forward text' other a [] end h)
 
-pub full : (text : List ℕ) (room whole : ℕ) (ts rest b : List Token) (found : List Local') → Begun text room whole ts found rest 0 → HasPunctuator punctuators.Comma rest b → Failed 2 (place text rest) (NoLocals room whole) (HasLocals room whole) text ts
+pub full : (text : List ℕ) (room whole : ℕ) (ts rest b : List Token) (found : List Local')
+    → Begun text room whole ts found rest 0 → HasPunctuator punctuators.Comma rest b
+    → Failed 2 (place text rest) (NoLocals room whole) (HasLocals room whole) text ts
 full text room whole ts rest b found d c = record {
   front = d.before;
   fault = rest;
@@ -142,11 +188,16 @@ full text room whole ts rest b found d c = record {
     more = punctuator punctuators.Semicolon ∷ [];
     has = record {
       trees = map local found;
-      are = λ other. subst (λ (z : List Token). AreLocals text' (map local found) z other) (sym (append_assoc d.before (punctuator punctuators.Semicolon ∷ []) other)) (closed text room whole 0 ts rest found d text' (punctuator punctuators.Semicolon ∷ other) other a (0, (0, refl)));
-      within = record { expressions = λ k. d.expressions; statements = λ k. d.statements; count = λ k. let e = d.count in omega arith };
+      are = λ other. subst (λ (z : List Token). AreLocals text' (map local found) z other)
+        (sym (append_assoc d.before (punctuator punctuators.Semicolon ∷ []) other))
+        (closed text room whole 0 ts rest found d text' (punctuator punctuators.Semicolon ∷ other)
+        other a (0, (0, refl)));
+      within = record { expressions = λ k. d.expressions; statements = λ k. d.statements;
+        count = λ k. let e = d.count in omega arith };
     };
   };
-  further = λ text' k a speaks e. let z : 1 ≡ k = omega arith in subst (λ n. Onward (HasLocals room whole) n text' d.before rest) z (record {
+  further = λ text' k a speaks e. let z : 1 ≡ k = omega arith in
+      subst (λ n. Onward (HasLocals room whole) n text' d.before rest) z (record {
     token = token (kinds.Punctuator punctuators.Comma) c.0 c.1.0;
     rest = b;
     more = name ∷ punctuator punctuators.Semicolon ∷ [];
@@ -181,36 +232,54 @@ full text room whole ts rest b found d c = record {
   });
 }
   where
-    against : (text' : List ℕ) (other : List Token) → SameFirst rest other → NoMoreLocals room 0 2 text' other
-    against text' other same [] end h w = let x = has_first punctuators.Comma rest b other c same in let e : punctuators.Comma ≡ punctuators.Semicolon = other_punctuator punctuators.Comma punctuators.Semicolon other x.0 end x.1 h in cc
-    against text' other same (l ∷ ls) end h w = let n = w.count (omega arith) in absurd (omega arith)
+    against : (text' : List ℕ) (other : List Token) → SameFirst rest other
+      → NoMoreLocals room 0 2 text' other
+    against text' other same [] end h w = let x = has_first punctuators.Comma rest b other c same in
+      let e : punctuators.Comma ≡ punctuators.Semicolon = other_punctuator punctuators.Comma
+      punctuators.Semicolon other x.0 end x.1 h in cc
+    against text' other same (l ∷ ls) end h w = let n = w.count (omega arith) in
+      absurd (omega arith)
 
-next_none : (text : List ℕ) (room left n : ℕ) (rest b : List Token) → HasPunctuator punctuators.Comma rest b → NoLocal room n text b → NoMoreLocals room left n text rest
-next_none text room left n rest b c none [] end h w = let e : punctuators.Comma ≡ punctuators.Semicolon = other_punctuator punctuators.Comma punctuators.Semicolon rest b end c h in cc
+next_none : (text : List ℕ) (room left n : ℕ) (rest b : List Token)
+    → HasPunctuator punctuators.Comma rest b → NoLocal room n text b
+    → NoMoreLocals room left n text rest
+next_none text room left n rest b c none [] end h w = let e : punctuators.Comma
+    ≡ punctuators.Semicolon = other_punctuator punctuators.Comma punctuators.Semicolon rest b end c
+      h in cc
 next_none text room left n rest b c none (l ∷ ls) end h w =
     let p = has_same punctuators.Comma rest rest h.after_comma b refl h.comma c in
     none l h.after_element (subst (λ (z : List Token). IsLocal text l z h.after_element) p
     h.element) (locals_stop text ls h.after_element end h.others)
     (λ k. let e = w.expressions k in omega arith) (λ k. let e = w.statements k in omega arith)
 
-pub no_next : (text : List ℕ) (room whole left : ℕ) (ts rest b : List Token) (found : List Local') → Begun text room whole ts found rest left → HasPunctuator punctuators.Comma rest b → 1 ≤ left → Wraps (NoLocal room) (HasLocal room) (NoLocals room whole) (HasLocals room whole) text b ts
+pub no_next : (text : List ℕ) (room whole left : ℕ) (ts rest b : List Token) (found : List Local')
+    → Begun text room whole ts found rest left → HasPunctuator punctuators.Comma rest b → 1 ≤ left
+    → Wraps (NoLocal room) (HasLocal room) (NoLocals room whole) (HasLocals room whole) text b ts
 no_next text room whole left ts rest b found d c some =
     let m = has_punctuator punctuators.Comma text rest b c in
     record {
       before = d.before ++ m.front;
       split = d.split ∙ ap (λ z. d.before ++ z) m.split ∙ sym (append_assoc d.before m.front b);
       no = λ n text' other a same none.
-          subst (λ (z : List Token). NoLocals room whole n text' z) (sym (append_assoc d.before m.front other))
-          (d.back n text' (m.front ++ other) a (same_after m.front b rest other m.split same) (next_none text' room left n (m.front ++ other) other (m.again text' other (alike_inner text text' d.before rest ts d.split a)) none));
+          subst (λ (z : List Token). NoLocals room whole n text' z)
+            (sym (append_assoc d.before m.front other))
+          (d.back n text' (m.front ++ other) a (same_after m.front b rest other m.split same)
+            (next_none text' room left n (m.front ++ other) other
+            (m.again text' other (alike_inner text text' d.before rest ts d.split a)) none));
       has = λ n text' inner a speaks h. record {
         more = punctuator punctuators.Semicolon ∷ [];
         has = record {
           trees = map local found ++ h.tree ∷ [];
           are = λ other.
-              let g = m.again text' (inner ++ punctuator punctuators.Semicolon ∷ other) (alike_inner text text' d.before rest ts d.split a) in
-              let p = flat (d.before ++ m.front) inner (punctuator punctuators.Semicolon ∷ []) other ∙ append_assoc d.before m.front (inner ++ punctuator punctuators.Semicolon ∷ other) in
-              subst (λ (z : List Token). AreLocals text' (map local found ++ h.tree ∷ []) z other) (sym p)
-              (d.forward text' (m.front ++ (inner ++ punctuator punctuators.Semicolon ∷ other)) a (h.tree ∷ []) other (record {
+              let g = m.again text' (inner ++ punctuator punctuators.Semicolon ∷ other)
+                (alike_inner text text' d.before rest ts d.split a) in
+              let p = flat (d.before ++ m.front) inner (punctuator punctuators.Semicolon ∷ []) other
+                ∙ append_assoc d.before m.front
+                  (inner ++ punctuator punctuators.Semicolon ∷ other) in
+              subst (λ (z : List Token). AreLocals text' (map local found ++ h.tree ∷ []) z other)
+                (sym p)
+              (d.forward text' (m.front ++ (inner ++ punctuator punctuators.Semicolon ∷ other)) a
+                (h.tree ∷ []) other (record {
                 after_comma = inner ++ punctuator punctuators.Semicolon ∷ other;
                 after_element = punctuator punctuators.Semicolon ∷ other;
                 comma = g;
@@ -220,32 +289,43 @@ no_next text room whole left ts rest b found d c some =
           within = record {
             expressions = λ k. height_more 64 (map local found) h.tree d.expressions (h.low k);
             statements = λ k. over_more room (map local found) h.tree d.statements (h.over k);
-            count = λ k. let e = d.count in let f = length_more (map local found) h.tree in omega arith;
+            count = λ k. let e = d.count in let f = length_more (map local found) h.tree in
+              omega arith;
           };
         };
       };
     }
 
-unended_at : (text : List ℕ) (room left n : ℕ) (rest : List Token) → Lacks punctuators.Comma rest → Lacks punctuators.Semicolon rest → NoMoreLocals room left n text rest
+unended_at : (text : List ℕ) (room left n : ℕ) (rest : List Token) → Lacks punctuators.Comma rest
+    → Lacks punctuators.Semicolon rest → NoMoreLocals room left n text rest
 unended_at text room left n rest c s [] end h w = s end h
 unended_at text room left n rest c s (l ∷ ls) end h w = c h.after_comma h.comma
 
-pub unended : (text : List ℕ) (room whole left : ℕ) (ts rest : List Token) (found : List Local') → Begun text room whole ts found rest left → Lacks punctuators.Comma rest → Wraps (NoPunctuator punctuators.Semicolon) (APunctuator punctuators.Semicolon) (NoLocals room whole) (HasLocals room whole) text rest ts
+pub unended : (text : List ℕ) (room whole left : ℕ) (ts rest : List Token) (found : List Local')
+    → Begun text room whole ts found rest left → Lacks punctuators.Comma rest
+    → Wraps (NoPunctuator punctuators.Semicolon) (APunctuator punctuators.Semicolon)
+      (NoLocals room whole) (HasLocals room whole) text rest ts
 unended text room whole left ts rest found d lacks = record {
   before = d.before;
   split = d.split;
-  no = λ n text' other a same none. d.back n text' other a same (unended_at text' room left n other (lacks_first punctuators.Comma rest other same lacks) none);
+  no = λ n text' other a same none. d.back n text' other a same
+      (unended_at text' room left n other (lacks_first punctuators.Comma rest other same lacks)
+      none);
   has = λ n text' inner a speaks h. record {
     more = [];
     has = record {
       trees = map local found;
-      are = λ other. subst (λ (z : List Token). AreLocals text' (map local found) z other) (sym (flat d.before inner [] other)) (closed text room whole left ts rest found d text' (inner ++ other) other a (h other));
-      within = record { expressions = λ k. d.expressions; statements = λ k. d.statements; count = λ k. let e = d.count in omega arith };
+      are = λ other. subst (λ (z : List Token). AreLocals text' (map local found) z other)
+        (sym (flat d.before inner [] other)) (closed text room whole left ts rest found d text'
+        (inner ++ other) other a (h other));
+      within = record { expressions = λ k. d.expressions; statements = λ k. d.statements;
+        count = λ k. let e = d.count in omega arith };
     };
   };
 }
 
-pub no_first : (text : List ℕ) (room left : ℕ) (ts : List Token) → 1 ≤ left → Wraps (NoLocal room) (HasLocal room) (NoLocals room left) (HasLocals room left) text ts ts
+pub no_first : (text : List ℕ) (room left : ℕ) (ts : List Token) → 1 ≤ left
+    → Wraps (NoLocal room) (HasLocal room) (NoLocals room left) (HasLocals room left) text ts ts
 no_first text room left ts some = record {
   before = [];
   split = refl;
@@ -254,7 +334,11 @@ no_first text room left ts some = record {
     more = punctuator punctuators.Semicolon ∷ [];
     has = record {
       trees = h.tree ∷ [];
-      are = λ other. (punctuator punctuators.Semicolon ∷ other, subst (λ (z : List Token). IsLocal text' h.tree z (punctuator punctuators.Semicolon ∷ other)) (sym (append_assoc inner (punctuator punctuators.Semicolon ∷ []) other)) (h.is (punctuator punctuators.Semicolon ∷ other)), (0, (0, refl)));
+      are = λ other. (punctuator punctuators.Semicolon ∷ other,
+        subst (λ (z : List Token). IsLocal text' h.tree z
+        (punctuator punctuators.Semicolon ∷ other))
+        (sym (append_assoc inner (punctuator punctuators.Semicolon ∷ []) other))
+        (h.is (punctuator punctuators.Semicolon ∷ other)), (0, (0, refl)));
       within = record {
         expressions = λ k. let e = h.low k in omega arith;
         statements = λ k. let e = h.over k in omega arith;
@@ -264,6 +348,9 @@ no_first text room left ts some = record {
   };
 }
   where
-    against : (n : ℕ) (text' : List ℕ) (other : List Token) → Alike text text' ts → SameFirst ts other → NoLocal room n text' other → NoLocals room left n text' other
+    against : (n : ℕ) (text' : List ℕ) (other : List Token) → Alike text text' ts
+      → SameFirst ts other → NoLocal room n text' other → NoLocals room left n text' other
     against n text' other a same none [] end h w = absurd h
-    against n text' other a same none (l ∷ ls) end h w = none l h.0 h.1 (locals_stop text' ls h.0 end h.2) (λ k. let e = w.expressions k in omega arith) (λ k. let e = w.statements k in omega arith)
+    against n text' other a same none (l ∷ ls) end h w = none l h.0 h.1
+      (locals_stop text' ls h.0 end h.2) (λ k. let e = w.expressions k in omega arith)
+      (λ k. let e = w.statements k in omega arith)

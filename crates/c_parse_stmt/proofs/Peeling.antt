@@ -28,15 +28,27 @@ use Rattle.c_parse_stmt.proofs.Placing.{front_first}
 
 -- ---- at least so many around a part
 
-pub opening_untyped : (n : ℕ) (ts rest : List Token) → AreOpening n ts rest → (front rest ≡ 7 → ⊥) → front ts ≡ 7 → ⊥
+pub opening_untyped : (n : ℕ) (ts rest : List Token) → AreOpening n ts rest → (front rest ≡ 7 → ⊥)
+    → front ts ≡ 7 → ⊥
 opening_untyped zero ts rest h other e = other (ap front (sym h) ∙ e)
-opening_untyped (suc n) ts rest h other e = let p = has_front punctuators.OpenParenthesis ts h.0 h.1 in absurd (omega arith)
+opening_untyped (suc n) ts rest h other e = let p = has_front punctuators.OpenParenthesis ts h.0
+    h.1 in absurd (omega arith)
 
 -- where an expression begins with a parenthesis, and no type is in it
-inner_head : (text : List ℕ) (n : ℕ) (ts y : List Token) → HasPunctuator punctuators.OpenParenthesis ts y → (front y ≡ 7 → ⊥) → ((e : Expression) (rest r : List Token) → SpellsExpression text e y rest → HasPunctuator punctuators.CloseParenthesis rest r → n ≤ height e) → (h : Expression) (after : List Token) → IsOperandAlone h → SpellsExpression text h ts after → suc n ≤ height h
-inner_head text n ts y o bare f (Constant at (literals.Integer value type)) after i s = let p = has_front punctuators.OpenParenthesis ts y o in let q = ap front s.1 in absurd (omega arith)
-inner_head text n ts y o bare f (Constant at (literals.CharacterConstant value)) after i s = let p = has_front punctuators.OpenParenthesis ts y o in let q = ap front s.1 in absurd (omega arith)
-inner_head text n ts y o bare f (Variable named) after i s = let p = has_front punctuators.OpenParenthesis ts y o in let q = ap front s in absurd (omega arith)
+inner_head : (text : List ℕ) (n : ℕ) (ts y : List Token)
+    → HasPunctuator punctuators.OpenParenthesis ts y → (front y ≡ 7 → ⊥)
+    → ((e : Expression) (rest r : List Token) → SpellsExpression text e y rest
+    → HasPunctuator punctuators.CloseParenthesis rest r → n ≤ height e)
+    → (h : Expression) (after : List Token) → IsOperandAlone h → SpellsExpression text h ts after
+    → suc n ≤ height h
+inner_head text n ts y o bare f (Constant at (literals.Integer value type)) after i
+    s = let p = has_front punctuators.OpenParenthesis ts y o in let q = ap front s.1 in
+    absurd (omega arith)
+inner_head text n ts y o bare f (Constant at (literals.CharacterConstant value)) after i
+    s = let p = has_front punctuators.OpenParenthesis ts y o in let q = ap front s.1 in
+    absurd (omega arith)
+inner_head text n ts y o bare f (Variable named) after i s = let p = has_front
+    punctuators.OpenParenthesis ts y o in let q = ap front s in absurd (omega arith)
 inner_head text n ts y o bare f (Information at field) after i s =
     let p = has_front punctuators.OpenParenthesis ts y o in
     let q = ap front s.introduction.keyword.1 in
@@ -64,20 +76,30 @@ inner_head text n ts y o bare f (Cast at to e) after i s =
     s.operator.inner.1))
 inner_head text n ts y o bare f h after i s = absurd i
 
-pub least : (m n : ℕ) (text : List ℕ) (ts v : List Token) → AreOpening m ts v → ((e : Expression) (rest r : List Token) → SpellsExpression text e v rest → HasPunctuator punctuators.CloseParenthesis rest r → n ≤ height e) → (1 ≤ m → front v ≡ 7 → ⊥) → (e : Expression) (rest r : List Token) → SpellsExpression text e ts rest → HasPunctuator punctuators.CloseParenthesis rest r → m + n ≤ height e
-least zero n text ts v h f bare e rest r s c = let q = f e rest r (subst (λ (z : List Token). SpellsExpression text e z rest) h s) c in omega arith
+pub least : (m n : ℕ) (text : List ℕ) (ts v : List Token) → AreOpening m ts v
+    → ((e : Expression) (rest r : List Token) → SpellsExpression text e v rest
+    → HasPunctuator punctuators.CloseParenthesis rest r → n ≤ height e) → (1 ≤ m → front v ≡ 7 → ⊥)
+    → (e : Expression) (rest r : List Token) → SpellsExpression text e ts rest
+    → HasPunctuator punctuators.CloseParenthesis rest r → m + n ≤ height e
+least zero n text ts v h f bare e rest r s c = let q = f e rest r
+    (subst (λ (z : List Token). SpellsExpression text e z rest) h s) c in omega arith
 least (suc m) n text ts v h f bare e rest r s c =
     let x = spine text e ts rest s in
     let k = run_height text x.head x.steps x.after e rest x.run in
     let g = opening_untyped m h.0 v h.2 (bare (omega arith)) in
-    let q = inner_head text (m + n) ts h.0 h.1 g (λ a b d u w. least m n text h.0 v h.2 f (λ l. bare (omega arith)) a b d u w) x.head x.after x.is_head x.spells in
+    let q = inner_head text (m + n) ts h.0 h.1 g
+      (λ a b d u w. least m n text h.0 v h.2 f (λ l. bare (omega arith)) a b d u w) x.head x.after
+      x.is_head x.spells in
     omega arith
 
 -- ---- by the first token
 
-head_over : (text : List ℕ) (h : Expression) (ts after : List Token) → IsOperandAlone h → SpellsExpression text h ts after → first_over ts ≤ height h
-head_over text (Constant at (literals.Integer value type)) ts after i s = let p = ap first_over s.1 in omega arith
-head_over text (Constant at (literals.CharacterConstant value)) ts after i s = let p = ap first_over s.1 in omega arith
+head_over : (text : List ℕ) (h : Expression) (ts after : List Token) → IsOperandAlone h
+    → SpellsExpression text h ts after → first_over ts ≤ height h
+head_over text (Constant at (literals.Integer value type)) ts after i s = let p = ap first_over
+    s.1 in omega arith
+head_over text (Constant at (literals.CharacterConstant value)) ts after i s = let p = ap first_over
+    s.1 in omega arith
 head_over text (Variable named) ts after i s = let p = ap first_over s in omega arith
 head_over text (Information at field) ts after i s =
     let p = ap first_over s.introduction.keyword.1 in
@@ -91,7 +113,8 @@ head_over text (Cast at to e) ts after i s =
     omega arith
 head_over text h ts after i s = absurd i
 
-over_least : (text : List ℕ) (e : Expression) (ts rest : List Token) → SpellsExpression text e ts rest → first_over ts ≤ height e
+over_least : (text : List ℕ) (e : Expression) (ts rest : List Token)
+    → SpellsExpression text e ts rest → first_over ts ≤ height e
 over_least text e ts rest s =
     let x = spine text e ts rest s in
     let k = run_height text x.head x.steps x.after e rest x.run in
@@ -99,7 +122,8 @@ over_least text e ts rest s =
     omega arith
 
 over_same : (ts other : List Token) → SameFirst ts other → first_over ts ≡ first_over other
-over_same ts other same = first_keeps (λ z. first_over ts ≡ first_over z) (λ t xs ys n. n) ts other same refl
+over_same ts other same = first_keeps (λ z. first_over ts ≡ first_over z) (λ t xs ys n. n) ts other
+    same refl
 
 kind_untyped : (k : Kind) → over_first k ≡ 1 → kind_class k ≡ 7 → ⊥
 kind_untyped (kinds.Punctuator s) h e = punctuator_untyped s e
@@ -111,14 +135,20 @@ over_untyped (t ∷ ts) h e = kind_untyped t.kind h e
 
 -- ---- conditions after opening parentheses
 
-pub has_condition : (n : ℕ) (text : List ℕ) (ts : List Token) (e : Expression) → IsCondition text e ts [] → height e ≤ 64 → HasCondition n text ts
+pub has_condition : (n : ℕ) (text : List ℕ) (ts : List Token) (e : Expression)
+    → IsCondition text e ts [] → height e ≤ 64 → HasCondition n text ts
 has_condition n text ts e h low =
     let m = condition e text ts [] h in
     let p : ts ≡ m.front = m.split ∙ append-nil m.front in
-    record { tree = e; is = λ other. subst (λ (z : List Token). IsCondition text e (z ++ other) other) (sym p) (m.again text other (alike_same text ts)); low = λ k. low }
+    record { tree = e; is = λ other. subst (λ (z : List Token). IsCondition text e (z ++ other)
+      other) (sym p) (m.again text other (alike_same text ts)); low = λ k. low }
 
 -- after the condition's own parenthesis
-pub none_inside : (m n : ℕ) (text : List ℕ) (before other : List Token) → AreOpening (suc m) before [] → ((e : Expression) (rest r : List Token) → SpellsExpression text e other rest → HasPunctuator punctuators.CloseParenthesis rest r → n ≤ height e) → (1 ≤ m → front other ≡ 7 → ⊥) → 64 < m + n → NoCondition 1 text (before ++ other)
+pub none_inside : (m n : ℕ) (text : List ℕ) (before other : List Token)
+    → AreOpening (suc m) before [] → ((e : Expression) (rest r : List Token)
+    → SpellsExpression text e other rest → HasPunctuator punctuators.CloseParenthesis rest r
+    → n ≤ height e) → (1 ≤ m → front other ≡ 7 → ⊥) → 64 < m + n
+    → NoCondition 1 text (before ++ other)
 none_inside m n text before other o f bare l e end h low =
     let x = opening_again (suc m) before other o in
     let p = has_same punctuators.OpenParenthesis (before ++ other)
@@ -129,15 +159,18 @@ none_inside m n text before other o f bare l e end h low =
     let r = low (omega arith) in
     absurd (omega arith)
 
-pub no_type : (opened : ℕ) (ts : List Token) → 1 ≤ opened → BeginsNoExpression ts → (2 ≤ opened → NoBase ts) → NoneInside opened ts
+pub no_type : (opened : ℕ) (ts : List Token) → 1 ≤ opened → BeginsNoExpression ts
+    → (2 ≤ opened → NoBase ts) → NoneInside opened ts
 no_type zero ts l free none text before other o same = absurd (omega arith)
 no_type (suc m) ts l free none text before other o same =
     none_inside m 65 text before other o
-    (λ e rest r s c. absurd (free text other same e rest (record { fits = rank_low e; spells = s })))
+    (λ e rest r s c. absurd (free text other same e rest
+      (record { fits = rank_low e; spells = s })))
     (λ k g. untyped ts (none (omega arith)) (front_first ts other same ∙ g))
     (omega arith)
 
-pub too_deep : (opened : ℕ) (ts : List Token) → 65 ≤ opened → first_over ts ≡ 1 → NoneInside opened ts
+pub too_deep : (opened : ℕ) (ts : List Token) → 65 ≤ opened → first_over ts ≡ 1
+    → NoneInside opened ts
 too_deep zero ts l over text before other o same = absurd (omega arith)
 too_deep (suc m) ts l over text before other o same =
     let q = over_same ts other same in
@@ -147,32 +180,46 @@ too_deep (suc m) ts l over text before other o same =
     (omega arith)
 
 pub closing_all : (n : ℕ) → AreClosing n (closing n) []
-closing_all n = subst (λ (z : List Token). AreClosing n z []) (append-nil (closing n)) (closing_is n [])
+closing_all n = subst (λ (z : List Token). AreClosing n z []) (append-nil (closing n))
+    (closing_is n [])
 
-pub goes : (opened : ℕ) (ts : List Token) → 1 ≤ opened → opened ≤ 65 → BeginsExpression ts → opened + first_over ts ≤ 65 → ContinuesInside opened ts
+pub goes : (opened : ℕ) (ts : List Token) → 1 ≤ opened → opened ≤ 65 → BeginsExpression ts
+    → opened + first_over ts ≤ 65 → ContinuesInside opened ts
 goes zero ts l k b d = absurd (omega arith)
-goes (suc m) ts l k b d = record { first = b.first; rest = b.rest; split = b.split; holds = λ text before speaks o. continued text before o (b.holds text speaks) }
+goes (suc m) ts l k b d = record { first = b.first; rest = b.rest; split = b.split;
+    holds = λ text before speaks o. continued text before o (b.holds text speaks) }
   where
-    continued : (text : List ℕ) (before : List Token) → AreOpening (suc m) before [] → Expressed text b.first → Continued text before b.first
+    continued : (text : List ℕ) (before : List Token) → AreOpening (suc m) before []
+      → Expressed text b.first → Continued text before b.first
     continued text before o x =
         let q : first_over ts ≡ over_first b.first.kind = ap first_over b.split in
         let h = x.over in
-        let n = enclosed m text x.tree (before ++ b.first ∷ (x.more ++ closing (suc m))) (b.first ∷ (x.more ++ closing (suc m))) (closing (suc m)) [] (opening_again (suc m) before (b.first ∷ (x.more ++ closing (suc m))) o) (x.derives (closing (suc m))).spells (closing_all (suc m)) in
+        let n = enclosed m text x.tree (before ++ b.first ∷ (x.more ++ closing (suc m)))
+          (b.first ∷ (x.more ++ closing (suc m))) (closing (suc m)) []
+          (opening_again (suc m) before (b.first ∷ (x.more ++ closing (suc m))) o)
+          (x.derives (closing (suc m))).spells (closing_all (suc m)) in
         let w = n.high in
-        record { more = x.more ++ closing (suc m); has = has_condition 1 text (before ++ b.first ∷ (x.more ++ closing (suc m))) n.tree n.is (omega arith) }
+        record { more = x.more ++ closing (suc m);
+          has = has_condition 1 text (before ++ b.first ∷ (x.more ++ closing (suc m))) n.tree n.is
+          (omega arith) }
 
-pub goes_type : (opened : ℕ) (ts : List Token) → 2 ≤ opened → opened ≤ 65 → front ts ≡ 7 → ContinuesInside opened ts
+pub goes_type : (opened : ℕ) (ts : List Token) → 2 ≤ opened → opened ≤ 65 → front ts ≡ 7
+    → ContinuesInside opened ts
 goes_type opened [] l k h = absurd (omega arith)
 goes_type zero (t ∷ ts) l k h = absurd (omega arith)
 goes_type (suc zero) (t ∷ ts) l k h = absurd (omega arith)
-goes_type (suc (suc n)) (t ∷ ts) l k h = record { first = t; rest = ts; split = refl; holds = λ text before speaks o. continued text before o }
+goes_type (suc (suc n)) (t ∷ ts) l k h = record { first = t; rest = ts; split = refl;
+    holds = λ text before speaks o. continued text before o }
   where
-    continued : (text : List ℕ) (before : List Token) → AreOpening (suc (suc n)) before [] → Continued text before t
+    continued : (text : List ℕ) (before : List Token) → AreOpening (suc (suc n)) before []
+      → Continued text before t
     continued text before o =
         let more = punctuator punctuators.CloseParenthesis ∷ name ∷ closing (suc n) in
         let b = base_at t more h in
-        let x = opening_split (suc n) 1 (suc (suc n)) (before ++ t ∷ more) (t ∷ more) (omega arith) (opening_again (suc (suc n)) before (t ∷ more) o) in
-        let c = enclosed n text (Cast x.2.1.0 (record { base = b.0; pointers = 0 }) variable) (before ++ t ∷ more) x.0 (closing (suc n)) [] x.1
+        let x = opening_split (suc n) 1 (suc (suc n)) (before ++ t ∷ more) (t ∷ more) (omega arith)
+          (opening_again (suc (suc n)) before (t ∷ more) o) in
+        let c = enclosed n text (Cast x.2.1.0 (record { base = b.0; pointers = 0 }) variable)
+          (before ++ t ∷ more) x.0 (closing (suc n)) [] x.1
         (record {
           after_operator = name ∷ closing (suc n);
           operator = record {
@@ -186,7 +233,8 @@ goes_type (suc (suc n)) (t ∷ ts) l k h = record { first = t; rest = ts; split 
         })
         (closing_all (suc n)) in
         let w = c.high in
-        record { more = more; has = has_condition 1 text (before ++ t ∷ more) c.tree c.is (omega arith) }
+        record { more = more; has = has_condition 1 text (before ++ t ∷ more) c.tree c.is
+          (omega arith) }
 
 kind_low : (k : Kind) → over_first k ≤ 1
 kind_low kinds.Identifier = omega arith

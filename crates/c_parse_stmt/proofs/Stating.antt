@@ -21,9 +21,11 @@ use Rattle.c_parse_stmt.proofs.Begins.{punctuator, keyword, name, variable, fron
 
 -- `(` a name `)`
 abbrev conditional : List Token → List Token
-conditional ts = punctuator punctuators.OpenParenthesis ∷ name ∷ punctuator punctuators.CloseParenthesis ∷ ts
+conditional ts = punctuator punctuators.OpenParenthesis ∷ name
+    ∷ punctuator punctuators.CloseParenthesis ∷ ts
 
-of_condition : (text : List ℕ) (other : List Token) → IsCondition text variable (conditional other) other
+of_condition : (text : List ℕ) (other : List Token)
+    → IsCondition text variable (conditional other) other
 of_condition text other = record {
   after_opening = _;
   after_inner = _;
@@ -33,12 +35,18 @@ of_condition text other = record {
 }
 
 -- `;`
-empty : (text : List ℕ) (other : List Token) → IsBlockItem text (Evaluate None) (punctuator punctuators.Semicolon ∷ other) other
+empty : (text : List ℕ) (other : List Token) → IsBlockItem text (Evaluate None)
+    (punctuator punctuators.Semicolon ∷ other) other
 empty text other = (_, refl, (0, (0, refl)))
 
-stated_by_keyword : (text : List ℕ) (k : Keyword) (at end : ℕ) → 2 ≤ keyword_begins k → keyword_begins k ≤ 11 → Stated text (token (kinds.Keyword k) at end)
-stated_by_keyword text keywords.Break at end h l = record { more = punctuator punctuators.Semicolon ∷ []; tree = Break at; is = λ other. (_, (end, refl), (0, (0, refl))); statement = refl }
-stated_by_keyword text keywords.Continue at end h l = record { more = punctuator punctuators.Semicolon ∷ []; tree = Continue at; is = λ other. (_, (end, refl), (0, (0, refl))); statement = refl }
+stated_by_keyword : (text : List ℕ) (k : Keyword) (at end : ℕ) → 2 ≤ keyword_begins k
+    → keyword_begins k ≤ 11 → Stated text (token (kinds.Keyword k) at end)
+stated_by_keyword text keywords.Break at end h
+    l = record { more = punctuator punctuators.Semicolon ∷ []; tree = Break at;
+    is = λ other. (_, (end, refl), (0, (0, refl))); statement = refl }
+stated_by_keyword text keywords.Continue at end h
+    l = record { more = punctuator punctuators.Semicolon ∷ []; tree = Continue at;
+    is = λ other. (_, (end, refl), (0, (0, refl))); statement = refl }
 stated_by_keyword text keywords.Do at end h l = record {
   more =
       punctuator punctuators.Semicolon ∷ keyword keywords.While
@@ -127,10 +135,13 @@ stated_by_keyword text keywords.Try at end h l = record {
   };
   statement = refl;
 }
-stated_by_keyword text keywords.Leave at end h l = record { more = punctuator punctuators.Semicolon ∷ []; tree = Leave at; is = λ other. (_, (end, refl), (0, (0, refl))); statement = refl }
+stated_by_keyword text keywords.Leave at end h
+    l = record { more = punctuator punctuators.Semicolon ∷ []; tree = Leave at;
+    is = λ other. (_, (end, refl), (0, (0, refl))); statement = refl }
 stated_by_keyword text k at end h l = absurd (omega arith)
 
-stated_by_punctuator : (text : List ℕ) (s : Punctuator) (at end : ℕ) → 2 ≤ punctuator_begins s → punctuator_begins s ≤ 11 → Stated text (token (kinds.Punctuator s) at end)
+stated_by_punctuator : (text : List ℕ) (s : Punctuator) (at end : ℕ) → 2 ≤ punctuator_begins s
+    → punctuator_begins s ≤ 11 → Stated text (token (kinds.Punctuator s) at end)
 stated_by_punctuator text punctuators.OpenBrace at end h l = record {
   more = punctuator punctuators.CloseBrace ∷ [];
   tree = Block Empty;
@@ -139,7 +150,8 @@ stated_by_punctuator text punctuators.OpenBrace at end h l = record {
 }
 stated_by_punctuator text s at end h l = absurd (omega arith)
 
-stated_by : (text : List ℕ) (k : Kind) (at end : ℕ) → 2 ≤ kind_begins k → kind_begins k ≤ 11 → Stated text (token k at end)
+stated_by : (text : List ℕ) (k : Kind) (at end : ℕ) → 2 ≤ kind_begins k → kind_begins k ≤ 11
+    → Stated text (token k at end)
 stated_by text kinds.Identifier at end h l = absurd (omega arith)
 stated_by text (kinds.Keyword k) at end h l = stated_by_keyword text k at end h l
 stated_by text (kinds.Reserved r) at end h l = absurd (omega arith)
@@ -149,34 +161,49 @@ stated_by text (kinds.Punctuator s) at end h l = stated_by_punctuator text s at 
 
 pub begins_statement : (ts : List Token) → 2 ≤ begins ts → begins ts ≤ 11 → BeginsStatement ts
 begins_statement [] h l = absurd (omega arith)
-begins_statement (t ∷ ts) h l = record { first = t; rest = ts; split = refl; holds = λ text s. stated_by text t.kind t.start t.end h l }
+begins_statement (t ∷ ts) h l = record { first = t; rest = ts; split = refl;
+    holds = λ text s. stated_by text t.kind t.start t.end h l }
 
-alone : (text : List ℕ) (k : Kind) (at end : ℕ) → k ≡ kinds.Punctuator punctuators.Semicolon → Stated text (token k at end)
-alone text k at end e = subst (λ (z : Kind). Stated text (token z at end)) (sym e) (record { more = []; tree = Evaluate None; is = λ other. (_, refl, (at, (end, refl))); statement = refl })
+alone : (text : List ℕ) (k : Kind) (at end : ℕ) → k ≡ kinds.Punctuator punctuators.Semicolon
+    → Stated text (token k at end)
+alone text k at end e = subst (λ (z : Kind). Stated text (token z at end)) (sym e)
+    (record { more = []; tree = Evaluate None; is = λ other. (_, refl, (at, (end, refl)));
+    statement = refl })
 
-pub begins_empty : (ts rest : List Token) (t : Token) → ts ≡ t ∷ rest → t.kind ≡ kinds.Punctuator punctuators.Semicolon → BeginsStatement ts
-begins_empty ts rest t e q = record { first = t; rest = rest; split = e; holds = λ text s. alone text t.kind t.start t.end q }
+pub begins_empty : (ts rest : List Token) (t : Token) → ts ≡ t ∷ rest
+    → t.kind ≡ kinds.Punctuator punctuators.Semicolon → BeginsStatement ts
+begins_empty ts rest t e q = record { first = t; rest = rest; split = e;
+    holds = λ text s. alone text t.kind t.start t.end q }
 
 evaluated : (text : List ℕ) (t : Token) → Expressed text t → Stated text t
 evaluated text t x = record {
   more = x.more ++ punctuator punctuators.Semicolon ∷ [];
   tree = Evaluate (Some x.tree);
-  is = λ other. (punctuator punctuators.Semicolon ∷ other, subst (λ z. Derives text comma x.tree (t ∷ z) (punctuator punctuators.Semicolon ∷ other)) (sym (append_assoc x.more (punctuator punctuators.Semicolon ∷ []) other)) (x.derives (punctuator punctuators.Semicolon ∷ other)), (0, (0, refl)));
+  is = λ other. (punctuator punctuators.Semicolon ∷ other,
+      subst (λ z. Derives text comma x.tree (t ∷ z) (punctuator punctuators.Semicolon ∷ other))
+      (sym (append_assoc x.more (punctuator punctuators.Semicolon ∷ []) other))
+      (x.derives (punctuator punctuators.Semicolon ∷ other)), (0, (0, refl)));
   statement = refl;
 }
 
 pub begins_evaluation : (ts : List Token) → BeginsExpression ts → BeginsStatement ts
-begins_evaluation ts h = record { first = h.first; rest = h.rest; split = h.split; holds = λ text s. evaluated text h.first (h.holds text s) }
+begins_evaluation ts h = record { first = h.first; rest = h.rest; split = h.split;
+    holds = λ text s. evaluated text h.first (h.holds text s) }
 
 -- ---- by the token that was found at the front
 
-pub begins_is : (ts rest : List Token) (t : Token) (k : Kind) → Some (t, rest) ≡ first ts → t.kind ≡ k → begins ts ≡ kind_begins k
+pub begins_is : (ts rest : List Token) (t : Token) (k : Kind) → Some (t, rest) ≡ first ts
+    → t.kind ≡ k → begins ts ≡ kind_begins k
 begins_is ts rest t k e q = ap begins (front_is ts rest t e) ∙ ap kind_begins q
 
 abbrev pub Stating : Keyword → Type 0
-Stating k = (k ≡ keywords.If) ⊎ ((k ≡ keywords.While) ⊎ ((k ≡ keywords.Do) ⊎ ((k ≡ keywords.For) ⊎ ((k ≡ keywords.Return) ⊎ ((k ≡ keywords.Break) ⊎ ((k ≡ keywords.Continue) ⊎ ((k ≡ keywords.Leave) ⊎ (k ≡ keywords.Try))))))))
+Stating k = (k ≡ keywords.If) ⊎ ((k ≡ keywords.While)
+    ⊎ ((k ≡ keywords.Do) ⊎ ((k ≡ keywords.For)
+    ⊎ ((k ≡ keywords.Return) ⊎ ((k ≡ keywords.Break)
+    ⊎ ((k ≡ keywords.Continue) ⊎ ((k ≡ keywords.Leave) ⊎ (k ≡ keywords.Try))))))))
 
-keyword_states : (k z : Keyword) → k ≡ z → 2 ≤ keyword_begins z → keyword_begins z ≤ 11 → (2 ≤ keyword_begins k) × (keyword_begins k ≤ 11)
+keyword_states : (k z : Keyword) → k ≡ z → 2 ≤ keyword_begins z → keyword_begins z ≤ 11
+    → (2 ≤ keyword_begins k) × (keyword_begins k ≤ 11)
 keyword_states k z e h l = let p = ap keyword_begins e in (omega arith, omega arith)
 
 pub stating_class : (k : Keyword) → Stating k → (2 ≤ keyword_begins k) × (keyword_begins k ≤ 11)
@@ -185,12 +212,19 @@ stating_class k (inr (inl e)) = keyword_states k _ e (omega arith) (omega arith)
 stating_class k (inr (inr (inl e))) = keyword_states k _ e (omega arith) (omega arith)
 stating_class k (inr (inr (inr (inl e)))) = keyword_states k _ e (omega arith) (omega arith)
 stating_class k (inr (inr (inr (inr (inl e))))) = keyword_states k _ e (omega arith) (omega arith)
-stating_class k (inr (inr (inr (inr (inr (inl e)))))) = keyword_states k _ e (omega arith) (omega arith)
-stating_class k (inr (inr (inr (inr (inr (inr (inl e))))))) = keyword_states k _ e (omega arith) (omega arith)
-stating_class k (inr (inr (inr (inr (inr (inr (inr (inl e)))))))) = keyword_states k _ e (omega arith) (omega arith)
-stating_class k (inr (inr (inr (inr (inr (inr (inr (inr e)))))))) = keyword_states k _ e (omega arith) (omega arith)
+stating_class k (inr (inr (inr (inr (inr (inl e)))))) = keyword_states k _ e (omega arith)
+    (omega arith)
+stating_class k (inr (inr (inr (inr (inr (inr (inl e))))))) = keyword_states k _ e (omega arith)
+    (omega arith)
+stating_class k (inr (inr (inr (inr (inr (inr (inr (inl e)))))))) = keyword_states k _ e
+    (omega arith) (omega arith)
+stating_class k (inr (inr (inr (inr (inr (inr (inr (inr e)))))))) = keyword_states k _ e
+    (omega arith) (omega arith)
 
-pub not_stating : (k : Keyword) → (k ≡ keywords.If → ⊥) → (k ≡ keywords.While → ⊥) → (k ≡ keywords.Do → ⊥) → (k ≡ keywords.For → ⊥) → (k ≡ keywords.Return → ⊥) → (k ≡ keywords.Break → ⊥) → (k ≡ keywords.Continue → ⊥) → (k ≡ keywords.Leave → ⊥) → (k ≡ keywords.Try → ⊥) → Stating k → ⊥
+pub not_stating : (k : Keyword) → (k ≡ keywords.If → ⊥) → (k ≡ keywords.While → ⊥)
+    → (k ≡ keywords.Do → ⊥) → (k ≡ keywords.For → ⊥) → (k ≡ keywords.Return → ⊥)
+    → (k ≡ keywords.Break → ⊥) → (k ≡ keywords.Continue → ⊥) → (k ≡ keywords.Leave → ⊥)
+    → (k ≡ keywords.Try → ⊥) → Stating k → ⊥
 not_stating k a b c d e f g h i (inl x) = a x
 not_stating k a b c d e f g h i (inr (inl x)) = b x
 not_stating k a b c d e f g h i (inr (inr (inl x))) = c x

@@ -107,7 +107,9 @@ pub record AfterFinally (text : List ℕ) (z : Statement) (ts end : List Token) 
 
 -- ---- each statement that begins with the keyword
 
-pub after_if : (text : List ℕ) (at : ℕ) (z : Statement) (ts a end : List Token) → IsKeyword keywords.If at ts a → IsBlockItem text z ts end → AfterIf text at z a end ⊎ AfterIfElse text at z a end
+pub after_if : (text : List ℕ) (at : ℕ) (z : Statement) (ts a end : List Token)
+    → IsKeyword keywords.If at ts a → IsBlockItem text z ts end
+    → AfterIf text at z a end ⊎ AfterIfElse text at z a end
 after_if text at (If at' c s) ts a end k h =
     let p = place keywords.If at at' ts ts a h.after_keyword refl k h.keyword in
     inl (record {
@@ -136,9 +138,11 @@ after_if text at (IfElse at' c s t) ts a end k h =
       else_keyword = h.else_keyword;
       is_else_body = h.else_body;
     })
-after_if text at z ts a end k h = absurd (let p : begins ts ≡ 3 = ap begins k.1 in let q = item_begins text z ts end h in omega arith)
+after_if text at z ts a end k h = absurd (let p : begins ts ≡ 3 = ap begins k.1 in
+    let q = item_begins text z ts end h in omega arith)
 
-pub after_while : (text : List ℕ) (at : ℕ) (z : Statement) (ts a end : List Token) → IsKeyword keywords.While at ts a → IsBlockItem text z ts end → AfterWhile text at z a end
+pub after_while : (text : List ℕ) (at : ℕ) (z : Statement) (ts a end : List Token)
+    → IsKeyword keywords.While at ts a → IsBlockItem text z ts end → AfterWhile text at z a end
 after_while text at (While at' c s) ts a end k h =
     let p = place keywords.While at at' ts ts a h.after_keyword refl k h.keyword in
     record {
@@ -150,9 +154,11 @@ after_while text at (While at' c s) ts a end k h =
           subst (λ (x : List Token). IsCondition text c x h.after_condition) (sym p.1) h.condition;
       is_body = h.body;
     }
-after_while text at z ts a end k h = absurd (let p : begins ts ≡ 4 = ap begins k.1 in let q = item_begins text z ts end h in omega arith)
+after_while text at z ts a end k h = absurd (let p : begins ts ≡ 4 = ap begins k.1 in
+    let q = item_begins text z ts end h in omega arith)
 
-pub after_do : (text : List ℕ) (at : ℕ) (z : Statement) (ts a end : List Token) → IsKeyword keywords.Do at ts a → IsBlockItem text z ts end → AfterDo text z a end
+pub after_do : (text : List ℕ) (at : ℕ) (z : Statement) (ts a end : List Token)
+    → IsKeyword keywords.Do at ts a → IsBlockItem text z ts end → AfterDo text z a end
 after_do text at (DoWhile s at' c) ts a end k h =
     let p = word keywords.Do ts ts a h.after_do refl (at, k) h.do_keyword in
     record {
@@ -170,9 +176,11 @@ after_do text at (DoWhile s at' c) ts a end k h =
       is_condition = h.condition;
       semicolon = h.semicolon;
     }
-after_do text at z ts a end k h = absurd (let p : begins ts ≡ 5 = ap begins k.1 in let q = item_begins text z ts end h in omega arith)
+after_do text at z ts a end k h = absurd (let p : begins ts ≡ 5 = ap begins k.1 in
+    let q = item_begins text z ts end h in omega arith)
 
-pub after_for : (text : List ℕ) (at : ℕ) (z : Statement) (ts a end : List Token) → IsKeyword keywords.For at ts a → IsBlockItem text z ts end → AfterFor text at z a end
+pub after_for : (text : List ℕ) (at : ℕ) (z : Statement) (ts a end : List Token)
+    → IsKeyword keywords.For at ts a → IsBlockItem text z ts end → AfterFor text at z a end
 after_for text at (For at' f c n s) ts a end k h =
     let p = place keywords.For at at' ts ts a h.after_keyword refl k h.keyword in
     record {
@@ -193,30 +201,48 @@ after_for text at (For at' f c n s) ts a end k h =
       is_next = h.next;
       is_body = h.body;
     }
-after_for text at z ts a end k h = absurd (let p : begins ts ≡ 6 = ap begins k.1 in let q = item_begins text z ts end h in omega arith)
+after_for text at z ts a end k h = absurd (let p : begins ts ≡ 6 = ap begins k.1 in
+    let q = item_begins text z ts end h in omega arith)
 
-pub after_return : (text : List ℕ) (at : ℕ) (z : Statement) (ts a end : List Token) → IsKeyword keywords.Return at ts a → IsBlockItem text z ts end → AfterReturn text at z a end
+pub after_return : (text : List ℕ) (at : ℕ) (z : Statement) (ts a end : List Token)
+    → IsKeyword keywords.Return at ts a → IsBlockItem text z ts end → AfterReturn text at z a end
 after_return text at (Return at' e) ts a end k h =
     let p = place keywords.Return at at' ts ts a h.0 refl k h.1 in (
       e,
       ap (λ (x : ℕ). Return x e) (sym p.0),
       subst (λ (x : List Token). IsUpTo text punctuators.Semicolon e x end) (sym p.1) h.2,
     )
-after_return text at z ts a end k h = absurd (let p : begins ts ≡ 7 = ap begins k.1 in let q = item_begins text z ts end h in omega arith)
+after_return text at z ts a end k h = absurd (let p : begins ts ≡ 7 = ap begins k.1 in
+    let q = item_begins text z ts end h in omega arith)
 
-pub after_break : (text : List ℕ) (at : ℕ) (z : Statement) (ts a end : List Token) → IsKeyword keywords.Break at ts a → IsBlockItem text z ts end → HasPunctuator punctuators.Semicolon a end
-after_break text at (Break at') ts a end k h = let p = place keywords.Break at at' ts ts a h.0 refl k h.1 in subst (λ (x : List Token). HasPunctuator punctuators.Semicolon x end) (sym p.1) h.2
-after_break text at z ts a end k h = absurd (let p : begins ts ≡ 8 = ap begins k.1 in let q = item_begins text z ts end h in omega arith)
+pub after_break : (text : List ℕ) (at : ℕ) (z : Statement) (ts a end : List Token)
+    → IsKeyword keywords.Break at ts a → IsBlockItem text z ts end
+    → HasPunctuator punctuators.Semicolon a end
+after_break text at (Break at') ts a end k h = let p = place keywords.Break at at' ts ts a h.0 refl
+    k h.1 in subst (λ (x : List Token). HasPunctuator punctuators.Semicolon x end) (sym p.1) h.2
+after_break text at z ts a end k h = absurd (let p : begins ts ≡ 8 = ap begins k.1 in
+    let q = item_begins text z ts end h in omega arith)
 
-pub after_continue : (text : List ℕ) (at : ℕ) (z : Statement) (ts a end : List Token) → IsKeyword keywords.Continue at ts a → IsBlockItem text z ts end → HasPunctuator punctuators.Semicolon a end
-after_continue text at (Continue at') ts a end k h = let p = place keywords.Continue at at' ts ts a h.0 refl k h.1 in subst (λ (x : List Token). HasPunctuator punctuators.Semicolon x end) (sym p.1) h.2
-after_continue text at z ts a end k h = absurd (let p : begins ts ≡ 9 = ap begins k.1 in let q = item_begins text z ts end h in omega arith)
+pub after_continue : (text : List ℕ) (at : ℕ) (z : Statement) (ts a end : List Token)
+    → IsKeyword keywords.Continue at ts a → IsBlockItem text z ts end
+    → HasPunctuator punctuators.Semicolon a end
+after_continue text at (Continue at') ts a end k h = let p = place keywords.Continue at at' ts ts a
+    h.0 refl k h.1 in subst (λ (x : List Token). HasPunctuator punctuators.Semicolon x end)
+    (sym p.1) h.2
+after_continue text at z ts a end k h = absurd
+    (let p : begins ts ≡ 9 = ap begins k.1 in let q = item_begins text z ts end h in omega arith)
 
-pub after_leave : (text : List ℕ) (at : ℕ) (z : Statement) (ts a end : List Token) → IsKeyword keywords.Leave at ts a → IsBlockItem text z ts end → HasPunctuator punctuators.Semicolon a end
-after_leave text at (Leave at') ts a end k h = let p = place keywords.Leave at at' ts ts a h.0 refl k h.1 in subst (λ (x : List Token). HasPunctuator punctuators.Semicolon x end) (sym p.1) h.2
-after_leave text at z ts a end k h = absurd (let p : begins ts ≡ 10 = ap begins k.1 in let q = item_begins text z ts end h in omega arith)
+pub after_leave : (text : List ℕ) (at : ℕ) (z : Statement) (ts a end : List Token)
+    → IsKeyword keywords.Leave at ts a → IsBlockItem text z ts end
+    → HasPunctuator punctuators.Semicolon a end
+after_leave text at (Leave at') ts a end k h = let p = place keywords.Leave at at' ts ts a h.0 refl
+    k h.1 in subst (λ (x : List Token). HasPunctuator punctuators.Semicolon x end) (sym p.1) h.2
+after_leave text at z ts a end k h = absurd (let p : begins ts ≡ 10 = ap begins k.1 in
+    let q = item_begins text z ts end h in omega arith)
 
-pub after_try : (text : List ℕ) (at : ℕ) (z : Statement) (ts a end : List Token) → IsKeyword keywords.Try at ts a → IsBlockItem text z ts end → AfterExcept text z a end ⊎ AfterFinally text z a end
+pub after_try : (text : List ℕ) (at : ℕ) (z : Statement) (ts a end : List Token)
+    → IsKeyword keywords.Try at ts a → IsBlockItem text z ts end
+    → AfterExcept text z a end ⊎ AfterFinally text z a end
 after_try text at (TryExcept body at' f handler) ts a end k h =
     let p = word keywords.Try ts ts a h.after_try refl (at, k) h.try_keyword in
     inl (record {
@@ -246,13 +272,16 @@ after_try text at (TryFinally body at' last) ts a end k h =
       keyword = h.keyword;
       is_last = h.last;
     })
-after_try text at z ts a end k h = absurd (let p : begins ts ≡ 11 = ap begins k.1 in let q = item_begins text z ts end h in omega arith)
+after_try text at z ts a end k h = absurd (let p : begins ts ≡ 11 = ap begins k.1 in
+    let q = item_begins text z ts end h in omega arith)
 
 abbrev pub AfterBrace : List ℕ → Statement → List Token → List Token → Type 0
 AfterBrace text z ts end = (ss : Statements) × (z ≡ Block ss) × AreBlockItems text ss ts end
 
-pub after_brace : (text : List ℕ) (z : Statement) (ts a end : List Token) → HasPunctuator punctuators.OpenBrace ts a → IsBlockItem text z ts end → AfterBrace text z a end
+pub after_brace : (text : List ℕ) (z : Statement) (ts a end : List Token)
+    → HasPunctuator punctuators.OpenBrace ts a → IsBlockItem text z ts end → AfterBrace text z a end
 after_brace text (Block ss) ts a end k h =
     let p = has_same punctuators.OpenBrace ts ts h.after_brace a refl h.brace k in
     (ss, refl, subst (λ (x : List Token). AreBlockItems text ss x end) p h.items)
-after_brace text z ts a end k h = absurd (let p : begins ts ≡ 2 = ap begins k.1.1 in let q = item_begins text z ts end h in omega arith)
+after_brace text z ts a end k h = absurd (let p : begins ts ≡ 2 = ap begins k.1.1 in
+    let q = item_begins text z ts end h in omega arith)

@@ -19,9 +19,11 @@ use Rattle.c_parse_stmt.proofs.Tails.{IsBraced, AfterExcept, AfterFinally, after
 use Rattle.c_parse_stmt.proofs.Wholes.{fits}
 
 abbrev pub NoneBraced : ℕ → Left → ℕ → List ℕ → List Token → Type 0
-NoneBraced room left n text ts = (ss : Statements) (end : List Token) → IsBraced text ss ts end → AllWithin n text room left ss → ⊥
+NoneBraced room left n text ts = (ss : Statements) (end : List Token) → IsBraced text ss ts end
+    → AllWithin n text room left ss → ⊥
 
-after_braces : (text : List ℕ) (ss zs : Statements) (ts rest end : List Token) → IsBraced text ss ts rest → IsBraced text zs ts end → (ss ≡ zs) × (rest ≡ end)
+after_braces : (text : List ℕ) (ss zs : Statements) (ts rest end : List Token)
+    → IsBraced text ss ts rest → IsBraced text zs ts end → (ss ≡ zs) × (rest ≡ end)
 after_braces text ss zs ts rest end h g =
     same_items text ss zs h.after_brace g.after_brace rest end
     (has_same punctuators.OpenBrace ts ts h.after_brace g.after_brace refl h.brace g.brace) h.items
@@ -31,7 +33,9 @@ pub number_length : (b : Bool) (at : ℕ) → length (cond b [] (at ∷ [])) ≡
 number_length true at = refl
 number_length false at = refl
 
-pub no_try : (limits : ℕ) (text : List ℕ) (room at : ℕ) (left : Left) (a : List Token) → 6 ≤ limits → room ≡ 0 → left.funclets ≡ 0 → AfterKeyword keywords.Try at a (NoStatement room left limits text)
+pub no_try : (limits : ℕ) (text : List ℕ) (room at : ℕ) (left : Left) (a : List Token) → 6 ≤ limits
+    → room ≡ 0 → left.funclets ≡ 0 → AfterKeyword keywords.Try at a
+      (NoStatement room left limits text)
 no_try limits text room at left a i n m ts k s end h d c w = by (after_try text at s ts a end k h)
   where
     by : (AfterExcept text s a end ⊎ AfterFinally text s a end) → ⊥
@@ -44,8 +48,11 @@ no_try limits text room at left a i n m ts k s end h d c w = by (after_try text 
         let o = v.funclets i in
         absurd (omega (arith, length-append {A = ℕ}))
 
-pub no_try_body : (limits : ℕ) (text : List ℕ) (room at : ℕ) (left : Left) (a : List Token) → NoneBraced room left limits text a → AfterKeyword keywords.Try at a (NoStatement room left limits text)
-no_try_body limits text room at left a none ts k s end h d c w = by (after_try text at s ts a end k h)
+pub no_try_body : (limits : ℕ) (text : List ℕ) (room at : ℕ) (left : Left) (a : List Token)
+    → NoneBraced room left limits text a → AfterKeyword keywords.Try at a
+      (NoStatement room left limits text)
+no_try_body limits text room at left a none ts k s end h d c w = by
+    (after_try text at s ts a end k h)
   where
     by : (AfterExcept text s a end ⊎ AfterFinally text s a end) → ⊥
     by (inl t) =
@@ -65,22 +72,28 @@ no_try_body limits text room at left a none ts k s end h d c w = by (after_try t
           funclets = λ lim. let o = v.funclets lim in omega (arith, length-append {A = ℕ});
         })
 
-not_finally : (text : List ℕ) (body : Statements) (p : ℕ) (s : Statement) (a b j end : List Token) → IsBraced text body a b → IsKeyword keywords.Except p b j → AfterFinally text s a end → ⊥
+not_finally : (text : List ℕ) (body : Statements) (p : ℕ) (s : Statement) (a b j end : List Token)
+    → IsBraced text body a b → IsKeyword keywords.Except p b j → AfterFinally text s a end → ⊥
 not_finally text body p s a b j end is kw t =
     let u = after_braces text body t.body a b t.after_body is t.is_body in
     let e : keywords.Except ≡ keywords.Finally = (keyword_same keywords.Except keywords.Finally b
     t.after_body j t.after_finally u.1 (p, kw) (t.at, t.keyword)).0 in
     cc
 
-not_except : (text : List ℕ) (body : Statements) (p : ℕ) (s : Statement) (a b j end : List Token) → IsBraced text body a b → IsKeyword keywords.Finally p b j → AfterExcept text s a end → ⊥
+not_except : (text : List ℕ) (body : Statements) (p : ℕ) (s : Statement) (a b j end : List Token)
+    → IsBraced text body a b → IsKeyword keywords.Finally p b j → AfterExcept text s a end → ⊥
 not_except text body p s a b j end is kw t =
     let u = after_braces text body t.body a b t.after_body is t.is_body in
     let e : keywords.Finally ≡ keywords.Except = (keyword_same keywords.Finally keywords.Except b
     t.after_body j t.after_except u.1 (p, kw) (t.at, t.keyword)).0 in
     cc
 
-pub no_except_room : (limits : ℕ) (text : List ℕ) (room at p : ℕ) (left : Left) (body : Statements) (a b j : List Token) → 1 ≤ limits → room ≡ 0 → IsBraced text body a b → IsKeyword keywords.Except p b j → AfterKeyword keywords.Try at a (NoStatement room left limits text)
-no_except_room limits text room at p left body a b j i n is kw ts k s end h d c w = by (after_try text at s ts a end k h)
+pub no_except_room : (limits : ℕ) (text : List ℕ) (room at p : ℕ) (left : Left) (body : Statements)
+    (a b j : List Token) → 1 ≤ limits → room ≡ 0 → IsBraced text body a b
+    → IsKeyword keywords.Except p b j → AfterKeyword keywords.Try at a
+      (NoStatement room left limits text)
+no_except_room limits text room at p left body a b j i n is kw ts k s end h d c w = by
+    (after_try text at s ts a end k h)
   where
     by : (AfterExcept text s a end ⊎ AfterFinally text s a end) → ⊥
     by (inl t) =
@@ -89,8 +102,12 @@ no_except_room limits text room at p left body a b j i n is kw ts k s end h d c 
         absurd (omega arith)
     by (inr t) = not_finally text body p s a b j end is kw t
 
-pub no_filter : (limits : ℕ) (text : List ℕ) (room at p : ℕ) (left mid : Left) (body : Statements) (a b j : List Token) → IsBraced text body a b → AllTaken text room left mid body → IsKeyword keywords.Except p b j → NoFilter mid.funclets limits text j → AfterKeyword keywords.Try at a (NoStatement room left limits text)
-no_filter limits text room at p left mid body a b j is tk kw none ts k s end h d c w = by (after_try text at s ts a end k h)
+pub no_filter : (limits : ℕ) (text : List ℕ) (room at p : ℕ) (left mid : Left) (body : Statements)
+    (a b j : List Token) → IsBraced text body a b → AllTaken text room left mid body
+    → IsKeyword keywords.Except p b j → NoFilter mid.funclets limits text j
+    → AfterKeyword keywords.Try at a (NoStatement room left limits text)
+no_filter limits text room at p left mid body a b j is tk kw none ts k s end h d c w = by
+    (after_try text at s ts a end k h)
   where
     by : (AfterExcept text s a end ⊎ AfterFinally text s a end) → ⊥
     by (inl t) =
@@ -105,8 +122,14 @@ no_filter limits text room at p left mid body a b j is tk kw none ts k s end h d
         (λ lim. let o = v.funclets lim in omega (arith, length-append {A = ℕ}))
     by (inr t) = not_finally text body p s a b j end is kw t
 
-pub no_handler : (limits : ℕ) (text : List ℕ) (room at p : ℕ) (left mid next : Left) (body : Statements) (f : Expression) (a b j g : List Token) → IsBraced text body a b → AllTaken text room left mid body → IsKeyword keywords.Except p b j → IsCondition text f j g → next.funclets + numbers_of (accepts text f) ≡ mid.funclets → next.locals ≡ mid.locals → NoneBraced room next limits text g → AfterKeyword keywords.Try at a (NoStatement room left limits text)
-no_handler limits text room at p left mid next body f a b j g is tk kw cn nx ny none ts k s end h d c w = by (after_try text at s ts a end k h)
+pub no_handler : (limits : ℕ) (text : List ℕ) (room at p : ℕ) (left mid next : Left)
+    (body : Statements) (f : Expression) (a b j g : List Token) → IsBraced text body a b
+    → AllTaken text room left mid body → IsKeyword keywords.Except p b j → IsCondition text f j g
+    → next.funclets + numbers_of (accepts text f) ≡ mid.funclets → next.locals ≡ mid.locals
+    → NoneBraced room next limits text g → AfterKeyword keywords.Try at a
+      (NoStatement room left limits text)
+no_handler limits text room at p left mid next body f a b j g is tk kw cn nx ny none ts k s end h d
+    c w = by (after_try text at s ts a end k h)
   where
     by : (AfterExcept text s a end ⊎ AfterFinally text s a end) → ⊥
     by (inl t) =
@@ -128,10 +151,18 @@ no_handler limits text room at p left mid next body f a b j g is tk kw cn nx ny 
         })
     by (inr t) = not_finally text body p s a b j end is kw t
 
-pub except_found : (text : List ℕ) (room at p : ℕ) (left mid next after : Left) (body handler : Statements) (f : Expression) (a b j g rest : List Token) → 1 ≤ room → IsBraced text body a b → AllTaken text room left mid body → IsKeyword keywords.Except p b j → IsCondition text f j g → height f ≤ 64 → next.funclets + numbers_of (accepts text f) ≡ mid.funclets → next.locals ≡ mid.locals → IsBraced text handler g rest → AllTaken text room next after handler → AfterKeyword keywords.Try at a (λ ts. IsStatementWithin text room left after (TryExcept body p f handler) ts rest)
-except_found text room at p left mid next after body handler f a b j g rest n is tk kw cn low nx ny is' tk' ts k =
+pub except_found : (text : List ℕ) (room at p : ℕ) (left mid next after : Left)
+    (body handler : Statements) (f : Expression) (a b j g rest : List Token) → 1 ≤ room
+    → IsBraced text body a b → AllTaken text room left mid body → IsKeyword keywords.Except p b j
+    → IsCondition text f j g → height f ≤ 64 → next.funclets + numbers_of (accepts text f)
+    ≡ mid.funclets → next.locals ≡ mid.locals → IsBraced text handler g rest
+    → AllTaken text room next after handler → AfterKeyword keywords.Try at a
+      (λ ts. IsStatementWithin text room left after (TryExcept body p f handler) ts rest)
+except_found text room at p left mid next after body handler f a b j g rest n is tk kw cn low nx ny
+    is' tk' ts k =
     let o = tk.statements in let x = tk.expressions in let l = tk.locals in let m = tk.funclets in
-    let o' = tk'.statements in let x' = tk'.expressions in let l' = tk'.locals in let m' = tk'.funclets in
+    let o' = tk'.statements in let x' = tk'.expressions in let l' = tk'.locals in
+      let m' = tk'.funclets in
     let y = number_length (accepts text f) p in
     record {
       is = record {
@@ -147,11 +178,17 @@ except_found text room at p left mid next after body handler f a b j g rest n is
       };
       statement = refl;
       closed = λ i. absurd cc;
-      taken = record { statements = omega arith; expressions = omega arith; locals = omega arith; funclets = omega (arith, length-append {A = ℕ}) };
+      taken = record { statements = omega arith; expressions = omega arith; locals = omega arith;
+        funclets = omega (arith, length-append {A = ℕ}) };
     }
 
-pub unguarded : (limits : ℕ) (text : List ℕ) (room at : ℕ) (left : Left) (body : Statements) (a b : List Token) → IsBraced text body a b → ((rest : List Token) → HasKeyword keywords.Except b rest → ⊥) → ((rest : List Token) → HasKeyword keywords.Finally b rest → ⊥) → AfterKeyword keywords.Try at a (NoStatement room left limits text)
-unguarded limits text room at left body a b is x y ts k s end h d c w = by (after_try text at s ts a end k h)
+pub unguarded : (limits : ℕ) (text : List ℕ) (room at : ℕ) (left : Left) (body : Statements)
+    (a b : List Token) → IsBraced text body a b
+    → ((rest : List Token) → HasKeyword keywords.Except b rest → ⊥)
+    → ((rest : List Token) → HasKeyword keywords.Finally b rest → ⊥)
+    → AfterKeyword keywords.Try at a (NoStatement room left limits text)
+unguarded limits text room at left body a b is x y ts k s end h d c w = by
+    (after_try text at s ts a end k h)
   where
     by : (AfterExcept text s a end ⊎ AfterFinally text s a end) → ⊥
     by (inl t) =
@@ -163,8 +200,12 @@ unguarded limits text room at left body a b is x y ts k s end h d c w = by (afte
         y t.after_finally (subst (λ (i : List Token). HasKeyword keywords.Finally i t.after_finally)
         (sym u.1) (t.at, t.keyword))
 
-pub no_finally_left : (limits : ℕ) (text : List ℕ) (room at p : ℕ) (left mid : Left) (body : Statements) (a b j : List Token) → IsBraced text body a b → AllTaken text room left mid body → IsKeyword keywords.Finally p b j → 6 ≤ limits → mid.funclets ≡ 0 → AfterKeyword keywords.Try at a (NoStatement room left limits text)
-no_finally_left limits text room at p left mid body a b j is tk kw i n ts k s end h d c w = by (after_try text at s ts a end k h)
+pub no_finally_left : (limits : ℕ) (text : List ℕ) (room at p : ℕ) (left mid : Left)
+    (body : Statements) (a b j : List Token) → IsBraced text body a b
+    → AllTaken text room left mid body → IsKeyword keywords.Finally p b j → 6 ≤ limits
+    → mid.funclets ≡ 0 → AfterKeyword keywords.Try at a (NoStatement room left limits text)
+no_finally_left limits text room at p left mid body a b j is tk kw i n ts k s end h d c w = by
+    (after_try text at s ts a end k h)
   where
     by : (AfterExcept text s a end ⊎ AfterFinally text s a end) → ⊥
     by (inl t) = not_except text body p s a b j end is kw t
@@ -175,8 +216,14 @@ no_finally_left limits text room at p left mid body a b j is tk kw i n ts k s en
         let z = tk.funclets in
         let o = v.funclets i in absurd (omega (arith, length-append {A = ℕ}))
 
-pub no_last : (limits : ℕ) (text : List ℕ) (room at p : ℕ) (left mid next : Left) (body : Statements) (a b j : List Token) → IsBraced text body a b → AllTaken text room left mid body → IsKeyword keywords.Finally p b j → next.funclets + 1 ≡ mid.funclets → next.locals ≡ mid.locals → NoneBraced room next limits text j → AfterKeyword keywords.Try at a (NoStatement room left limits text)
-no_last limits text room at p left mid next body a b j is tk kw nx ny none ts k s end h d c w = by (after_try text at s ts a end k h)
+pub no_last : (limits : ℕ) (text : List ℕ) (room at p : ℕ) (left mid next : Left)
+    (body : Statements) (a b j : List Token) → IsBraced text body a b
+    → AllTaken text room left mid body → IsKeyword keywords.Finally p b j
+    → next.funclets + 1 ≡ mid.funclets → next.locals ≡ mid.locals
+    → NoneBraced room next limits text j → AfterKeyword keywords.Try at a
+      (NoStatement room left limits text)
+no_last limits text room at p left mid next body a b j is tk kw nx ny none ts k s end h d c w = by
+    (after_try text at s ts a end k h)
   where
     by : (AfterExcept text s a end ⊎ AfterFinally text s a end) → ⊥
     by (inl t) = not_except text body p s a b j end is kw t
@@ -195,10 +242,16 @@ no_last limits text room at p left mid next body a b j is tk kw nx ny none ts k 
           funclets = λ lim. let o = v.funclets lim in omega (arith, length-append {A = ℕ});
         })
 
-pub finally_found : (text : List ℕ) (room at p : ℕ) (left mid next after : Left) (body last : Statements) (a b j rest : List Token) → IsBraced text body a b → AllTaken text room left mid body → IsKeyword keywords.Finally p b j → next.funclets + 1 ≡ mid.funclets → next.locals ≡ mid.locals → IsBraced text last j rest → AllTaken text room next after last → AfterKeyword keywords.Try at a (λ ts. IsStatementWithin text room left after (TryFinally body p last) ts rest)
+pub finally_found : (text : List ℕ) (room at p : ℕ) (left mid next after : Left)
+    (body last : Statements) (a b j rest : List Token) → IsBraced text body a b
+    → AllTaken text room left mid body → IsKeyword keywords.Finally p b j
+    → next.funclets + 1 ≡ mid.funclets → next.locals ≡ mid.locals → IsBraced text last j rest
+    → AllTaken text room next after last → AfterKeyword keywords.Try at a
+      (λ ts. IsStatementWithin text room left after (TryFinally body p last) ts rest)
 finally_found text room at p left mid next after body last a b j rest is tk kw nx ny is' tk' ts k =
     let o = tk.statements in let x = tk.expressions in let l = tk.locals in let m = tk.funclets in
-    let o' = tk'.statements in let x' = tk'.expressions in let l' = tk'.locals in let m' = tk'.funclets in
+    let o' = tk'.statements in let x' = tk'.expressions in let l' = tk'.locals in
+      let m' = tk'.funclets in
     record {
       is = record {
         after_try = a;
@@ -211,10 +264,13 @@ finally_found text room at p left mid next after body last a b j rest is tk kw n
       };
       statement = refl;
       closed = λ i. absurd cc;
-      taken = record { statements = omega arith; expressions = omega arith; locals = omega arith; funclets = omega (arith, length-append {A = ℕ}) };
+      taken = record { statements = omega arith; expressions = omega arith; locals = omega arith;
+        funclets = omega (arith, length-append {A = ℕ}) };
     }
 
-pub no_braced : (limits : ℕ) (text : List ℕ) (room : ℕ) (left : Left) (ts a : List Token) → HasPunctuator punctuators.OpenBrace ts a → NoBlockItems room left limits text a → NoneBraced room left limits text ts
+pub no_braced : (limits : ℕ) (text : List ℕ) (room : ℕ) (left : Left) (ts a : List Token)
+    → HasPunctuator punctuators.OpenBrace ts a → NoBlockItems room left limits text a
+    → NoneBraced room left limits text ts
 no_braced limits text room left ts a o none ss end h w =
     none ss end (subst (λ (y : List Token). AreBlockItems text ss y end)
     (has_same punctuators.OpenBrace ts ts h.after_brace a refl h.brace o) h.items) w

@@ -28,19 +28,22 @@ Fits limits text room left s = Within limits text (statements_over s) room left 
 abbrev pub Lacks : Punctuator → List Token → Type 0
 Lacks s ts = (rest : List Token) → HasPunctuator s ts rest → ⊥
 
-pub fits : (limits : ℕ) (text : List ℕ) (room : ℕ) (left : Left) (s z : Statement) → s ≡ z → Fits limits text room left s → Fits limits text room left z
+pub fits : (limits : ℕ) (text : List ℕ) (room : ℕ) (left : Left) (s z : Statement) → s ≡ z
+    → Fits limits text room left s → Fits limits text room left z
 fits limits text room left s z e w = subst (λ (x : Statement). Fits limits text room left x) e w
 
 pub closed_as : (s z : Statement) (end : List Token) → s ≡ z → Closed s end → Closed z end
 closed_as s z end e c = subst (λ (x : Statement). Closed x end) e c
 
 -- where a condition ends
-pub after_condition : (text : List ℕ) (c d : Expression) (a b e : List Token) → IsCondition text c a b → IsCondition text d a e → b ≡ e
+pub after_condition : (text : List ℕ) (c d : Expression) (a b e : List Token)
+    → IsCondition text c a b → IsCondition text d a e → b ≡ e
 after_condition text c d a b e h g = (condition text c d a a b e refl h g).1
 
 -- ---- `if`
 
-pub no_if_room : (limits : ℕ) (text : List ℕ) (room at : ℕ) (left : Left) (a : List Token) → 1 ≤ limits → room ≡ 0 → AfterKeyword keywords.If at a (NoStatement room left limits text)
+pub no_if_room : (limits : ℕ) (text : List ℕ) (room at : ℕ) (left : Left) (a : List Token)
+    → 1 ≤ limits → room ≡ 0 → AfterKeyword keywords.If at a (NoStatement room left limits text)
 no_if_room limits text room at left a i n ts k s end h d c w = by (after_if text at s ts a end k h)
   where
     by : (AfterIf text at s a end ⊎ AfterIfElse text at s a end) → ⊥
@@ -53,8 +56,10 @@ no_if_room limits text room at left a i n ts k s end h d c w = by (after_if text
         let o = v.statements (omega arith) in
         absurd (omega arith)
 
-pub no_if_condition : (limits : ℕ) (text : List ℕ) (room at : ℕ) (left : Left) (a : List Token) → NoCondition limits text a → AfterKeyword keywords.If at a (NoStatement room left limits text)
-no_if_condition limits text room at left a none ts k s end h d c w = by (after_if text at s ts a end k h)
+pub no_if_condition : (limits : ℕ) (text : List ℕ) (room at : ℕ) (left : Left) (a : List Token)
+    → NoCondition limits text a → AfterKeyword keywords.If at a (NoStatement room left limits text)
+no_if_condition limits text room at left a none ts k s end h d c w = by
+    (after_if text at s ts a end k h)
   where
     by : (AfterIf text at s a end ⊎ AfterIfElse text at s a end) → ⊥
     by (inl t) =
@@ -66,8 +71,12 @@ no_if_condition limits text room at left a none ts k s end h d c w = by (after_i
         none t.condition t.after_condition t.is_condition
         (λ lim. let o = v.expressions lim in omega arith)
 
-pub no_then : (limits : ℕ) (text : List ℕ) (room less at : ℕ) (left : Left) (e : Expression) (a b : List Token) → less + 1 ≡ room → IsCondition text e a b → NoStatement less left limits text b → AfterKeyword keywords.If at a (NoStatement room left limits text)
-no_then limits text room less at left e a b n is none ts k s end h d c w = by (after_if text at s ts a end k h)
+pub no_then : (limits : ℕ) (text : List ℕ) (room less at : ℕ) (left : Left) (e : Expression)
+    (a b : List Token) → less + 1 ≡ room → IsCondition text e a b
+    → NoStatement less left limits text b → AfterKeyword keywords.If at a
+      (NoStatement room left limits text)
+no_then limits text room less at left e a b n is none ts k s end h d c w = by
+    (after_if text at s ts a end k h)
   where
     by : (AfterIf text at s a end ⊎ AfterIfElse text at s a end) → ⊥
     by (inl t) =
@@ -93,8 +102,13 @@ no_then limits text room less at left e a b n is none ts k s end h d c w = by (a
           funclets = λ lim. let o = v.funclets lim in omega (arith, length-append {A = ℕ});
         })
 
-pub no_otherwise : (limits : ℕ) (text : List ℕ) (room less at : ℕ) (left mid : Left) (e : Expression) (z : Statement) (a b j g : List Token) → less + 1 ≡ room → IsCondition text e a b → IsStatementWithin text less left mid z b j → HasKeyword keywords.Else j g → NoStatement less mid limits text g → AfterKeyword keywords.If at a (NoStatement room left limits text)
-no_otherwise limits text room less at left mid e z a b j g n is r els none ts k s end h d c w = by (after_if text at s ts a end k h)
+pub no_otherwise : (limits : ℕ) (text : List ℕ) (room less at : ℕ) (left mid : Left)
+    (e : Expression) (z : Statement) (a b j g : List Token) → less + 1 ≡ room
+    → IsCondition text e a b → IsStatementWithin text less left mid z b j
+    → HasKeyword keywords.Else j g → NoStatement less mid limits text g
+    → AfterKeyword keywords.If at a (NoStatement room left limits text)
+no_otherwise limits text room less at left mid e z a b j g n is r els none ts k s end h d c w = by
+    (after_if text at s ts a end k h)
   where
     by : (AfterIf text at s a end ⊎ AfterIfElse text at s a end) → ⊥
     by (inl t) =
@@ -123,7 +137,11 @@ no_otherwise limits text room less at left mid e z a b j g n is r els none ts k 
           funclets = λ lim. let o = v.funclets lim in omega (arith, length-append {A = ℕ});
         })
 
-pub if_found : (text : List ℕ) (room less at : ℕ) (left after : Left) (c : Expression) (z : Statement) (a b rest : List Token) → less + 1 ≡ room → IsCondition text c a b → height c ≤ 64 → IsStatementWithin text less left after z b rest → NoElse rest → AfterKeyword keywords.If at a (λ ts. IsStatementWithin text room left after (If at c z) ts rest)
+pub if_found : (text : List ℕ) (room less at : ℕ) (left after : Left) (c : Expression)
+    (z : Statement) (a b rest : List Token) → less + 1 ≡ room → IsCondition text c a b
+    → height c ≤ 64 → IsStatementWithin text less left after z b rest → NoElse rest
+    → AfterKeyword keywords.If at a (λ ts. IsStatementWithin text room left after (If at c z) ts
+      rest)
 if_found text room less at left after c z a b rest n is low r f ts k =
     let t = r.taken in let o = t.statements in let x = t.expressions in
     record {
@@ -148,10 +166,17 @@ pub not_dangling : (b : Bool) → (IsTrue b → ⊥) → IsFalse b
 not_dangling true h = absurd (h refl)
 not_dangling false h = refl
 
-pub if_else_found : (text : List ℕ) (room less at : ℕ) (left mid after : Left) (c : Expression) (z y : Statement) (a b d e rest : List Token) → less + 1 ≡ room → IsCondition text c a b → height c ≤ 64 → IsStatementWithin text less left mid z b d → HasKeyword keywords.Else d e → IsStatementWithin text less mid after y e rest → AfterKeyword keywords.If at a (λ ts. IsStatementWithin text room left after (IfElse at c z y) ts rest)
+pub if_else_found : (text : List ℕ) (room less at : ℕ) (left mid after : Left) (c : Expression)
+    (z y : Statement) (a b d e rest : List Token) → less + 1 ≡ room → IsCondition text c a b
+    → height c ≤ 64 → IsStatementWithin text less left mid z b d → HasKeyword keywords.Else d e
+    → IsStatementWithin text less mid after y e rest
+    → AfterKeyword keywords.If at a (λ ts. IsStatementWithin text room left after (IfElse at c z y)
+      ts rest)
 if_else_found text room less at left mid after c z y a b d e rest n is low r els q ts k =
-    let t = r.taken in let o = t.statements in let x = t.expressions in let l = t.locals in let m = t.funclets in
-    let u = q.taken in let o' = u.statements in let x' = u.expressions in let l' = u.locals in let m' = u.funclets in
+    let t = r.taken in let o = t.statements in let x = t.expressions in let l = t.locals in
+      let m = t.funclets in
+    let u = q.taken in let o' = u.statements in let x' = u.expressions in let l' = u.locals in
+      let m' = u.funclets in
     record {
       is = record {
         after_if = a;
@@ -167,21 +192,34 @@ if_else_found text room less at left mid after c z y a b d e rest n is low r els
       };
       statement = refl;
       closed = q.closed;
-      taken = record { statements = omega arith; expressions = omega arith; locals = omega arith; funclets = omega (arith, length-append {A = ℕ}) };
+      taken = record { statements = omega arith; expressions = omega arith; locals = omega arith;
+        funclets = omega (arith, length-append {A = ℕ}) };
     }
 
 -- ---- expressions, `return` and jumps
 
-pub up_to : (text : List ℕ) (s : Punctuator) (e f : Option Expression) (ts us r q : List Token) → ts ≡ us → comma < punctuator_follows s → punctuator_class s ≡ 6 → IsUpTo text s e ts r → IsUpTo text s f us q → r ≡ q
-up_to text s e f ts us r q p l c h g = (optional text s e f ts us h.0 g.0 r q p l c h.1 g.1 h.2 g.2).1
+pub up_to : (text : List ℕ) (s : Punctuator) (e f : Option Expression) (ts us r q : List Token)
+    → ts ≡ us → comma < punctuator_follows s → punctuator_class s ≡ 6 → IsUpTo text s e ts r
+    → IsUpTo text s f us q → r ≡ q
+up_to text s e f ts us r q p l c h g = (optional text s e f ts us h.0 g.0 r q p l c h.1 g.1 h.2
+    g.2).1
 
-pub evaluated : (text : List ℕ) (room : ℕ) (left : Left) (e : Option Expression) (ts rest : List Token) → IsUpTo text punctuators.Semicolon e ts rest → height_of e ≤ 64 → one_over e ≤ room → IsStatementWithin text room left left (Evaluate e) ts rest
-evaluated text room left e ts rest is low over = record { is = is; statement = refl; closed = λ i. absurd cc; taken = record { statements = over; expressions = low; locals = omega arith; funclets = omega arith } }
+pub evaluated : (text : List ℕ) (room : ℕ) (left : Left) (e : Option Expression)
+    (ts rest : List Token) → IsUpTo text punctuators.Semicolon e ts rest → height_of e ≤ 64
+    → one_over e ≤ room → IsStatementWithin text room left left (Evaluate e) ts rest
+evaluated text room left e ts rest is low over =
+    record { is = is; statement = refl; closed = λ i. absurd cc;
+    taken = record { statements = over; expressions = low; locals = omega arith;
+    funclets = omega arith } }
 
-pub no_evaluation : (limits : ℕ) (text : List ℕ) (room : ℕ) (left : Left) (ts : List Token) → NoneUpTo punctuators.Semicolon room limits text ts → NoEvaluation room left limits text ts
+pub no_evaluation : (limits : ℕ) (text : List ℕ) (room : ℕ) (left : Left) (ts : List Token)
+    → NoneUpTo punctuators.Semicolon room limits text ts → NoEvaluation room left limits text ts
 no_evaluation limits text room left ts none e end h w = none e end h w.expressions w.statements
 
-pub returned : (text : List ℕ) (room at : ℕ) (left : Left) (e : Option Expression) (a rest : List Token) → IsUpTo text punctuators.Semicolon e a rest → height_of e ≤ 64 → one_over e ≤ room → AfterKeyword keywords.Return at a (λ ts. IsStatementWithin text room left left (Return at e) ts rest)
+pub returned : (text : List ℕ) (room at : ℕ) (left : Left) (e : Option Expression)
+    (a rest : List Token) → IsUpTo text punctuators.Semicolon e a rest → height_of e ≤ 64
+    → one_over e ≤ room → AfterKeyword keywords.Return at a
+      (λ ts. IsStatementWithin text room left left (Return at e) ts rest)
 returned text room at left e a rest is low over ts k = record {
   is = (a, k, is);
   statement = refl;
@@ -194,33 +232,59 @@ returned text room at left e a rest is low over ts k = record {
   };
 }
 
-pub no_return : (limits : ℕ) (text : List ℕ) (room at : ℕ) (left : Left) (a : List Token) → NoneUpTo punctuators.Semicolon room limits text a → AfterKeyword keywords.Return at a (NoStatement room left limits text)
+pub no_return : (limits : ℕ) (text : List ℕ) (room at : ℕ) (left : Left) (a : List Token)
+    → NoneUpTo punctuators.Semicolon room limits text a
+    → AfterKeyword keywords.Return at a (NoStatement room left limits text)
 no_return limits text room at left a none ts k s end h d c w =
     let t = after_return text at s ts a end k h in
     let v = fits limits text room left s (Return at t.0) t.1 w in
     none t.0 end t.2 v.expressions v.statements
 
-pub broken : (text : List ℕ) (room at : ℕ) (left : Left) (ts a rest : List Token) → IsKeyword keywords.Break at ts a → HasPunctuator punctuators.Semicolon a rest → IsStatementWithin text room left left (Break at) ts rest
-broken text room at left ts a rest k h = record { is = (a, k, h); statement = refl; closed = λ i. absurd cc; taken = record { statements = omega arith; expressions = omega arith; locals = omega arith; funclets = omega arith } }
+pub broken : (text : List ℕ) (room at : ℕ) (left : Left) (ts a rest : List Token)
+    → IsKeyword keywords.Break at ts a → HasPunctuator punctuators.Semicolon a rest
+    → IsStatementWithin text room left left (Break at) ts rest
+broken text room at left ts a rest k h = record { is = (a, k, h); statement = refl;
+    closed = λ i. absurd cc; taken = record { statements = omega arith; expressions = omega arith;
+    locals = omega arith; funclets = omega arith } }
 
-pub continued : (text : List ℕ) (room at : ℕ) (left : Left) (ts a rest : List Token) → IsKeyword keywords.Continue at ts a → HasPunctuator punctuators.Semicolon a rest → IsStatementWithin text room left left (Continue at) ts rest
-continued text room at left ts a rest k h = record { is = (a, k, h); statement = refl; closed = λ i. absurd cc; taken = record { statements = omega arith; expressions = omega arith; locals = omega arith; funclets = omega arith } }
+pub continued : (text : List ℕ) (room at : ℕ) (left : Left) (ts a rest : List Token)
+    → IsKeyword keywords.Continue at ts a → HasPunctuator punctuators.Semicolon a rest
+    → IsStatementWithin text room left left (Continue at) ts rest
+continued text room at left ts a rest k h = record { is = (a, k, h); statement = refl;
+    closed = λ i. absurd cc; taken = record { statements = omega arith; expressions = omega arith;
+    locals = omega arith; funclets = omega arith } }
 
-pub left_by : (text : List ℕ) (room at : ℕ) (left : Left) (ts a rest : List Token) → IsKeyword keywords.Leave at ts a → HasPunctuator punctuators.Semicolon a rest → IsStatementWithin text room left left (Leave at) ts rest
-left_by text room at left ts a rest k h = record { is = (a, k, h); statement = refl; closed = λ i. absurd cc; taken = record { statements = omega arith; expressions = omega arith; locals = omega arith; funclets = omega arith } }
+pub left_by : (text : List ℕ) (room at : ℕ) (left : Left) (ts a rest : List Token)
+    → IsKeyword keywords.Leave at ts a → HasPunctuator punctuators.Semicolon a rest
+    → IsStatementWithin text room left left (Leave at) ts rest
+left_by text room at left ts a rest k h = record { is = (a, k, h); statement = refl;
+    closed = λ i. absurd cc; taken = record { statements = omega arith; expressions = omega arith;
+    locals = omega arith; funclets = omega arith } }
 
-pub no_break : (limits : ℕ) (text : List ℕ) (room at : ℕ) (left : Left) (ts a : List Token) → IsKeyword keywords.Break at ts a → Lacks punctuators.Semicolon a → NoStatement room left limits text ts
-no_break limits text room at left ts a k none s end h d c w = none end (after_break text at s ts a end k h)
+pub no_break : (limits : ℕ) (text : List ℕ) (room at : ℕ) (left : Left) (ts a : List Token)
+    → IsKeyword keywords.Break at ts a → Lacks punctuators.Semicolon a
+    → NoStatement room left limits text ts
+no_break limits text room at left ts a k none s end h d c w = none end
+    (after_break text at s ts a end k h)
 
-pub no_continue : (limits : ℕ) (text : List ℕ) (room at : ℕ) (left : Left) (ts a : List Token) → IsKeyword keywords.Continue at ts a → Lacks punctuators.Semicolon a → NoStatement room left limits text ts
-no_continue limits text room at left ts a k none s end h d c w = none end (after_continue text at s ts a end k h)
+pub no_continue : (limits : ℕ) (text : List ℕ) (room at : ℕ) (left : Left) (ts a : List Token)
+    → IsKeyword keywords.Continue at ts a → Lacks punctuators.Semicolon a
+    → NoStatement room left limits text ts
+no_continue limits text room at left ts a k none s end h d c w = none end
+    (after_continue text at s ts a end k h)
 
-pub no_leave : (limits : ℕ) (text : List ℕ) (room at : ℕ) (left : Left) (ts a : List Token) → IsKeyword keywords.Leave at ts a → Lacks punctuators.Semicolon a → NoStatement room left limits text ts
-no_leave limits text room at left ts a k none s end h d c w = none end (after_leave text at s ts a end k h)
+pub no_leave : (limits : ℕ) (text : List ℕ) (room at : ℕ) (left : Left) (ts a : List Token)
+    → IsKeyword keywords.Leave at ts a → Lacks punctuators.Semicolon a
+    → NoStatement room left limits text ts
+no_leave limits text room at left ts a k none s end h d c w = none end
+    (after_leave text at s ts a end k h)
 
 -- ---- blocks
 
-pub block_found : (text : List ℕ) (room : ℕ) (left after : Left) (ss : Statements) (ts a rest : List Token) → HasPunctuator punctuators.OpenBrace ts a → AreBlockItems text ss a rest → AllTaken text room left after ss → IsStatementWithin text room left after (Block ss) ts rest
+pub block_found : (text : List ℕ) (room : ℕ) (left after : Left) (ss : Statements)
+    (ts a rest : List Token) → HasPunctuator punctuators.OpenBrace ts a
+    → AreBlockItems text ss a rest → AllTaken text room left after ss
+    → IsStatementWithin text room left after (Block ss) ts rest
 block_found text room left after ss ts a rest o is t = record {
   is = record { after_brace = a; brace = o; items = is };
   statement = refl;
@@ -233,11 +297,14 @@ block_found text room left after ss ts a rest o is t = record {
   };
 }
 
-pub no_block : (limits : ℕ) (text : List ℕ) (room : ℕ) (left : Left) (ts a : List Token) → HasPunctuator punctuators.OpenBrace ts a → NoBlockItems room left limits text a → NoStatement room left limits text ts
+pub no_block : (limits : ℕ) (text : List ℕ) (room : ℕ) (left : Left) (ts a : List Token)
+    → HasPunctuator punctuators.OpenBrace ts a → NoBlockItems room left limits text a
+    → NoStatement room left limits text ts
 no_block limits text room left ts a o none s end h d c w =
     let t = after_brace text s ts a end o h in
     let v = fits limits text room left s (Block t.0) t.1 w in
-    none t.0 end t.2 (record { statements = v.statements; expressions = v.expressions; locals = v.locals; funclets = v.funclets })
+    none t.0 end t.2 (record { statements = v.statements; expressions = v.expressions;
+      locals = v.locals; funclets = v.funclets })
 
 -- ---- other first tokens
 
@@ -254,7 +321,9 @@ Plain keywords.Try = ⊥
 Plain keywords.Leave = ⊥
 Plain k = Unit {0}
 
-pub only_evaluations : (limits : ℕ) (text : List ℕ) (room : ℕ) (left : Left) (ts : List Token) → Lacks punctuators.OpenBrace ts → ((k : Keyword) (rest : List Token) → HasKeyword k ts rest → Plain k) → NoEvaluation room left limits text ts → NoStatement room left limits text ts
+pub only_evaluations : (limits : ℕ) (text : List ℕ) (room : ℕ) (left : Left) (ts : List Token)
+    → Lacks punctuators.OpenBrace ts → ((k : Keyword) (rest : List Token) → HasKeyword k ts rest
+    → Plain k) → NoEvaluation room left limits text ts → NoStatement room left limits text ts
 only_evaluations limits text room left ts o p none (Declare b ls) end h d c w = cc
 only_evaluations limits text room left ts o p none (Block ss) end h d c w = o h.after_brace h.brace
 only_evaluations limits text room left ts o p none (Evaluate e) end h d c w = none e end h w
@@ -270,15 +339,21 @@ only_evaluations limits text room left ts o p none (For at f e n s) end h d c w 
     p keywords.For h.after_keyword (at, h.keyword)
 only_evaluations limits text room left ts o p none (Return at e) end h d c w =
     p keywords.Return h.0 (at, h.1)
-only_evaluations limits text room left ts o p none (Break at) end h d c w = p keywords.Break h.0 (at, h.1)
-only_evaluations limits text room left ts o p none (Continue at) end h d c w = p keywords.Continue h.0 (at, h.1)
-only_evaluations limits text room left ts o p none (Leave at) end h d c w = p keywords.Leave h.0 (at, h.1)
+only_evaluations limits text room left ts o p none (Break at) end h d c w = p keywords.Break h.0
+    (at, h.1)
+only_evaluations limits text room left ts o p none (Continue at) end h d c w = p keywords.Continue
+    h.0 (at, h.1)
+only_evaluations limits text room left ts o p none (Leave at) end h d c w = p keywords.Leave h.0
+    (at, h.1)
 only_evaluations limits text room left ts o p none (TryExcept body at f l) end h d c w =
     p keywords.Try h.after_try h.try_keyword
 only_evaluations limits text room left ts o p none (TryFinally body at l) end h d c w =
     p keywords.Try h.after_try h.try_keyword
 
-pub plain_by : (k : Keyword) → (k ≡ keywords.If → ⊥) → (k ≡ keywords.While → ⊥) → (k ≡ keywords.Do → ⊥) → (k ≡ keywords.For → ⊥) → (k ≡ keywords.Try → ⊥) → (k ≡ keywords.Return → ⊥) → (k ≡ keywords.Break → ⊥) → (k ≡ keywords.Continue → ⊥) → (k ≡ keywords.Leave → ⊥) → Plain k
+pub plain_by : (k : Keyword) → (k ≡ keywords.If → ⊥) → (k ≡ keywords.While → ⊥)
+    → (k ≡ keywords.Do → ⊥) → (k ≡ keywords.For → ⊥) → (k ≡ keywords.Try → ⊥)
+    → (k ≡ keywords.Return → ⊥) → (k ≡ keywords.Break → ⊥) → (k ≡ keywords.Continue → ⊥)
+    → (k ≡ keywords.Leave → ⊥) → Plain k
 plain_by keywords.Break i w d f t r b c l = b refl
 plain_by keywords.Continue i w d f t r b c l = c refl
 plain_by keywords.Do i w d f t r b c l = d refl
@@ -290,7 +365,8 @@ plain_by keywords.Try i w d f t r b c l = t refl
 plain_by keywords.Leave i w d f t r b c l = l refl
 plain_by k i w d f t r b c l = tt
 
-pub front_of : (k j : Keyword) (at : ℕ) (ts rest : List Token) → k ≡ j → IsKeyword k at ts rest → IsKeyword j at ts rest
+pub front_of : (k j : Keyword) (at : ℕ) (ts rest : List Token) → k ≡ j → IsKeyword k at ts rest
+    → IsKeyword j at ts rest
 front_of k j at ts rest e h = subst (λ (x : Keyword). IsKeyword x at ts rest) e h
 
 abbrev pub left_of : ℕ → ℕ → Left

@@ -43,66 +43,88 @@ same_size_itself sizes.Long = refl
 
 -- ---- rules
 
-pub only_if_good : (S : TypingContext) (c : Bool) (t : TypedNode) → (c ≡ true → IsGood S t) → GoodIf S (only_if c t)
+pub only_if_good : (S : TypingContext) (c : Bool) (t : TypedNode) → (c ≡ true → IsGood S t)
+    → GoodIf S (only_if c t)
 only_if_good S true t h = h refl
 only_if_good S false t h = tt
 
-pub if_good : (S : TypingContext) (c : Bool) (x y : Option TypedNode) → (c ≡ true → GoodIf S x) → (c ≡ false → GoodIf S y) → GoodIf S (if c then x else y)
+pub if_good : (S : TypingContext) (c : Bool) (x y : Option TypedNode) → (c ≡ true → GoodIf S x)
+    → (c ≡ false → GoodIf S y) → GoodIf S (if c then x else y)
 if_good S true x y h k = h refl
 if_good S false x y h k = k refl
 
 -- ---- what is made of a node
 
 -- a node that is sound and of its type's size
-pub typed_good : (S : TypingContext) (t : CType) (n : Node) → is_scalar t ≡ true → node_sound S n ≡ true → node_size S n ≡ Some (size_of t) → IsGood S (typed t n)
-typed_good S t n h sound size = record { sound = sound; sized = size ∙ sym (scalar_size t h); zero = λ z. h }
+pub typed_good : (S : TypingContext) (t : CType) (n : Node) → is_scalar t ≡ true
+    → node_sound S n ≡ true → node_size S n ≡ Some (size_of t) → IsGood S (typed t n)
+typed_good S t n h sound size = record { sound = sound; sized = size ∙ sym (scalar_size t h);
+    zero = λ z. h }
 
 -- one of a pointer's size
-pub pointer_good : (S : TypingContext) (t : CType) (n : Node) → is_pointer t ≡ true → node_sound S n ≡ true → node_size S n ≡ Some sizes.Long → IsGood S (typed t n)
-pointer_good S t n h sound size = typed_good S t n (pointer_scalar t h) sound (size ∙ ap (λ z. Some z) (sym (pointer_size t h)))
+pub pointer_good : (S : TypingContext) (t : CType) (n : Node) → is_pointer t ≡ true
+    → node_sound S n ≡ true → node_size S n ≡ Some sizes.Long → IsGood S (typed t n)
+pointer_good S t n h sound size = typed_good S t n (pointer_scalar t h) sound
+    (size ∙ ap (λ z. Some z) (sym (pointer_size t h)))
 
-pub good_size : (S : TypingContext) (a : TypedNode) → IsGood S a → is_scalar a.type ≡ true → node_size S a.node ≡ Some (size_of a.type)
+pub good_size : (S : TypingContext) (a : TypedNode) → IsGood S a → is_scalar a.type ≡ true
+    → node_size S a.node ≡ Some (size_of a.type)
 good_size S a g h = g.sized ∙ scalar_size a.type h
 
 -- ---- operands
 
-converted_has : (S : TypingContext) (n : Node) (c : Conversion) (from to : Size) → node_sound S n ≡ true → node_size S n ≡ Some from → can_convert c (Some from) ≡ true → size_after c (Some from) ≡ Some to → HasSize S (On n c) to
+converted_has : (S : TypingContext) (n : Node) (c : Conversion) (from to : Size)
+    → node_sound S n ≡ true → node_size S n ≡ Some from → can_convert c (Some from) ≡ true
+    → size_after c (Some from) ≡ Some to → HasSize S (On n c) to
 converted_has S n c from to sound size can after =
     record {
-      sound = ap (λ b. b && can_convert c (node_size S n)) sound ∙ ap (λ z. can_convert c z) size ∙ can;
+      sound = ap (λ b. b && can_convert c (node_size S n)) sound ∙ ap (λ z. can_convert c z) size
+        ∙ can;
       size = ap (λ z. size_after c z) size ∙ after;
     }
 
-pub as_is_has : (S : TypingContext) (a : TypedNode) → IsGood S a → is_scalar a.type ≡ true → HasSize S (as_is a) (size_of a.type)
-as_is_has S a g h = converted_has S a.node Kept (size_of a.type) (size_of a.type) g.sound (good_size S a g h) refl refl
+pub as_is_has : (S : TypingContext) (a : TypedNode) → IsGood S a → is_scalar a.type ≡ true
+    → HasSize S (as_is a) (size_of a.type)
+as_is_has S a g h = converted_has S a.node Kept (size_of a.type) (size_of a.type) g.sound
+    (good_size S a g h) refl refl
 
-pub as_type_has : (S : TypingContext) (a : TypedNode) (t : CType) → IsGood S a → is_scalar a.type ≡ true → HasSize S (as_type t a) (size_of t)
+pub as_type_has : (S : TypingContext) (a : TypedNode) (t : CType) → IsGood S a
+    → is_scalar a.type ≡ true → HasSize S (as_type t a) (size_of t)
 as_type_has S a t g h =
     let m = conversion_makes a.type t in
-    converted_has S a.node (conversion a.type t) (size_of a.type) (size_of t) g.sound (good_size S a g h) m.0 m.1
+    converted_has S a.node (conversion a.type t) (size_of a.type) (size_of t) g.sound
+      (good_size S a g h) m.0 m.1
 
-pub as_index_has : (S : TypingContext) (p : CType) (a : TypedNode) → IsGood S a → is_scalar a.type ≡ true → HasSize S (as_index p a) sizes.Long
+pub as_index_has : (S : TypingContext) (p : CType) (a : TypedNode) → IsGood S a
+    → is_scalar a.type ≡ true → HasSize S (as_index p a) sizes.Long
 as_index_has S p a g h =
     let m = scaled_makes a.type (bytes_in (pointed p)) in
-    converted_has S a.node (scaled a.type (bytes_in (pointed p))) (size_of a.type) sizes.Long g.sound (good_size S a g h) m.0 m.1
+    converted_has S a.node (scaled a.type (bytes_in (pointed p))) (size_of a.type) sizes.Long
+      g.sound (good_size S a g h) m.0 m.1
 
-pub resized : (S : TypingContext) (e : Expression) (y z : Size) → y ≡ z → HasSize S e y → HasSize S e z
+pub resized : (S : TypingContext) (e : Expression) (y z : Size) → y ≡ z → HasSize S e y
+    → HasSize S e z
 resized S e y z h p = record { sound = p.sound; size = p.size ∙ ap (λ x. Some x) h }
 
 -- a pointer is of 64 bits
-pub pointer_has : (S : TypingContext) (a : TypedNode) → IsGood S a → is_pointer a.type ≡ true → HasSize S (as_is a) sizes.Long
-pointer_has S a g h = resized S (as_is a) (size_of a.type) sizes.Long (pointer_size a.type h) (as_is_has S a g (pointer_scalar a.type h))
+pub pointer_has : (S : TypingContext) (a : TypedNode) → IsGood S a → is_pointer a.type ≡ true
+    → HasSize S (as_is a) sizes.Long
+pointer_has S a g h = resized S (as_is a) (size_of a.type) sizes.Long (pointer_size a.type h)
+    (as_is_has S a g (pointer_scalar a.type h))
 
 -- an operand that needs no value
-pub as_is_sound : (S : TypingContext) (a : TypedNode) → IsGood S a → expression_sound S (as_is a) ≡ true
+pub as_is_sound : (S : TypingContext) (a : TypedNode) → IsGood S a
+    → expression_sound S (as_is a) ≡ true
 as_is_sound S a g = ap (λ b. b && true) g.sound
 
 -- ---- tests of sizes
 
-pub has_number : (S : TypingContext) (e : Expression) (z : Size) → HasSize S e z → is_number (expression_size S e) ≡ true
+pub has_number : (S : TypingContext) (e : Expression) (z : Size) → HasSize S e z
+    → is_number (expression_size S e) ≡ true
 has_number S e z h = ap is_number h.size
 
-pub has_size : (S : TypingContext) (e : Expression) (z : Size) → HasSize S e z → is_size z (expression_size S e) ≡ true
+pub has_size : (S : TypingContext) (e : Expression) (z : Size) → HasSize S e z
+    → is_size z (expression_size S e) ≡ true
 has_size S e z h = ap (is_size z) h.size ∙ same_size_itself z
 
 pub alike_sizes : (x y : Option Size) (z : Size) → x ≡ Some z → y ≡ Some z → same_sizes x y ≡ true
@@ -110,16 +132,21 @@ alike_sizes x y z h k = ap (λ o. same_sizes o y) h ∙ ap (same_sizes (Some z))
 
 -- ---- operators with two operands
 
-pub binary_has : (S : TypingContext) (o : Operation) (e f : Expression) (x y z : Size) → HasSize S e x → HasSize S f y → takes o (Some x) (Some y) ≡ Some z
+pub binary_has : (S : TypingContext) (o : Operation) (e f : Expression) (x y z : Size)
+    → HasSize S e x → HasSize S f y → takes o (Some x) (Some y) ≡ Some z
     → (node_sound S (nodes.Binary o e f) ≡ true) × (node_size S (nodes.Binary o e f) ≡ Some z)
 binary_has S o e f x y z p q h =
-    let size : takes o (expression_size S e) (expression_size S f) ≡ Some z = ap (λ v. takes o v (expression_size S f)) p.size ∙ ap (λ v. takes o (Some x) v) q.size ∙ h in
+    let size : takes o (expression_size S e) (expression_size S f)
+      ≡ Some z = ap (λ v. takes o v (expression_size S f)) p.size
+      ∙ ap (λ v. takes o (Some x) v) q.size ∙ h in
     (and_true (and_true p.sound q.sound) (ap is_number size), size)
 
 -- ---- lvalues
 
 -- a node that has a value of its own place is read from there
-pub with_lvalue_good : (S : TypingContext) (n : Node) (z : Option Size) (go : Lvalue → TypedNode) → node_sound S n ≡ true → node_size S n ≡ z → ((p : Lvalue) → lvalue_sound S p ≡ true → lvalue_size S p ≡ z → IsGood S (go p))
+pub with_lvalue_good : (S : TypingContext) (n : Node) (z : Option Size) (go : Lvalue → TypedNode)
+    → node_sound S n ≡ true → node_size S n ≡ z
+    → ((p : Lvalue) → lvalue_sound S p ≡ true → lvalue_size S p ≡ z → IsGood S (go p))
     → GoodIf S (with_lvalue (lvalue_of n) go)
 with_lvalue_good S (nodes.Read p) z go sound size h = h p sound size
 with_lvalue_good S other z go sound size h = tt

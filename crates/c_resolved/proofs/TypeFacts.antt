@@ -83,10 +83,12 @@ not_true true h = absurd (cc)
 not_true false h = refl
 
 pub integer_not_pointer : (t : CType) → is_integer t ≡ true → is_pointer t ≡ false
-integer_not_pointer t h = not_true (is_pointer t) (and_left (not (is_pointer t)) (not (is_void_base t.base)) h)
+integer_not_pointer t h = not_true (is_pointer t)
+    (and_left (not (is_pointer t)) (not (is_void_base t.base)) h)
 
 pub integer_base_value : (t : CType) → is_integer t ≡ true → is_void_base t.base ≡ false
-integer_base_value t h = not_true (is_void_base t.base) (and_right (not (is_pointer t)) (not (is_void_base t.base)) h)
+integer_base_value t h = not_true (is_void_base t.base)
+    (and_right (not (is_pointer t)) (not (is_void_base t.base)) h)
 
 pub plain_scalar : (b : Base) → is_void_base b ≡ false → is_scalar (plain b) ≡ true
 plain_scalar b h = ap (λ v. not (v && true)) h
@@ -100,13 +102,16 @@ pointer_to_pointer t = one_more t.pointers
 one_fewer : (n : ℕ) → nat_lt 0 n ≡ true → nat_eq n 1 ≡ false → nat_lt 0 (n - 1) ≡ true
 one_fewer n h k = grind (arith, nat_tests)
 
-pointed_not_void : (v : Bool) (n : ℕ) → nat_lt 0 n ≡ true → not (v && nat_eq n 1) ≡ true → not (v && not (nat_lt 0 (n - 1))) ≡ true
+pointed_not_void : (v : Bool) (n : ℕ) → nat_lt 0 n ≡ true → not (v && nat_eq n 1) ≡ true
+    → not (v && not (nat_lt 0 (n - 1))) ≡ true
 pointed_not_void false n h k = refl
 pointed_not_void true n h k = ap (λ b. not (not b)) (one_fewer n h (not_true (nat_eq n 1) k))
 
 pub pointed_scalar : (t : CType) → is_sized_pointer t ≡ true → is_scalar (pointed t) ≡ true
 pointed_scalar t h =
-    pointed_not_void (is_void_base t.base) t.pointers (and_left (is_pointer t) (not (is_void_pointer t)) h) (and_right (is_pointer t) (not (is_void_pointer t)) h)
+    pointed_not_void (is_void_base t.base) t.pointers
+      (and_left (is_pointer t) (not (is_void_pointer t)) h)
+      (and_right (is_pointer t) (not (is_void_pointer t)) h)
 
 -- ---- types of results
 
@@ -121,7 +126,8 @@ promoted_value Unsigned h = refl
 promoted_value LongLong h = refl
 promoted_value UnsignedLongLong h = refl
 
-wider_value : (a b : Base) → is_void_base a ≡ false → is_void_base b ≡ false → is_void_base (wider a b) ≡ false
+wider_value : (a b : Base) → is_void_base a ≡ false → is_void_base b ≡ false
+    → is_void_base (wider a b) ≡ false
 wider_value UnsignedLongLong b h k = refl
 wider_value LongLong UnsignedLongLong h k = refl
 wider_value LongLong b h k = refl
@@ -131,14 +137,19 @@ wider_value Unsigned b h k = refl
 wider_value a b h k = k
 
 pub promoted_scalar : (t : CType) → is_integer t ≡ true → is_scalar (promoted t) ≡ true
-promoted_scalar t h = plain_scalar (promoted_base t.base) (promoted_value t.base (integer_base_value t h))
+promoted_scalar t h = plain_scalar (promoted_base t.base)
+    (promoted_value t.base (integer_base_value t h))
 
-pub common_scalar : (a b : CType) → is_integer a ≡ true → is_integer b ≡ true → is_scalar (common a b) ≡ true
+pub common_scalar : (a b : CType) → is_integer a ≡ true → is_integer b ≡ true
+    → is_scalar (common a b) ≡ true
 common_scalar a b h k =
     plain_scalar (wider (promoted_base a.base) (promoted_base b.base))
-    (wider_value (promoted_base a.base) (promoted_base b.base) (promoted_value a.base (integer_base_value a h)) (promoted_value b.base (integer_base_value b k)))
+    (wider_value (promoted_base a.base) (promoted_base b.base)
+      (promoted_value a.base (integer_base_value a h))
+      (promoted_value b.base (integer_base_value b k)))
 
-promoted_width : (b : Base) → is_void_base b ≡ false → size_of_width (base_width (promoted_base b)) ≡ size_of_width (base_width b)
+promoted_width : (b : Base) → is_void_base b ≡ false
+    → size_of_width (base_width (promoted_base b)) ≡ size_of_width (base_width b)
 promoted_width Void h = absurd (cc)
 promoted_width Char h = refl
 promoted_width UnsignedChar h = refl
@@ -151,11 +162,14 @@ promoted_width UnsignedLongLong h = refl
 
 -- promotion changes no number
 pub promoted_size : (t : CType) → is_integer t ≡ true → size_of (promoted t) ≡ size_of t
-promoted_size t h = promoted_width t.base (integer_base_value t h) ∙ sym (ap (λ p. size_of_width (if p then W64 else base_width t.base)) (integer_not_pointer t h))
+promoted_size t h = promoted_width t.base (integer_base_value t h)
+    ∙ sym (ap (λ p. size_of_width (if p then W64 else base_width t.base)) (integer_not_pointer t h))
 
 -- ---- what may become a type, and what may be compared
 
-comparable : (p q x az bz s t : Bool) → (p ≡ true → s ≡ true) → (q ≡ true → t ≡ true) → (az ≡ true → s ≡ true) → (bz ≡ true → t ≡ true) → ((p && q && x) || (p && bz) || (q && az)) ≡ true
+comparable : (p q x az bz s t : Bool) → (p ≡ true → s ≡ true) → (q ≡ true → t ≡ true)
+    → (az ≡ true → s ≡ true) → (bz ≡ true → t ≡ true)
+    → ((p && q && x) || (p && bz) || (q && az)) ≡ true
     → (s ≡ true) × (t ≡ true)
 comparable true true x az bz s t p q a b h = (p refl, q refl)
 comparable true false x az true s t p q a b h = (p refl, b refl)
@@ -168,7 +182,9 @@ no_pointer : (p x : Bool) → (p && false && x) ≡ true → ⊥
 no_pointer true x h = absurd (cc)
 no_pointer false x h = absurd (cc)
 
-becoming : (i j p q x az s t : Bool) → (i ≡ true → s ≡ true) → (j ≡ true → t ≡ true) → (p ≡ true → s ≡ true) → (q ≡ true → t ≡ true) → (az ≡ true → s ≡ true) → ((i && j) || (q && az) || (p && q && x)) ≡ true
+becoming : (i j p q x az s t : Bool) → (i ≡ true → s ≡ true) → (j ≡ true → t ≡ true)
+    → (p ≡ true → s ≡ true) → (q ≡ true → t ≡ true) → (az ≡ true → s ≡ true)
+    → ((i && j) || (q && az) || (p && q && x)) ≡ true
     → (s ≡ true) × (t ≡ true)
 becoming true true p q x az s t i j k l z h = (i refl, j refl)
 becoming true false p true x az s t i j k l z h = (i refl, l refl)
@@ -182,11 +198,15 @@ becoming false j p false x az s t i j' k l z h = absurd (no_pointer p x h)
 abbrev pub ZeroScalar : TypedNode → Type 0
 ZeroScalar a = a.zero ≡ true → is_scalar a.type ≡ true
 
-pub can_become_scalar : (t : CType) (a : TypedNode) → ZeroScalar a → can_become t a ≡ true → (is_scalar a.type ≡ true) × (is_scalar t ≡ true)
+pub can_become_scalar : (t : CType) (a : TypedNode) → ZeroScalar a → can_become t a ≡ true
+    → (is_scalar a.type ≡ true) × (is_scalar t ≡ true)
 can_become_scalar t a z h =
-    becoming (is_integer a.type) (is_integer t) (is_pointer a.type) (is_pointer t) _ a.zero (is_scalar a.type) (is_scalar t)
+    becoming (is_integer a.type) (is_integer t) (is_pointer a.type) (is_pointer t) _ a.zero
+      (is_scalar a.type) (is_scalar t)
     (integer_scalar a.type) (integer_scalar t) (pointer_scalar a.type) (pointer_scalar t) z h
 
-pub comparable_scalar : (a b : TypedNode) → ZeroScalar a → ZeroScalar b → are_comparable a b ≡ true → (is_scalar a.type ≡ true) × (is_scalar b.type ≡ true)
+pub comparable_scalar : (a b : TypedNode) → ZeroScalar a → ZeroScalar b → are_comparable a b ≡ true
+    → (is_scalar a.type ≡ true) × (is_scalar b.type ≡ true)
 comparable_scalar a b z w h =
-    comparable (is_pointer a.type) (is_pointer b.type) _ a.zero b.zero (is_scalar a.type) (is_scalar b.type) (pointer_scalar a.type) (pointer_scalar b.type) z w h
+    comparable (is_pointer a.type) (is_pointer b.type) _ a.zero b.zero (is_scalar a.type)
+      (is_scalar b.type) (pointer_scalar a.type) (pointer_scalar b.type) z w h

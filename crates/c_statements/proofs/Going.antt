@@ -24,23 +24,30 @@ abbrev pub resolved_from : Environment → List Stmt → Scope → Numbering →
 resolved_from a list b n = resolve_statements (statements (map statement list)) a b n
 
 -- what was made of a part of a list, with what is left, is what the whole is resolved to
-pub record Going (a : Environment) (left : List Stmt) (es : Entries) (start walk : Walk) (made : List Checked) (whole : ResolvedStatements) : Type 0 where
-  pub done : map checked.statement made ++ (resolved_from a left (block_of es) (numbering walk)).done ≡ whole.done
+pub record Going (a : Environment) (left : List Stmt) (es : Entries) (start walk : Walk)
+    (made : List Checked) (whole : ResolvedStatements) : Type 0 where
+  pub done : map checked.statement made ++ (resolved_from a left (block_of es)
+      (numbering walk)).done ≡ whole.done
   pub counts : (resolved_from a left (block_of es) (numbering walk)).counts ≡ whole.counts
   pub block : (resolved_from a left (block_of es) (numbering walk)).block ≡ whole.block
-  pub faults : kept (least_of walk.worst) (resolved_from a left (block_of es) (numbering walk)).faults ≡ kept (least_of start.worst) whole.faults
+  pub faults : kept (least_of walk.worst) (resolved_from a left (block_of es)
+      (numbering walk)).faults ≡ kept (least_of start.worst) whole.faults
 
-pub starts : (a : Environment) (list : List Stmt) (es : Entries) (start : Walk) → Going a list es start start [] (resolved_from a list (block_of es) (numbering start))
+pub starts : (a : Environment) (list : List Stmt) (es : Entries) (start : Walk)
+    → Going a list es start start [] (resolved_from a list (block_of es) (numbering start))
 starts a list es start = record { done = refl; counts = refl; block = refl; faults = refl }
 
-step : (a : Environment) (s : Stmt) (left : List Stmt) (es es' : Entries) (start w w' : Walk) (made more : List Checked) (whole : ResolvedStatements)
-    → Resolves es' w w' (map checked.statement more) (resolve_statement (statement s) a (block_of es) (numbering w))
+step : (a : Environment) (s : Stmt) (left : List Stmt) (es es' : Entries) (start w w' : Walk)
+    (made more : List Checked) (whole : ResolvedStatements)
+    → Resolves es' w w' (map checked.statement more)
+      (resolve_statement (statement s) a (block_of es) (numbering w))
     → Going a (s ∷ left) es start w made whole → Going a left es' start w' (made ++ more) whole
 step a s left es es' start w w' made more whole m g =
     let r = resolve_statement (statement s) a (block_of es) (numbering w) in
     let here = resolved_from a left (block_of es') (numbering w') in
     let there = resolved_from a left r.block r.counts in
-    let same : here ≡ there = ap (λ b. resolved_from a left b (numbering w')) m.block ∙ ap (resolved_from a left r.block) m.counts in
+    let same : here ≡ there = ap (λ b. resolved_from a left b (numbering w')) m.block
+      ∙ ap (resolved_from a left r.block) m.counts in
     record {
       done =
           ap (λ k. map checked.statement (made ++ more) ++ k.done) same
@@ -57,19 +64,27 @@ step a s left es es' start w w' made more whole m g =
           ∙ g.faults;
     }
 
-pub goes : (a : Environment) (list : List Stmt) (i : ℕ) (s : Stmt) (es es' : Entries) (start w w' : Walk) (made made' more : List Checked) (whole : ResolvedStatements)
+pub goes : (a : Environment) (list : List Stmt) (i : ℕ) (s : Stmt) (es es' : Entries)
+    (start w w' : Walk) (made made' more : List Checked) (whole : ResolvedStatements)
     → i < length list → s ≡ get_or list i s → made' ≡ made ++ more
-    → Resolves es' w w' (map checked.statement more) (resolve_statement (statement s) a (block_of es) (numbering w))
-    → Going a (drop i list) es start w made whole → Going a (drop (i + 1) list) es' start w' made' whole
+    → Resolves es' w w' (map checked.statement more)
+      (resolve_statement (statement s) a (block_of es) (numbering w))
+    → Going a (drop i list) es start w made whole
+    → Going a (drop (i + 1) list) es' start w' made' whole
 goes a list i s es es' start w w' made made' more whole lt is e m g =
     subst (λ k. Going a (drop (i + 1) list) es' start w' k whole) (sym e)
     (step a s (drop (i + 1) list) es es' start w w' made more whole m
     (subst (λ k. Going a k es start w made whole) (next_of list i s lt is) g))
 
-finished : (a : Environment) (es : Entries) (start w : Walk) (made : List Checked) (whole : ResolvedStatements)
+finished : (a : Environment) (es : Entries) (start w : Walk) (made : List Checked)
+    (whole : ResolvedStatements)
     → Going a [] es start w made whole → Resolves es start w (map checked.statement made) whole
-finished a es start w made whole g = record { done = sym (append-nil (map checked.statement made)) ∙ g.done; counts = g.counts; block = g.block; faults = g.faults }
+finished a es start w made whole g = record { done = sym (append-nil (map checked.statement made))
+    ∙ g.done; counts = g.counts; block = g.block; faults = g.faults }
 
-pub ends : (a : Environment) (list : List Stmt) (i : ℕ) (es : Entries) (start w : Walk) (made : List Checked) (whole : ResolvedStatements)
-    → length list ≤ i → Going a (drop i list) es start w made whole → Resolves es start w (map checked.statement made) whole
-ends a list i es start w made whole past g = finished a es start w made whole (subst (λ k. Going a k es start w made whole) (drop_all i list past) g)
+pub ends : (a : Environment) (list : List Stmt) (i : ℕ) (es : Entries) (start w : Walk)
+    (made : List Checked) (whole : ResolvedStatements)
+    → length list ≤ i → Going a (drop i list) es start w made whole
+    → Resolves es start w (map checked.statement made) whole
+ends a list i es start w made whole past g = finished a es start w made whole
+    (subst (λ k. Going a k es start w made whole) (drop_all i list past) g)

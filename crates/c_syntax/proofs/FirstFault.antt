@@ -118,7 +118,8 @@ goes_to n text front fault front' l v =
 
 -- the limits before one are fewer
 order : (n m : ℕ) (text : List ℕ) (front fault : List Token) → n < m
-    → (ContinuesWithin n text front fault → ⊥) → ((k : ℕ) → m ≡ suc k → ContinuesWithin k text front fault) → ⊥
+    → (ContinuesWithin n text front fault → ⊥)
+    → ((k : ℕ) → m ≡ suc k → ContinuesWithin k text front fault) → ⊥
 order n zero text front fault l s f = absurd (omega arith)
 order n (suc m) text front fault l s f =
     s (continues_fewer m n text front fault (λ k a b. omega arith) (f m refl))
@@ -153,7 +154,8 @@ one_first_fault text ts n m at to x y =
 -- ---- no fault in a program
 
 whole_goes : (n : ℕ) (text : List ℕ) (front fault : List Token) (xs : List ExternalDeclaration)
-    → IsProgram text xs (front ++ fault) → WithinFirst n text xs → ContinuesWithin n text front fault
+    → IsProgram text xs (front ++ fault) → WithinFirst n text xs
+    → ContinuesWithin n text front fault
 whole_goes n text front [] xs h w = (xs, subst (λ z. IsProgram text xs z) (append-nil front) h, w)
 whole_goes n text front (t ∷ fault) xs h w =
     let e : text ≡ text ++ [] = sym (append-nil text) in

@@ -20,7 +20,8 @@ use Rattle.calm_runs.proofs.Tameness.{ended_is_tame}
 -- the run is over after at most k steps of the machine, and has raised nothing inside
 abbrev ends_plain : Program → ℕ → Machine → Bool
 ends_plain program zero m = false
-ends_plain program (suc k) m = is_over m.next || (not (raises_inside m) && ends_plain program k (step program m))
+ends_plain program (suc k) m = is_over m.next
+    || (not (raises_inside m) && ends_plain program k (step program m))
 
 abbrev raises_early : Program → ℕ → Machine → Bool
 raises_early program zero m = false
@@ -35,17 +36,20 @@ either : (b c : Bool) → (b || c) ≡ true → (b ≡ true) ⊎ (c ≡ true)
 either true c e = inl refl
 either false c e = inr e
 
-decided : (program : Program) (k : ℕ) (m : Machine) → ends_plain program k m ≡ true → (j : ℕ) → raises_inside (after program j m) ≡ false
+decided : (program : Program) (k : ℕ) (m : Machine) → ends_plain program k m ≡ true → (j : ℕ)
+    → raises_inside (after program j m) ≡ false
 decided program zero m e j = cc
 decided program (suc k) m e zero =
-    elim (cases_Bool (is_over m.next)) [ inl over ↦ no_raise m.next _ over | inr on ↦ (both _ _ _ e on).0 ]
+    elim (cases_Bool (is_over m.next)) [ inl over ↦ no_raise m.next _ over | inr
+      on ↦ (both _ _ _ e on).0 ]
 decided program (suc k) m e (suc j) =
     elim (cases_Bool (is_over m.next)) [
       | inl over ↦ no_raise (after program (suc j) m).next _ (over_stays program (suc j) m over)
       | inr on ↦ decided program k (step program m) ((both _ _ _ e on).1) j
     ]
 
-refuted : (program : Program) (k : ℕ) (m : Machine) → raises_early program k m ≡ true → ((j : ℕ) → raises_inside (after program j m) ≡ false) → ⊥
+refuted : (program : Program) (k : ℕ) (m : Machine) → raises_early program k m ≡ true
+    → ((j : ℕ) → raises_inside (after program j m) ≡ false) → ⊥
 refuted program zero m e h = cc
 refuted program (suc k) m e h =
     elim (either (raises_inside m) _ e) [
@@ -58,10 +62,12 @@ refuted program (suc k) m e h =
 abbrev from_first : Program → Machine
 from_first p = first p (pos 0) 100
 
-plain : (p : Program) → ends_plain p 2000 (from_first p) ≡ true → (j : ℕ) → raises_inside (after p j (from_first p)) ≡ false
+plain : (p : Program) → ends_plain p 2000 (from_first p) ≡ true → (j : ℕ)
+    → raises_inside (after p j (from_first p)) ≡ false
 plain p e = decided p 2000 (from_first p) e
 
-nested : (p : Program) → raises_early p 2000 (from_first p) ≡ true → ((j : ℕ) → raises_inside (after p j (from_first p)) ≡ false) → ⊥
+nested : (p : Program) → raises_early p 2000 (from_first p) ≡ true
+    → ((j : ℕ) → raises_inside (after p j (from_first p)) ≡ false) → ⊥
 nested p e = refuted p 2000 (from_first p) e
 
 pub plain_rows : PlainRows
@@ -82,7 +88,8 @@ raises_in_filters = (nested raise_in_filter refl, nested handled_in_filter refl)
 
 pub raises_in_finallys : RaisesInFinallys
 unfolding computed
-raises_in_finallys = (nested raise_in_finally refl, nested (raising_after (raise 0xE0000001 0)) refl)
+raises_in_finallys = (nested raise_in_finally refl,
+    nested (raising_after (raise 0xE0000001 0)) refl)
 
 pub flag_one_at_return : FlagOneAtReturn
 unfolding computed

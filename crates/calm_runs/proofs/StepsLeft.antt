@@ -27,46 +27,56 @@ module _ (l : ℕ) where
   follows m (Then next) = refl
   follows m (Push f next) = refl
 
-  unless : (b : Bool) (m other : Machine) → unless_deep b (with_left l m) (with_left l other) ≡ with_left l (unless_deep b m other)
+  unless : (b : Bool) (m other : Machine) → unless_deep b (with_left l m) (with_left l other)
+      ≡ with_left l (unless_deep b m other)
   unless true m other = refl
   unless false m other = refl
 
-  value : (m : Machine) (plan : ℕ → Plan) (how : Result) → after_value (with_left l m) plan how ≡ with_left l (after_value m plan how)
+  value : (m : Machine) (plan : ℕ → Plan) (how : Result)
+      → after_value (with_left l m) plan how ≡ with_left l (after_value m plan how)
   value m plan (Value v) = follows m (plan v)
   value m plan how = refl
 
-  normal : (m : Machine) (plan : Plan) (how : Result) → after_normal (with_left l m) plan how ≡ with_left l (after_normal m plan how)
+  normal : (m : Machine) (plan : Plan) (how : Result)
+      → after_normal (with_left l m) plan how ≡ with_left l (after_normal m plan how)
   normal m plan Normal = follows m plan
   normal m plan how = refl
 
-  body : (m : Machine) (plan : Plan) (how : Result) → after_body (with_left l m) plan how ≡ with_left l (after_body m plan how)
+  body : (m : Machine) (plan : Plan) (how : Result)
+      → after_body (with_left l m) plan how ≡ with_left l (after_body m plan how)
   body m plan Normal = follows m plan
   body m plan Continued = follows m plan
   body m plan how = refl
 
-  call : (m : Machine) (n : ℕ) (how : Result) → left_call (with_left l m) n how ≡ with_left l (left_call m n how)
+  call : (m : Machine) (n : ℕ) (how : Result)
+      → left_call (with_left l m) n how ≡ with_left l (left_call m n how)
   call m n (End e) = refl
   call m n Normal = refl
   call m n (Returned v) = refl
   call m n how = refl
 
-  target : (b : Bool) (m : Machine) (held : ℕ) (block : Statements) (p : Place) (to : ℕ) (exc : Exception)
-      → target_landed (with_left l m) b held block p to exc ≡ with_left l (target_landed m b held block p to exc)
+  target : (b : Bool) (m : Machine) (held : ℕ) (block : Statements) (p : Place) (to : ℕ)
+      (exc : Exception)
+      → target_landed (with_left l m) b held block p to exc
+      ≡ with_left l (target_landed m b held block p to exc)
   target true m held block p to exc = refl
   target false m held block p to exc = refl
 
-  land : (m : Machine) (held : ℕ) (block : Statements) (p : Place) (how : Result) → landed (with_left l m) held block p how ≡ with_left l (landed m held block p how)
+  land : (m : Machine) (held : ℕ) (block : Statements) (p : Place) (how : Result)
+      → landed (with_left l m) held block p how ≡ with_left l (landed m held block p how)
   land m held block p LeftTry = refl
   land m held block p (Target to exc) = target (nat_eq to (length m.handlers)) m held block p to exc
   land m held block p how = refl
 
-  finish : (m : Machine) (k : ℕ) (last : Statements) (p : Place) (how : Result) → finished (with_left l m) k last p how ≡ with_left l (finished m k last p how)
+  finish : (m : Machine) (k : ℕ) (last : Statements) (p : Place) (how : Result)
+      → finished (with_left l m) k last p how ≡ with_left l (finished m k last p how)
   finish m k last p (End e) = refl
   finish m k last p Normal = refl
   finish m k last p LeftTry = refl
   finish m k last p how = refl
 
-  resume : (m : Machine) (f : ContinuationFrame) (how : Result) → resumed (with_left l m) f how ≡ with_left l (resumed m f how)
+  resume : (m : Machine) (f : ContinuationFrame) (how : Result)
+      → resumed (with_left l m) f how ≡ with_left l (resumed m f how)
   resume m (Operand f) how = value m (operand_plan f) how
   resume m (Assignment f) how = value m (assignment_plan f) how
   resume m (InStatement f) how = value m (in_statement_plan f) how
@@ -76,11 +86,13 @@ module _ (l : ℕ) where
   resume m (Lands held block p) how = land m held block p how
   resume m (Finishes k last p) how = finish m k last p how
 
-  give : (m : Machine) (how : Result) (fs : List ContinuationFrame) → given (with_left l m) how fs ≡ with_left l (given m how fs)
+  give : (m : Machine) (how : Result) (fs : List ContinuationFrame)
+      → given (with_left l m) how fs ≡ with_left l (given m how fs)
   give m how [] = refl
   give m how (f ∷ fs) = resume (record m { handlers = outside f m.handlers; stack = fs }) f how
 
-  begin : (m : Machine) (task : Task) (p : Place) → begun (with_left l m) task p ≡ with_left l (begun m task p)
+  begin : (m : Machine) (task : Task) (p : Place)
+      → begun (with_left l m) task p ≡ with_left l (begun m task p)
   begin m (tasks.Eval e) p = follows m _
   begin m (tasks.Locate at) p = refl
   begin m (tasks.Run s) p = follows m _
@@ -92,45 +104,54 @@ module _ (l : ℕ) where
   begin m (tasks.RunFinally k last flag) p = unless (is_deep m.state 2) m _
   begin m (tasks.Retry o a b) p = refl
 
-  fetch : (m : Machine) (at : Lvalue) (a : ℕ) (p : Place) → fetched (with_left l m) at a p ≡ with_left l (fetched m at a p)
+  fetch : (m : Machine) (at : Lvalue) (a : ℕ) (p : Place)
+      → fetched (with_left l m) at a p ≡ with_left l (fetched m at a p)
   fetch m (Local x) a p = refl
   fetch m (Global access _) a p = refl
   fetch m (Indirection access _) a p = refl
   fetch m (Element access _ _) a p = refl
 
-  puts : (m : Machine) (at : Lvalue) (a v : ℕ) (p : Place) → put (with_left l m) at a v p ≡ with_left l (put m at a v p)
+  puts : (m : Machine) (at : Lvalue) (a v : ℕ) (p : Place)
+      → put (with_left l m) at a v p ≡ with_left l (put m at a v p)
   puts m (Local x) a v p = refl
   puts m (Global access _) a v p = refl
   puts m (Indirection access _) a v p = refl
   puts m (Element access _ _) a v p = refl
 
-  operate : (m : Machine) (o : Operation) (a b : ℕ) (p : Place) (x : performing.OperationResult) → operated (with_left l m) o a b p x ≡ with_left l (operated m o a b p x)
+  operate : (m : Machine) (o : Operation) (a b : ℕ) (p : Place) (x : performing.OperationResult)
+      → operated (with_left l m) o a b p x ≡ with_left l (operated m o a b p x)
   operate m o a b p (performing.Gives v memory) = refl
   operate m o a b p (performing.Raises code access) = refl
   operate m o a b p (performing.Undefined a') = refl
 
-  enter : (m : Machine) (f : Option Function) (vs : List ℕ) → entered (with_left l m) f vs ≡ with_left l (entered m f vs)
+  enter : (m : Machine) (f : Option Function) (vs : List ℕ)
+      → entered (with_left l m) f vs ≡ with_left l (entered m f vs)
   enter m None vs = refl
   enter m (Some f) vs = unless (is_deep m.state 1) m _
 
-  built : (m : Machine) (k : BuiltIn) (vs : List ℕ) (p : Place) → built_in (with_left l m) k vs p ≡ with_left l (built_in m k vs p)
+  built : (m : Machine) (k : BuiltIn) (vs : List ℕ) (p : Place)
+      → built_in (with_left l m) k vs p ≡ with_left l (built_in m k vs p)
   built m Put vs p = refl
   built m Protect vs p = refl
   built m RaiseException vs p = refl
 
-  calls : (program : Program) (m : Machine) (callee : Callee) (vs : List ℕ) (p : Place) → called program (with_left l m) callee vs p ≡ with_left l (called program m callee vs p)
+  calls : (program : Program) (m : Machine) (callee : Callee) (vs : List ℕ) (p : Place)
+      → called program (with_left l m) callee vs p ≡ with_left l (called program m callee vs p)
   calls program m (frames.Defined f) vs p = enter m (slice_get program.functions f) vs
   calls program m (frames.BuiltInOf k) vs p = built m k vs p
 
-  ask_by : (m : Machine) (f : Filter) (h : Handler) (level : ℕ) (exc : Exception) (p : Place) → asked_by (with_left l m) f h level exc p ≡ with_left l (asked_by m f h level exc p)
+  ask_by : (m : Machine) (f : Filter) (h : Handler) (level : ℕ) (exc : Exception) (p : Place)
+      → asked_by (with_left l m) f h level exc p ≡ with_left l (asked_by m f h level exc p)
   ask_by m Always h level exc p = refl
   ask_by m (Funclet k e) h level exc p = refl
 
-  ask : (m : Machine) (o : Option Handler) (level : ℕ) (exc : Exception) (p : Place) → asked (with_left l m) o level exc p ≡ with_left l (asked m o level exc p)
+  ask : (m : Machine) (o : Option Handler) (level : ℕ) (exc : Exception) (p : Place)
+      → asked (with_left l m) o level exc p ≡ with_left l (asked m o level exc p)
   ask m None level exc p = refl
   ask m (Some h) level exc p = ask_by m h.filter h level exc p
 
-  searches : (m : Machine) (level : ℕ) (exc : Exception) (p : Place) → searched (with_left l m) level exc p ≡ with_left l (searched m level exc p)
+  searches : (m : Machine) (level : ℕ) (exc : Exception) (p : Place)
+      → searched (with_left l m) level exc p ≡ with_left l (searched m level exc p)
   searches m zero exc p = refl
   searches m (suc level) exc p = ask m (slice_get m.handlers level) level exc p
 
@@ -148,7 +169,8 @@ module _ (l : ℕ) where
   alike program m (frames.Find at p) = follows m _
   alike program m (frames.Fetch at a p) = fetch m at a p
   alike program m (frames.Put at a v p) = puts m at a v p
-  alike program m (frames.Operate o a b p) = operate m o a b p (performed (is_reserved program.globals) o a b m.state.memory)
+  alike program m (frames.Operate o a b p) = operate m o a b p
+      (performed (is_reserved program.globals) o a b m.state.memory)
   alike program m (frames.Pass callee vs es p) = follows m _
   alike program m (frames.Call callee vs p) = calls program m callee vs p
   alike program m (frames.Proceed ss p) = follows m _

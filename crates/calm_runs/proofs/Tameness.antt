@@ -12,7 +12,8 @@ pub tame_is_calm : TameIsCalm
 tame_is_calm program arg tame n = tame n
 
 pub ended_is_tame : EndedIsTame
-ended_is_tame program arg n e at calm = λ m. elim (cases_lt m n) [ inl lt ↦ fewer m (omega arith) | inr le ↦ more m le ]
+ended_is_tame program arg n e at calm = λ m. elim (cases_lt m n)
+    [ inl lt ↦ fewer m (omega arith) | inr le ↦ more m le ]
   where
     fewer : (m : ℕ) → m ≤ n → Calm program arg m ≡ true
     fewer m le =
@@ -22,4 +23,5 @@ ended_is_tame program arg n e at calm = λ m. elim (cases_lt m n) [ inl lt ↦ f
     more : (m : ℕ) → n ≤ m → Calm program arg m ≡ true
     more m le =
         let all : n + (m - n) ≡ m = omega arith in
-        subst (λ k. Calm program arg k ≡ true) all (ap (λ (s : Shown Ended). is_calm s.end) (end_stays program arg n (m - n) e at) ∙ calm)
+        subst (λ k. Calm program arg k ≡ true) all
+          (ap (λ (s : Shown Ended). is_calm s.end) (end_stays program arg n (m - n) e at) ∙ calm)

@@ -37,7 +37,8 @@ conversion_most Kept = omega arith
 conversion_most (Extend s from size) = omega arith
 conversion_most (Scale s from by) = omega arith
 
-to_width_small : (from : Width) (s : Signedness) (to : Width) (t : Signedness) → conversion_room (to_width from s to t) ≤ 35
+to_width_small : (from : Width) (s : Signedness) (to : Width) (t : Signedness)
+    → conversion_room (to_width from s to t) ≤ 35
 to_width_small W8 s W8 t = omega arith
 to_width_small W8 s W16 t = omega arith
 to_width_small W8 s W32 t = omega arith
@@ -55,12 +56,15 @@ to_width_small W64 s W16 t = omega arith
 to_width_small W64 s W32 t = omega arith
 to_width_small W64 s W64 t = omega arith
 
-kept_if : (b : Bool) (c : Conversion) → conversion_room c ≤ 35 → conversion_room (if b then Kept else c) ≤ 35
+kept_if : (b : Bool) (c : Conversion) → conversion_room c ≤ 35
+    → conversion_room (if b then Kept else c) ≤ 35
 kept_if true c h = omega arith
 kept_if false c h = h
 
 conversion_small : (from to : CType) → conversion_room (conversion from to) ≤ 35
-conversion_small from to = kept_if (same_type from to) (to_width (width_of from) (sort_of from) (width_of to) (sort_of to)) (to_width_small (width_of from) (sort_of from) (width_of to) (sort_of to))
+conversion_small from to = kept_if (same_type from to)
+    (to_width (width_of from) (sort_of from) (width_of to) (sort_of to))
+    (to_width_small (width_of from) (sort_of from) (width_of to) (sort_of to))
 
 -- ---- places
 
@@ -135,7 +139,8 @@ statements_add = record {
   evaluation = λ e. let v = value_discarded e in omega arith;
   if_alone = λ c s. omega arith;
   if_else = λ c s t. omega arith;
-  for_loop = λ ds first c next s. let u = value_discarded first in let v = value_condition c in let w = value_discarded next in omega arith;
+  for_loop = λ ds first c next s. let u = value_discarded first in let v = value_condition c in
+      let w = value_discarded next in omega arith;
   do_loop = λ s c. omega arith;
   returning = λ e. let v = value_returned e in omega arith;
   breaking = omega arith;

@@ -49,17 +49,20 @@ FunctionIsCounted f = IsCounted f.body
 abbrev FuncletIsCounted : LinearFunclet → Type 0
 FuncletIsCounted f = IsCounted f.body
 
-filters_counted : (owner : Owner) (names : Names) (f : Filter) → AllByRecursion FuncletIsCounted (filter_funclets owner names f)
+filters_counted : (owner : Owner) (names : Names) (f : Filter)
+    → AllByRecursion FuncletIsCounted (filter_funclets owner names f)
 filters_counted owner names Always = tt
 filters_counted owner names (Funclet k e) = (refl, tt)
 
 mutual
-  statement_counted : (owner : Owner) (names : Names) (s : Statement) → AllByRecursion FuncletIsCounted (statement_funclets owner names s)
+  statement_counted : (owner : Owner) (names : Names) (s : Statement)
+      → AllByRecursion FuncletIsCounted (statement_funclets owner names s)
   statement_counted owner names (Declare d) = tt
   statement_counted owner names (Block ss) = statements_counted owner names ss
   statement_counted owner names (Evaluate e) = tt
   statement_counted owner names (If c s) = statement_counted owner names s
-  statement_counted owner names (IfElse c s t) = all_append FuncletIsCounted _ _ (statement_counted owner names s) (statement_counted owner names t)
+  statement_counted owner names (IfElse c s t) = all_append FuncletIsCounted _ _
+      (statement_counted owner names s) (statement_counted owner names t)
   statement_counted owner names (For ds first c next s) = statement_counted owner names s
   statement_counted owner names (DoWhile s c) = statement_counted owner names s
   statement_counted owner names (Return e) = tt
@@ -67,28 +70,39 @@ mutual
   statement_counted owner names Continue = tt
   statement_counted owner names Leave = tt
   statement_counted owner names (TryExcept body filter block) =
-      all_append FuncletIsCounted _ _ (statements_counted owner names body) (all_append FuncletIsCounted _ _ (filters_counted owner (filter_names names) filter) (statements_counted owner (except_names names) block))
+      all_append FuncletIsCounted _ _ (statements_counted owner names body)
+        (all_append FuncletIsCounted _ _ (filters_counted owner (filter_names names) filter)
+        (statements_counted owner (except_names names) block))
   statement_counted owner names (TryFinally body k last) =
-      all_append FuncletIsCounted (statements_funclets owner names body) (finally_funclet owner names last ∷ statements_funclets (in_funclet (k - 1) owner) (finally_names names) last)
-      (statements_counted owner names body) (refl, statements_counted (in_funclet (k - 1) owner) (finally_names names) last)
+      all_append FuncletIsCounted (statements_funclets owner names body)
+        (finally_funclet owner names last ∷ statements_funclets (in_funclet (k - 1) owner)
+        (finally_names names) last)
+      (statements_counted owner names body) (refl,
+        statements_counted (in_funclet (k - 1) owner) (finally_names names) last)
 
-  statements_counted : (owner : Owner) (names : Names) (ss : Statements) → AllByRecursion FuncletIsCounted (statements_funclets owner names ss)
+  statements_counted : (owner : Owner) (names : Names) (ss : Statements)
+      → AllByRecursion FuncletIsCounted (statements_funclets owner names ss)
   statements_counted owner names Empty = tt
-  statements_counted owner names (Then s ss) = all_append FuncletIsCounted _ _ (statement_counted owner names s) (statements_counted owner names ss)
+  statements_counted owner names (Then s ss) = all_append FuncletIsCounted _ _
+      (statement_counted owner names s) (statements_counted owner names ss)
 
-functions_counted : (fs : List Function) → AllByRecursion FunctionIsCounted (map lowered_function fs)
+functions_counted : (fs : List Function) → AllByRecursion FunctionIsCounted
+    (map lowered_function fs)
 functions_counted [] = tt
 functions_counted (f ∷ fs) = (refl, functions_counted fs)
 
-funclets_counted : (number : ℕ) (fs : List Function) → AllByRecursion FuncletIsCounted (all_funclets number fs)
+funclets_counted : (number : ℕ) (fs : List Function)
+    → AllByRecursion FuncletIsCounted (all_funclets number fs)
 funclets_counted number [] = tt
 funclets_counted number (f ∷ fs) =
     all_append FuncletIsCounted (lowered_funclets number f) (all_funclets (number + 1) fs)
-    (statements_counted (record { function = number; locals = all_locals f; parent = None }) (scope_of f).names f.body) (funclets_counted (number + 1) fs)
+    (statements_counted (record { function = number; locals = all_locals f; parent = None })
+      (scope_of f).names f.body) (funclets_counted (number + 1) fs)
 
 -- ---- instructions
 
-slot_fits : (b : LinearBody) (x : Slot) → IsAmong b.locals x → slot_temporaries x ≤ b.temporaries → FitsSlot b x
+slot_fits : (b : LinearBody) (x : Slot) → IsAmong b.locals x → slot_temporaries x ≤ b.temporaries
+    → FitsSlot b x
 slot_fits b (Local i) h le = h
 slot_fits b (Temporary i) h le = omega arith
 
@@ -98,9 +112,13 @@ field_fits fields.ExceptionCode h = tt
 field_fits fields.ExceptionFlags h = tt
 field_fits fields.NumberParameters h = tt
 
-instruction_fits : (b : LinearBody) (i : Instruction) → IsPlain b.locals i → instruction_temporaries i ≤ b.temporaries → FitsInstruction b i
-instruction_fits b (instructions.Compute to o first second) h le = (slot_fits b to h.0 (omega arith), slot_fits b first h.1 (omega arith), slot_fits b second h.2 (omega arith))
-instruction_fits b (instructions.Information to field) h le = (slot_fits b to h.0 le, field_fits field h.1)
+instruction_fits : (b : LinearBody) (i : Instruction) → IsPlain b.locals i
+    → instruction_temporaries i ≤ b.temporaries → FitsInstruction b i
+instruction_fits b (instructions.Compute to o first second) h
+    le = (slot_fits b to h.0 (omega arith), slot_fits b first h.1 (omega arith),
+    slot_fits b second h.2 (omega arith))
+instruction_fits b (instructions.Information to field) h
+    le = (slot_fits b to h.0 le, field_fits field h.1)
 instruction_fits b (instructions.Landing to) h le = slot_fits b to h le
 instruction_fits b (instructions.Jump label) h le = tt
 instruction_fits b (instructions.JumpIfZero slot label) h le = slot_fits b slot h le
@@ -111,22 +129,28 @@ instruction_fits b (instructions.LocalUnwind label) h le = tt
 instruction_fits b instructions.Separator h le = tt
 instruction_fits b (instructions.Return from) h le = slot_fits b from h le
 
-code_fits : (b : LinearBody) (is : List Instruction) → AllByRecursion (IsPlain b.locals) is → temporaries_in is ≤ b.temporaries → AllByRecursion (FitsInstruction b) is
+code_fits : (b : LinearBody) (is : List Instruction) → AllByRecursion (IsPlain b.locals) is
+    → temporaries_in is ≤ b.temporaries → AllByRecursion (FitsInstruction b) is
 code_fits b [] h le = tt
-code_fits b (i ∷ is) h le = (instruction_fits b i h.0 (omega arith), code_fits b is h.1 (omega arith))
+code_fits b (i ∷ is) h le = (instruction_fits b i h.0 (omega arith),
+    code_fits b is h.1 (omega arith))
 
 -- ---- bodies
 
-body_fits : (b : LinearBody) → IsSmallBody b → IsCounted b → 16 * length b.regions ≤ MOST_IMAGE → FitsBody b
+body_fits : (b : LinearBody) → IsSmallBody b → IsCounted b → 16 * length b.regions ≤ MOST_IMAGE
+    → FitsBody b
 body_fits b s c few =
     let p = s.passed in
     let t = s.temporaries in
     let l = s.locals in
     record { words = omega arith; code = code_fits b b.code s.code (omega arith); regions = few }
 
-functions_fit : (fs : List LinearFunction) → AllByRecursion IsSmallFunction fs → AllByRecursion FunctionIsCounted fs → tables_room (function_bodies fs) ≤ MOST_IMAGE → AllByRecursion FitsFunction fs
+functions_fit : (fs : List LinearFunction) → AllByRecursion IsSmallFunction fs
+    → AllByRecursion FunctionIsCounted fs → tables_room (function_bodies fs) ≤ MOST_IMAGE
+    → AllByRecursion FitsFunction fs
 functions_fit [] s c few = tt
-functions_fit (f ∷ fs) s c few = (record { parameters = s.0.parameters; body = body_fits f.body s.0.body c.0 (omega arith) }, functions_fit fs s.1 c.1 (omega arith))
+functions_fit (f ∷ fs) s c few = (record { parameters = s.0.parameters;
+    body = body_fits f.body s.0.body c.0 (omega arith) }, functions_fit fs s.1 c.1 (omega arith))
 
 kind_fits : (b : LinearBody) (k : FuncletKind) → HasFlag b k → FitsKind b k
 kind_fits b kinds.Filter h = tt
@@ -136,10 +160,14 @@ parent_fits : (p : LinearProgram) (o : Option ℕ) → small.HasParent p o → l
 parent_fits p None h = tt
 parent_fits p (Some index) h = h
 
-funclets_fit : (p : LinearProgram) (fs : List LinearFunclet) → AllByRecursion (IsSmallFunclet p) fs → AllByRecursion FuncletIsCounted fs → tables_room (funclet_bodies fs) ≤ MOST_IMAGE → AllByRecursion (FitsFunclet p) fs
+funclets_fit : (p : LinearProgram) (fs : List LinearFunclet) → AllByRecursion (IsSmallFunclet p) fs
+    → AllByRecursion FuncletIsCounted fs → tables_room (funclet_bodies fs) ≤ MOST_IMAGE
+    → AllByRecursion (FitsFunclet p) fs
 funclets_fit p [] s c few = tt
 funclets_fit p (f ∷ fs) s c few =
-    (record { kind = kind_fits f.body f.kind s.0.kind; function = s.0.function; parent = parent_fits p f.parent s.0.parent; body = body_fits f.body s.0.body c.0 (omega arith) }, funclets_fit p fs s.1 c.1 (omega arith))
+    (record { kind = kind_fits f.body f.kind s.0.kind; function = s.0.function;
+      parent = parent_fits p f.parent s.0.parent;
+      body = body_fits f.body s.0.body c.0 (omega arith) }, funclets_fit p fs s.1 c.1 (omega arith))
 
 -- ---- programs
 
@@ -171,8 +199,10 @@ accepted_fits text xs within accepted few =
     record {
       globals = omega arith;
       main = s.main;
-      functions = functions_fit p.functions s.functions (functions_counted program.functions) (omega arith);
-      funclets = funclets_fit p p.funclets s.funclets (funclets_counted 0 program.functions) (omega arith);
+      functions = functions_fit p.functions s.functions (functions_counted program.functions)
+        (omega arith);
+      funclets = funclets_fit p p.funclets s.funclets (funclets_counted 0 program.functions)
+        (omega arith);
       small = all;
     }
 

@@ -19,12 +19,15 @@ use Rattle.code_bounds.proofs.StatementRooms.{funclets_room, funclets_append, st
 
 -- ---- bodies of functions and of funclets
 
-funclet_rooms : (fs : List LinearFunclet) → room (funclet_bodies fs) + tables_room (funclet_bodies fs) ≡ funclets_room fs + 544 * length fs
+funclet_rooms : (fs : List LinearFunclet) → room (funclet_bodies fs)
+    + tables_room (funclet_bodies fs) ≡ funclets_room fs + 544 * length fs
 funclet_rooms [] = refl
 funclet_rooms (f ∷ fs) = let r = funclet_rooms fs in omega arith
 
 functions_bound : (number : ℕ) (fs : List Function)
-    → room (function_bodies (map lowered_function fs)) + tables_room (function_bodies (map lowered_function fs)) + funclets_room (all_funclets number fs) + 544 * length (all_funclets number fs)
+    → room (function_bodies (map lowered_function fs))
+    + tables_room (function_bodies (map lowered_function fs))
+    + funclets_room (all_funclets number fs) + 544 * length (all_funclets number fs)
     ≤ functions_room fs + 544 * (length fs + length (sound.all_funclets fs))
 functions_bound number [] = omega arith
 functions_bound number (f ∷ fs) =
@@ -35,7 +38,9 @@ functions_bound number (f ∷ fs) =
     let r = functions_bound (number + 1) fs in
     let b = statements_bound (scope_of f) 0 0 owner names f.body in
     let c = statements_count owner names f.body in
-    omega (arith, room_append (statements_code (scope_of f) f.body 0) (constant 0 0 ∷ Return (Temporary 0) ∷ []), funclets_append own more, length-append own more, length-append (funclets f.body) (sound.all_funclets fs))
+    omega (arith, room_append (statements_code (scope_of f) f.body 0)
+      (constant 0 0 ∷ Return (Temporary 0) ∷ []), funclets_append own more, length-append own more,
+      length-append (funclets f.body) (sound.all_funclets fs))
 
 pub lowered_is_bounded : LoweredIsBounded
 lowered_is_bounded program =

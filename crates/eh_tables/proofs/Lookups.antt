@@ -29,7 +29,8 @@ record Prepended {A : Type 0} (x : A) (r : Table (List A)) (ys : List A) : Type 
   is : r ≡ Ok rest
   all : ys ≡ x ∷ rest
 
-prepended : {A : Type 0} (x : A) (r : Table (List A)) (ys : List A) → prepend x r ≡ Ok ys → Prepended x r ys
+prepended : {A : Type 0} (x : A) (r : Table (List A)) (ys : List A) → prepend x r ≡ Ok ys
+    → Prepended x r ys
 prepended x (Ok xs) ys h = record { rest = xs; is = refl; all = cc }
 prepended x (Err e) ys h = cc
 
@@ -42,17 +43,21 @@ record Read (last : ℕ) (r : RuntimeFunction) (e : Entry) : Type 0 where
   some : r.begin < r.end
   range : e.range ≡ r
 
-entry_read : (image : Image) (index last : ℕ) (r : RuntimeFunction) (e : Entry) → entry image index last r ≡ Ok e → Read last r e
+entry_read : (image : Image) (index last : ℕ) (r : RuntimeFunction) (e : Entry)
+    → entry image index last r ≡ Ok e → Read last r e
 unfolding entry
 entry_read image index last r e h =
     let one = given (unless (nat_lt r.begin r.end) (refusals.EmptyRange index)) _ e h in
     let two = given (unless (nat_le last r.begin) (refusals.Unsorted index)) _ e one.then in
     let three = given (info image index r.unwind_info) _ e two.then in
     let four = given (parents 31 image index three.value.parent) _ e three.then in
-    let made : Ok (record { range = r; info = three.value; parents = four.value }) ≡ Ok e = four.then in
+    let made : Ok (record { range = r; info = three.value; parents = four.value })
+      ≡ Ok e = four.then in
     record {
-      sorted = leb-true last r.begin (holds_then (nat_le last r.begin) (refusals.Unsorted index) two.value two.first);
-      some = ltb-true r.begin r.end (holds_then (nat_lt r.begin r.end) (refusals.EmptyRange index) one.value one.first);
+      sorted = leb-true last r.begin (holds_then (nat_le last r.begin) (refusals.Unsorted index)
+        two.value two.first);
+      some = ltb-true r.begin r.end (holds_then (nat_lt r.begin r.end) (refusals.EmptyRange index)
+        one.value one.first);
       range = range_of (record { range = r; info = three.value; parents = four.value }) e made;
     }
   where
@@ -61,7 +66,8 @@ entry_read image index last r e h =
 
 -- ---- one entry and the others
 
-record Split (image : Image) (index last : ℕ) (r : RuntimeFunction) (rs : List RuntimeFunction) (es : List Entry) : Type 0 where
+record Split (image : Image) (index last : ℕ) (r : RuntimeFunction) (rs : List RuntimeFunction)
+    (es : List Entry) : Type 0 where
   head : Entry
   rest : List Entry
   is : entry image index last r ≡ Ok head
@@ -69,11 +75,14 @@ record Split (image : Image) (index last : ℕ) (r : RuntimeFunction) (rs : List
   all : es ≡ head ∷ rest
   read : Read last r head
 
-split : (image : Image) (index last : ℕ) (r : RuntimeFunction) (rs : List RuntimeFunction) (es : List Entry) → entries image index last (r ∷ rs) ≡ Ok es → Split image index last r rs es
+split : (image : Image) (index last : ℕ) (r : RuntimeFunction) (rs : List RuntimeFunction)
+    (es : List Entry) → entries image index last (r ∷ rs) ≡ Ok es → Split image index last r rs es
 split image index last r rs es h =
-    let one = given (entry image index last r) (λ e. prepend e (entries image (index + 1) r.end rs)) es h in
+    let one = given (entry image index last r) (λ e. prepend e (entries image (index + 1) r.end rs))
+      es h in
     let two = prepended one.value (entries image (index + 1) r.end rs) es one.then in
-    record { head = one.value; rest = two.rest; is = one.first; others = two.is; all = two.all; read = entry_read image index last r one.value one.first }
+    record { head = one.value; rest = two.rest; is = one.first; others = two.is; all = two.all;
+      read = entry_read image index last r one.value one.first }
 
 below_begin : (rva : ℕ) (r : RuntimeFunction) → rva < r.begin → covers_address rva r ≡ false
 below_begin rva r lt = and_left (leb r.begin rva) (ltb rva r.end) (lt-leb r.begin rva lt)
@@ -82,16 +91,21 @@ past_end : (rva : ℕ) (r : RuntimeFunction) → r.end ≤ rva → covers_addres
 past_end rva r le = and_right (leb r.begin rva) (ltb rva r.end) (le-ltb rva r.end le)
 
 within : (rva : ℕ) (r : RuntimeFunction) → r.begin ≤ rva → rva < r.end → covers_address rva r ≡ true
-within rva r le lt = and_from (leb r.begin rva) (ltb rva r.end) (le-leb r.begin rva le) (lt-ltb rva r.end lt)
+within rva r le lt = and_from (leb r.begin rva) (ltb rva r.end) (le-leb r.begin rva le)
+    (lt-ltb rva r.end lt)
 
-module _ (image : Image) (index last : ℕ) (r : RuntimeFunction) (rs : List RuntimeFunction) (es : List Entry) (s : Split image index last r rs es) (rva : ℕ) where
-  by_head : (b : Bool) → covers_address rva r ≡ b → holding rva es ≡ entry_or (holding rva s.rest) s.head b
+module _ (image : Image) (index last : ℕ) (r : RuntimeFunction) (rs : List RuntimeFunction)
+    (es : List Entry) (s : Split image index last r rs es) (rva : ℕ) where
+  by_head : (b : Bool) → covers_address rva r ≡ b
+      → holding rva es ≡ entry_or (holding rva s.rest) s.head b
   by_head b e =
       ap (holding rva) s.all
-      ∙ ap (λ (q : RuntimeFunction). entry_or (holding rva s.rest) s.head (covers_address rva q)) s.read.range
+      ∙ ap (λ (q : RuntimeFunction). entry_or (holding rva s.rest) s.head (covers_address rva q))
+        s.read.range
       ∙ ap (entry_or (holding rva s.rest) s.head) e
 
-none_from : (image : Image) (index last : ℕ) (rs : List RuntimeFunction) (es : List Entry) (rva : ℕ) → entries image index last rs ≡ Ok es → rva < last → holding rva es ≡ None
+none_from : (image : Image) (index last : ℕ) (rs : List RuntimeFunction) (es : List Entry) (rva : ℕ)
+    → entries image index last rs ≡ Ok es → rva < last → holding rva es ≡ None
 none_from image index last [] es rva h lt = let e : [] ≡ es = cc in ap (holding rva) (sym e)
 none_from image index last (r ∷ rs) es rva h lt =
     let s = split image index last r rs es h in
@@ -106,24 +120,29 @@ abbrev end_from : ℕ → List RuntimeFunction → ℕ → ℕ
 end_from last rs zero = last
 end_from last rs (suc k) = (get_or rs k no_range).end
 
-end_of_rest : (last : ℕ) (r : RuntimeFunction) (rs : List RuntimeFunction) (k : ℕ) → end_from r.end rs k ≡ end_from last (r ∷ rs) (suc k)
+end_of_rest : (last : ℕ) (r : RuntimeFunction) (rs : List RuntimeFunction) (k : ℕ)
+    → end_from r.end rs k ≡ end_from last (r ∷ rs) (suc k)
 end_of_rest last r rs zero = refl
 end_of_rest last r rs (suc k) = refl
 
 record Before (rs : List RuntimeFunction) (k rva : ℕ) : Type 0 where
   pub passed : (j : ℕ) → j < k → (get_or rs j no_range).end ≤ rva
 
-before_rest : (r : RuntimeFunction) (rs : List RuntimeFunction) (k rva : ℕ) → Before (r ∷ rs) (suc k) rva → Before rs k rva
+before_rest : (r : RuntimeFunction) (rs : List RuntimeFunction) (k rva : ℕ)
+    → Before (r ∷ rs) (suc k) rva → Before rs k rva
 before_rest r rs k rva b = record { passed = λ j lt. b.passed (suc j) (omega arith) }
 
-all_past : (image : Image) (index last : ℕ) (rs : List RuntimeFunction) (es : List Entry) (rva : ℕ) → entries image index last rs ≡ Ok es → Before rs (length rs) rva → holding rva es ≡ None
+all_past : (image : Image) (index last : ℕ) (rs : List RuntimeFunction) (es : List Entry) (rva : ℕ)
+    → entries image index last rs ≡ Ok es → Before rs (length rs) rva → holding rva es ≡ None
 all_past image index last [] es rva h b = let e : [] ≡ es = cc in ap (holding rva) (sym e)
 all_past image index last (r ∷ rs) es rva h b =
     let s = split image index last r rs es h in
     by_head image index last r rs es s rva false (past_end rva r (b.passed 0 (omega arith)))
     ∙ all_past image (index + 1) r.end rs s.rest rva s.others (before_rest r rs (length rs) rva b)
 
-gap : (image : Image) (index last : ℕ) (rs : List RuntimeFunction) (es : List Entry) (rva k : ℕ) → entries image index last rs ≡ Ok es → Before rs k rva → k < length rs → rva < (get_or rs k no_range).begin → holding rva es ≡ None
+gap : (image : Image) (index last : ℕ) (rs : List RuntimeFunction) (es : List Entry) (rva k : ℕ)
+    → entries image index last rs ≡ Ok es → Before rs k rva → k < length rs
+    → rva < (get_or rs k no_range).begin → holding rva es ≡ None
 gap image index last [] es rva k h b lt under = absurd (omega arith)
 gap image index last (r ∷ rs) es rva zero h b lt under =
     let s = split image index last r rs es h in
@@ -133,10 +152,14 @@ gap image index last (r ∷ rs) es rva zero h b lt under =
 gap image index last (r ∷ rs) es rva (suc k) h b lt under =
     let s = split image index last r rs es h in
     by_head image index last r rs es s rva false (past_end rva r (b.passed 0 (omega arith)))
-    ∙ gap image (index + 1) r.end rs s.rest rva k s.others (before_rest r rs k rva b) (omega arith) under
+    ∙ gap image (index + 1) r.end rs s.rest rva k s.others (before_rest r rs k rva b) (omega arith)
+      under
 
-hit : (image : Image) (index last : ℕ) (rs : List RuntimeFunction) (es : List Entry) (rva k : ℕ) → entries image index last rs ≡ Ok es → Before rs k rva → k < length rs → (get_or rs k no_range).begin ≤ rva → rva < (get_or rs k no_range).end
-    → holding rva es ≡ result_ok (entry image (index + k) (end_from last rs k) (get_or rs k no_range))
+hit : (image : Image) (index last : ℕ) (rs : List RuntimeFunction) (es : List Entry) (rva k : ℕ)
+    → entries image index last rs ≡ Ok es → Before rs k rva → k < length rs
+    → (get_or rs k no_range).begin ≤ rva → rva < (get_or rs k no_range).end
+    → holding rva es ≡ result_ok (entry image (index + k) (end_from last rs k)
+      (get_or rs k no_range))
 hit image index last [] es rva k h b lt le under = absurd (omega arith)
 hit image index last (r ∷ rs) es rva zero h b lt le under =
     let s = split image index last r rs es h in
@@ -148,13 +171,16 @@ hit image index last (r ∷ rs) es rva (suc k) h b lt le under =
     let s = split image index last r rs es h in
     let e : index + 1 + k ≡ index + suc k = omega arith in
     by_head image index last r rs es s rva false (past_end rva r (b.passed 0 (omega arith)))
-    ∙ hit image (index + 1) r.end rs s.rest rva k s.others (before_rest r rs k rva b) (omega arith) le under
+    ∙ hit image (index + 1) r.end rs s.rest rva k s.others (before_rest r rs k rva b) (omega arith)
+      le under
     ∙ ap (λ n. result_ok (entry image n (end_from r.end rs k) (get_or rs k no_range))) e
-    ∙ ap (λ n. result_ok (entry image (index + suc k) n (get_or rs k no_range))) (end_of_rest last r rs k)
+    ∙ ap (λ n. result_ok (entry image (index + suc k) n (get_or rs k no_range)))
+      (end_of_rest last r rs k)
 
 -- ---- the ends rise
 
-end_above : (image : Image) (index last : ℕ) (rs : List RuntimeFunction) (es : List Entry) (k : ℕ) → entries image index last rs ≡ Ok es → k < length rs → last ≤ (get_or rs k no_range).end
+end_above : (image : Image) (index last : ℕ) (rs : List RuntimeFunction) (es : List Entry) (k : ℕ)
+    → entries image index last rs ≡ Ok es → k < length rs → last ≤ (get_or rs k no_range).end
 end_above image index last [] es k h lt = absurd (omega arith)
 end_above image index last (r ∷ rs) es zero h lt =
     let s = split image index last r rs es h in
@@ -168,7 +194,9 @@ end_above image index last (r ∷ rs) es (suc k) h lt =
     let later = end_above image (index + 1) r.end rs s.rest k s.others (omega arith) in
     omega arith
 
-rising : (image : Image) (index last : ℕ) (rs : List RuntimeFunction) (es : List Entry) (j k : ℕ) → entries image index last rs ≡ Ok es → j ≤ k → k < length rs → (get_or rs j no_range).end ≤ (get_or rs k no_range).end
+rising : (image : Image) (index last : ℕ) (rs : List RuntimeFunction) (es : List Entry) (j k : ℕ)
+    → entries image index last rs ≡ Ok es → j ≤ k → k < length rs
+    → (get_or rs j no_range).end ≤ (get_or rs k no_range).end
 rising image index last [] es j k h le lt = absurd (omega arith)
 rising image index last (r ∷ rs) es zero zero h le lt = omega arith
 rising image index last (r ∷ rs) es zero (suc k) h le lt =
@@ -179,10 +207,12 @@ rising image index last (r ∷ rs) es (suc j) (suc k) h le lt =
     let s = split image index last r rs es h in
     rising image (index + 1) r.end rs s.rest j k s.others (omega arith) (omega arith)
 
-pub ends_rise : (t : Tables) → TablesAreWhole t → (j k : ℕ) → j ≤ k → k < length t.ranges → (get_or t.ranges j no_range).end ≤ (get_or t.ranges k no_range).end
+pub ends_rise : (t : Tables) → TablesAreWhole t → (j k : ℕ) → j ≤ k → k < length t.ranges
+    → (get_or t.ranges j no_range).end ≤ (get_or t.ranges k no_range).end
 ends_rise t w j k le lt = rising t.image 0 0 t.ranges (entries_of t) j k w.whole le lt
 
-begin_above : (image : Image) (index last : ℕ) (rs : List RuntimeFunction) (es : List Entry) (k : ℕ) → entries image index last rs ≡ Ok es → k < length rs → last ≤ (get_or rs k no_range).begin
+begin_above : (image : Image) (index last : ℕ) (rs : List RuntimeFunction) (es : List Entry) (k : ℕ)
+    → entries image index last rs ≡ Ok es → k < length rs → last ≤ (get_or rs k no_range).begin
 begin_above image index last [] es k h lt = absurd (omega arith)
 begin_above image index last (r ∷ rs) es zero h lt =
     let s = split image index last r rs es h in
@@ -194,7 +224,9 @@ begin_above image index last (r ∷ rs) es (suc k) h lt =
     let later = begin_above image (index + 1) r.end rs s.rest k s.others (omega arith) in
     omega arith
 
-in_order : (image : Image) (index last : ℕ) (rs : List RuntimeFunction) (es : List Entry) (j k : ℕ) → entries image index last rs ≡ Ok es → j < k → k < length rs → (get_or rs j no_range).end ≤ (get_or rs k no_range).begin
+in_order : (image : Image) (index last : ℕ) (rs : List RuntimeFunction) (es : List Entry) (j k : ℕ)
+    → entries image index last rs ≡ Ok es → j < k → k < length rs
+    → (get_or rs j no_range).end ≤ (get_or rs k no_range).begin
 in_order image index last [] es j k h below lt = absurd (omega arith)
 in_order image index last (r ∷ rs) es j zero h below lt = absurd (omega arith)
 in_order image index last (r ∷ rs) es zero (suc k) h below lt =
@@ -205,34 +237,43 @@ in_order image index last (r ∷ rs) es (suc j) (suc k) h below lt =
     in_order image (index + 1) r.end rs s.rest j k s.others (omega arith) (omega arith)
 
 -- no range begins below the end of one before it
-pub ends_below : (t : Tables) → TablesAreWhole t → (j k : ℕ) → j < k → k < length t.ranges → (get_or t.ranges j no_range).end ≤ (get_or t.ranges k no_range).begin
+pub ends_below : (t : Tables) → TablesAreWhole t → (j k : ℕ) → j < k → k < length t.ranges
+    → (get_or t.ranges j no_range).end ≤ (get_or t.ranges k no_range).begin
 ends_below t w j k below lt = in_order t.image 0 0 t.ranges (entries_of t) j k w.whole below lt
 
 -- ---- a step halves what is left
 
 pub one_step : (steps since : ℕ) → since ≤ steps → 2 ^ (steps + 1 - since) ≡ 2 * 2 ^ (steps - since)
-one_step steps since le = let e : steps + 1 - since ≡ suc (steps - since) = omega arith in ap (λ n. 2 ^ n) e ∙ omega (arith, pow-suc 2 (steps - since))
+one_step steps since le = let e : steps + 1 - since ≡ suc (steps - since) = omega arith in
+    ap (λ n. 2 ^ n) e ∙ omega (arith, pow-suc 2 (steps - since))
 
 pub still_left : (p s t n q : ℕ) → q ≡ 2 * p → p * s ≤ n → 2 * t ≤ s → q * t ≤ n
 still_left p s t n q e le half = let more = mul-le-mul_left p half in rw e (omega arith)
 
 pub still_cheap : (p s n q : ℕ) → q ≡ 2 * p → 0 < s → p * s ≤ n → q ≤ 2 * n + 1
-still_cheap p s n q e some le = let one : 1 ≤ s = omega arith in let more = mul-le-mul_left p one in omega arith
+still_cheap p s n q e some le = let one : 1 ≤ s = omega arith in let more = mul-le-mul_left p one in
+    omega arith
 
 -- ---- in a table that was read whole
 
-module _ (t : Tables) (w : TablesAreWhole t) (rva k : ℕ) (below : (j : ℕ) → j < k → (get_or t.ranges j no_range).end ≤ rva) where
+module _ (t : Tables) (w : TablesAreWhole t) (rva k : ℕ)
+    (below : (j : ℕ) → j < k → (get_or t.ranges j no_range).end ≤ rva) where
   pub finds_none_past : length t.ranges ≡ k → holding rva (entries_of t) ≡ None
-  finds_none_past e = all_past t.image 0 0 t.ranges (entries_of t) rva w.whole (record { passed = λ j lt. below j (omega arith) })
+  finds_none_past e = all_past t.image 0 0 t.ranges (entries_of t) rva w.whole
+      (record { passed = λ j lt. below j (omega arith) })
 
-  pub finds_none_between : k < length t.ranges → rva < (get_or t.ranges k no_range).begin → holding rva (entries_of t) ≡ None
-  finds_none_between lt under = gap t.image 0 0 t.ranges (entries_of t) rva k w.whole (record { passed = below }) lt under
+  pub finds_none_between : k < length t.ranges → rva < (get_or t.ranges k no_range).begin
+      → holding rva (entries_of t) ≡ None
+  finds_none_between lt under = gap t.image 0 0 t.ranges (entries_of t) rva k w.whole
+      (record { passed = below }) lt under
 
   first_end : (n : ℕ) → end_from 0 t.ranges n ≡ end_before t.ranges n
   first_end zero = refl
   first_end (suc n) = refl
 
-  pub finds : k < length t.ranges → (get_or t.ranges k no_range).begin ≤ rva → rva < (get_or t.ranges k no_range).end → holding rva (entries_of t) ≡ result_ok (entry_at t k)
+  pub finds : k < length t.ranges → (get_or t.ranges k no_range).begin ≤ rva
+      → rva < (get_or t.ranges k no_range).end
+      → holding rva (entries_of t) ≡ result_ok (entry_at t k)
   finds lt le under =
       let e : 0 + k ≡ k = omega arith in
       hit t.image 0 0 t.ranges (entries_of t) rva k w.whole (record { passed = below }) lt le under

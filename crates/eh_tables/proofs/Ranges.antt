@@ -31,7 +31,8 @@ range_further xs at =
     let third = further xs (at + 8) (at + 12 + 8) (omega arith) in
     λ i. record { begin = first i; end = second i; unwind_info = third i }
 
-pub range_is : (n k : ℕ) (xs : List ℕ) → k < n → range_at xs (12 * k) ≡ get_or (ranges n xs) k no_range
+pub range_is : (n k : ℕ) (xs : List ℕ) → k < n
+    → range_at xs (12 * k) ≡ get_or (ranges n xs) k no_range
 range_is zero k xs lt = absurd (omega arith)
 range_is (suc n) zero xs lt = refl
 range_is (suc n) (suc k) xs lt =
@@ -45,12 +46,16 @@ module _ (image : Image) (index : ℕ) (rs : List RuntimeFunction) where
   from k = entries image k (end_before rs k) (drop k rs)
 
   here : index < length rs → drop index rs ≡ get_or rs index no_range ∷ drop (index + 1) rs
-  here lt = let e : suc index ≡ index + 1 = omega arith in drop-cons rs index no_range lt ∙ ap (λ n. get_or rs index no_range ∷ drop n rs) e
+  here lt = let e : suc index ≡ index + 1 = omega arith in drop-cons rs index no_range lt
+      ∙ ap (λ n. get_or rs index no_range ∷ drop n rs) e
 
-  pub stops : (e : TableErr) → index < length rs → entry image index (end_before rs index) (get_or rs index no_range) ≡ Err e → passed (entries image index (end_before rs index) (drop index rs)) ≡ Err e
+  pub stops : (e : TableErr) → index < length rs
+      → entry image index (end_before rs index) (get_or rs index no_range) ≡ Err e
+      → passed (entries image index (end_before rs index) (drop index rs)) ≡ Err e
   stops e lt is =
       ap (λ t. passed (entries image index (end_before rs index) t)) (here lt)
-      ∙ ap (λ (t : Table Entry). passed (t >>= λ x. prepend x (entries image (index + 1) (get_or rs index no_range).end (drop (index + 1) rs)))) is
+      ∙ ap (λ (t : Table Entry). passed (t >>= λ x. prepend x
+        (entries image (index + 1) (get_or rs index no_range).end (drop (index + 1) rs)))) is
 
   passed_more : (x : Entry) (r : Table (List Entry)) → passed (prepend x r) ≡ passed r
   passed_more x (Ok xs) = refl
@@ -60,15 +65,22 @@ module _ (image : Image) (index : ℕ) (rs : List RuntimeFunction) where
   end_next zero e = absurd (omega arith)
   end_next (suc k) e = let h : k ≡ index = omega arith in ap (λ n. (get_or rs n no_range).end) h
 
-  pub continues : (x : Entry) → index < length rs → entry image index (end_before rs index) (get_or rs index no_range) ≡ Ok x
-      → passed (entries image (index + 1) (end_before rs (index + 1)) (drop (index + 1) rs)) ≡ passed (entries image index (end_before rs index) (drop index rs))
+  pub continues : (x : Entry) → index < length rs
+      → entry image index (end_before rs index) (get_or rs index no_range) ≡ Ok x
+      → passed (entries image (index + 1) (end_before rs (index + 1)) (drop (index + 1) rs))
+      ≡ passed (entries image index (end_before rs index) (drop index rs))
   continues x lt is =
-      ap (λ n. passed (entries image (index + 1) n (drop (index + 1) rs))) (end_next (index + 1) (omega arith))
-      ∙ sym (passed_more x (entries image (index + 1) (get_or rs index no_range).end (drop (index + 1) rs)))
-      ∙ sym (ap (λ (t : Table Entry). passed (t >>= λ y. prepend y (entries image (index + 1) (get_or rs index no_range).end (drop (index + 1) rs)))) is)
+      ap (λ n. passed (entries image (index + 1) n (drop (index + 1) rs)))
+        (end_next (index + 1) (omega arith))
+      ∙ sym (passed_more x (entries image (index + 1) (get_or rs index no_range).end
+        (drop (index + 1) rs)))
+      ∙ sym (ap (λ (t : Table Entry). passed (t
+      >>= λ y. prepend y (entries image (index + 1) (get_or rs index no_range).end
+        (drop (index + 1) rs)))) is)
       ∙ sym (ap (λ t. passed (entries image index (end_before rs index) t)) (here lt))
 
-  pub is_over : length rs ≤ index → passed (entries image index (end_before rs index) (drop index rs)) ≡ Ok tt
+  pub is_over : length rs ≤ index → passed (entries image index (end_before rs index)
+      (drop index rs)) ≡ Ok tt
   is_over le = ap (λ t. passed (entries image index (end_before rs index) t)) (drop_all index rs le)
 
 -- ---- all entries
@@ -84,10 +96,12 @@ first_refused (Err f) e h = let g : f ≡ e = cc in ap (λ (x : TableErr). Err x
 pub is_whole : (t : Tables) → Ok tt ≡ checked t → TablesAreWhole t
 is_whole t h = record { whole = all_passed (all_entries t) (sym h) }
 
-pub refused_directory : (image : Image) (e : TableErr) → directory image ≡ Err e → tables image ≡ Err e
+pub refused_directory : (image : Image) (e : TableErr) → directory image ≡ Err e
+    → tables image ≡ Err e
 refused_directory image e is = ap (λ (t : Table (List RuntimeFunction)). t >>= entries image 0 0) is
 
-pub refused_entry : (t : Tables) (image : Image) (e : TableErr) → t.image ≡ image → directory image ≡ Ok t.ranges → Err e ≡ checked t → tables image ≡ Err e
+pub refused_entry : (t : Tables) (image : Image) (e : TableErr) → t.image ≡ image
+    → directory image ≡ Ok t.ranges → Err e ≡ checked t → tables image ≡ Err e
 refused_entry t image e same is h =
     ap (λ (r : Table (List RuntimeFunction)). r >>= entries image 0 0) is
     ∙ ap (λ (i : Image). entries i 0 0 t.ranges) (sym same)

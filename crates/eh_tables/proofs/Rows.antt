@@ -3,18 +3,23 @@ use Rattle.std.proofs.Common.{◌≡◌, ℕ, zero, suc, ◌+◌, ◌-◌, ◌/�
 use Rattle.std.proofs.lemmas.List.{take_all}
 use Rattle.eh_tables.specs.Scopes.{scope_record, rows, scope_records_in}
 
-one_more : (n : ℕ) (xs : List ℕ) (k : ℕ) → n ≡ k + 1 → rows n xs ≡ scope_record xs ∷ rows k (drop 16 xs)
+one_more : (n : ℕ) (xs : List ℕ) (k : ℕ) → n ≡ k + 1
+    → rows n xs ≡ scope_record xs ∷ rows k (drop 16 xs)
 one_more zero xs k e = absurd (omega arith)
-one_more (suc n) xs k e = let h : n ≡ k = omega arith in ap (λ (m : ℕ). scope_record xs ∷ rows m (drop 16 xs)) h
+one_more (suc n) xs k e = let h : n ≡ k = omega arith in
+    ap (λ (m : ℕ). scope_record xs ∷ rows m (drop 16 xs)) h
 
 pub after_row : (xs : List ℕ) → take (length xs - 16) (drop 16 xs) ≡ drop 16 xs
 after_row xs = take_all (length xs - 16) (drop 16 xs) (omega (arith, length-drop 16 xs))
 
-pub first_row : (xs : List ℕ) → 16 ≤ length xs → scope_records_in xs ≡ scope_record xs ∷ scope_records_in (take (length xs - 16) (drop 16 xs))
+pub first_row : (xs : List ℕ) → 16 ≤ length xs
+    → scope_records_in xs ≡ scope_record xs ∷ scope_records_in (take (length xs - 16) (drop 16 xs))
 first_row xs le =
     let e = ap (λ (t : List ℕ). length t / 16) (after_row xs) in
-    one_more (length xs / 16) xs (length (take (length xs - 16) (drop 16 xs)) / 16) (omega (arith, e, length-drop 16 xs))
-    ∙ ap (λ (t : List ℕ). scope_record xs ∷ rows (length (take (length xs - 16) (drop 16 xs)) / 16) t) (sym (after_row xs))
+    one_more (length xs / 16) xs (length (take (length xs - 16) (drop 16 xs)) / 16)
+      (omega (arith, e, length-drop 16 xs))
+    ∙ ap (λ (t : List ℕ). scope_record xs ∷ rows (length (take (length xs - 16) (drop 16 xs)) / 16)
+      t) (sym (after_row xs))
 
 pub row_count : (n : ℕ) (xs : List ℕ) → length (rows n xs) ≡ n
 row_count zero xs = refl

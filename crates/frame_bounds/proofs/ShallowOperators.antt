@@ -31,7 +31,8 @@ abbrev pub ShallowIf : ℕ → Option TypedNode → Type 0
 ShallowIf n None = Unit {0}
 ShallowIf n (Some t) = IsShallowIn n t
 
-shallow_if : (n : ℕ) (b : Bool) (x y : Option TypedNode) → ShallowIf n x → ShallowIf n y → ShallowIf n (if b then x else y)
+shallow_if : (n : ℕ) (b : Bool) (x y : Option TypedNode) → ShallowIf n x → ShallowIf n y
+    → ShallowIf n (if b then x else y)
 shallow_if n true x y h k = h
 shallow_if n false x y h k = k
 
@@ -43,33 +44,44 @@ pub deeper : (m n : ℕ) (o : Option TypedNode) → m ≤ n → ShallowIf m o �
 deeper m n None le h = tt
 deeper m n (Some t) le h = let p = h.0 in (omega arith, h.1)
 
-of_either : (f : Expression → ℕ) (b : Bool) (x y : Expression) (w : ℕ) → f x ≡ w → f y ≡ w → f (if b then x else y) ≡ w
+of_either : (f : Expression → ℕ) (b : Bool) (x y : Expression) (w : ℕ) → f x ≡ w → f y ≡ w
+    → f (if b then x else y) ≡ w
 of_either f true x y w e g = e
 of_either f false x y w e g = g
 
-right_nesting : (o : Arithmetic) (t : CType) (b : TypedNode) → expression_nesting (right_operand o t b) ≡ nesting b
-right_nesting o t b = of_either expression_nesting (is_shift o) (as_is b) (as_type t b) (nesting b) refl refl
+right_nesting : (o : Arithmetic) (t : CType) (b : TypedNode)
+    → expression_nesting (right_operand o t b) ≡ nesting b
+right_nesting o t b = of_either expression_nesting (is_shift o) (as_is b) (as_type t b) (nesting b)
+    refl refl
 
-right_reads : (o : Arithmetic) (t : CType) (b : TypedNode) → expression_reads (right_operand o t b) ≡ reads b
-right_reads o t b = of_either expression_reads (is_shift o) (as_is b) (as_type t b) (reads b) refl refl
+right_reads : (o : Arithmetic) (t : CType) (b : TypedNode)
+    → expression_reads (right_operand o t b) ≡ reads b
+right_reads o t b = of_either expression_reads (is_shift o) (as_is b) (as_type t b) (reads b) refl
+    refl
 
 branch_nesting : (t : CType) (a : TypedNode) → expression_nesting (as_branch t a) ≡ nesting a
-branch_nesting t a = of_either expression_nesting (is_void t) (as_is a) (as_type t a) (nesting a) refl refl
+branch_nesting t a = of_either expression_nesting (is_void t) (as_is a) (as_type t a) (nesting a)
+    refl refl
 
 branch_reads : (t : CType) (a : TypedNode) → expression_reads (as_branch t a) ≡ reads a
-branch_reads t a = of_either expression_reads (is_void t) (as_is a) (as_type t a) (reads a) refl refl
+branch_reads t a = of_either expression_reads (is_void t) (as_is a) (as_type t a) (reads a) refl
+    refl
 
-place_shallow : (x : Node) (go : Lvalue → TypedNode) (n : ℕ) → ((p : Lvalue) → node_nesting x ≡ lvalue_nesting p → node_reads x ≡ lvalue_reads p → IsShallowIn n (go p)) → ShallowIf n (with_lvalue (lvalue_of x) go)
+place_shallow : (x : Node) (go : Lvalue → TypedNode) (n : ℕ)
+    → ((p : Lvalue) → node_nesting x ≡ lvalue_nesting p → node_reads x ≡ lvalue_reads p
+    → IsShallowIn n (go p)) → ShallowIf n (with_lvalue (lvalue_of x) go)
 place_shallow (nodes.Read p) go n h = h p refl refl
 place_shallow other go n h = tt
 
-address_shallow : (t : CType) (x : Node) (n : ℕ) → 1 + node_nesting x ≤ n → node_reads x ≤ 15 → ShallowIf n (address t (lvalue_of x))
+address_shallow : (t : CType) (x : Node) (n : ℕ) → 1 + node_nesting x ≤ n → node_reads x ≤ 15
+    → ShallowIf n (address t (lvalue_of x))
 address_shallow t (nodes.Read p) n le r = (le, r)
 address_shallow t other n le r = tt
 
 -- ---- operators with two operands
 
-module _ (n : ℕ) (a b : TypedNode) (p : 1 + nesting a ≤ n) (q : 1 + nesting b ≤ n) (r : reads a ≤ 15) (s : reads b ≤ 15) where
+module _ (n : ℕ) (a b : TypedNode) (p : 1 + nesting a ≤ n) (q : 1 + nesting b ≤ n)
+    (r : reads a ≤ 15) (s : reads b ≤ 15) where
   on_integers_shallow : (o : Arithmetic) → ShallowIf n (on_integers o a b)
   on_integers_shallow o =
       let e = right_nesting o (working_type o a.type b.type) b in
@@ -78,13 +90,19 @@ module _ (n : ℕ) (a b : TypedNode) (p : 1 + nesting a ≤ n) (q : 1 + nesting 
 
   sum_shallow : ShallowIf n (sum a b)
   sum_shallow =
-      shallow_if n (is_pointer a.type) _ _ (shallow_only n (is_sized_pointer a.type && is_integer b.type) _ (omega arith, omega arith))
-      (shallow_if n (is_pointer b.type) _ _ (shallow_only n (is_sized_pointer b.type && is_integer a.type) _ (omega arith, omega arith)) (on_integers_shallow arithmetic.Add))
+      shallow_if n (is_pointer a.type) _ _ (shallow_only n
+        (is_sized_pointer a.type && is_integer b.type) _ (omega arith, omega arith))
+      (shallow_if n (is_pointer b.type) _ _ (shallow_only n
+        (is_sized_pointer b.type && is_integer a.type) _ (omega arith, omega arith))
+        (on_integers_shallow arithmetic.Add))
 
   difference_shallow : ShallowIf n (difference a b)
   difference_shallow =
-      shallow_if n (is_pointer a.type && is_pointer b.type) _ _ (shallow_only n _ _ (omega arith, omega arith))
-      (shallow_if n (is_pointer a.type) _ _ (shallow_only n (is_sized_pointer a.type && is_integer b.type) _ (omega arith, omega arith)) (on_integers_shallow arithmetic.Subtract))
+      shallow_if n (is_pointer a.type && is_pointer b.type) _ _
+        (shallow_only n _ _ (omega arith, omega arith))
+      (shallow_if n (is_pointer a.type) _ _ (shallow_only n
+        (is_sized_pointer a.type && is_integer b.type) _ (omega arith, omega arith))
+        (on_integers_shallow arithmetic.Subtract))
 
   arithmetic_shallow : (o : Arithmetic) → ShallowIf n (arithmetic_of o a b)
   arithmetic_shallow arithmetic.Add = sum_shallow
@@ -92,7 +110,9 @@ module _ (n : ℕ) (a b : TypedNode) (p : 1 + nesting a ≤ n) (q : 1 + nesting 
   arithmetic_shallow o = on_integers_shallow o
 
   comparison_shallow : (c : Comparison) → ShallowIf n (comparison_of c a b)
-  comparison_shallow c = shallow_if n (is_pointer a.type || is_pointer b.type) _ _ (shallow_only n _ _ (omega arith, omega arith)) (shallow_only n _ _ (omega arith, omega arith))
+  comparison_shallow c = shallow_if n (is_pointer a.type || is_pointer b.type) _ _
+      (shallow_only n _ _ (omega arith, omega arith))
+      (shallow_only n _ _ (omega arith, omega arith))
 
   pub binary_shallow : (o : BinaryOperator) → ShallowIf n (binary_of o a b)
   binary_shallow (binary.Arithmetic o) = arithmetic_shallow o
@@ -104,15 +124,18 @@ module _ (n : ℕ) (a b : TypedNode) (p : 1 + nesting a ≤ n) (q : 1 + nesting 
   element_shallow = shallow_only n _ _ (omega arith, omega arith)
 
   pub assigned_shallow : ShallowIf n (assigned a b)
-  assigned_shallow = shallow_if n (can_become a.type b) _ _ (place_shallow a.node _ n (λ x e g. (omega arith, omega arith))) tt
+  assigned_shallow = shallow_if n (can_become a.type b) _ _
+      (place_shallow a.node _ n (λ x e g. (omega arith, omega arith))) tt
 
   pub compound_shallow : (o : Arithmetic) → ShallowIf n (compound_assigned o a b)
   compound_shallow o =
       let e' = right_nesting o (working_type o a.type b.type) b in
       let g' = right_reads o (working_type o a.type b.type) b in
       shallow_if n (is_pointer a.type) _ _
-      (shallow_if n (is_additive o && is_sized_pointer a.type && is_integer b.type) _ _ (place_shallow a.node _ n (λ x e g. (omega arith, omega arith))) tt)
-      (shallow_if n (is_integer a.type && is_integer b.type) _ _ (place_shallow a.node _ n (λ x e g. (omega arith, omega arith))) tt)
+      (shallow_if n (is_additive o && is_sized_pointer a.type && is_integer b.type) _ _
+        (place_shallow a.node _ n (λ x e g. (omega arith, omega arith))) tt)
+      (shallow_if n (is_integer a.type && is_integer b.type) _ _
+        (place_shallow a.node _ n (λ x e g. (omega arith, omega arith))) tt)
 
   pub comma_shallow : ShallowIf n (comma_of a b)
   comma_shallow = (omega arith, omega arith)
@@ -123,8 +146,10 @@ module _ (n : ℕ) (a : TypedNode) (p : 1 + nesting a ≤ n) (r : reads a ≤ 15
   pub incremented_shallow : (m : Fixity) (i : Increment) → ShallowIf n (incremented m i a)
   incremented_shallow m i =
       shallow_if n (is_pointer a.type) _ _
-      (shallow_if n (is_sized_pointer a.type) _ _ (place_shallow a.node _ n (λ x e g. (omega arith, omega arith))) tt)
-      (shallow_if n (is_integer a.type) _ _ (place_shallow a.node _ n (λ x e g. (omega arith, omega arith))) tt)
+      (shallow_if n (is_sized_pointer a.type) _ _
+        (place_shallow a.node _ n (λ x e g. (omega arith, omega arith))) tt)
+      (shallow_if n (is_integer a.type) _ _ (place_shallow a.node _ n
+        (λ x e g. (omega arith, omega arith))) tt)
 
   pub unary_shallow : (o : UnaryOperator) → ShallowIf n (unary_of o a)
   unary_shallow unary.Plus = shallow_only n _ _ (omega arith, omega arith)
@@ -139,7 +164,8 @@ module _ (n : ℕ) (a : TypedNode) (p : 1 + nesting a ≤ n) (r : reads a ≤ 15
 
 -- ---- the conditional operator
 
-module _ (n : ℕ) (c a b : TypedNode) (o : 1 + nesting c ≤ n) (p : 1 + nesting a ≤ n) (q : 1 + nesting b ≤ n) (r : reads c ≤ 15) (s : reads a ≤ 15) (t : reads b ≤ 15) where
+module _ (n : ℕ) (c a b : TypedNode) (o : 1 + nesting c ≤ n) (p : 1 + nesting a ≤ n)
+    (q : 1 + nesting b ≤ n) (r : reads c ≤ 15) (s : reads a ≤ 15) (t : reads b ≤ 15) where
   chosen_shallow : (z : Option CType) → ShallowIf n (chosen c a b z)
   chosen_shallow None = tt
   chosen_shallow (Some z) =

@@ -12,9 +12,12 @@ use Rattle.frame_rules.specs.Frame.{IsWord, Stack, Framed}
 
 pub data Ordered : List UnwindOperation → Type 0 where
   none : Ordered []
-  push : {r : ℕ} {xs : List UnwindOperation} → are_pushes xs ≡ true → Ordered xs → Ordered (Push r ∷ xs)
-  allocate : {n : ℕ} {xs : List UnwindOperation} → are_pushes xs ≡ true → Ordered xs → Ordered (Allocate n ∷ xs)
-  frame : {xs : List UnwindOperation} → is_allocated xs ≡ true → sets_frame xs ≡ false → Ordered xs → Ordered (SetFrame ∷ xs)
+  push : {r : ℕ} {xs : List UnwindOperation} → are_pushes xs ≡ true → Ordered xs
+      → Ordered (Push r ∷ xs)
+  allocate : {n : ℕ} {xs : List UnwindOperation} → are_pushes xs ≡ true → Ordered xs
+      → Ordered (Allocate n ∷ xs)
+  frame : {xs : List UnwindOperation} → is_allocated xs ≡ true → sets_frame xs ≡ false → Ordered xs
+      → Ordered (SetFrame ∷ xs)
   save : {r n : ℕ} {xs : List UnwindOperation} → Ordered xs → Ordered (Save r n ∷ xs)
 
 pub of_pushes : (xs : List UnwindOperation) → are_pushes xs ≡ true → Ordered xs
@@ -72,16 +75,20 @@ ordered_rest (MachineFrame e) xs h = elim h [ ]
 
 -- ---- the frame register, where it is set, is so far above RSP
 
-pub framed_above : (f offset : ℕ) (now : ℕ → ℕ) (at : ℕ) (xs : List UnwindOperation) → Ordered xs → sets_frame xs ≡ true → Framed f offset now at xs → now f ≡ at + offset
+pub framed_above : (f offset : ℕ) (now : ℕ → ℕ) (at : ℕ) (xs : List UnwindOperation) → Ordered xs
+    → sets_frame xs ≡ true → Framed f offset now at xs → now f ≡ at + offset
 framed_above f offset now at [] o s h = absurd (false≢true s)
-framed_above f offset now at (Push r ∷ xs) (push p o) s h = absurd (false≢true (sym (pushes_unframed xs p) ∙ s))
-framed_above f offset now at (Allocate n ∷ xs) (allocate p o) s h = absurd (false≢true (sym (pushes_unframed xs p) ∙ s))
+framed_above f offset now at (Push r ∷ xs) (push p o) s h = absurd
+    (false≢true (sym (pushes_unframed xs p) ∙ s))
+framed_above f offset now at (Allocate n ∷ xs) (allocate p o) s h = absurd
+    (false≢true (sym (pushes_unframed xs p) ∙ s))
 framed_above f offset now at (SetFrame ∷ xs) o s h = h.0
 framed_above f offset now at (Save r n ∷ xs) (save o) s h = framed_above f offset now at xs o s h
 framed_above f offset now at (SaveVector r n ∷ xs) o s h = elim o [ ]
 framed_above f offset now at (MachineFrame e ∷ xs) o s h = elim o [ ]
 
-pub unframed : (f offset : ℕ) (now : ℕ → ℕ) (at : ℕ) (xs : List UnwindOperation) → sets_frame xs ≡ false → Framed f offset now at xs
+pub unframed : (f offset : ℕ) (now : ℕ → ℕ) (at : ℕ) (xs : List UnwindOperation)
+    → sets_frame xs ≡ false → Framed f offset now at xs
 unframed f offset now at [] h = tt
 unframed f offset now at (Push r ∷ xs) h = unframed f offset now (at + 8) xs h
 unframed f offset now at (Allocate n ∷ xs) h = unframed f offset now (at + n) xs h
@@ -101,22 +108,30 @@ pushes_alone (Save r n ∷ xs) h = absurd (false≢true h)
 pushes_alone (SaveVector r n ∷ xs) h = absurd (false≢true h)
 pushes_alone (MachineFrame e ∷ xs) h = absurd (false≢true h)
 
-pub stack_opened : (m : Memory) (old : ℕ → ℕ) (back base at : ℕ) (xs : List UnwindOperation) → Ordered xs → Stack m old back base at xs → Stack m old back base (at + allocation xs) (pushed (pushes xs))
-stack_opened m old back base at [] o h = (let e = h.0 in omega arith, subst (λ a. IsWord m a back) (let z : at ≡ at + 0 = omega arith in z) h.1)
+pub stack_opened : (m : Memory) (old : ℕ → ℕ) (back base at : ℕ) (xs : List UnwindOperation)
+    → Ordered xs → Stack m old back base at xs
+    → Stack m old back base (at + allocation xs) (pushed (pushes xs))
+stack_opened m old back base at [] o h = (let e = h.0 in
+    omega arith, subst (λ a. IsWord m a back) (let z : at ≡ at + 0 = omega arith in z) h.1)
 stack_opened m old back base at (Push r ∷ xs) (push p o) h =
     let z = pushes_alone xs p in
     let e : at ≡ at + (0 + allocation xs) = omega arith in
     let g : at + 8 + allocation xs ≡ at + (0 + allocation xs) + 8 = omega arith in
-    (subst (λ a. IsWord m a (old r)) e h.0, subst (λ a. Stack m old back base a (pushed (pushes xs))) g (stack_opened m old back base (at + 8) xs o h.1))
+    (subst (λ a. IsWord m a (old r)) e h.0, subst
+      (λ a. Stack m old back base a (pushed (pushes xs))) g
+      (stack_opened m old back base (at + 8) xs o h.1))
 stack_opened m old back base at (Allocate n ∷ xs) (allocate p o) h =
     let g : at + n + allocation xs ≡ at + (n + allocation xs) = omega arith in
-    subst (λ a. Stack m old back base a (pushed (pushes xs))) g (stack_opened m old back base (at + n) xs o h)
+    subst (λ a. Stack m old back base a (pushed (pushes xs))) g
+      (stack_opened m old back base (at + n) xs o h)
 stack_opened m old back base at (SetFrame ∷ xs) (frame t p o) h =
     let g : at + allocation xs ≡ at + (0 + allocation xs) = omega arith in
-    subst (λ a. Stack m old back base a (pushed (pushes xs))) g (stack_opened m old back base at xs o h)
+    subst (λ a. Stack m old back base a (pushed (pushes xs))) g
+      (stack_opened m old back base at xs o h)
 stack_opened m old back base at (Save r n ∷ xs) (save o) h =
     let g : at + allocation xs ≡ at + (0 + allocation xs) = omega arith in
-    subst (λ a. Stack m old back base a (pushed (pushes xs))) g (stack_opened m old back base at xs o h.1)
+    subst (λ a. Stack m old back base a (pushed (pushes xs))) g
+      (stack_opened m old back base at xs o h.1)
 stack_opened m old back base at (SaveVector r n ∷ xs) o h = absurd h
 stack_opened m old back base at (MachineFrame e ∷ xs) o h = absurd h
 
@@ -130,11 +145,15 @@ pushes_whole (Save r n ∷ xs) h = absurd (false≢true h)
 pushes_whole (SaveVector r n ∷ xs) h = absurd (false≢true h)
 pushes_whole (MachineFrame e ∷ xs) h = absurd (false≢true h)
 
-pub pushes_allowed : (f : ℕ) (xs : List UnwindOperation) → Ordered xs → are_allowed f xs ≡ true → are_allowed f (pushed (pushes xs)) ≡ true
+pub pushes_allowed : (f : ℕ) (xs : List UnwindOperation) → Ordered xs → are_allowed f xs ≡ true
+    → are_allowed f (pushed (pushes xs)) ≡ true
 pushes_allowed f [] o h = refl
-pushes_allowed f (Push r ∷ xs) (push p o) h = ap (λ (ys : List UnwindOperation). are_allowed f (Push r ∷ ys)) (pushes_whole xs p) ∙ h
+pushes_allowed f (Push r ∷ xs) (push p o) h = ap
+    (λ (ys : List UnwindOperation). are_allowed f (Push r ∷ ys)) (pushes_whole xs p) ∙ h
 pushes_allowed f (Allocate n ∷ xs) (allocate p o) h = pushes_allowed f xs o h
-pushes_allowed f (SetFrame ∷ xs) (frame t p o) h = pushes_allowed f xs o (and_parts (is_allowed f xs SetFrame) (are_allowed f xs) h).1
-pushes_allowed f (Save r n ∷ xs) (save o) h = pushes_allowed f xs o (and_parts (is_allowed f xs (Save r n)) (are_allowed f xs) h).1
+pushes_allowed f (SetFrame ∷ xs) (frame t p o) h = pushes_allowed f xs o
+    (and_parts (is_allowed f xs SetFrame) (are_allowed f xs) h).1
+pushes_allowed f (Save r n ∷ xs) (save o) h = pushes_allowed f xs o
+    (and_parts (is_allowed f xs (Save r n)) (are_allowed f xs) h).1
 pushes_allowed f (SaveVector r n ∷ xs) o h = absurd (false≢true h)
 pushes_allowed f (MachineFrame e ∷ xs) o h = absurd (false≢true h)

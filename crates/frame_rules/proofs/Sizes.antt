@@ -10,7 +10,8 @@ pushed_depth : (rs : List ℕ) → depth (pushed rs) ≡ 8 * length rs
 pushed_depth [] = refl
 pushed_depth (r ∷ rs) = let e = pushed_depth rs in omega arith
 
-allocation_depth : (n : ℕ) (b : Bool) (rs : List ℕ) → eqb n 0 ≡ b → depth (allocation_then (not b) n (pushed rs)) ≡ 8 * length rs + n
+allocation_depth : (n : ℕ) (b : Bool) (rs : List ℕ) → eqb n 0 ≡ b
+    → depth (allocation_then (not b) n (pushed rs)) ≡ 8 * length rs + n
 allocation_depth n true rs e = let z = eqb-true n 0 e in let d = pushed_depth rs in omega arith
 allocation_depth n false rs e = let d = pushed_depth rs in omega arith
 
@@ -24,5 +25,6 @@ saves_depth (s ∷ ss) xs = let e = saves_depth ss xs in omega arith
 
 pub frame_has_its_size : FrameHasItsSize
 frame_has_its_size p =
-    let e = saves_depth p.saves _ ∙ frame_depth (not (eqb p.frame 0)) _ ∙ allocation_depth p.size (eqb p.size 0) p.pushes refl in
+    let e = saves_depth p.saves _ ∙ frame_depth (not (eqb p.frame 0)) _
+      ∙ allocation_depth p.size (eqb p.size 0) p.pushes refl in
     omega arith

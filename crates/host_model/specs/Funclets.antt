@@ -39,7 +39,8 @@ with_row r fs false = inserted r.handler_address (r.jump_target == 0) fs
 -- with those of a scope table
 abbrev pub of_rows : List ScopeRecord → List Funclet → List Funclet
 of_rows [] fs = fs
-of_rows (r ∷ rows) fs = of_rows rows (with_row r fs (r.handler_address == EXCEPTION_EXECUTE_HANDLER))
+of_rows (r ∷ rows) fs = of_rows rows (with_row r fs
+    (r.handler_address == EXCEPTION_EXECUTE_HANDLER))
 
 -- with those of a function table
 abbrev pub of_entries : List Entry → List Funclet → List Funclet

@@ -22,13 +22,18 @@ use Rattle.turn_steps.specs.Outcomes.{Represents}
 use Rattle.image_runs.specs.Shown.{ShowsTwin}
 
 -- as many temporaries are held
-pub same_left : (marks : Marks) (c d : Configuration) → AreAlike marks c d → turns_left d ≡ turns_left c
-same_left marks c d a = let f = a.frame in let b = a.below in λ j. 3 * (length (f j).temporaries + held_below (b j))
+pub same_left : (marks : Marks) (c d : Configuration) → AreAlike marks c d
+    → turns_left d ≡ turns_left c
+same_left marks c d a = let f = a.frame in let b = a.below in
+    λ j. 3 * (length (f j).temporaries + held_below (b j))
 
 -- ---- by what a relation implies
 
-module _ (t : Functions) (fs : List Funclet) (program : LinearProgram) (X Y : State → Configuration → Type 0) (then : (s : State) (c : Configuration) → X s c → Y s c) where
-  pub moves_as : (s : State) (c : Configuration) (i : Instruction) → Moves t fs program pace turns_left X s c i → Moves t fs program pace turns_left Y s c i
+module _ (t : Functions) (fs : List Funclet) (program : LinearProgram)
+    (X Y : State → Configuration → Type 0) (then : (s : State) (c : Configuration) → X s c → Y s c)
+    where
+  pub moves_as : (s : State) (c : Configuration) (i : Instruction)
+      → Moves t fs program pace turns_left X s c i → Moves t fs program pace turns_left Y s c i
   moves_as s c i v = record {
     turns = v.turns;
     some = v.some;
@@ -42,20 +47,28 @@ module _ (t : Functions) (fs : List Funclet) (program : LinearProgram) (X Y : St
     is_there = then v.state v.configuration v.is_there;
   }
 
-  pub matched_as : (s : State) (c : Configuration) (i : Instruction) → IsMatched t fs program pace turns_left X s c i → IsMatched t fs program pace turns_left Y s c i
+  pub matched_as : (s : State) (c : Configuration) (i : Instruction)
+      → IsMatched t fs program pace turns_left X s c i
+      → IsMatched t fs program pace turns_left Y s c i
   matched_as s c i (inl v) = inl (moves_as s c i v)
   matched_as s c i (inr v) = inr v
 
 -- ---- from a twin
 
-module _ (t : Functions) (fs : List Funclet) (program : LinearProgram) (p : ImagePlan) (q : Sites) (c d : Configuration) (twins : AreTwins program c d) (s : State) (i : Instruction) (go : GoAsTwins program i c d) where
+module _ (t : Functions) (fs : List Funclet) (program : LinearProgram) (p : ImagePlan) (q : Sites)
+    (c d : Configuration) (twins : AreTwins program c d) (s : State) (i : Instruction)
+    (go : GoAsTwins program i c d) where
   same_turns : turns_left d ≡ turns_left c
   same_turns = same_left twins.marks c d twins.alike
 
-  ended : (end : Ended) (es : List Event) → ((next : Next) → act program i next d ≡ Finished end (d.events ++ es)) → (next : Next) → act program i next c ≡ Finished end (c.events ++ es)
-  ended end es acts next = go.end (Finished end (d.events ++ es)) acts next ∙ ap (λ (xs : List Event). Finished end (xs ++ es)) twins.alike.events
+  ended : (end : Ended) (es : List Event) → ((next : Next)
+      → act program i next d ≡ Finished end (d.events ++ es)) → (next : Next)
+      → act program i next c ≡ Finished end (c.events ++ es)
+  ended end es acts next = go.end (Finished end (d.events ++ es)) acts next
+      ∙ ap (λ (xs : List Event). Finished end (xs ++ es)) twins.alike.events
 
-  moves : Moves t fs program pace turns_left (Represents t fs program p q) s d i → Moves t fs program pace turns_left (ShowsTwin t fs program p q) s c i
+  moves : Moves t fs program pace turns_left (Represents t fs program p q) s d i
+      → Moves t fs program pace turns_left (ShowsTwin t fs program p q) s c i
   moves v =
       let g = go.back v.configuration v.acts in
       let few = v.few in
@@ -70,7 +83,8 @@ module _ (t : Functions) (fs : List Funclet) (program : LinearProgram) (p : Imag
         events = v.events;
         comes = v.comes;
         acts = g.goes;
-        shown = sym g.twins.alike.events ∙ v.shown ∙ ap (λ (xs : List Event). xs ++ v.events) twins.alike.events;
+        shown = sym g.twins.alike.events ∙ v.shown
+          ∙ ap (λ (xs : List Event). xs ++ v.events) twins.alike.events;
         is_there = record { twin = v.configuration; twins = g.twins; is_there = v.is_there };
       }
 
@@ -124,7 +138,8 @@ module _ (t : Functions) (fs : List Funclet) (program : LinearProgram) (p : Imag
         acts = ended v.end v.events v.acts;
       }
 
-  pub carried : IsMatched t fs program pace turns_left (Represents t fs program p q) s d i → IsMatched t fs program pace turns_left (ShowsTwin t fs program p q) s c i
+  pub carried : IsMatched t fs program pace turns_left (Represents t fs program p q) s d i
+      → IsMatched t fs program pace turns_left (ShowsTwin t fs program p q) s c i
   carried (inl v) = inl (moves v)
   carried (inr (inl v)) = inr (inl (exits v))
   carried (inr (inr (inl v))) = inr (inr (inl (dies v)))

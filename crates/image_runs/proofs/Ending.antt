@@ -16,7 +16,8 @@ same_end a e h = cc
 pub of_meaning : (o : Option Ended) (e : RunEnd) → run_end_of o ≡ Some e → IsOfProgram e
 of_meaning None e h = absurd cc
 of_meaning (Some (source.Exit v)) e h = subst IsOfProgram (same_end (ends.Exit v) e h) tt
-of_meaning (Some (source.Unhandled code)) e h = subst IsOfProgram (same_end (ends.Unhandled code) e h) tt
+of_meaning (Some (source.Unhandled code)) e h = subst IsOfProgram
+    (same_end (ends.Unhandled code) e h) tt
 of_meaning (Some (source.OutOfSteps n)) e h = absurd cc
 of_meaning (Some (source.Undefined a)) e h = absurd cc
 of_meaning (Some (source.Deep d)) e h = absurd cc

@@ -29,7 +29,10 @@ use Rattle.turn_steps.proofs.Prologues.{Made, no_frame, small_frame, large_frame
 use Rattle.image_runs.proofs.Entering as entering
 use Rattle.image_runs.proofs.Entering.{IsCalled}
 
-module _ (t : Functions) (fs : List Funclet) (program : LinearProgram) (p : ImagePlan) (q : Sites) (image : IsProgramImage t fs program p q) (s : State) (source : Memory) (f : ℕ) (fn : LinearFunction) (top : ℕ) (arguments : ℕ → ℕ) (h : IsCalled t fs program p q s source f fn top arguments) where
+module _ (t : Functions) (fs : List Funclet) (program : LinearProgram) (p : ImagePlan) (q : Sites)
+    (image : IsProgramImage t fs program p q) (s : State) (source : Memory) (f : ℕ)
+    (fn : LinearFunction) (top : ℕ) (arguments : ℕ → ℕ)
+    (h : IsCalled t fs program p q s source f fn top arguments) where
   abbrev layout : Layout
   layout = p.layout (FunctionBody f)
 
@@ -54,7 +57,8 @@ module _ (t : Functions) (fs : List Funclet) (program : LinearProgram) (p : Imag
   registers : length view.rest ≡ 13
   registers = length-drop 3 s.cpu.registers ∙ (let k = h.count in omega arith)
 
-  entry : (leaf : Bool) → p.leaf (FunctionBody f) ≡ leaf → HasEntry program p q f count s.memory leaf
+  entry : (leaf : Bool) → p.leaf (FunctionBody f) ≡ leaf
+      → HasEntry program p q f count s.memory leaf
   entry = has_entry t fs program p q image f count fn h.function refl s.memory h.memory.code
 
   -- ---- a leaf function
@@ -71,8 +75,11 @@ module _ (t : Functions) (fs : List Funclet) (program : LinearProgram) (p : Imag
       let small : 0 + count ≤ 4 = omega arith in
       let none : target + sizes (making_frame p q f true) ≡ target = omega arith in
       let same = home_parameters layout 0 count small in
-      let made = no_frame view target s.cpu.flags top arguments (entering.view_stack t fs program p q image s source f fn top arguments h) registers h.registers in
-      entering.entered t fs program p q image s source f fn top arguments h top target 0 made (with_home layout)
+      let made = no_frame view target s.cpu.flags top arguments
+        (entering.view_stack t fs program p q image s source f fn top arguments h) registers
+        h.registers in
+      entering.entered t fs program p q image s source f fn top arguments h top target 0 made
+        (with_home layout)
       (record {
         none = l.none;
         low = omega arith;
@@ -82,12 +89,19 @@ module _ (t : Functions) (fs : List Funclet) (program : LinearProgram) (p : Imag
         locals_small = omega arith;
         apart = inl (omega arith);
       })
-      (record { base = refl; temporaries = omega arith; locals = omega arith }) refl (omega arith) (omega arith)
-      (subst (λ code. HasCode s.memory target code) (sym same) (subst (λ a. HasCode s.memory a (parameters_code layout 0 count)) none (entry true leaf).storing))
+      (record { base = refl; temporaries = omega arith; locals = omega arith }) refl (omega arith)
+        (omega arith)
+      (subst (λ code. HasCode s.memory target code) (sym same)
+        (subst (λ a. HasCode s.memory a (parameters_code layout 0 count)) none
+        (entry true leaf).storing))
       (ap (λ code. target + sizes code) same ∙ (let y = (entry true leaf).ends in omega arith))
       (λ a out i. elim i [
-        | inl w ↦ (let g = w.0 in let u = w.1 in elim out [ inl o1 ↦ absurd (omega arith) | inr (inl o1) ↦ absurd (omega arith) | inr (inr o1) ↦ (let o2 = o1.0 in let o3 = o1.1 in absurd (omega arith)) ])
-        | inr w ↦ (let g = w.0 in let u = w.1 in elim out [ inl o1 ↦ absurd (omega arith) | inr (inl o1) ↦ absurd (omega arith) | inr (inr o1) ↦ (let o2 = o1.0 in let o3 = o1.1 in absurd (omega arith)) ])
+        | inl w ↦ (let g = w.0 in let u = w.1 in
+          elim out [ inl o1 ↦ absurd (omega arith) | inr (inl o1) ↦ absurd (omega arith) | inr
+          (inr o1) ↦ (let o2 = o1.0 in let o3 = o1.1 in absurd (omega arith)) ])
+        | inr w ↦ (let g = w.0 in let u = w.1 in
+          elim out [ inl o1 ↦ absurd (omega arith) | inr (inl o1) ↦ absurd (omega arith) | inr
+          (inr o1) ↦ (let o2 = o1.0 in let o3 = o1.1 in absurd (omega arith)) ])
       ])
       (ap (λ code. 0 + length code) same ∙ (entry true leaf).turns 0 refl)
 
@@ -100,14 +114,17 @@ module _ (t : Functions) (fs : List Funclet) (program : LinearProgram) (p : Imag
     abbrev sp : ℕ
     sp = top - frame
 
-    framed_entered : (making : List Instr) (n : ℕ) → making_frame p q f false ≡ making → making_steps false frame ≡ n → Made view target (target + sizes making) s.cpu.flags top sp arguments n → Goal
+    framed_entered : (making : List Instr) (n : ℕ) → making_frame p q f false ≡ making
+      → making_steps false frame ≡ n → Made view target (target + sizes making) s.cpu.flags top sp
+        arguments n → Goal
     framed_entered making n e same made =
         let x = h.low in
         let z = h.high in
         let a = l.temporaries in
         let m = l.locals in
         let k = l.small in
-        entering.entered t fs program p q image s source f fn top arguments h sp (target + sizes making) n made layout
+        entering.entered t fs program p q image s source f fn top arguments h sp
+          (target + sizes making) n made layout
         (record {
           none = l.none;
           low = omega arith;
@@ -117,12 +134,19 @@ module _ (t : Functions) (fs : List Funclet) (program : LinearProgram) (p : Imag
           locals_small = omega arith;
           apart = inr (omega arith);
         })
-        (record { base = refl; temporaries = omega arith; locals = omega arith }) refl k (omega arith)
-        (subst (λ i. HasCode s.memory (target + sizes i) (parameters_code layout 0 count)) e (entry false leaf).storing)
-        (ap (λ i. target + sizes i + sizes (parameters_code layout 0 count)) (sym e) ∙ (entry false leaf).ends)
+        (record { base = refl; temporaries = omega arith; locals = omega arith }) refl k
+          (omega arith)
+        (subst (λ i. HasCode s.memory (target + sizes i) (parameters_code layout 0 count)) e
+          (entry false leaf).storing)
+        (ap (λ i. target + sizes i + sizes (parameters_code layout 0 count)) (sym e)
+          ∙ (entry false leaf).ends)
         (λ a out i. elim i [
-          | inl w ↦ (let g = w.0 in let u = w.1 in elim out [ inl o1 ↦ absurd (omega arith) | inr (inl o1) ↦ absurd (omega arith) | inr (inr o1) ↦ (let o2 = o1.0 in let o3 = o1.1 in absurd (omega arith)) ])
-          | inr w ↦ (let g = w.0 in let u = w.1 in elim out [ inl o1 ↦ absurd (omega arith) | inr (inl o1) ↦ absurd (omega arith) | inr (inr o1) ↦ (let o2 = o1.0 in let o3 = o1.1 in absurd (omega arith)) ])
+          | inl w ↦ (let g = w.0 in let u = w.1 in
+            elim out [ inl o1 ↦ absurd (omega arith) | inr (inl o1) ↦ absurd (omega arith) | inr
+            (inr o1) ↦ (let o2 = o1.0 in let o3 = o1.1 in absurd (omega arith)) ])
+          | inr w ↦ (let g = w.0 in let u = w.1 in
+            elim out [ inl o1 ↦ absurd (omega arith) | inr (inl o1) ↦ absurd (omega arith) | inr
+            (inr o1) ↦ (let o2 = o1.0 in let o3 = o1.1 in absurd (omega arith)) ])
         ])
         ((entry false leaf).turns n same)
 
@@ -131,9 +155,12 @@ module _ (t : Functions) (fs : List Funclet) (program : LinearProgram) (p : Imag
         let x = h.low in
         let z = h.high in
         let k = l.small in
-        let is : making_frame p q f false ≡ enter_code frame = ap (making frame target q.check_stack) e in
+        let is : making_frame p q f false ≡ enter_code frame = ap
+          (making frame target q.check_stack) e in
         framed_entered (enter_code frame) 1 is (ap (λ x. if x then 1 else 8) e)
-        (small_frame view target s.cpu.flags top arguments (entering.view_stack t fs program p q image s source f fn top arguments h) registers h.registers frame (omega arith) (omega arith) (omega arith)
+        (small_frame view target s.cpu.flags top arguments
+          (entering.view_stack t fs program p q image s source f fn top arguments h) registers
+          h.registers frame (omega arith) (omega arith) (omega arith)
         (subst (HasCode s.memory target) is (entry false leaf).making))
 
     large_entered : nat_le frame 4096 ≡ false → 4096 < frame → Goal
@@ -141,30 +168,42 @@ module _ (t : Functions) (fs : List Funclet) (program : LinearProgram) (p : Imag
         let x = h.low in
         let z = h.high in
         let k = l.small in
-        let is : making_frame p q f false ≡ enter_large frame target q.check_stack = ap (making frame target q.check_stack) e in
+        let is : making_frame p q f false ≡ enter_large frame target q.check_stack = ap
+          (making frame target q.check_stack) e in
         let a = image.addresses (FunctionBody f) o there in
         let begin = a.first in
         let a1 = a.inside.low in
         let a2 = a.inside.high in
         let c1 = image.check_stack.low in
         let c2 = image.check_stack.high in
-        let reads = λ (i : ℕ) (lo : STACK_START ≤ i) (hi : i < STACK_END). may_read_written s.memory i (h.memory.stack i lo hi) in
-        framed_entered (enter_large frame target q.check_stack) 8 is (ap (λ x. if x then 1 else 8) e)
-        (large_frame view target s.cpu.flags top arguments (entering.view_stack t fs program p q image s source f fn top arguments h) registers h.registers frame q.check_stack (omega arith) (entering.below_top t fs program p q image s source f fn top arguments h)
-        (record { enough = omega arith; more = omega arith; high = omega arith; first = reads (top - 4096) (omega arith) (omega arith); last = reads (top - frame) (omega arith) (omega arith) })
-        ((omega arith, omega arith, omega arith, omega arith)) (omega arith) h.memory.code.check_stack
+        let reads = λ (i : ℕ) (lo : STACK_START ≤ i) (hi : i < STACK_END). may_read_written s.memory
+          i (h.memory.stack i lo hi) in
+        framed_entered (enter_large frame target q.check_stack) 8 is
+          (ap (λ x. if x then 1 else 8) e)
+        (large_frame view target s.cpu.flags top arguments
+          (entering.view_stack t fs program p q image s source f fn top arguments h) registers
+          h.registers frame q.check_stack (omega arith)
+          (entering.below_top t fs program p q image s source f fn top arguments h)
+        (record { enough = omega arith; more = omega arith; high = omega arith;
+          first = reads (top - 4096) (omega arith) (omega arith);
+          last = reads (top - frame) (omega arith) (omega arith) })
+        ((omega arith, omega arith, omega arith, omega arith)) (omega arith)
+          h.memory.code.check_stack
         (subst (HasCode s.memory target) is (entry false leaf).making))
 
     by_size : (x : Bool) → nat_le frame 4096 ≡ x → Goal
     by_size true e = small_entered e
     by_size false e = elim (cases_lt 4096 frame) [
       | inl lt ↦ large_entered e lt
-      | inr le ↦ absurd (let w : nat_le frame 4096 ≡ true = le-leb frame 4096 le in let no : true ≡ false = sym w ∙ e in cc)
+      | inr le ↦ absurd (let w : nat_le frame 4096 ≡ true = le-leb frame 4096 le in
+        let no : true ≡ false = sym w ∙ e in cc)
     ]
 
   pub entered : Goal
   entered = by (p.leaf (FunctionBody f)) refl
     where
       by : (leaf : Bool) → p.leaf (FunctionBody f) ≡ leaf → Goal
-      by true e = leaf_entered e (subst (λ x. IsLayoutIf program p layout o x) e (image.laid_out (FunctionBody f) o there))
-      by false e = by_size e (subst (λ x. IsLayoutIf program p layout o x) e (image.laid_out (FunctionBody f) o there)) (nat_le layout.frame 4096) refl
+      by true e = leaf_entered e (subst (λ x. IsLayoutIf program p layout o x) e
+        (image.laid_out (FunctionBody f) o there))
+      by false e = by_size e (subst (λ x. IsLayoutIf program p layout o x) e
+        (image.laid_out (FunctionBody f) o there)) (nat_le layout.frame 4096) refl

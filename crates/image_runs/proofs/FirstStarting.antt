@@ -23,7 +23,8 @@ use Rattle.image_runs.proofs.MainStarting.{main_is_begun}
 use Rattle.image_runs.specs.FirstLaws.{FirstStatesStart, MainsBegin}
 
 -- bytes that are 0 are the number 0
-zeros : (byte : ℕ → ℕ) (n a : ℕ) → a + n < 2 ^ 64 → ((x : ℕ) → a ≤ x → x < a + n → byte x ≡ 0) → number_at byte n a ≡ 0
+zeros : (byte : ℕ → ℕ) (n a : ℕ) → a + n < 2 ^ 64 → ((x : ℕ) → a ≤ x → x < a + n → byte x ≡ 0)
+    → number_at byte n a ≡ 0
 unfolding number_at
 zeros byte zero a lt h = refl
 zeros byte (suc n) a lt h =
@@ -48,7 +49,8 @@ module _ (program : LinearProgram) (c : HasWholeImage program) where
       let main = c.fits.main in
       let long = as_long program c.fits in
       let least = bounds_least (first program.globals) rs program.main 0 (omega arith) in
-      let taken = get_or-take (length program.functions) (bounds (first program.globals) rs) program.main 0 main in
+      let taken = get_or-take (length program.functions) (bounds (first program.globals) rs)
+        program.main 0 main in
       let text : text_at (sizes_of p) ≡ text_begin program.globals = omega arith in
       omega arith
 
@@ -57,8 +59,10 @@ module _ (program : LinearProgram) (c : HasWholeImage program) where
 
   returns_to_zero : word m first_stack ≡ Ok 0
   returns_to_zero =
-      word_of m first_stack 0 (omega arith) (λ a l u. may_read_written m a (stack_writes program c a (omega arith) (omega arith)))
-      (zeros m.byte 8 first_stack (omega arith) (λ x l u. stack_zero program c x (omega arith) (omega arith)))
+      word_of m first_stack 0 (omega arith) (λ a l u. may_read_written m a
+        (stack_writes program c a (omega arith) (omega arith)))
+      (zeros m.byte 8 first_stack (omega arith)
+        (λ x l u. stack_zero program c x (omega arith) (omega arith)))
 
 pub first_states_start : FirstStatesStart
 unfolding start
@@ -70,5 +74,7 @@ first_states_start program c bytes arg = record {
 
 pub mains_begin : MainsBegin
 mains_begin program c bytes made arg main is_main goes =
-    main_is_begun (functions_of program) (funclets_of program) program (plan_of program) (sites_of program) (images_are_programs program c) made arg main (start (image_of (linked program)) arg) is_main goes
+    main_is_begun (functions_of program) (funclets_of program) program (plan_of program)
+      (sites_of program) (images_are_programs program c) made arg main
+      (start (image_of (linked program)) arg) is_main goes
     (first_states_start program c bytes arg)

@@ -43,16 +43,19 @@ given_small arg zero = wrapped_small arg
 given_small arg (suc i) = omega arith
 
 -- `main` takes the argument, or nothing
-given_are : (parameters : ℕ) (arg : ℤ) (i v : ℕ) → slice_get (main_arguments parameters arg) i ≡ Some v → given arg i ≡ v
+given_are : (parameters : ℕ) (arg : ℤ) (i v : ℕ)
+    → slice_get (main_arguments parameters arg) i ≡ Some v → given arg i ≡ v
 given_are parameters arg i v e = by (nat_eq parameters 0) i e
   where
-    by : (b : Bool) (i : ℕ) → slice_get (if b then [] else wrapped W64 arg ∷ []) i ≡ Some v → given arg i ≡ v
+    by : (b : Bool) (i : ℕ) → slice_get (if b then [] else wrapped W64 arg ∷ []) i ≡ Some v
+      → given arg i ≡ v
     by true zero e = cc
     by true (suc i) e = cc
     by false zero e = cc
     by false (suc i) e = cc
 
-arguments_count : (parameters : ℕ) (arg : ℤ) → parameters ≤ 1 → length (main_arguments parameters arg) ≡ parameters
+arguments_count : (parameters : ℕ) (arg : ℤ) → parameters ≤ 1
+    → length (main_arguments parameters arg) ≡ parameters
 arguments_count zero arg le = refl
 arguments_count (suc zero) arg le = refl
 arguments_count (suc (suc n)) arg le = absurd (omega arith)
@@ -75,7 +78,10 @@ first_small entry arg =
     (small_more 0 (first_stack ∷ zeros) (omega arith)
     (small_more first_stack zeros (omega arith) (small_zeros 11)))))
 
-module _ (t : Functions) (fs : List Funclet) (program : LinearProgram) (p : ImagePlan) (q : Sites) (image : IsProgramImage t fs program p q) (made : IsWellMade program p) (arg : ℤ) (main : LinearFunction) (s : State) (is_main : slice_get program.functions program.main ≡ Some main)
+module _ (t : Functions) (fs : List Funclet) (program : LinearProgram) (p : ImagePlan) (q : Sites)
+    (image : IsProgramImage t fs program p q) (made : IsWellMade program p) (arg : ℤ)
+    (main : LinearFunction) (s : State) (is_main : slice_get program.functions program.main
+    ≡ Some main)
     (goes : CanContinue program (start program arg main)) (h : IsFirst t fs program p q arg s) where
   abbrev source : Memory
   source = first_memory program.globals
@@ -87,7 +93,9 @@ module _ (t : Functions) (fs : List Funclet) (program : LinearProgram) (p : Imag
   there = ap function_body is_main
 
   some : 0 < length main.body.code
-  some = slice_get_within main.body.code 0 goes.instruction (label_in (body_of program (FunctionBody program.main)) main.body 0 goes.instruction there goes.at)
+  some = slice_get_within main.body.code 0 goes.instruction
+      (label_in (body_of program (FunctionBody program.main)) main.body 0 goes.instruction there
+      goes.at)
 
   few : main.parameters ≤ 1
   few = made.whole.few main is_main
@@ -103,7 +111,8 @@ module _ (t : Functions) (fs : List Funclet) (program : LinearProgram) (p : Imag
   sane = record {
     rip_small = subst (λ (c : Cpu). c.rip < 2 ^ 64) (sym h.cpu) function_small;
     count = ap (λ (c : Cpu). length c.registers) h.cpu;
-    small = subst (λ (c : Cpu). AllSmall c.registers) (sym h.cpu) (first_small (q.function program.main) arg);
+    small = subst (λ (c : Cpu). AllSmall c.registers) (sym h.cpu)
+      (first_small (q.function program.main) arg);
   }
 
   called : IsCalled t fs program p q s source program.main main first_stack (given arg)
@@ -116,7 +125,9 @@ module _ (t : Functions) (fs : List Funclet) (program : LinearProgram) (p : Imag
     count = sane.count;
     few = omega (arith, few);
     fits = made.whole.parameters program.main main is_main;
-    registers = subst (λ (c : Cpu). InRegisters (seen_by_templates (record { cpu = c; memory = s.memory })) (given arg)) (sym h.cpu) (record { first = refl; second = refl; third = refl; fourth = refl });
+    registers = subst (λ (c : Cpu). InRegisters
+      (seen_by_templates (record { cpu = c; memory = s.memory })) (given arg)) (sym h.cpu)
+      (record { first = refl; second = refl; third = refl; fourth = refl });
     small = given_small arg;
     memory = h.memory;
   }
@@ -127,15 +138,23 @@ module _ (t : Functions) (fs : List Funclet) (program : LinearProgram) (p : Imag
       let counted = arguments_count main.parameters arg few in
       let same = given_are main.parameters arg in
       record {
-        values = begun.others t fs program p q image s source program.main main first_stack (given arg) called some sane refl h.returns arguments counted same;
-        as_many = begun.counted_others t fs program p q image s source program.main main first_stack (given arg) called some sane refl h.returns arguments counted same;
-        small = begun.small_others t fs program p q image s source program.main main first_stack (given arg) called some sane refl h.returns arguments counted same;
+        values = begun.others t fs program p q image s source program.main main first_stack
+          (given arg) called some sane refl h.returns arguments counted same;
+        as_many = begun.counted_others t fs program p q image s source program.main main first_stack
+          (given arg) called some sane refl h.returns arguments counted same;
+        small = begun.small_others t fs program p q image s source program.main main first_stack
+          (given arg) called some sane refl h.returns arguments counted same;
         turns = _;
-        few = (let r = begun.soon t fs program p q image s source program.main main first_stack (given arg) called some sane refl h.returns arguments counted same in omega arith);
-        state = begun.after t fs program p q image s source program.main main first_stack (given arg) called some sane refl h.returns arguments counted same;
-        comes = begun.comes t fs program p q image s source program.main main first_stack (given arg) called some sane refl h.returns arguments counted same;
-        begins = begun.begins t fs program p q image s source program.main main first_stack (given arg) called some sane refl h.returns arguments counted same;
+        few = (let r = begun.soon t fs program p q image s source program.main main first_stack
+          (given arg) called some sane refl h.returns arguments counted same in omega arith);
+        state = begun.after t fs program p q image s source program.main main first_stack
+          (given arg) called some sane refl h.returns arguments counted same;
+        comes = begun.comes t fs program p q image s source program.main main first_stack
+          (given arg) called some sane refl h.returns arguments counted same;
+        begins = begun.begins t fs program p q image s source program.main main first_stack
+          (given arg) called some sane refl h.returns arguments counted same;
       }
 
 pub main_is_begun : MainIsBegun
-main_is_begun t fs program p q image made arg main s is_main goes h = main_begins t fs program p q image made arg main s is_main goes h
+main_is_begun t fs program p q image made arg main s is_main goes h = main_begins t fs program p q
+    image made arg main s is_main goes h

@@ -19,7 +19,8 @@ use Rattle.image_runs.proofs.RunImages.{linked_images_show_all, linked_images_sh
 use Rattle.host_layout.specs.declared.limit.TheConstants.{MOST_IMAGE}
 
 -- the file is no longer than the image
-short : (program : Program) → IsLinkable program → (bytes : List ℕ) → IsImageOf bytes program → length bytes ≤ MOST_IMAGE
+short : (program : Program) → IsLinkable program → (bytes : List ℕ) → IsImageOf bytes program
+    → length bytes ≤ MOST_IMAGE
 short program l bytes w =
     let p = linked (lowered program) in
     let q : CanBeImage p = is (lowered program) l.fits in
@@ -29,8 +30,10 @@ short program l bytes w =
     let small = images_are_small (lowered program) l.fits in
     omega arith
 
-pub octets : (program : Program) (bytes : List ℕ) → IsImageOf bytes program → HasBytes (lowered program)
-octets program bytes w = subst (λ (xs : List ℕ). AllByRecursion (λ b. b < 256) xs) w.written w.octets
+pub octets : (program : Program) (bytes : List ℕ) → IsImageOf bytes program
+    → HasBytes (lowered program)
+octets program bytes w = subst (λ (xs : List ℕ). AllByRecursion (λ b. b < 256) xs) w.written
+    w.octets
 
 pub compiled_realise : CompiledRealise
 compiled_realise program l reads bytes w = record {
@@ -38,8 +41,11 @@ compiled_realise program l reads bytes w = record {
   is = w.read;
   fits = short program l bytes w;
   loads = images_load (lowered program) (lowered_is_compiled program l);
-  shows = λ arg n lt. linked_images_show_all program l reads bytes w.read (octets program bytes w) (pos arg) n;
+  shows = λ arg n lt. linked_images_show_all program l reads bytes w.read (octets program bytes w)
+      (pos arg) n;
 }
 
 pub compiled_show_nothing_more : CompiledShowNothingMore
-compiled_show_nothing_more program l reads bytes w = λ arg m n lt paces calm. linked_images_show_no_more program l reads bytes w.read (octets program bytes w) (pos arg) m n paces calm
+compiled_show_nothing_more program l reads bytes w = λ arg m n lt paces
+    calm. linked_images_show_no_more program l reads bytes w.read (octets program bytes w) (pos arg)
+    m n paces calm

@@ -14,9 +14,11 @@ use Rattle.body_states.specs.Programs.{IsProgramImage}
 use Rattle.body_states.specs.Bodies.{InBody}
 use Rattle.turn_steps.specs.Outcomes.{Represents}
 
-module _ (t : Functions) (fs : List Funclet) (program : LinearProgram) (p : ImagePlan) (q : Sites) (image : IsProgramImage t fs program p q) where
+module _ (t : Functions) (fs : List Funclet) (program : LinearProgram) (p : ImagePlan) (q : Sites)
+    (image : IsProgramImage t fs program p q) where
   -- a body's code is in the image, above 0
-  above : (s : State) (c : Configuration) → InBody t fs program p q s c → 0 < p.address c.frame.body c.frame.next
+  above : (s : State) (c : Configuration) → InBody t fs program p q s c
+      → 0 < p.address c.frame.body c.frame.next
   above s c b =
       let a = image.addresses c.frame.body b.slots.code b.slots.body in
       let low = a.inside.low in

@@ -27,37 +27,53 @@ set_rest (k ∷ ks) v = refl
 
 module _ (t : Functions) (fs : List Funclet) (program : LinearProgram) (p : ImagePlan) where
   -- as many items on both sides
-  pub as_many : (m : Memory) (c : Context) (is : List StackItem) (items : List Item) (acts : List Activation) → Linked t fs program p m c is items acts → length is ≡ length items
+  pub as_many : (m : Memory) (c : Context) (is : List StackItem) (items : List Item)
+      (acts : List Activation) → Linked t fs program p m c is items acts → length is ≡ length items
   as_many m c [] [] acts l = refl
-  as_many m c (Framed f ∷ is) (Waits b ∷ below) acts l = let n = as_many m (after_frame c f) is below (activations_below b.body acts) l.2 in omega arith
-  as_many m c (Leaf back ∷ is) (Waits b ∷ below) acts l = let n = as_many m (after_leaf c back) is below (activations_below b.body acts) l.2 in omega arith
-  as_many m c (Searching r ∷ is) (Searches exception resumption asked rest ∷ below) acts l = let n = as_many m (context_of r.saved) is below acts l.1 in omega arith
-  as_many m c (Unwinding r ∷ is) (Unwinds rest target ∷ below) acts l = let n = as_many m r.walk is below acts l.1 in omega arith
+  as_many m c (Framed f ∷ is) (Waits b ∷ below) acts l = let n = as_many m (after_frame c f) is
+      below (activations_below b.body acts) l.2 in omega arith
+  as_many m c (Leaf back ∷ is) (Waits b ∷ below) acts l = let n = as_many m (after_leaf c back) is
+      below (activations_below b.body acts) l.2 in omega arith
+  as_many m c (Searching r ∷ is) (Searches exception resumption asked rest ∷ below) acts
+      l = let n = as_many m (context_of r.saved) is below acts l.1 in omega arith
+  as_many m c (Unwinding r ∷ is) (Unwinds rest target ∷ below) acts l = let n = as_many m r.walk is
+      below acts l.1 in omega arith
   as_many m c is items acts l = absurd l
 
   -- a body returns to where the walk continues
-  back : (m : Memory) (c : Context) (is : List StackItem) (items : List Item) (acts : List Activation) → IsStack t m c is → Linked t fs program p m c is items acts → ReturnsTo t fs program p items c.rip → back_to t fs program p items ≡ Some c.rip
+  back : (m : Memory) (c : Context) (is : List StackItem) (items : List Item)
+      (acts : List Activation) → IsStack t m c is → Linked t fs program p m c is items acts
+      → ReturnsTo t fs program p items c.rip → back_to t fs program p items ≡ Some c.rip
   back m c [] [] acts s l r = ap (λ (a : ℕ). Some a) (sym r)
   back m c (Framed f ∷ is) (Waits b ∷ below) acts s l r = r
   back m c (Leaf up ∷ is) (Waits b ∷ below) acts s l r = r
-  back m c (Searching d ∷ is) (Searches exception resumption asked rest ∷ below) acts s l r = ap (λ (a : ℕ). Some a) (sym s.0.at_host)
-  back m c (Unwinding d ∷ is) (Unwinds rest target ∷ below) acts s l r = ap (λ (a : ℕ). Some a) (sym s.0.at_host)
+  back m c (Searching d ∷ is) (Searches exception resumption asked rest ∷ below) acts s l r = ap
+      (λ (a : ℕ). Some a) (sym s.0.at_host)
+  back m c (Unwinding d ∷ is) (Unwinds rest target ∷ below) acts s l r = ap (λ (a : ℕ). Some a)
+      (sym s.0.at_host)
   back m c is items acts s l r = absurd l
 
   module _ (q : Sites) (image : IsProgramImage t fs program p q) where
-    pub are_frames : (m : Memory) (c : Context) (is : List StackItem) (items : List Item) (acts : List Activation) → IsStack t m c is → Linked t fs program p m c is items acts → AreFrames t fs program p m c items acts (frames c is)
+    pub are_frames : (m : Memory) (c : Context) (is : List StackItem) (items : List Item)
+      (acts : List Activation) → IsStack t m c is → Linked t fs program p m c is items acts
+      → AreFrames t fs program p m c items acts (frames c is)
     are_frames m c [] [] acts s l = (s, l.0)
     are_frames m c (Framed f ∷ is) (Waits b ∷ below) acts s l =
         let y = p.layout b.body in
         let w = l.0.waits in
-        let size = frame_size t fs program p q image m c f b.body w.code w.body l.0.framed l.0.entry s.0 in
+        let size = frame_size t fs program p q image m c f b.body w.code w.body l.0.framed l.0.entry
+          s.0 in
         let up = rsp c + f.size + 8 in (
           record {
-            waits = subst (λ (leaf : Bool). BodyWaits t fs program p m c (slots_end y leaf) (last_temporary y b.body leaf) b acts) (sym l.0.framed)
-                (subst (λ n. BodyWaits t fs program p m c n (temporaries_end y b.body n) b acts) size w);
+            waits = subst (λ (leaf : Bool). BodyWaits t fs program p m c (slots_end y leaf)
+              (last_temporary y b.body leaf) b acts) (sym l.0.framed)
+                (subst (λ n. BodyWaits t fs program p m c n (temporaries_end y b.body n) b acts)
+                  size w);
             at = refl;
-            back = back m (after_frame c f) is below (activations_below b.body acts) s.1 l.2 l.0.returns;
-            after = set_head c.kept up (let k = s.0.kept in omega arith) ∙ ap (λ n. rsp c + n + 8) size;
+            back = back m (after_frame c f) is below (activations_below b.body acts) s.1 l.2
+              l.0.returns;
+            after = set_head c.kept up (let k = s.0.kept in omega arith)
+              ∙ ap (λ n. rsp c + n + 8) size;
             kept = set_rest c.kept up;
           },
           are_frames m (after_frame c f) is below (activations_below b.body acts) s.1 l.2,
@@ -65,19 +81,25 @@ module _ (t : Functions) (fs : List Funclet) (program : LinearProgram) (p : Imag
     are_frames m c (Leaf up ∷ is) (Waits b ∷ below) acts s l =
         let y = p.layout b.body in
         let w = l.0.waits in
-        let none = leaf_layout t fs program p q b.body w.code l.0.leaf (image.laid_out b.body w.code w.body) in
+        let none = leaf_layout t fs program p q b.body w.code l.0.leaf
+          (image.laid_out b.body w.code w.body) in
         let next = rsp c + 8 in (
           record {
-            waits = subst (λ (leaf : Bool). BodyWaits t fs program p m c (slots_end y leaf) (last_temporary y b.body leaf) b acts) (sym l.0.leaf) w;
+            waits = subst (λ (leaf : Bool). BodyWaits t fs program p m c (slots_end y leaf)
+              (last_temporary y b.body leaf) b acts) (sym l.0.leaf) w;
             at = refl;
-            back = back m (after_leaf c up) is below (activations_below b.body acts) s.1 l.2 l.0.returns;
-            after = set_head c.kept next (let k = s.0.kept in omega arith) ∙ (let z = none.frame in let e : next ≡ rsp c + y.frame + 8 = omega arith in e);
+            back = back m (after_leaf c up) is below (activations_below b.body acts) s.1 l.2
+              l.0.returns;
+            after = set_head c.kept next (let k = s.0.kept in omega arith)
+              ∙ (let z = none.frame in let e : next ≡ rsp c + y.frame + 8 = omega arith in e);
             kept = set_rest c.kept next;
           },
           are_frames m (after_leaf c up) is below (activations_below b.body acts) s.1 l.2,
         )
     are_frames m c (Searching r ∷ is) (Searches exception resumption asked rest ∷ below) acts s l =
-        (r, record { here = s.0.at_host; is = s.0.fetches }, are_frames m (context_of r.saved) is below acts s.1 l.1)
+        (r, record { here = s.0.at_host; is = s.0.fetches },
+          are_frames m (context_of r.saved) is below acts s.1 l.1)
     are_frames m c (Unwinding r ∷ is) (Unwinds rest target ∷ below) acts s l =
-        (r, record { here = s.0.at_host; is = s.0.fetches }, are_frames m r.walk is below acts s.1 l.1)
+        (r, record { here = s.0.at_host; is = s.0.fetches },
+          are_frames m r.walk is below acts s.1 l.1)
     are_frames m c is items acts s l = absurd l

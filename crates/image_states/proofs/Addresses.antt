@@ -41,19 +41,24 @@ use Rattle.image_states.proofs.Places.{IsBody, is_body}
 data_ends : (globals : List ℕ) → image_base + text_begin globals ≡ data_end globals
 data_ends globals = omega arith
 
-pub reserved : (globals : List ℕ) (a : ℕ) → image_base + text_begin globals ≤ a → a < IMAGE_RANGE_END → is_reserved globals a ≡ true
+pub reserved : (globals : List ℕ) (a : ℕ) → image_base + text_begin globals ≤ a
+    → a < IMAGE_RANGE_END → is_reserved globals a ≡ true
 reserved globals a le lt =
     let e = data_ends globals in
-    let past : is_data globals a ≡ false = and_right (leb 0x140001000 a) (ltb a (data_end globals)) (le-ltb a (data_end globals) (omega arith)) in
+    let past : is_data globals a ≡ false = and_right (leb 0x140001000 a) (ltb a (data_end globals))
+      (le-ltb a (data_end globals) (omega arith)) in
     or_right _ (is_between IMAGE_BASE IMAGE_RANGE_END a && not (is_data globals a))
     (and_from (is_between IMAGE_BASE IMAGE_RANGE_END a) (not (is_data globals a))
-    (and_from (leb IMAGE_BASE a) (ltb a IMAGE_RANGE_END) (le-leb IMAGE_BASE a (omega arith)) (lt-ltb a IMAGE_RANGE_END lt))
+    (and_from (leb IMAGE_BASE a) (ltb a IMAGE_RANGE_END) (le-leb IMAGE_BASE a (omega arith))
+      (lt-ltb a IMAGE_RANGE_END lt))
     (not_from_false (is_data globals a) past))
 
 -- ---- routines
 
 -- a routine ends within the text
-pub routine_end : (p : LinearProgram) (x : Placed) → FitsProgram p → IsThere (site_of p) (linked p).text (text_begin p.globals) x → end_of x ≤ first p.globals + total (routines p)
+pub routine_end : (p : LinearProgram) (x : Placed) → FitsProgram p
+    → IsThere (site_of p) (linked p).text (text_begin p.globals) x
+    → end_of x ≤ first p.globals + total (routines p)
 routine_end p x fits h =
     let long = routine_length (site_of p) x.begin x.routine h.near in
     let l = ap length h.bytes in
@@ -63,22 +68,26 @@ routine_end p x fits h =
     omega (arith, length-append h.before (bytes ++ h.after), length-append bytes h.after)
 
 -- instructions one after another end with the body
-pub offset_most : (y : Layout) (body : List Instruction) (label : ℕ) → offset_of y body label ≤ body_size y body
+pub offset_most : (y : Layout) (body : List Instruction) (label : ℕ)
+    → offset_of y body label ≤ body_size y body
 offset_most y [] zero = omega arith
 offset_most y [] (suc label) = omega arith
 offset_most y (i ∷ body) zero = omega arith
 offset_most y (i ∷ body) (suc label) = let l = offset_most y body label in omega arith
 
-pub offset_mono : (y : Layout) (body : List Instruction) (i j : ℕ) → i ≤ j → offset_of y body i ≤ offset_of y body j
+pub offset_mono : (y : Layout) (body : List Instruction) (i j : ℕ) → i ≤ j
+    → offset_of y body i ≤ offset_of y body j
 offset_mono y [] zero zero le = omega arith
 offset_mono y [] zero (suc j) le = omega arith
 offset_mono y [] (suc i) zero le = omega arith
 offset_mono y [] (suc i) (suc j) le = omega arith
 offset_mono y (b ∷ body) zero j le = omega arith
 offset_mono y (b ∷ body) (suc i) zero le = absurd (omega arith)
-offset_mono y (b ∷ body) (suc i) (suc j) le = let r = offset_mono y body i j (omega arith) in omega arith
+offset_mono y (b ∷ body) (suc i) (suc j) le = let r = offset_mono y body i j (omega arith) in
+    omega arith
 
-pub past : (y : Layout) (body : List Instruction) (i : ℕ) → length body ≤ i → offset_of y body i ≡ body_size y body
+pub past : (y : Layout) (body : List Instruction) (i : ℕ) → length body ≤ i
+    → offset_of y body i ≡ body_size y body
 past y [] zero le = refl
 past y [] (suc i) le = refl
 past y (b ∷ body) zero le = absurd (omega arith)
@@ -93,25 +102,33 @@ module _ (program : LinearProgram) (c : HasWholeImage program) where
   fits = c.fits
 
   abbrev pub InImage : ℕ → ℕ → Type 0
-  InImage from to = IsInImage (functions_of program) (funclets_of program) program (plan_of program) (sites_of program) from to
+  InImage from to = IsInImage (functions_of program) (funclets_of program) program (plan_of program)
+      (sites_of program) from to
 
   -- from the text's begin up to the end of the routines
-  pub in_image : (from to : ℕ) → text_begin program.globals ≤ from → to ≤ first program.globals + total (routines program) → InImage (image_base + from) (image_base + to)
+  pub in_image : (from to : ℕ) → text_begin program.globals ≤ from
+      → to ≤ first program.globals + total (routines program)
+      → InImage (image_base + from) (image_base + to)
   in_image from to low high =
       let end = end_inside program fits in
       let small = c.small in
-      record { low = omega arith; high = omega arith; own = λ a le lt. reserved program.globals a (omega arith) (omega arith) }
+      record { low = omega arith; high = omega arith;
+        own = λ a le lt. reserved program.globals a (omega arith) (omega arith) }
 
-  pub check_stack_inside : InImage (sites_of program).check_stack ((sites_of program).check_stack + sizes check_stack)
+  pub check_stack_inside : InImage (sites_of program).check_stack
+      ((sites_of program).check_stack + sizes check_stack)
   check_stack_inside =
       let long = check_stack_size in
       let at = check_stack_at (site_of program).text in
-      let n : image_base + (at + sizes check_stack) ≡ (sites_of program).check_stack + sizes check_stack = omega arith in
-      subst (InImage (image_base + at)) n (in_image at (at + sizes check_stack) (omega arith) (omega arith))
+      let n : image_base + (at + sizes check_stack)
+        ≡ (sites_of program).check_stack + sizes check_stack = omega arith in
+      subst (InImage (image_base + at)) n (in_image at (at + sizes check_stack) (omega arith)
+        (omega arith))
 
 -- ---- a body
 
-module _ (program : LinearProgram) (c : HasWholeImage program) (name : BodyName) (b : LinearBody) (is : body_of program name ≡ Some b) where
+module _ (program : LinearProgram) (c : HasWholeImage program) (name : BodyName) (b : LinearBody)
+    (is : body_of program name ≡ Some b) where
   abbrev x : Placed
   x = routine_of program name
 
@@ -122,11 +139,14 @@ module _ (program : LinearProgram) (c : HasWholeImage program) (name : BodyName)
   here = there program place.index x c.fits place.at
 
   -- one label after another
-  pub label_rises : (label : ℕ) → label < length x.routine.body.code → template_at x label < template_at x (label + 1)
+  pub label_rises : (label : ℕ) → label < length x.routine.body.code
+      → template_at x label < template_at x (label + 1)
   label_rises label lt =
       let next = offset_next x.routine.layout x.routine.body.code label some_instruction lt in
-      let some = template_some x.routine.layout (get_or x.routine.body.code label some_instruction) in
-      let e = ap (offset_of x.routine.layout x.routine.body.code) (let q : suc label ≡ label + 1 = omega arith in q) in
+      let some = template_some x.routine.layout
+        (get_or x.routine.body.code label some_instruction) in
+      let e = ap (offset_of x.routine.layout x.routine.body.code)
+        (let q : suc label ≡ label + 1 = omega arith in q) in
       omega arith
 
   -- all of them up to the body's end
@@ -134,19 +154,26 @@ module _ (program : LinearProgram) (c : HasWholeImage program) (name : BodyName)
   label_inside label = let l = offset_most x.routine.layout x.routine.body.code label in omega arith
 
   -- those of instructions before it
-  pub label_below : (label : ℕ) → label < length x.routine.body.code → template_at x label < end_of x
-  label_below label lt = let r = label_rises label lt in let l = label_inside (label + 1) in omega arith
+  pub label_below : (label : ℕ) → label < length x.routine.body.code
+      → template_at x label < end_of x
+  label_below label lt = let r = label_rises label lt in let l = label_inside (label + 1) in
+      omega arith
 
   -- the code of a body is in the image
   pub body_inside : InImage program c (image_base + x.begin) (image_base + end_of x)
-  body_inside = let h = here in let before = h.here in in_image program c x.begin (end_of x) (omega arith) (routine_end program x c.fits here)
+  body_inside = let h = here in let before = h.here in
+      in_image program c x.begin (end_of x) (omega arith) (routine_end program x c.fits here)
 
 -- a funclet has code before its body
-entry_some : (program : LinearProgram) (c : HasWholeImage program) (name : BodyName) (b : LinearBody) (is : body_of program name ≡ Some b) (fl : LinearFunclet) → (routine_of program name).routine ≡ funclet program fl → 0 < entry_size (routine_of program name).routine
+entry_some : (program : LinearProgram) (c : HasWholeImage program) (name : BodyName)
+    (b : LinearBody) (is : body_of program name ≡ Some b) (fl : LinearFunclet)
+    → (routine_of program name).routine ≡ funclet program fl
+    → 0 < entry_size (routine_of program name).routine
 entry_some program c name b is fl e =
     let h = here program c name b is in
     let x = routine_of program name in
-    let framed : x.routine.frame ≡ Some (funclet_frame fl.body) = ap (λ (r : RoutineView). r.frame) e in
+    let framed : x.routine.frame ≡ Some (funclet_frame fl.body) = ap (λ (r : RoutineView). r.frame)
+      e in
     let size = subst IsFrameNear framed h.near.frame in
     let least = entry_least x.routine (funclet_frame fl.body) h.near framed size.0 in
     let few = taking_few (funclet_frame fl.body).size size.0 (let m = size.1 in omega arith) in
@@ -157,12 +184,14 @@ entry_some program c name b is fl e =
 
 module _ (program : LinearProgram) (c : HasWholeImage program) where
   -- a funclet begins within the text
-  pub funclet_end : (k : ℕ) → k < length program.funclets → funclet_begin program k < first program.globals + total (routines program)
+  pub funclet_end : (k : ℕ) → k < length program.funclets
+      → funclet_begin program k < first program.globals + total (routines program)
   funclet_end k lt =
       let fits = c.fits in
       let long = as_long program fits in
       let n = length program.functions + k in
-      let below = bounds_below (first program.globals) (routines program) n 0 no_routine (omega arith) in
+      let below = bounds_below (first program.globals) (routines program) n 0 no_routine
+        (omega arith) in
       let begin = begin_is program fits k in
       let some = funclet_size program fits k lt in
       omega arith
@@ -171,12 +200,15 @@ module _ (program : LinearProgram) (c : HasWholeImage program) where
   begin_least k lt =
       let fits = c.fits in
       let long = as_long program fits in
-      let least = bounds_least (first program.globals) (routines program) (length program.functions + k) 0 (omega arith) in
+      let least = bounds_least (first program.globals) (routines program)
+        (length program.functions + k) 0 (omega arith) in
       let begin = begin_is program fits k in
       omega arith
 
   -- a body's instruction is at no funclet's first byte
-  pub not_first : (name : BodyName) (b : LinearBody) → body_of program name ≡ Some b → (label k : ℕ) → label < length b.code → k < length program.funclets → address_of program name label ≢ image_base + funclet_begin program k
+  pub not_first : (name : BodyName) (b : LinearBody) → body_of program name ≡ Some b → (label k : ℕ)
+      → label < length b.code → k < length program.funclets
+      → address_of program name label ≢ image_base + funclet_begin program k
   not_first name b is label k lt in' e =
       let q : address_of program name label ≡ image_base + funclet_begin program k = e in
       let fits = c.fits in
@@ -193,13 +225,17 @@ module _ (program : LinearProgram) (c : HasWholeImage program) where
       let some = funclet_size program fits k in' in
       let size = ap (λ (r : RoutineView). routine_size r) p.own in
       elim (cases_lt p.index n) [
-        | inl before ↦ let r = bounds_rise (first program.globals) rs p.index n 0 no_routine before (omega arith) in omega arith
+        | inl before ↦ let r = bounds_rise (first program.globals) rs p.index n 0 no_routine before
+          (omega arith) in omega arith
         | inr rest ↦ elim (cases_lt n p.index) [
-          | inl after ↦ let r = bounds_rise (first program.globals) rs n p.index 0 no_routine after (let low = p.below in omega arith) in omega arith
+          | inl after ↦ let r = bounds_rise (first program.globals) rs n p.index 0 no_routine after
+            (let low = p.below in omega arith) in omega arith
           | inr equal ↦
               let same' : p.index ≡ n = omega arith in
               let at = ap (λ (i : ℕ). get_or (bounds (first program.globals) rs) i 0) same' in
-              let entry = entry_some program c name b is (get_or program.funclets k no_funclet) (p.own ∙ ap (λ (i : ℕ). get_or rs i no_routine) same' ∙ funclet_is program fits k in') in
+              let entry = entry_some program c name b is (get_or program.funclets k no_funclet)
+                (p.own ∙ ap (λ (i : ℕ). get_or rs i no_routine) same'
+                ∙ funclet_is program fits k in') in
               omega arith
         ]
       ]

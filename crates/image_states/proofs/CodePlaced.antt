@@ -50,15 +50,18 @@ use Rattle.host_layout.specs.declared.limit.TheConstants.{MOST_IMAGE}
 
 -- ---- code that may not be written
 
-code_at : (m : Memory) (at : ℕ) (bytes : List ℕ) → IsExecutableAt m at bytes → ((k : ℕ) → k < length bytes → may_write m (at + k) ≡ false) → IsCodeAt m at bytes
+code_at : (m : Memory) (at : ℕ) (bytes : List ℕ) → IsExecutableAt m at bytes
+    → ((k : ℕ) → k < length bytes → may_write m (at + k) ≡ false) → IsCodeAt m at bytes
 code_at m at [] s fixed = tt
 code_at m at (b ∷ bytes) s fixed =
     let z : at ≡ at + 0 = omega arith in (
       record { byte = s.0; executes = s.1; fixed = ap (may_write m) z ∙ fixed 0 (omega arith) },
-      code_at m (at + 1) bytes s.2 (λ k lt. (let e : at + 1 + k ≡ at + suc k = omega arith in ap (may_write m) e ∙ fixed (suc k) (omega arith))),
+      code_at m (at + 1) bytes s.2 (λ k lt. (let e : at + 1 + k ≡ at + suc k = omega arith in
+        ap (may_write m) e ∙ fixed (suc k) (omega arith))),
     )
 
-pub code_split : (m : Memory) (at : ℕ) (a b : List ℕ) → IsCodeAt m at (a ++ b) → IsCodeAt m at a × IsCodeAt m (at + length a) b
+pub code_split : (m : Memory) (at : ℕ) (a b : List ℕ) → IsCodeAt m at (a ++ b)
+    → IsCodeAt m at a × IsCodeAt m (at + length a) b
 code_split m at [] b h = (tt, let e : at ≡ at + 0 = omega arith in subst (λ x. IsCodeAt m x b) e h)
 code_split m at (x ∷ a) b h =
     let r = code_split m (at + 1) a b h.1 in
@@ -89,11 +92,14 @@ module _ (program : LinearProgram) (c : HasWholeImage program) where
   low = c.small
 
   text_code : IsCodeAt m T p.text
-  text_code = code_at m T p.text (images_have_text program c.fits) (λ k lt. texts_are_fixed program k c.fits lt)
+  text_code = code_at m T p.text (images_have_text program c.fits)
+      (λ k lt. texts_are_fixed program k c.fits lt)
 
   -- ---- bodies
 
-  body_code : (name : BodyName) (b : LinearBody) → body_of program name ≡ Some b → HasCode m (begin_of (plan_of program) (sites_of program) name) (code_of program (plan_of program) (sites_of program) name b)
+  body_code : (name : BodyName) (b : LinearBody) → body_of program name ≡ Some b
+      → HasCode m (begin_of (plan_of program) (sites_of program) name)
+        (code_of program (plan_of program) (sites_of program) name b)
   unfolding routine_bytes
   body_code name b is' =
       let q = place program c name b is' in
@@ -104,12 +110,18 @@ module _ (program : LinearProgram) (c : HasWholeImage program) where
       let small = routine_small x.routine h.near in
       let before = h.here in
       let at : T + length h.before ≡ image_base + x.begin = omega arith in
-      let all = (code_split m T h.before (spelled code ++ h.after) (subst (IsCodeAt m T) h.bytes text_code)).1 in
-      let own = (code_split m (image_base + x.begin) (spelled code) h.after (subst (λ (n : ℕ). IsCodeAt m n (spelled code ++ h.after)) at all)).0 in
+      let all = (code_split m T h.before (spelled code ++ h.after)
+        (subst (IsCodeAt m T) h.bytes text_code)).1 in
+      let own = (code_split m (image_base + x.begin) (spelled code) h.after
+        (subst (λ (n : ℕ). IsCodeAt m n (spelled code ++ h.after)) at all)).0 in
       let long = code_length s x.begin x.routine h.near in
       let wide : sizes code ≡ routine_size x.routine = sym (sizes_spelled code) ∙ long in
-      let placed : HasCode m (image_base + x.begin) code = record { is_there = own; placed = record { low = omega arith; high = omega arith } } in
-      subst (λ (n : ℕ). HasCode m n (code_of program (plan_of program) (sites_of program) name b)) (sym q.begin) (subst (HasCode m (image_base + x.begin)) (sym (code_same program c name b is')) placed)
+      let placed : HasCode m (image_base + x.begin)
+        code = record { is_there = own; placed = record { low = omega arith; high = omega arith }
+        } in
+      subst (λ (n : ℕ). HasCode m n (code_of program (plan_of program) (sites_of program) name b))
+        (sym q.begin) (subst (HasCode m (image_base + x.begin))
+        (sym (code_same program c name b is')) placed)
 
   -- ---- the front
 
@@ -130,20 +142,35 @@ module _ (program : LinearProgram) (c : HasWholeImage program) where
   front =
       let rest = routines_bytes s (first program.globals) (routines program) in
       let all = (code_split m T (spelled (front_code s.text s.rdata)) rest text_code).0 in
-      let a = code_split m T (t imports.RaiseException) (t imports.CSpecificHandler ++ (t imports.LocalUnwind ++ (t imports.Protect ++ (t imports.Put ++ spelled check_stack)))) all in
-      let b = code_split m (T + length (t imports.RaiseException)) (t imports.CSpecificHandler) (t imports.LocalUnwind ++ (t imports.Protect ++ (t imports.Put ++ spelled check_stack))) a.1 in
-      let d = code_split m (T + length (t imports.RaiseException) + length (t imports.CSpecificHandler)) (t imports.LocalUnwind) (t imports.Protect ++ (t imports.Put ++ spelled check_stack)) b.1 in
-      let e = code_split m (T + length (t imports.RaiseException) + length (t imports.CSpecificHandler) + length (t imports.LocalUnwind)) (t imports.Protect) (t imports.Put ++ spelled check_stack) d.1 in
-      let f = code_split m (T + length (t imports.RaiseException) + length (t imports.CSpecificHandler) + length (t imports.LocalUnwind) + length (t imports.Protect)) (t imports.Put) (spelled check_stack) e.1 in
+      let a = code_split m T (t imports.RaiseException)
+        (t imports.CSpecificHandler ++ (t imports.LocalUnwind
+        ++ (t imports.Protect ++ (t imports.Put ++ spelled check_stack)))) all in
+      let b = code_split m (T + length (t imports.RaiseException)) (t imports.CSpecificHandler)
+        (t imports.LocalUnwind ++ (t imports.Protect ++ (t imports.Put ++ spelled check_stack)))
+        a.1 in
+      let d = code_split m (T + length (t imports.RaiseException)
+        + length (t imports.CSpecificHandler)) (t imports.LocalUnwind)
+          (t imports.Protect ++ (t imports.Put ++ spelled check_stack)) b.1 in
+      let e = code_split m (T + length (t imports.RaiseException)
+        + length (t imports.CSpecificHandler) + length (t imports.LocalUnwind)) (t imports.Protect)
+          (t imports.Put ++ spelled check_stack) d.1 in
+      let f = code_split m (T + length (t imports.RaiseException)
+        + length (t imports.CSpecificHandler) + length (t imports.LocalUnwind)
+        + length (t imports.Protect)) (t imports.Put) (spelled check_stack) e.1 in
       let n0 = six imports.RaiseException in
       let n1 = six imports.CSpecificHandler in
       let n2 = six imports.LocalUnwind in
       let n3 = six imports.Protect in
       let n4 = six imports.Put in
-      let p2 : T + length (t imports.RaiseException) + length (t imports.CSpecificHandler) ≡ T + 12 = omega arith in
-      let p3 : T + length (t imports.RaiseException) + length (t imports.CSpecificHandler) + length (t imports.LocalUnwind) ≡ T + 18 = omega arith in
-      let p4 : T + length (t imports.RaiseException) + length (t imports.CSpecificHandler) + length (t imports.LocalUnwind) + length (t imports.Protect) ≡ T + 24 = omega arith in
-      let p5 : T + length (t imports.RaiseException) + length (t imports.CSpecificHandler) + length (t imports.LocalUnwind) + length (t imports.Protect) + length (t imports.Put) ≡ T + 30 = omega arith in
+      let p2 : T + length (t imports.RaiseException) + length (t imports.CSpecificHandler)
+        ≡ T + 12 = omega arith in
+      let p3 : T + length (t imports.RaiseException) + length (t imports.CSpecificHandler)
+        + length (t imports.LocalUnwind) ≡ T + 18 = omega arith in
+      let p4 : T + length (t imports.RaiseException) + length (t imports.CSpecificHandler)
+        + length (t imports.LocalUnwind) + length (t imports.Protect) ≡ T + 24 = omega arith in
+      let p5 : T + length (t imports.RaiseException) + length (t imports.CSpecificHandler)
+        + length (t imports.LocalUnwind) + length (t imports.Protect) + length (t imports.Put)
+        ≡ T + 30 = omega arith in
       record {
         raise = a.0;
         unwind = subst (λ (n : ℕ). IsCodeAt m n (t imports.LocalUnwind)) p2 d.0;
@@ -158,17 +185,20 @@ module _ (program : LinearProgram) (c : HasWholeImage program) where
       let end = end_inside program c.fits in
       let l = low in
       let at : T + 30 ≡ (sites_of program).check_stack = omega arith in
-      record { is_there = subst (λ (n : ℕ). IsCodeAt m n (spelled check_stack)) at front.check; placed = record { low = omega arith; high = omega arith } }
+      record { is_there = subst (λ (n : ℕ). IsCodeAt m n (spelled check_stack)) at front.check;
+        placed = record { low = omega arith; high = omega arith } }
 
   -- ---- slots
 
   readable : (a : ℕ) → image_base + r ≤ a → a < image_base + r + 222 → may_read m a ≡ true
   unfolding mapped
-  readable a le lt = ap (λ (o : Option Section). is_readable (mode_in o a).rights) (tables_there program c a le lt)
+  readable a le lt = ap (λ (o : Option Section). is_readable (mode_in o a).rights)
+      (tables_there program c a le lt)
 
   fixed : (a : ℕ) → image_base + r ≤ a → a < image_base + r + 222 → may_write m a ≡ false
   unfolding mapped
-  fixed a le lt = ap (λ (o : Option Section). is_writable (mode_in o a).rights) (tables_there program c a le lt)
+  fixed a le lt = ap (λ (o : Option Section). is_writable (mode_in o a).rights)
+      (tables_there program c a le lt)
 
   abbrev named : ImportedService → ℕ → Import
   named v at = record { name = name_of v; slot = at }
@@ -188,43 +218,59 @@ module _ (program : LinearProgram) (c : HasWholeImage program) where
   abbrev i4 : Import
   i4 = named imports.Put (r + 88 + 8 + 8 + 8 + 8)
 
-  reads : (before : List Import) (i : Import) (later : List Import) (service : Service) → before ++ (i ∷ later) ≡ imports_of p → image_base + i.slot + 8 ≤ 2 ^ 64 → service_named i.name ≡ Some service → AllByRecursion (λ (j : Import). SlotsAreApart (image_base + i.slot) (image_base + j.slot)) later
+  reads : (before : List Import) (i : Import) (later : List Import) (service : Service)
+      → before ++ (i ∷ later) ≡ imports_of p → image_base + i.slot + 8 ≤ 2 ^ 64
+      → service_named i.name ≡ Some service → AllByRecursion
+        (λ (j : Import). SlotsAreApart (image_base + i.slot) (image_base + j.slot)) later
       → number_at m.byte 8 (image_base + i.slot) ≡ address_of service
   unfolding mapped
   reads before i later service same fits name apart =
-      ap (λ (is : List Import). number_at (with_slots image_base (stored_byte (image_of p)) is) 8 (image_base + i.slot)) (listed p (is program c.fits) ∙ sym same)
+      ap (λ (is : List Import). number_at (with_slots image_base (stored_byte (image_of p)) is) 8
+        (image_base + i.slot)) (listed p (is program c.fits) ∙ sym same)
       ∙ slots_read image_base (stored_byte (image_of p)) before i later service fits name apart
 
-  apart_after : (x y : ℕ) → x + 8 ≤ y → y + 8 ≤ 2 ^ 48 → SlotsAreApart (image_base + x) (image_base + y)
+  apart_after : (x y : ℕ) → x + 8 ≤ y → y + 8 ≤ 2 ^ 48
+      → SlotsAreApart (image_base + x) (image_base + y)
   apart_after x y le small = record { apart = inl (omega arith); fits = omega arith }
 
   raise_reads : number_at m.byte 8 (image_base + (r + 88)) ≡ address_of services.RaiseException
   raise_reads =
       let l = low in
       reads [] i0 (i1 ∷ i2 ∷ i3 ∷ i4 ∷ []) services.RaiseException refl (omega arith) refl
-      (apart_after (r + 88) (r + 88 + 8) (omega arith) (omega arith), (apart_after (r + 88) (r + 88 + 8 + 8) (omega arith) (omega arith), (apart_after (r + 88) (r + 88 + 8 + 8 + 8) (omega arith) (omega arith), (apart_after (r + 88) (r + 88 + 8 + 8 + 8 + 8) (omega arith) (omega arith), tt))))
+      (apart_after (r + 88) (r + 88 + 8) (omega arith) (omega arith),
+        (apart_after (r + 88) (r + 88 + 8 + 8) (omega arith) (omega arith),
+        (apart_after (r + 88) (r + 88 + 8 + 8 + 8) (omega arith) (omega arith),
+        (apart_after (r + 88) (r + 88 + 8 + 8 + 8 + 8) (omega arith) (omega arith), tt))))
 
-  unwind_reads : number_at m.byte 8 (image_base + (r + 88 + 8 + 8)) ≡ address_of services.LocalUnwind
+  unwind_reads : number_at m.byte 8 (image_base + (r + 88 + 8 + 8))
+      ≡ address_of services.LocalUnwind
   unwind_reads =
       let l = low in
       reads (i0 ∷ i1 ∷ []) i2 (i3 ∷ i4 ∷ []) services.LocalUnwind refl (omega arith) refl
-      (apart_after (r + 88 + 8 + 8) (r + 88 + 8 + 8 + 8) (omega arith) (omega arith), (apart_after (r + 88 + 8 + 8) (r + 88 + 8 + 8 + 8 + 8) (omega arith) (omega arith), tt))
+      (apart_after (r + 88 + 8 + 8) (r + 88 + 8 + 8 + 8) (omega arith) (omega arith),
+        (apart_after (r + 88 + 8 + 8) (r + 88 + 8 + 8 + 8 + 8) (omega arith) (omega arith), tt))
 
-  protect_reads : number_at m.byte 8 (image_base + (r + 88 + 8 + 8 + 8)) ≡ address_of services.Protect
+  protect_reads : number_at m.byte 8 (image_base + (r + 88 + 8 + 8 + 8))
+      ≡ address_of services.Protect
   protect_reads =
       let l = low in
-      reads (i0 ∷ i1 ∷ i2 ∷ []) i3 (i4 ∷ []) services.Protect refl (omega arith) refl (apart_after (r + 88 + 8 + 8 + 8) (r + 88 + 8 + 8 + 8 + 8) (omega arith) (omega arith), tt)
+      reads (i0 ∷ i1 ∷ i2 ∷ []) i3 (i4 ∷ []) services.Protect refl (omega arith) refl
+        (apart_after (r + 88 + 8 + 8 + 8) (r + 88 + 8 + 8 + 8 + 8) (omega arith) (omega arith), tt)
 
   put_reads : number_at m.byte 8 (image_base + (r + 88 + 8 + 8 + 8 + 8)) ≡ address_of services.Put
-  put_reads = let l = low in reads (i0 ∷ i1 ∷ i2 ∷ i3 ∷ []) i4 [] services.Put refl (omega arith) refl tt
+  put_reads = let l = low in reads (i0 ∷ i1 ∷ i2 ∷ i3 ∷ []) i4 [] services.Put refl (omega arith)
+      refl tt
 
   -- ---- thunks
 
   abbrev Serves : ℕ → Service → Type 0
-  Serves at service = HasService (functions_of program) (funclets_of program) program (plan_of program) (sites_of program) m at service
+  Serves at service = HasService (functions_of program) (funclets_of program) program
+      (plan_of program) (sites_of program) m at service
 
   -- the thunk at a place of the text, through a slot
-  serves : (v : ImportedService) (service : Service) (at n : ℕ) → IsCodeAt m (T + n) (t v) → at ≡ image_base + thunk_at s.text v → thunk_at s.text v ≡ s.text + n → n ≤ 24 → slot_of v ≤ 120 → 88 ≤ slot_of v
+  serves : (v : ImportedService) (service : Service) (at n : ℕ) → IsCodeAt m (T + n) (t v)
+      → at ≡ image_base + thunk_at s.text v → thunk_at s.text v ≡ s.text + n → n ≤ 24
+      → slot_of v ≤ 120 → 88 ≤ slot_of v
       → number_at m.byte 8 (image_base + (r + slot_of v)) ≡ address_of service → Serves at service
   serves v service at n code here' place' few high least bound =
       let l = low in
@@ -235,32 +281,52 @@ module _ (program : LinearProgram) (c : HasWholeImage program) where
       let far : image_base + (r + slot_of v) ≡ at + 6 + away = omega arith in
       let d : distance (thunk_at s.text v + 6) (s.rdata + slot_of v) ≡ away = omega arith in
       let own : T + n ≡ at = omega arith in
-      let spells : t v ≡ spelled (thunk away ∷ []) = ap (λ (k : ℕ). chosen (thunk k)) d ∙ sym (append-nil (chosen (thunk away))) in
+      let spells : t v ≡ spelled (thunk away ∷ []) = ap (λ (k : ℕ). chosen (thunk k)) d
+        ∙ sym (append-nil (chosen (thunk away))) in
       let long : length (t v) ≡ 6 = six v in
-      let wide : sizes (thunk away ∷ []) ≡ 6 = sym (sizes_spelled (thunk away ∷ [])) ∙ sym (ap length spells) ∙ long in
-      let is_there = subst (λ (k : ℕ). IsCodeAt m k (spelled (thunk away ∷ []))) own (subst (IsCodeAt m (T + n)) spells code) in
+      let wide : sizes (thunk away ∷ []) ≡ 6 = sym (sizes_spelled (thunk away ∷ []))
+        ∙ sym (ap length spells) ∙ long in
+      let is_there = subst (λ (k : ℕ). IsCodeAt m k (spelled (thunk away ∷ []))) own
+        (subst (IsCodeAt m (T + n)) spells code) in
       record {
         thunk = record {
           away = away;
           near = omega arith;
-          code = record { is_there = is_there; placed = record { low = omega arith; high = omega arith } };
+          code = record { is_there = is_there;
+            placed = record { low = omega arith; high = omega arith } };
           readable = λ a le lt. readable a (omega arith) (omega arith);
           fixed = λ a le lt. fixed a (omega arith) (omega arith);
           bound = ap (number_at m.byte 8) (sym far) ∙ bound;
         };
-        inside = record { low = omega arith; high = omega arith; own = λ a le lt. reserved program.globals a (omega arith) (omega arith) };
-        slot = record { low = omega arith; high = omega arith; own = λ a le lt. reserved program.globals a (omega arith) (omega arith) };
+        inside = record { low = omega arith; high = omega arith;
+          own = λ a le lt. reserved program.globals a (omega arith) (omega arith) };
+        slot = record { low = omega arith; high = omega arith;
+          own = λ a le lt. reserved program.globals a (omega arith) (omega arith) };
       }
 
   thunks : (f : BuiltIn) → Serves ((sites_of program).thunk f) (service_of f)
-  thunks Put = serves imports.Put services.Put ((sites_of program).thunk Put) 24 front.put refl (omega arith) (omega arith) (omega arith) (omega arith) (ap (λ (k : ℕ). number_at m.byte 8 (image_base + k)) (let q : r + 120 ≡ r + 88 + 8 + 8 + 8 + 8 = omega arith in q) ∙ put_reads)
-  thunks Protect = serves imports.Protect services.Protect ((sites_of program).thunk Protect) 18 front.protect refl (omega arith) (omega arith) (omega arith) (omega arith) (ap (λ (k : ℕ). number_at m.byte 8 (image_base + k)) (let q : r + 112 ≡ r + 88 + 8 + 8 + 8 = omega arith in q) ∙ protect_reads)
+  thunks Put = serves imports.Put services.Put ((sites_of program).thunk Put) 24 front.put refl
+      (omega arith) (omega arith) (omega arith) (omega arith)
+      (ap (λ (k : ℕ). number_at m.byte 8 (image_base + k))
+      (let q : r + 120 ≡ r + 88 + 8 + 8 + 8 + 8 = omega arith in q) ∙ put_reads)
+  thunks Protect = serves imports.Protect services.Protect ((sites_of program).thunk Protect) 18
+      front.protect refl (omega arith) (omega arith) (omega arith) (omega arith)
+      (ap (λ (k : ℕ). number_at m.byte 8 (image_base + k))
+      (let q : r + 112 ≡ r + 88 + 8 + 8 + 8 = omega arith in q) ∙ protect_reads)
   thunks RaiseException =
       let z : T ≡ T + 0 = omega arith in
-      serves imports.RaiseException services.RaiseException ((sites_of program).thunk RaiseException) 0 (subst (λ (k : ℕ). IsCodeAt m k (t imports.RaiseException)) z front.raise) refl (omega arith) (omega arith) (omega arith) (omega arith) raise_reads
+      serves imports.RaiseException services.RaiseException
+        ((sites_of program).thunk RaiseException) 0
+        (subst (λ (k : ℕ). IsCodeAt m k (t imports.RaiseException)) z front.raise) refl
+        (omega arith) (omega arith) (omega arith) (omega arith) raise_reads
 
   unwinds : Serves (sites_of program).local_unwind services.LocalUnwind
-  unwinds = serves imports.LocalUnwind services.LocalUnwind (sites_of program).local_unwind 12 front.unwind refl (omega arith) (omega arith) (omega arith) (omega arith) (ap (λ (k : ℕ). number_at m.byte 8 (image_base + k)) (let q : r + 104 ≡ r + 88 + 8 + 8 = omega arith in q) ∙ unwind_reads)
+  unwinds = serves imports.LocalUnwind services.LocalUnwind (sites_of program).local_unwind 12
+      front.unwind refl (omega arith) (omega arith) (omega arith) (omega arith)
+      (ap (λ (k : ℕ). number_at m.byte 8 (image_base + k))
+      (let q : r + 104 ≡ r + 88 + 8 + 8 = omega arith in q) ∙ unwind_reads)
 
-  pub has_program : HasProgram (functions_of program) (funclets_of program) program (plan_of program) (sites_of program) m
-  has_program = record { code = body_code; thunks = thunks; local_unwind = unwinds; check_stack = check_code }
+  pub has_program : HasProgram (functions_of program) (funclets_of program) program
+      (plan_of program) (sites_of program) m
+  has_program = record { code = body_code; thunks = thunks; local_unwind = unwinds;
+      check_stack = check_code }

@@ -47,13 +47,19 @@ use Rattle.image_states.proofs.Shifts.{AreMoved, call_moved, code_moved}
 
 -- ---- frames
 
-making_same : (n at check at' check' : ℕ) (small : Bool) → at' ≡ image_base + at → check' ≡ image_base + check → at + 10 < 2 ^ 48 → making n at' check' small ≡ allocating (distance (at + 10) check) n small
+making_same : (n at check at' check' : ℕ) (small : Bool) → at' ≡ image_base + at
+    → check' ≡ image_base + check → at + 10 < 2 ^ 48
+    → making n at' check' small ≡ allocating (distance (at + 10) check) n small
 making_same n at check at' check' true e f lt = refl
 making_same n at check at' check' false e f lt =
-    ap (λ (i : Instr). instrs.Move W32 (places.Register Rax) (operands.Immediate n) ∷ i ∷ instrs.Arithmetic arithmetic.Sub W64 (places.Register Rsp) (operands.Register Rax) ∷ [])
-    (call_moved image_base (omega arith) (at + 10) check (at' + 10) check' (omega arith) f (omega arith))
+    ap (λ (i : Instr). instrs.Move W32 (places.Register Rax) (operands.Immediate n) ∷ i
+      ∷ instrs.Arithmetic arithmetic.Sub W64 (places.Register Rsp) (operands.Register Rax) ∷ [])
+    (call_moved image_base (omega arith) (at + 10) check (at' + 10) check' (omega arith) f
+      (omega arith))
 
-pub frame_same : (o : Option FrameLayout) (size at check at' check' : ℕ) → size ≡ size_of o → IsFrameNear o → at' ≡ image_base + at → check' ≡ image_base + check → at + 10 < 2 ^ 48 → frame_code size at' check' (is_leaf o) ≡ texts.frame_code at check o
+pub frame_same : (o : Option FrameLayout) (size at check at' check' : ℕ) → size ≡ size_of o
+    → IsFrameNear o → at' ≡ image_base + at → check' ≡ image_base + check → at + 10 < 2 ^ 48
+    → frame_code size at' check' (is_leaf o) ≡ texts.frame_code at check o
 frame_same None size at check at' check' s near e f lt = refl
 frame_same (Some g) size at check at' check' s near e f lt =
     ap (λ (n : ℕ). making n at' check' (leb n 4096)) s
@@ -62,7 +68,9 @@ frame_same (Some g) size at check at' check' s near e f lt =
 
 -- ---- arguments
 
-function_same : (leaf : Bool) (fn : LinearFunction) → parameters_code (leaf_if leaf fn).layout 0 fn.parameters ≡ argument_code (leaf_if leaf fn).layout (leaf_if leaf fn).entry
+function_same : (leaf : Bool) (fn : LinearFunction)
+    → parameters_code (leaf_if leaf fn).layout 0 fn.parameters
+    ≡ argument_code (leaf_if leaf fn).layout (leaf_if leaf fn).entry
 function_same true fn = refl
 function_same false fn = refl
 
@@ -70,55 +78,89 @@ base_same : (parent : Option ℕ) (b : ℕ) → keep_base parent b ≡ link_entr
 base_same None b = refl
 base_same (Some p) b = refl
 
-kind_same : (y : Layout) (k : FuncletKind) (parent : Option ℕ) (slot : ℕ) → y.base ≡ Some slot → keep_base parent slot ++ keep_argument y k ≡ argument_code y (entry_of k parent)
-kind_same y Filter parent slot e = (λ i. base_same parent slot i ++ keep_argument y Filter) ∙ ap (λ (o : Option ℕ). link_entries.keep_base parent (texts.base_of y o) ++ keep_argument y Filter) (sym e)
-kind_same y (Finally flag) parent slot e = (λ i. base_same parent slot i ++ keep_argument y (Finally flag)) ∙ ap (λ (o : Option ℕ). link_entries.keep_base parent (texts.base_of y o) ++ keep_argument y (Finally flag)) (sym e)
+kind_same : (y : Layout) (k : FuncletKind) (parent : Option ℕ) (slot : ℕ) → y.base ≡ Some slot
+    → keep_base parent slot ++ keep_argument y k ≡ argument_code y (entry_of k parent)
+kind_same y Filter parent slot e = (λ i. base_same parent slot i ++ keep_argument y Filter)
+    ∙ ap (λ (o : Option ℕ). link_entries.keep_base parent (texts.base_of y o)
+    ++ keep_argument y Filter) (sym e)
+kind_same y (Finally flag) parent slot e = (λ i. base_same parent slot i
+    ++ keep_argument y (Finally flag)) ∙ ap (λ (o : Option ℕ). link_entries.keep_base parent
+      (texts.base_of y o) ++ keep_argument y (Finally flag)) (sym e)
 
 module _ (program : LinearProgram) (c : HasWholeImage program) where
-  parent_is : (parent : Option ℕ) → HasParent program parent → parent_base (plan_of program) parent ≡ kept_by program parent
+  parent_is : (parent : Option ℕ) → HasParent program parent
+      → parent_base (plan_of program) parent ≡ kept_by program parent
   parent_is None h = refl
   parent_is (Some k) h =
-      let d : LinearFunclet = record { kind = Filter; function = 0; parent = None; body = nothing } in
-      let g = is_funclet program c.fits k (get_or program.funclets k d) (slice_get-get_or program.funclets k d h) in
+      let d : LinearFunclet = record { kind = Filter; function = 0; parent = None;
+        body = nothing } in
+      let g = is_funclet program c.fits k (get_or program.funclets k d)
+        (slice_get-get_or program.funclets k d h) in
       ap (λ (r : RoutineView). r.layout.base) g.routine
 
-  funclet_same : (k : ℕ) (fl : LinearFunclet) → slice_get program.funclets k ≡ Some fl → funclet_arguments (plan_of program) (routine_of program (FuncletBody k)).routine.layout (Some fl) ≡ argument_code (routine_of program (FuncletBody k)).routine.layout (routine_of program (FuncletBody k)).routine.entry
+  funclet_same : (k : ℕ) (fl : LinearFunclet) → slice_get program.funclets k ≡ Some fl
+      → funclet_arguments (plan_of program) (routine_of program (FuncletBody k)).routine.layout
+        (Some fl) ≡ argument_code (routine_of program (FuncletBody k)).routine.layout
+        (routine_of program (FuncletBody k)).routine.entry
   funclet_same k fl e =
       let g = is_funclet program c.fits k fl e in
       let lt = slice_get_within program.funclets k fl e in
-      let fit = subst (FitsFunclet program) (get_or_from_slice_get program.funclets k fl fl e) (all_at (FitsFunclet program) program.funclets k fl c.fits.funclets lt) in
-      let own : (r : RoutineView) → r ≡ funclet program fl → funclet_arguments (plan_of program) r.layout (Some fl) ≡ argument_code r.layout r.entry =
-      λ r same. subst (λ (q : RoutineView). funclet_arguments (plan_of program) q.layout (Some fl) ≡ argument_code q.layout q.entry) (sym same)
-      (ap (λ (o : Option ℕ). keep_base o (funclet_frame fl.body).kept ++ keep_argument (funclet program fl).layout fl.kind) (parent_is fl.parent fit.parent)
-      ∙ kind_same (funclet program fl).layout fl.kind (kept_by program fl.parent) (funclet_frame fl.body).kept refl) in
+      let fit = subst (FitsFunclet program) (get_or_from_slice_get program.funclets k fl fl e)
+        (all_at (FitsFunclet program) program.funclets k fl c.fits.funclets lt) in
+      let own : (r : RoutineView) → r ≡ funclet program fl
+        → funclet_arguments (plan_of program) r.layout (Some fl) ≡ argument_code r.layout r.entry =
+      λ r same. subst (λ (q : RoutineView). funclet_arguments (plan_of program) q.layout (Some fl)
+        ≡ argument_code q.layout q.entry) (sym same)
+      (ap (λ (o : Option ℕ). keep_base o (funclet_frame fl.body).kept
+        ++ keep_argument (funclet program fl).layout fl.kind) (parent_is fl.parent fit.parent)
+      ∙ kind_same (funclet program fl).layout fl.kind (kept_by program fl.parent)
+        (funclet_frame fl.body).kept refl) in
       own (routine_of program (FuncletBody k)).routine g.routine
 
-  arguments_by_function : (f : ℕ) (o : Option LinearFunction) (b : LinearBody) → slice_get program.functions f ≡ o → function_body o ≡ Some b → function_arguments (routine_of program (FunctionBody f)).routine.layout o ≡ argument_code (routine_of program (FunctionBody f)).routine.layout (routine_of program (FunctionBody f)).routine.entry
+  arguments_by_function : (f : ℕ) (o : Option LinearFunction) (b : LinearBody)
+      → slice_get program.functions f ≡ o → function_body o ≡ Some b
+      → function_arguments (routine_of program (FunctionBody f)).routine.layout o
+      ≡ argument_code (routine_of program (FunctionBody f)).routine.layout
+        (routine_of program (FunctionBody f)).routine.entry
   arguments_by_function f None b e h = absurd (none_some h)
   arguments_by_function f (Some fn) b e h =
       let g = is_function program c.fits f fn e in
       let leaf = not (f == program.main) && link.is_leaf fn.body in
-      subst (λ (r : RoutineView). parameters_code r.layout 0 fn.parameters ≡ argument_code r.layout r.entry) (sym g.routine) (function_same leaf fn)
+      subst (λ (r : RoutineView). parameters_code r.layout 0 fn.parameters
+        ≡ argument_code r.layout r.entry) (sym g.routine) (function_same leaf fn)
 
-  arguments_by_funclet : (k : ℕ) (o : Option LinearFunclet) (b : LinearBody) → slice_get program.funclets k ≡ o → funclet_body o ≡ Some b → funclet_arguments (plan_of program) (routine_of program (FuncletBody k)).routine.layout o ≡ argument_code (routine_of program (FuncletBody k)).routine.layout (routine_of program (FuncletBody k)).routine.entry
+  arguments_by_funclet : (k : ℕ) (o : Option LinearFunclet) (b : LinearBody)
+      → slice_get program.funclets k ≡ o → funclet_body o ≡ Some b
+      → funclet_arguments (plan_of program) (routine_of program (FuncletBody k)).routine.layout o
+      ≡ argument_code (routine_of program (FuncletBody k)).routine.layout
+        (routine_of program (FuncletBody k)).routine.entry
   arguments_by_funclet k None b e h = absurd (none_some h)
   arguments_by_funclet k (Some fl) b e h = funclet_same k fl e
 
-  pub arguments_same : (name : BodyName) (b : LinearBody) → body_of program name ≡ Some b → arguments_code program (plan_of program) name ≡ argument_code (routine_of program name).routine.layout (routine_of program name).routine.entry
-  arguments_same (FunctionBody f) b h = arguments_by_function f (slice_get program.functions f) b refl h
-  arguments_same (FuncletBody k) b h = arguments_by_funclet k (slice_get program.funclets k) b refl h
+  pub arguments_same : (name : BodyName) (b : LinearBody) → body_of program name ≡ Some b
+      → arguments_code program (plan_of program) name
+      ≡ argument_code (routine_of program name).routine.layout
+        (routine_of program name).routine.entry
+  arguments_same (FunctionBody f) b h = arguments_by_function f (slice_get program.functions f) b
+      refl h
+  arguments_same (FuncletBody k) b h = arguments_by_funclet k (slice_get program.funclets k) b refl
+      h
 
 -- ---- labels
 
-pub label_is : (y : Layout) (at : ℕ) (body : List Instruction) (l end : ℕ) → end ≡ at + body_size y body → address_or (label_list y at body) l end ≡ at + offset_of y body l
+pub label_is : (y : Layout) (at : ℕ) (body : List Instruction) (l end : ℕ)
+    → end ≡ at + body_size y body → address_or (label_list y at body) l end
+    ≡ at + offset_of y body l
 label_is y at [] zero end e = omega arith
 label_is y at [] (suc l) end e = omega arith
 label_is y at (i ∷ body) zero end e = omega arith
-label_is y at (i ∷ body) (suc l) end e = let r = label_is y (at + template_size y i) body l end (omega arith) in omega arith
+label_is y at (i ∷ body) (suc l) end e = let r = label_is y (at + template_size y i) body l end
+    (omega arith) in omega arith
 
 -- ---- all of it
 
-module _ (program : LinearProgram) (c : HasWholeImage program) (name : BodyName) (b : LinearBody) (is : body_of program name ≡ Some b) where
+module _ (program : LinearProgram) (c : HasWholeImage program) (name : BodyName) (b : LinearBody)
+    (is : body_of program name ≡ Some b) where
   abbrev x : Placed
   x = routine_of program name
 
@@ -128,16 +170,21 @@ module _ (program : LinearProgram) (c : HasWholeImage program) (name : BodyName)
   h : IsThere (site_of program) (linked program).text (text_begin program.globals) x
   h = here program c name b is
 
-  pub entry_same : entry_code program (plan_of program) (sites_of program) name ≡ texts.entry_code x.begin check x.routine
+  pub entry_same : entry_code program (plan_of program) (sites_of program) name
+      ≡ texts.entry_code x.begin check x.routine
   entry_same =
       let p = place program c name b is in
       let room = h.room in
       let size = sized program p.index x p.at in
-      (λ i. frame_same x.routine.frame x.routine.layout.frame x.begin check (begin_of (plan_of program) (sites_of program) name) (sites_of program).check_stack size h.near.frame p.begin refl (omega arith) i ++ arguments_same program c name b is i)
+      (λ i. frame_same x.routine.frame x.routine.layout.frame x.begin check
+        (begin_of (plan_of program) (sites_of program) name) (sites_of program).check_stack size
+        h.near.frame p.begin refl (omega arith) i ++ arguments_same program c name b is i)
 
-  pub moved : AreMoved image_base (links program x) (links_of (plan_of program) (sites_of program) name)
+  pub moved : AreMoved image_base (links program x)
+      (links_of (plan_of program) (sites_of program) name)
   moved = record {
-    label = λ l. (let e = label_is x.routine.layout (body_begin x) x.routine.body.code l (own_addresses x.begin x.routine).end (omega arith) in omega arith);
+    label = λ l. (let e = label_is x.routine.layout (body_begin x) x.routine.body.code l
+      (own_addresses x.begin x.routine).end (omega arith) in omega arith);
     function = λ f. refl;
     known = λ f. refl;
     funclet = λ f. refl;
@@ -145,7 +192,8 @@ module _ (program : LinearProgram) (c : HasWholeImage program) (name : BodyName)
   }
 
   -- its code is the routine's
-  pub code_same : code_of program (plan_of program) (sites_of program) name b ≡ routine_code (site_of program) x.begin x.routine
+  pub code_same : code_of program (plan_of program) (sites_of program) name b
+      ≡ routine_code (site_of program) x.begin x.routine
   code_same =
       let p = place program c name b is in
       let room = h.room in
@@ -153,5 +201,8 @@ module _ (program : LinearProgram) (c : HasWholeImage program) (name : BodyName)
       let k = links_of (plan_of program) (sites_of program) name in
       let at : address_of program name 0 ≡ image_base + body_begin x = omega arith in
       let entry = entry_small x.routine h.near in
-      ap (λ (d : LinearBody). entry_code program (plan_of program) (sites_of program) name ++ code_from k y (address_of program name 0) d.code) (sym p.body)
-      ∙ (λ i. entry_same i ++ code_moved image_base (omega arith) (links program x) k y (body_begin x) (address_of program name 0) x.routine.body.code moved at (omega arith) h.near.code i)
+      ap (λ (d : LinearBody). entry_code program (plan_of program) (sites_of program) name
+        ++ code_from k y (address_of program name 0) d.code) (sym p.body)
+      ∙ (λ i. entry_same i ++ code_moved image_base (omega arith) (links program x) k y
+        (body_begin x) (address_of program name 0) x.routine.body.code moved at (omega arith)
+        h.near.code i)

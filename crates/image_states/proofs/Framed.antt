@@ -40,7 +40,8 @@ use Rattle.image_states.proofs.Shifts.{template_moved}
 
 -- ---- code that may not be written is
 
-pub executable_of : (m : Memory) (at : ℕ) (bytes : List ℕ) → IsCodeAt m at bytes → IsExecutableAt m at bytes
+pub executable_of : (m : Memory) (at : ℕ) (bytes : List ℕ) → IsCodeAt m at bytes
+    → IsExecutableAt m at bytes
 executable_of m at [] h = tt
 executable_of m at (b ∷ bytes) h = (h.0.byte, h.0.executes, executable_of m (at + 1) bytes h.1)
 
@@ -62,21 +63,27 @@ same_size : (o : Option FrameLayout) → (or_none o).size ≡ size_of o
 same_size (Some f) = refl
 same_size None = refl
 
-near_at : (P : Instruction → Type 0) (is : List Instruction) (number : ℕ) (i : Instruction) → AllByRecursion P is → slice_get is number ≡ Some i → P i
+near_at : (P : Instruction → Type 0) (is : List Instruction) (number : ℕ) (i : Instruction)
+    → AllByRecursion P is → slice_get is number ≡ Some i → P i
 near_at P [] number i all e = absurd (none_some e)
 near_at P (j ∷ is) zero i all e = subst P (some_same e) all.0
 near_at P (j ∷ is) (suc number) i all e = near_at P is number i all.1 e
 
 module _ (program : LinearProgram) (c : HasWholeImage program) where
   -- where a body waits is in its routine
-  in_body : (name : BodyName) (b : LinearBody) (is : body_of program name ≡ Some b) (label rip : ℕ) → (r : IsResumed (functions_of program) (funclets_of program) program (plan_of program) (sites_of program) name b label rip)
-      → IsInBody program (routine_of program name) (template_at (routine_of program name) label + sizes r.done)
+  in_body : (name : BodyName) (b : LinearBody) (is : body_of program name ≡ Some b) (label rip : ℕ)
+      → (r : IsResumed (functions_of program) (funclets_of program) program (plan_of program)
+        (sites_of program) name b label rip)
+      → IsInBody program (routine_of program name)
+        (template_at (routine_of program name) label + sizes r.done)
   in_body name b is label rip r =
       let p = place program c name b is in
       let h = here program c name b is in
       let x = routine_of program name in
-      let at : slice_get x.routine.body.code label ≡ Some r.instruction = ap (λ (d : LinearBody). slice_get d.code label) p.body ∙ r.there in
-      let near = near_at (IsInstructionNear x.routine.layout) x.routine.body.code label r.instruction h.near.code at in
+      let at : slice_get x.routine.body.code label
+        ≡ Some r.instruction = ap (λ (d : LinearBody). slice_get d.code label) p.body ∙ r.there in
+      let near = near_at (IsInstructionNear x.routine.layout) x.routine.body.code label
+        r.instruction h.near.code at in
       let inside = label_inside program c name b is label in
       let room = h.room in
       let small = routine_small x.routine h.near in
@@ -88,44 +95,78 @@ module _ (program : LinearProgram) (c : HasWholeImage program) where
         done = r.done;
         item = r.item;
         left = r.left;
-        parts = sym (template_moved image_base (omega arith) (links program x) (links_of (plan_of program) (sites_of program) name) x.routine.layout (template_at x label) (address_of program name label) r.instruction (moved program c name b is) refl (omega arith) near) ∙ r.parts;
+        parts = sym (template_moved image_base (omega arith) (links program x)
+          (links_of (plan_of program) (sites_of program) name) x.routine.layout
+          (template_at x label) (address_of program name label) r.instruction
+          (moved program c name b is) refl (omega arith) near) ∙ r.parts;
         here = refl;
       }
 
-  code_there : (name : BodyName) (b : LinearBody) (is : body_of program name ≡ Some b) (m : Memory) → HasProgram (functions_of program) (funclets_of program) program (plan_of program) (sites_of program) m
-      → IsExecutableAt m (image_base + (routine_of program name).begin) (spelled (routine_code (site_of program) (routine_of program name).begin (routine_of program name).routine))
+  code_there : (name : BodyName) (b : LinearBody) (is : body_of program name ≡ Some b) (m : Memory)
+      → HasProgram (functions_of program) (funclets_of program) program (plan_of program)
+        (sites_of program) m
+      → IsExecutableAt m (image_base + (routine_of program name).begin)
+        (spelled (routine_code (site_of program) (routine_of program name).begin
+        (routine_of program name).routine))
   code_there name b is m has =
       let p = place program c name b is in
       let x = routine_of program name in
       let begin = begin_of (plan_of program) (sites_of program) name in
-      let code = executable_of m begin (spelled (code_of program (plan_of program) (sites_of program) name b)) (has.code name b is).is_there in
-      subst (λ (n : ℕ). IsExecutableAt m n (spelled (routine_code (site_of program) x.begin x.routine))) p.begin (subst (λ (q : List Instr). IsExecutableAt m begin (spelled q)) (code_same program c name b is) code)
+      let code = executable_of m begin (spelled
+        (code_of program (plan_of program) (sites_of program) name b))
+        (has.code name b is).is_there in
+      subst (λ (n : ℕ). IsExecutableAt m n (spelled
+        (routine_code (site_of program) x.begin x.routine))) p.begin
+        (subst (λ (q : List Instr). IsExecutableAt m begin (spelled q))
+        (code_same program c name b is) code)
 
-  pub frames_are_at : FramesAreWaiting (functions_of program) (funclets_of program) program (plan_of program) (sites_of program)
+  pub frames_are_at : FramesAreWaiting (functions_of program) (funclets_of program) program
+      (plan_of program) (sites_of program)
   frames_are_at m name b label k back is framed has r kept room returns =
       let p = place program c name b is in
       let x = routine_of program name in
       let f = framed_of x.routine.frame framed in
-      let size : x.routine.layout.frame ≡ f.0.size = sized program p.index x p.at ∙ ap size_of f.1 in
+      let size : x.routine.layout.frame ≡ f.0.size = sized program p.index x p.at
+        ∙ ap size_of f.1 in
       let rva = template_at x label + sizes r.done in
-      let here' : k.rip ≡ image_base + rva = r.here ∙ (let q : image_base + template_at x label + sizes r.done ≡ image_base + rva = omega arith in q) in
-      let s = frame_is_at program m p.index x f.0 k rva back c.fits c.ranges p.at f.1 (code_there name b is m has) (in_body name b is label k.rip r) here' kept (subst (λ (n : ℕ). rsp k + n + 8 < 2 ^ 64) size room) (subst (λ (n : ℕ). word m (rsp k + n) ≡ Ok back) size returns) in
-      let same : stack_frame program x f.0 back ≡ frame_with (tables.entry_of (site_of program) x (or_none x.routine.frame)) x.routine.layout.frame (taking_size f.0.size) back =
-      λ i. frame_with (tables.entry_of (site_of program) x (or_none (sym f.1 i))) (sym size i) (taking_size f.0.size) back in
-      record { offset = taking_size f.0.size; is_there = subst (FrameIsAt (functions_of program) m k) same s }
+      let here' : k.rip ≡ image_base + rva = r.here
+        ∙ (let q : image_base + template_at x label + sizes r.done
+        ≡ image_base + rva = omega arith in q) in
+      let s = frame_is_at program m p.index x f.0 k rva back c.fits c.ranges p.at f.1
+        (code_there name b is m has) (in_body name b is label k.rip r) here' kept
+        (subst (λ (n : ℕ). rsp k + n + 8 < 2 ^ 64) size room)
+        (subst (λ (n : ℕ). word m (rsp k + n) ≡ Ok back) size returns) in
+      let same : stack_frame program x f.0 back
+        ≡ frame_with (tables.entry_of (site_of program) x (or_none x.routine.frame))
+          x.routine.layout.frame (taking_size f.0.size) back =
+      λ i. frame_with (tables.entry_of (site_of program) x (or_none (sym f.1 i))) (sym size i)
+        (taking_size f.0.size) back in
+      record { offset = taking_size f.0.size;
+        is_there = subst (FrameIsAt (functions_of program) m k) same s }
 
-  pub leaves_are_at' : LeavesAreWaiting (functions_of program) (funclets_of program) program (plan_of program) (sites_of program)
+  pub leaves_are_at' : LeavesAreWaiting (functions_of program) (funclets_of program) program
+      (plan_of program) (sites_of program)
   leaves_are_at' m name b label k back is leaf r kept room returns =
       let p = place program c name b is in
       let x = routine_of program name in
       let rva = template_at x label + sizes r.done in
-      let here' : k.rip ≡ image_base + rva = r.here ∙ (let q : image_base + template_at x label + sizes r.done ≡ image_base + rva = omega arith in q) in
-      leaves_are_at program m p.index x k rva back c.fits c.ranges p.at (leaf_of x.routine.frame leaf) (record { body = in_body name b is label k.rip r; here = here'; kept = kept; room = room; returns = returns })
+      let here' : k.rip ≡ image_base + rva = r.here
+        ∙ (let q : image_base + template_at x label + sizes r.done
+        ≡ image_base + rva = omega arith in q) in
+      leaves_are_at program m p.index x k rva back c.fits c.ranges p.at
+        (leaf_of x.routine.frame leaf) (record
+        { body = in_body name b is label k.rip r; here = here'; kept = kept; room = room;
+        returns = returns })
 
-  pub allocation : (name : BodyName) (b : LinearBody) → body_of program name ≡ Some b → HasAllocation (functions_of program) (funclets_of program) program (plan_of program) (sites_of program) name
+  pub allocation : (name : BodyName) (b : LinearBody) → body_of program name ≡ Some b
+      → HasAllocation (functions_of program) (funclets_of program) program (plan_of program)
+        (sites_of program) name
   allocation name b is =
       let p = place program c name b is in
       let x = routine_of program name in
-      let size : (or_none x.routine.frame).size ≡ x.routine.layout.frame = same_size x.routine.frame ∙ sym (sized program p.index x p.at) in
-      let code : ℕ → UnwindCode = λ n. record { offset = taking_size (or_none x.routine.frame).size; operation = Allocate n } in
-      record { offset = taking_size (or_none x.routine.frame).size; codes = ap (λ (n : ℕ). code n ∷ []) size }
+      let size : (or_none x.routine.frame).size ≡ x.routine.layout.frame = same_size x.routine.frame
+        ∙ sym (sized program p.index x p.at) in
+      let code : ℕ → UnwindCode = λ n. record { offset = taking_size (or_none x.routine.frame).size;
+        operation = Allocate n } in
+      record { offset = taking_size (or_none x.routine.frame).size;
+        codes = ap (λ (n : ℕ). code n ∷ []) size }

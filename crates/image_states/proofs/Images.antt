@@ -23,36 +23,49 @@ use Rattle.image_states.proofs.Giving.{gives}
 use Rattle.image_states.proofs.Resuming.{resumptions}
 use Rattle.image_states.proofs.Found.{callers, callers_outside}
 
-module _ (program : LinearProgram) (c : HasWholeImage program) (name : BodyName) (b : LinearBody) (is : body_of program name ≡ Some b) where
+module _ (program : LinearProgram) (c : HasWholeImage program) (name : BodyName) (b : LinearBody)
+    (is : body_of program name ≡ Some b) where
   abbrev x : Placed
   x = routine_of program name
 
-  first_is : address_of program name 0 ≡ begin_of (plan_of program) (sites_of program) name + sizes (entry_code program (plan_of program) (sites_of program) name)
+  first_is : address_of program name 0 ≡ begin_of (plan_of program) (sites_of program) name
+      + sizes (entry_code program (plan_of program) (sites_of program) name)
   first_is =
       let p = place program c name b is in
-      let size = ap sizes (entry_same program c name b is) ∙ entry_sizes x.begin (check_stack_at (site_of program).text) x.routine (here program c name b is).near in
+      let size = ap sizes (entry_same program c name b is)
+        ∙ entry_sizes x.begin (check_stack_at (site_of program).text) x.routine
+          (here program c name b is).near in
       let begin = p.begin in
       omega arith
 
-  labels_are : (number : ℕ) → address_of program name number ≡ address_of program name 0 + offset_of x.routine.layout b.code number
-  labels_are number = let e = ap (λ (d : LinearBody). offset_of x.routine.layout d.code number) (place program c name b is).body in omega arith
+  labels_are : (number : ℕ) → address_of program name number
+      ≡ address_of program name 0 + offset_of x.routine.layout b.code number
+  labels_are number = let e = ap (λ (d : LinearBody). offset_of x.routine.layout d.code number)
+      (place program c name b is).body in omega arith
 
   same_length : length x.routine.body.code ≡ length b.code
   same_length = ap (λ (d : LinearBody). length d.code) (place program c name b is).body
 
-  rises : (label : ℕ) → label < length b.code → address_of program name label < address_of program name (label + 1)
-  rises label lt = let r = label_rises program c name b is label (let e = same_length in omega arith) in omega arith
+  rises : (label : ℕ) → label < length b.code
+      → address_of program name label < address_of program name (label + 1)
+  rises label lt = let r = label_rises program c name b is label
+      (let e = same_length in omega arith) in omega arith
 
-  inside : InImage program c (begin_of (plan_of program) (sites_of program) name) (address_of program name 0 + body_size x.routine.layout b.code)
+  inside : InImage program c (begin_of (plan_of program) (sites_of program) name)
+      (address_of program name 0 + body_size x.routine.layout b.code)
   inside =
       let p = place program c name b is in
       let size = ap (λ (d : LinearBody). body_size x.routine.layout d.code) p.body in
-      let end : image_base + end_of x ≡ address_of program name 0 + body_size x.routine.layout b.code = omega arith in
-      subst (λ (from : ℕ). InImage program c from (address_of program name 0 + body_size x.routine.layout b.code)) (sym p.begin)
+      let end : image_base + end_of x ≡ address_of program name 0
+        + body_size x.routine.layout b.code = omega arith in
+      subst (λ (from : ℕ). InImage program c from
+        (address_of program name 0 + body_size x.routine.layout b.code)) (sym p.begin)
       (subst (InImage program c (image_base + x.begin)) end (body_inside program c name b is))
 
-  pub addresses : HasAddresses (functions_of program) (funclets_of program) program (plan_of program) (sites_of program) name b
-  addresses = record { first = first_is; labels = labels_are; rises = rises; inside = inside; not_first = λ label k lt lt'. not_first program c name b is label k lt lt' }
+  pub addresses : HasAddresses (functions_of program) (funclets_of program) program
+      (plan_of program) (sites_of program) name b
+  addresses = record { first = first_is; labels = labels_are; rises = rises; inside = inside;
+      not_first = λ label k lt lt'. not_first program c name b is label k lt lt' }
 
 pub images_are_programs : ImagesArePrograms
 images_are_programs program c = record {
@@ -60,8 +73,11 @@ images_are_programs program c = record {
   laid_out = laid_out program c;
   addresses = λ name b is. addresses program c name b is;
   check_stack = check_stack_inside program c;
-  lands = λ name b label is lt. lt-ltb label (length (routine_of program name).routine.body.code) (let e = same_length program c name b is in omega arith);
-  landings = λ name b label is l. (let lt = ltb-true label (length (routine_of program name).routine.body.code) l in let e = same_length program c name b is in omega arith);
+  lands = λ name b label is lt. lt-ltb label (length (routine_of program name).routine.body.code)
+      (let e = same_length program c name b is in omega arith);
+  landings = λ name b label is l. (let lt = ltb-true label
+      (length (routine_of program name).routine.body.code) l in
+      let e = same_length program c name b is in omega arith);
   allocations = λ name b is leaf. allocation program c name b is;
   frames = frames_are_at program c;
   leaves = leaves_are_at' program c;

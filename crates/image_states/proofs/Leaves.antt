@@ -41,17 +41,22 @@ calls_same (instructions.Landing to) e = refl
 calls_same instructions.Separator e = refl
 calls_same (instructions.Return from) e = refl
 
-no_call : (code : List Instruction) → has_call code ≡ false → (label : ℕ) (i : Instruction) → slice_get code label ≡ Some i → is_call i ≡ false
+no_call : (code : List Instruction) → has_call code ≡ false → (label : ℕ) (i : Instruction)
+    → slice_get code label ≡ Some i → is_call i ≡ false
 no_call [] h label i e = absurd (none_some e)
-no_call (j ∷ code) h zero i e = calls_same i (ap link.is_call (sym (some_same e)) ∙ (or_parts (link.is_call j) (has_call code) h).0)
-no_call (j ∷ code) h (suc label) i e = no_call code (or_parts (link.is_call j) (has_call code) h).1 label i e
+no_call (j ∷ code) h zero i e = calls_same i (ap link.is_call (sym (some_same e))
+    ∙ (or_parts (link.is_call j) (has_call code) h).0)
+no_call (j ∷ code) h (suc label) i e = no_call code (or_parts (link.is_call j) (has_call code) h).1
+    label i e
 
 not_then : (b : Bool) → not b ≡ true → b ≡ false
 not_then true e = absurd (false≢true e)
 not_then false e = refl
 
 leaf_code : (b : LinearBody) → link.is_leaf b ≡ true → has_call b.code ≡ false
-leaf_code b e = not_then (has_call b.code) (and_parts (length b.regions == 0) (not (has_call b.code)) (and_parts (nat_le (b.locals + b.temporaries) 4) ((length b.regions == 0) && not (has_call b.code)) e).1).1
+leaf_code b e = not_then (has_call b.code) (and_parts (length b.regions == 0)
+    (not (has_call b.code)) (and_parts (nat_le (b.locals + b.temporaries) 4)
+    ((length b.regions == 0) && not (has_call b.code)) e).1).1
 
 leaf_then : (b : Bool) (fn : LinearFunction) → is_leaf (leaf_if b fn).frame ≡ true → b ≡ true
 leaf_then true fn e = refl
@@ -63,43 +68,65 @@ module _ (program : LinearProgram) (c : HasWholeImage program) where
   abbrev Silent : LinearBody → Type 0
   Silent b = (label : ℕ) (i : Instruction) → slice_get b.code label ≡ Some i → is_call i ≡ false
 
-  function_calls : (f : ℕ) (o : Option LinearFunction) (b : LinearBody) → slice_get program.functions f ≡ o → function_body o ≡ Some b → (plan_of program).leaf (FunctionBody f) ≡ true → Silent b
+  function_calls : (f : ℕ) (o : Option LinearFunction) (b : LinearBody)
+      → slice_get program.functions f ≡ o → function_body o ≡ Some b
+      → (plan_of program).leaf (FunctionBody f) ≡ true → Silent b
   function_calls f None b e h leaf = absurd (none_some h)
   function_calls f (Some fn) b e h leaf = λ label i there. (
       let flag = not (f == program.main) && link.is_leaf fn.body in
-      let is : is_leaf (leaf_if flag fn).frame ≡ true = sym (ap (λ (r : RoutineView). is_leaf r.frame) (is_function program c.fits f fn e).routine) ∙ leaf in
-      let own = (and_parts (not (f == program.main)) (link.is_leaf fn.body) (leaf_then flag fn is)).1 in
-      no_call fn.body.code (leaf_code fn.body own) label i (ap (λ (d : LinearBody). slice_get d.code label) (some_same h) ∙ there))
+      let is : is_leaf (leaf_if flag fn).frame
+        ≡ true = sym (ap (λ (r : RoutineView). is_leaf r.frame)
+          (is_function program c.fits f fn e).routine) ∙ leaf in
+      let own = (and_parts (not (f == program.main)) (link.is_leaf fn.body)
+        (leaf_then flag fn is)).1 in
+      no_call fn.body.code (leaf_code fn.body own) label i
+        (ap (λ (d : LinearBody). slice_get d.code label) (some_same h) ∙ there))
 
-  funclet_calls : (k : ℕ) (o : Option LinearFunclet) (b : LinearBody) → slice_get program.funclets k ≡ o → funclet_body o ≡ Some b → (plan_of program).leaf (FuncletBody k) ≡ true → Silent b
+  funclet_calls : (k : ℕ) (o : Option LinearFunclet) (b : LinearBody)
+      → slice_get program.funclets k ≡ o → funclet_body o ≡ Some b
+      → (plan_of program).leaf (FuncletBody k) ≡ true → Silent b
   funclet_calls k None b e h leaf = absurd (none_some h)
-  funclet_calls k (Some fl) b e h leaf = absurd (false≢true (sym (ap (λ (r : RoutineView). is_leaf r.frame) (is_funclet program c.fits k fl e).routine) ∙ leaf))
+  funclet_calls k (Some fl) b e h leaf = absurd
+      (false≢true (sym (ap (λ (r : RoutineView). is_leaf r.frame)
+      (is_funclet program c.fits k fl e).routine) ∙ leaf))
 
-  calls : (name : BodyName) (b : LinearBody) → body_of program name ≡ Some b → (plan_of program).leaf name ≡ true → Silent b
+  calls : (name : BodyName) (b : LinearBody) → body_of program name ≡ Some b
+      → (plan_of program).leaf name ≡ true → Silent b
   calls (FunctionBody f) b is leaf = function_calls f (slice_get program.functions f) b refl is leaf
   calls (FuncletBody k) b is leaf = funclet_calls k (slice_get program.funclets k) b refl is leaf
 
 pub leaves_call_nothing : LeavesCallNothing
-leaves_call_nothing program c name b label i is leaf there = calls program c name b is leaf label i there
+leaves_call_nothing program c name b label i is leaf there = calls program c name b is leaf label i
+    there
 
 -- ---- functions and funclets
 
 module _ (program : LinearProgram) (c : HasWholeImage program) where
-  below : (f : ℕ) (o : Option LinearFunction) (b : LinearBody) → slice_get program.functions f ≡ o → function_body o ≡ Some b → f < length program.functions
+  below : (f : ℕ) (o : Option LinearFunction) (b : LinearBody) → slice_get program.functions f ≡ o
+      → function_body o ≡ Some b → f < length program.functions
   below f None b e h = absurd (none_some h)
   below f (Some fn) b e h = slice_get_within program.functions f fn e
 
-  function_at : (f : ℕ) (o : Option LinearFunction) (b : LinearBody) → slice_get program.functions f ≡ o → function_body o ≡ Some b → address_or (site_of program).functions f 0 ≡ get_or (bounds (first program.globals) (routines program)) f 0
+  function_at : (f : ℕ) (o : Option LinearFunction) (b : LinearBody)
+      → slice_get program.functions f ≡ o → function_body o ≡ Some b
+      → address_or (site_of program).functions f 0
+      ≡ get_or (bounds (first program.globals) (routines program)) f 0
   function_at f None b e h = absurd (none_some h)
   function_at f (Some fn) b e h = let g = is_function program c.fits f fn e in g.begin ∙ g.bound
 
-  own_size : (f : ℕ) (o : Option LinearFunction) (b : LinearBody) → slice_get program.functions f ≡ o → function_body o ≡ Some b → (routine_of program (FunctionBody f)).routine ≡ get_or (routines program) f no_routine
+  own_size : (f : ℕ) (o : Option LinearFunction) (b : LinearBody)
+      → slice_get program.functions f ≡ o → function_body o ≡ Some b
+      → (routine_of program (FunctionBody f)).routine ≡ get_or (routines program) f no_routine
   own_size f None b e h = absurd (none_some h)
   own_size f (Some fn) b e h = (is_function program c.fits f fn e).own
 
-  pub apart : (f k : ℕ) (b : LinearBody) → body_of program (FunctionBody f) ≡ Some b → 0 < length b.code → k < length program.funclets → image_base + address_or (site_of program).functions f 0 ≢ image_base + funclet_begin program k
+  pub apart : (f k : ℕ) (b : LinearBody) → body_of program (FunctionBody f) ≡ Some b
+      → 0 < length b.code → k < length program.funclets
+      → image_base + address_or (site_of program).functions f 0
+        ≢ image_base + funclet_begin program k
   apart f k b is some lt e =
-      let q : image_base + address_or (site_of program).functions f 0 ≡ image_base + funclet_begin program k = e in
+      let q : image_base + address_or (site_of program).functions f 0
+        ≡ image_base + funclet_begin program k = e in
       let fits = c.fits in
       let rs = routines program in
       let x = routine_of program (FunctionBody f) in
@@ -112,7 +139,8 @@ module _ (program : LinearProgram) (c : HasWholeImage program) where
       let begin = begin_is program fits k in
       let size = ap (λ (r : RoutineView). routine_size r) (own_size f o b refl is) in
       let more = label_below program c (FunctionBody f) b is 0 (omega arith) in
-      let r = bounds_rise (first program.globals) rs f (length program.functions + k) 0 no_routine (omega arith) (omega arith) in
+      let r = bounds_rise (first program.globals) rs f (length program.functions + k) 0 no_routine
+        (omega arith) (omega arith) in
       omega arith
 
 pub functions_apart : FunctionsApart

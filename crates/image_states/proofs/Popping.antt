@@ -33,78 +33,114 @@ use Rattle.x64_code.specs.Near.{IsNear}
 up_by : ℕ → List ℕ → ℕ → Answer Context
 up_by x ks v = Ok (rsp_raised (record { rip = v; kept = x ∷ ks }) 8)
 
-popped_above : (m : Memory) (rip : ℕ) (kept : List ℕ) (n back : ℕ) → 0 < length kept → slice_index kept 0 + n + 8 < 2 ^ 64 → word m (slice_index kept 0 + n) ≡ Ok back
-    → popped m (rsp_raised (record { rip = rip; kept = kept }) n) ≡ Ok (record { rip = back; kept = slice_set kept 0 (slice_index kept 0 + n + 8) })
+popped_above : (m : Memory) (rip : ℕ) (kept : List ℕ) (n back : ℕ) → 0 < length kept
+    → slice_index kept 0 + n + 8 < 2 ^ 64 → word m (slice_index kept 0 + n) ≡ Ok back
+    → popped m (rsp_raised (record { rip = rip; kept = kept }) n)
+    ≡ Ok (record { rip = back; kept = slice_set kept 0 (slice_index kept 0 + n + 8) })
 unfolding up_by
 popped_above m rip [] n back lt room w = absurd (omega arith)
 popped_above m rip (k ∷ ks) n back lt room w =
     let e : (k + n) % 2 ^ 64 ≡ k + n = omega arith in
     let f : ((k + n) % 2 ^ 64 + 8) % 2 ^ 64 ≡ k + n + 8 = omega arith in
-    ap (λ (o : Answer ℕ). o >>= up_by ((k + n) % 2 ^ 64) ks) (ap (word m) e ∙ w) ∙ ap (λ x. Ok (record { rip = back; kept = x ∷ ks })) f
+    ap (λ (o : Answer ℕ). o >>= up_by ((k + n) % 2 ^ 64) ks) (ap (word m) e ∙ w)
+      ∙ ap (λ x. Ok (record { rip = back; kept = x ∷ ks })) f
 
-popped_here : (m : Memory) (rip : ℕ) (kept : List ℕ) (back : ℕ) → 0 < length kept → slice_index kept 0 + 0 + 8 < 2 ^ 64 → word m (slice_index kept 0 + 0) ≡ Ok back
-    → popped m (record { rip = rip; kept = kept }) ≡ Ok (record { rip = back; kept = slice_set kept 0 (slice_index kept 0 + 0 + 8) })
+popped_here : (m : Memory) (rip : ℕ) (kept : List ℕ) (back : ℕ) → 0 < length kept
+    → slice_index kept 0 + 0 + 8 < 2 ^ 64 → word m (slice_index kept 0 + 0) ≡ Ok back
+    → popped m (record { rip = rip; kept = kept })
+    ≡ Ok (record { rip = back; kept = slice_set kept 0 (slice_index kept 0 + 0 + 8) })
 unfolding up_by
 popped_here m rip [] back lt room w = absurd (omega arith)
 popped_here m rip (k ∷ ks) back lt room w =
     let e : k ≡ k + 0 = omega arith in
     let f : (k + 8) % 2 ^ 64 ≡ k + 0 + 8 = omega arith in
-    ap (λ (o : Answer ℕ). o >>= up_by k ks) (ap (word m) e ∙ w) ∙ ap (λ x. Ok (record { rip = back; kept = x ∷ ks })) f
+    ap (λ (o : Answer ℕ). o >>= up_by k ks) (ap (word m) e ∙ w)
+      ∙ ap (λ x. Ok (record { rip = back; kept = x ∷ ks })) f
 
 -- ---- a step of the walk
 
-module _ (t : Functions) (m : Memory) (rip : ℕ) (live : 0 < rip) (not_filter : rip ≢ filter_return) (not_finally : rip ≢ finally_return) where
+module _ (t : Functions) (m : Memory) (rip : ℕ) (live : 0 < rip) (not_filter : rip ≢ filter_return)
+    (not_finally : rip ≢ finally_return) where
   -- no entry asks there
-  visits : (c k : Context) (a : Answer Context) → c.rip ≡ rip → of_entry m c (distance t.base c.rip) (entry_of t c.rip) ≡ found (rsp c) None a → a ≡ Ok k → rsp c < rsp k → HasCaller t m c k
+  visits : (c k : Context) (a : Answer Context) → c.rip ≡ rip
+      → of_entry m c (distance t.base c.rip) (entry_of t c.rip) ≡ found (rsp c) None a → a ≡ Ok k
+      → rsp c < rsp k → HasCaller t m c k
   unfolding visited caller_in
   visits c k a at e is up =
       let f : CallerFrame = record { frame = rsp c; context = k; asked = None } in
       let w = state c 0 in
-      let called : caller_in t m c ≡ Ok f = ap (λ (r : Answer CallerFrame). r >>= rising c) (e ∙ ap (found (rsp c) None) is) ∙ ap (risen c f) (lt-ltb (rsp c) (rsp k) up) in
+      let called : caller_in t m c ≡ Ok f = ap (λ (r : Answer CallerFrame). r >>= rising c)
+        (e ∙ ap (found (rsp c) None) is) ∙ ap (risen c f) (lt-ltb (rsp c) (rsp k) up) in
       record {
         frame = f;
-        visits = ap (if_over t m w) (ne_eqb c.rip 0 (λ z. (let q : c.rip ≡ 0 = z in absurd (omega arith))))
-            ∙ ap (if_filter t m w) (ne_eqb c.rip filter_return (λ z. absurd (not_filter (sym at ∙ z))))
-            ∙ ap (if_finally t m w) (ne_eqb c.rip finally_return (λ z. absurd (not_finally (sym at ∙ z))))
+        visits = ap (if_over t m w) (ne_eqb c.rip 0
+          (λ z. (let q : c.rip ≡ 0 = z in absurd (omega arith))))
+            ∙ ap (if_filter t m w) (ne_eqb c.rip filter_return
+              (λ z. absurd (not_filter (sym at ∙ z))))
+            ∙ ap (if_finally t m w) (ne_eqb c.rip finally_return
+              (λ z. absurd (not_finally (sym at ∙ z))))
             ∙ ap framed called;
         context = refl;
       }
 
-  risen_by : (c : Context) (size back : ℕ) → length c.kept ≡ 9 → rsp c < rsp (caller_above c size back)
-  risen_by c size back nine = let up = set_head c.kept (rsp c + size + 8) (omega arith) in omega arith
+  risen_by : (c : Context) (size back : ℕ) → length c.kept ≡ 9
+      → rsp c < rsp (caller_above c size back)
+  risen_by c size back nine = let up = set_head c.kept (rsp c + size + 8) (omega arith) in
+      omega arith
 
   -- where the return address at RSP is popped
-  pub by_popping : ((c : Context) → c.rip ≡ rip → of_entry m c (distance t.base c.rip) (entry_of t c.rip) ≡ found (rsp c) None (popped m c)) → FindsReturn t m rip 0
-  by_popping e c back at nine room w = visits c (caller_above c 0 back) (popped m c) at (e c at) (popped_here m c.rip c.kept back (omega arith) room w) (risen_by c 0 back nine)
+  pub by_popping : ((c : Context) → c.rip ≡ rip
+      → of_entry m c (distance t.base c.rip) (entry_of t c.rip) ≡ found (rsp c) None (popped m c))
+      → FindsReturn t m rip 0
+  by_popping e c back at nine room w = visits c (caller_above c 0 back) (popped m c) at (e c at)
+      (popped_here m c.rip c.kept back (omega arith) room w) (risen_by c 0 back nine)
 
   -- where a return alone is left of an epilogue
-  pub by_return : ((c : Context) → c.rip ≡ rip → of_entry m c (distance t.base c.rip) (entry_of t c.rip) ≡ found (rsp c) None (left m (instrs.Return ∷ []) c)) → FindsReturn t m rip 0
+  pub by_return : ((c : Context) → c.rip ≡ rip
+      → of_entry m c (distance t.base c.rip) (entry_of t c.rip)
+      ≡ found (rsp c) None (left m (instrs.Return ∷ []) c)) → FindsReturn t m rip 0
   by_return e c back at nine room w =
-      visits c (caller_above c 0 back) (left m (instrs.Return ∷ []) c) at (e c at) (ap (λ (a : Answer Context). a >>= left m []) (popped_here m c.rip c.kept back (omega arith) room w)) (risen_by c 0 back nine)
+      visits c (caller_above c 0 back) (left m (instrs.Return ∷ []) c) at (e c at)
+        (ap (λ (a : Answer Context). a >>= left m [])
+        (popped_here m c.rip c.kept back (omega arith) room w)) (risen_by c 0 back nine)
 
   -- where the whole of it is left
-  pub by_epilogue : (n : ℕ) → ((c : Context) → c.rip ≡ rip → of_entry m c (distance t.base c.rip) (entry_of t c.rip) ≡ found (rsp c) None (left m (give_back n ∷ instrs.Return ∷ []) c)) → FindsReturn t m rip n
+  pub by_epilogue : (n : ℕ) → ((c : Context) → c.rip ≡ rip
+      → of_entry m c (distance t.base c.rip) (entry_of t c.rip)
+      ≡ found (rsp c) None (left m (give_back n ∷ instrs.Return ∷ []) c)) → FindsReturn t m rip n
   by_epilogue n e c back at nine room w =
-      visits c (caller_above c n back) (left m (give_back n ∷ instrs.Return ∷ []) c) at (e c at) (ap (λ (a : Answer Context). a >>= left m []) (popped_above m c.rip c.kept n back (omega arith) room w)) (risen_by c n back nine)
+      visits c (caller_above c n back) (left m (give_back n ∷ instrs.Return ∷ []) c) at (e c at)
+        (ap (λ (a : Answer Context). a >>= left m [])
+        (popped_above m c.rip c.kept n back (omega arith) room w)) (risen_by c n back nine)
 
 -- where a frame is
 pub by_frame : (t : Functions) (m : Memory) (rip size : ℕ)
-    → ((c : Context) (back : ℕ) → c.rip ≡ rip → length c.kept ≡ 9 → rsp c + size + 8 < 2 ^ 64 → word m (rsp c + size) ≡ Ok back → (entry : Entry) × (offset : ℕ) × FrameIsAt t m c (record { entry = entry; size = size; offset = offset; return_address = back }))
+    → ((c : Context) (back : ℕ) → c.rip ≡ rip → length c.kept ≡ 9 → rsp c + size + 8 < 2 ^ 64
+    → word m (rsp c + size) ≡ Ok back → (entry : Entry) × (offset : ℕ)
+    × FrameIsAt t m c (record { entry = entry; size = size; offset = offset;
+      return_address = back }))
     → FindsReturn t m rip size
 by_frame t m rip size h c back at nine room w =
     let s = h c back at nine room w in
-    record { frame = _; visits = frame_is_visited t m c 0 (record { entry = s.0; size = size; offset = s.1; return_address = back }) s.2; context = refl }
+    record { frame = _; visits = frame_is_visited t m c 0
+      (record { entry = s.0; size = size; offset = s.1; return_address = back }) s.2;
+      context = refl }
 
 -- ---- what is left of an epilogue
 
-return_tail : (m : Memory) (at j : ℕ) (first : Bool) → IsExecutableAt m at (chosen instrs.Return) → at + 15 < 2 ^ 63 → tail (suc j) first 0 m at ≡ Some (instrs.Return ∷ [])
-return_tail m at j first is_there lt = tail-more (suc j) j first 0 m at (spell instrs.Return) (omega arith) (items_are_at m at (instrs.Return ∷ []) refl (omega arith) is_there).0
+return_tail : (m : Memory) (at j : ℕ) (first : Bool) → IsExecutableAt m at (chosen instrs.Return)
+    → at + 15 < 2 ^ 63 → tail (suc j) first 0 m at ≡ Some (instrs.Return ∷ [])
+return_tail m at j first is_there lt = tail-more (suc j) j first 0 m at (spell instrs.Return)
+    (omega arith) (items_are_at m at (instrs.Return ∷ []) refl (omega arith) is_there).0
 
-pub at_return : (m : Memory) (at : ℕ) → IsExecutableAt m at (chosen instrs.Return) → at + 15 < 2 ^ 63 → tail_at 0 m at ≡ Some (instrs.Return ∷ [])
+pub at_return : (m : Memory) (at : ℕ) → IsExecutableAt m at (chosen instrs.Return)
+    → at + 15 < 2 ^ 63 → tail_at 0 m at ≡ Some (instrs.Return ∷ [])
 unfolding tail_at
 at_return m at is_there lt = return_tail m at 0xFFFF_FFFF_FFFF_FFFE true is_there lt
 
-pub at_epilogue : (m : Memory) (at n : ℕ) → IsNear n → IsExecutableAt m at (chosen (give_back n)) → IsExecutableAt m (at + length (chosen (give_back n))) (chosen instrs.Return) → at + 30 < 2 ^ 63 → tail_at 0 m at ≡ Some (give_back n ∷ instrs.Return ∷ [])
+pub at_epilogue : (m : Memory) (at n : ℕ) → IsNear n → IsExecutableAt m at (chosen (give_back n))
+    → IsExecutableAt m (at + length (chosen (give_back n))) (chosen instrs.Return)
+    → at + 30 < 2 ^ 63 → tail_at 0 m at ≡ Some (give_back n ∷ instrs.Return ∷ [])
 unfolding tail_at
 at_epilogue m at n small is_there more lt =
     let i = give_back n in
@@ -113,6 +149,9 @@ at_epilogue m at n small is_there more lt =
     let l = ap length one in
     let enc = and_from (is_encodable i) true (signed n small) refl in
     let wraps : (at + length (chosen i)) % 2 ^ 64 ≡ at + length (chosen i) = omega arith in
-    tail-more 0xFFFF_FFFF_FFFF_FFFF 0xFFFF_FFFF_FFFF_FFFE true 0 m at (spell i) (omega arith) (items_are_at m at (i ∷ []) enc (omega arith) (subst (IsExecutableAt m at) (sym one) is_there)).0
+    tail-more 0xFFFF_FFFF_FFFF_FFFF 0xFFFF_FFFF_FFFF_FFFE true 0 m at (spell i) (omega arith)
+      (items_are_at m at (i ∷ []) enc (omega arith)
+      (subst (IsExecutableAt m at) (sym one) is_there)).0
     ∙ ap (λ a. prepend_instr i (tail 0xFFFF_FFFF_FFFF_FFFE false 0 m a)) wraps
-    ∙ ap (prepend_instr i) (return_tail m (at + length (chosen i)) 0xFFFF_FFFF_FFFF_FFFD false more (omega arith))
+    ∙ ap (prepend_instr i) (return_tail m (at + length (chosen i)) 0xFFFF_FFFF_FFFF_FFFD false more
+      (omega arith))

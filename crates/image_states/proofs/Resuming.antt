@@ -37,14 +37,16 @@ is_some_of o v e = ap (λ (q : Option ℕ). is_some q v) e ∙ eq-eqb v v refl
 ready_is : (o : Operation) (v : MachineView) → is_ready o v ≡ true → IsReady o v
 ready_is (operations.Pure p) v e = tt
 ready_is (operations.Divide s z) v e = eqb-true (low (width z) v.rdx) (high_of s (width z) v.rax) e
-ready_is (operations.Remainder s z) v e = eqb-true (low (width z) v.rdx) (high_of s (width z) v.rax) e
+ready_is (operations.Remainder s z) v e = eqb-true (low (width z) v.rdx) (high_of s (width z) v.rax)
+    e
 ready_is (operations.Load w) v e = tt
 ready_is (operations.Store w) v e = tt
 
 is_ready_of : (o : Operation) (v : MachineView) → IsReady o v → is_ready o v ≡ true
 is_ready_of (operations.Pure p) v e = refl
 is_ready_of (operations.Divide s z) v e = eq-eqb (low (width z) v.rdx) (high_of s (width z) v.rax) e
-is_ready_of (operations.Remainder s z) v e = eq-eqb (low (width z) v.rdx) (high_of s (width z) v.rax) e
+is_ready_of (operations.Remainder s z) v e = eq-eqb (low (width z) v.rdx)
+    (high_of s (width z) v.rax) e
 is_ready_of (operations.Load w) v e = refl
 is_ready_of (operations.Store w) v e = refl
 
@@ -59,22 +61,27 @@ module _ (program : LinearProgram) (b : Frame) (saved : Cpu) where
   here = instruction_in (body_of program b.body) b.next
 
   abbrev Returns : Type 0
-  Returns = ReturnsThere (functions_of program) (funclets_of program) program (plan_of program) (sites_of program) b saved
+  Returns = ReturnsThere (functions_of program) (funclets_of program) program (plan_of program)
+      (sites_of program) b saved
 
   abbrev Works : Type 0
-  Works = WorksAgain (functions_of program) (funclets_of program) program (plan_of program) (sites_of program) b saved
+  Works = WorksAgain (functions_of program) (funclets_of program) program (plan_of program)
+      (sites_of program) b saved
 
   -- ---- after a call
 
   returns_says : Returns → returns_there y at saved here ≡ true
   returns_says h =
       ap (returns_there y at saved) h.calls
-      ∙ and_from (saved.rip == return_at y h.first (at + 5)) (register saved Rax == 0) (eq-eqb saved.rip (return_at y h.first (at + 5)) h.here) (eq-eqb (register saved Rax) 0 h.no_result)
+      ∙ and_from (saved.rip == return_at y h.first (at + 5)) (register saved Rax == 0)
+        (eq-eqb saved.rip (return_at y h.first (at + 5)) h.here)
+        (eq-eqb (register saved Rax) 0 h.no_result)
 
   returns_said : (o : Option Instruction) → here ≡ o → returns_there y at saved o ≡ true → Returns
   returns_said (Some (instructions.CallBuiltIn RaiseException first)) e t =
       let p = and_parts (saved.rip == return_at y first (at + 5)) (register saved Rax == 0) t in
-      record { first = first; calls = e; here = eqb-true saved.rip (return_at y first (at + 5)) p.0; no_result = eqb-true (register saved Rax) 0 p.1 }
+      record { first = first; calls = e; here = eqb-true saved.rip (return_at y first (at + 5)) p.0;
+        no_result = eqb-true (register saved Rax) 0 p.1 }
   returns_said o e t = absurd (false≢true t)
 
   -- ---- at the instruction that faulted
@@ -86,15 +93,21 @@ module _ (program : LinearProgram) (b : Frame) (saved : Cpu) where
   works_says h =
       let o = h.operation in
       ap (works_again y at b.temporaries saved) h.works
-      ∙ and_from (saved.rip == place o h.first h.second) _ (eq-eqb saved.rip (place o h.first h.second) h.here)
-      (and_from (is_some (slice_get b.temporaries h.first) (register saved Rax)) _ (is_some_of (slice_get b.temporaries h.first) (register saved Rax) h.has_first)
-      (and_from (is_some (slice_get b.temporaries h.second) (register saved Rcx)) (is_ready o (view_of saved)) (is_some_of (slice_get b.temporaries h.second) (register saved Rcx) h.has_second) (is_ready_of o (view_of saved) h.ready)))
+      ∙ and_from (saved.rip == place o h.first h.second) _
+        (eq-eqb saved.rip (place o h.first h.second) h.here)
+      (and_from (is_some (slice_get b.temporaries h.first) (register saved Rax)) _
+        (is_some_of (slice_get b.temporaries h.first) (register saved Rax) h.has_first)
+      (and_from (is_some (slice_get b.temporaries h.second) (register saved Rcx))
+        (is_ready o (view_of saved)) (is_some_of (slice_get b.temporaries h.second)
+        (register saved Rcx) h.has_second) (is_ready_of o (view_of saved) h.ready)))
 
-  works_said : (o : Option Instruction) → here ≡ o → works_again y at b.temporaries saved o ≡ true → Works
+  works_said : (o : Option Instruction) → here ≡ o → works_again y at b.temporaries saved o ≡ true
+      → Works
   works_said (Some (instructions.Compute to o (Temporary first) (Temporary second))) e t =
       let has = is_some (slice_get b.temporaries first) (register saved Rax) in
       let has' = is_some (slice_get b.temporaries second) (register saved Rcx) in
-      let p = and_parts (saved.rip == place o first second) (has && (has' && is_ready o (view_of saved))) t in
+      let p = and_parts (saved.rip == place o first second)
+        (has && (has' && is_ready o (view_of saved))) t in
       let q = and_parts has (has' && is_ready o (view_of saved)) p.1 in
       let r = and_parts has' (is_ready o (view_of saved)) q.1 in
       record {
@@ -110,6 +123,8 @@ module _ (program : LinearProgram) (b : Frame) (saved : Cpu) where
       }
   works_said o e t = absurd (false≢true t)
 
-  pub resumptions : (resumption : Resumption) → SaysResumptions (functions_of program) (funclets_of program) program (plan_of program) (sites_of program) resumption b saved
+  pub resumptions : (resumption : Resumption)
+      → SaysResumptions (functions_of program) (funclets_of program) program (plan_of program)
+        (sites_of program) resumption b saved
   resumptions AfterCall = record { says = returns_says; said = returns_said here refl }
   resumptions SameOperation = record { says = works_says; said = works_said here refl }

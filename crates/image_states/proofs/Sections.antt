@@ -15,30 +15,41 @@ use Rattle.host_model.specs.Loading.{covers, or_else, section_of, byte_in, with_
 
 -- ---- which section
 
-pub covered : (base a : ℕ) (s : Section) → base + s.address ≤ a → a < base + s.address + pages s.size → covers base a s ≡ true
-covered base a s le lt = and_from (leb (base + s.address) a) (ltb a (base + s.address + pages s.size)) (le-leb (base + s.address) a le) (lt-ltb a (base + s.address + pages s.size) lt)
+pub covered : (base a : ℕ) (s : Section) → base + s.address ≤ a
+    → a < base + s.address + pages s.size → covers base a s ≡ true
+covered base a s le lt = and_from (leb (base + s.address) a)
+    (ltb a (base + s.address + pages s.size)) (le-leb (base + s.address) a le)
+    (lt-ltb a (base + s.address + pages s.size) lt)
 
 pub below : (base a : ℕ) (s : Section) → a < base + s.address → covers base a s ≡ false
-below base a s lt = and_left (leb (base + s.address) a) (ltb a (base + s.address + pages s.size)) (lt-leb (base + s.address) a lt)
+below base a s lt = and_left (leb (base + s.address) a) (ltb a (base + s.address + pages s.size))
+    (lt-leb (base + s.address) a lt)
 
-pub above : (base a : ℕ) (s : Section) → base + s.address + pages s.size ≤ a → covers base a s ≡ false
-above base a s le = and_right (leb (base + s.address) a) (ltb a (base + s.address + pages s.size)) (le-ltb a (base + s.address + pages s.size) le)
+pub above : (base a : ℕ) (s : Section) → base + s.address + pages s.size ≤ a
+    → covers base a s ≡ false
+above base a s le = and_right (leb (base + s.address) a) (ltb a (base + s.address + pages s.size))
+    (le-ltb a (base + s.address + pages s.size) le)
 
-pub here : (base a : ℕ) (s : Section) (ss : List Section) → covers base a s ≡ true → section_of base a (s ∷ ss) ≡ Some s
+pub here : (base a : ℕ) (s : Section) (ss : List Section) → covers base a s ≡ true
+    → section_of base a (s ∷ ss) ≡ Some s
 here base a s ss e = ap (or_else (section_of base a ss) s) e
 
-pub past : (base a : ℕ) (s : Section) (ss : List Section) → covers base a s ≡ false → section_of base a (s ∷ ss) ≡ section_of base a ss
+pub past : (base a : ℕ) (s : Section) (ss : List Section) → covers base a s ≡ false
+    → section_of base a (s ∷ ss) ≡ section_of base a ss
 past base a s ss e = ap (or_else (section_of base a ss) s) e
 
 -- ---- what holds of all sections
 
-or_else_has : (P : Option Section → Type 0) (o : Option Section) (s : Section) (b : Bool) → P o → P (Some s) → P (or_else o s b)
+or_else_has : (P : Option Section → Type 0) (o : Option Section) (s : Section) (b : Bool) → P o
+    → P (Some s) → P (or_else o s b)
 or_else_has P o s true h k = k
 or_else_has P o s false h k = h
 
-pub of_section : (P : Option Section → Type 0) (base a : ℕ) (ss : List Section) → P None → AllByRecursion (λ (s : Section). P (Some s)) ss → P (section_of base a ss)
+pub of_section : (P : Option Section → Type 0) (base a : ℕ) (ss : List Section) → P None
+    → AllByRecursion (λ (s : Section). P (Some s)) ss → P (section_of base a ss)
 of_section P base a [] none all = none
-of_section P base a (s ∷ ss) none all = or_else_has P (section_of base a ss) s (covers base a s) (of_section P base a ss none all.1) all.0
+of_section P base a (s ∷ ss) none all = or_else_has P (section_of base a ss) s (covers base a s)
+    (of_section P base a ss none all.1) all.0
 
 -- ---- bytes
 
@@ -59,14 +70,19 @@ byte_small [] (suc i) h = omega arith
 byte_small (x ∷ xs) zero h = h.0
 byte_small (x ∷ xs) (suc i) h = byte_small xs i h.1
 
-pub stored_small : (base a : ℕ) (ss : List Section) → AllByRecursion (λ (s : Section). AllBytes s.raw) ss → byte_in base (section_of base a ss) a < 256
-stored_small base a ss all = of_section (λ (o : Option Section). byte_in base o a < 256) base a ss (omega arith) (each ss all)
+pub stored_small : (base a : ℕ) (ss : List Section)
+    → AllByRecursion (λ (s : Section). AllBytes s.raw) ss
+    → byte_in base (section_of base a ss) a < 256
+stored_small base a ss all = of_section (λ (o : Option Section). byte_in base o a < 256) base a ss
+    (omega arith) (each ss all)
   where
-    each : (qs : List Section) → AllByRecursion (λ (s : Section). AllBytes s.raw) qs → AllByRecursion (λ (s : Section). byte_in base (Some s) a < 256) qs
+    each : (qs : List Section) → AllByRecursion (λ (s : Section). AllBytes s.raw) qs
+      → AllByRecursion (λ (s : Section). byte_in base (Some s) a < 256) qs
     each [] h = tt
     each (q ∷ qs) h = (byte_small q.raw (a - (base + q.address)) h.0, each qs h.1)
 
-number_small : (byte : ℕ → ℕ) (n at v : ℕ) → ((a : ℕ) → byte a < 256) → (a : ℕ) → with_number byte n at v a < 256
+number_small : (byte : ℕ → ℕ) (n at v : ℕ) → ((a : ℕ) → byte a < 256) → (a : ℕ)
+    → with_number byte n at v a < 256
 unfolding with_number
 number_small byte n at v h a = go (is_among n at a)
   where
@@ -74,23 +90,31 @@ number_small byte n at v h a = go (is_among n at a)
     go true = omega arith
     go false = h a
 
-address_small : (byte : ℕ → ℕ) (at : ℕ) (o : Option Service) → ((a : ℕ) → byte a < 256) → (a : ℕ) → with_address byte at o a < 256
+address_small : (byte : ℕ → ℕ) (at : ℕ) (o : Option Service) → ((a : ℕ) → byte a < 256) → (a : ℕ)
+    → with_address byte at o a < 256
 address_small byte at None h a = h a
 address_small byte at (Some s) h a = number_small byte 8 at (address_of s) h a
 
-pub slots_small : (base : ℕ) (byte : ℕ → ℕ) (is : List Import) → ((a : ℕ) → byte a < 256) → (a : ℕ) → with_slots base byte is a < 256
+pub slots_small : (base : ℕ) (byte : ℕ → ℕ) (is : List Import) → ((a : ℕ) → byte a < 256) → (a : ℕ)
+    → with_slots base byte is a < 256
 slots_small base byte [] h a = h a
-slots_small base byte (i ∷ is) h a = slots_small base (with_address byte (base + i.slot) (service_named i.name)) is (address_small byte (base + i.slot) (service_named i.name) h) a
+slots_small base byte (i ∷ is) h a = slots_small base
+    (with_address byte (base + i.slot) (service_named i.name)) is
+    (address_small byte (base + i.slot) (service_named i.name) h) a
 
 -- ---- addresses past the last one
 
-address_past : (byte : ℕ → ℕ) (at a : ℕ) (o : Option Service) → 2 ^ 64 ≤ a → with_address byte at o a ≡ byte a
+address_past : (byte : ℕ → ℕ) (at a : ℕ) (o : Option Service) → 2 ^ 64 ≤ a
+    → with_address byte at o a ≡ byte a
 address_past byte at a None le = refl
 address_past byte at a (Some s) le = outside byte 8 at (address_of s) a le
 
-pub slots_past : (base : ℕ) (byte : ℕ → ℕ) (a : ℕ) (is : List Import) → 2 ^ 64 ≤ a → with_slots base byte is a ≡ byte a
+pub slots_past : (base : ℕ) (byte : ℕ → ℕ) (a : ℕ) (is : List Import) → 2 ^ 64 ≤ a
+    → with_slots base byte is a ≡ byte a
 slots_past base byte a [] le = refl
-slots_past base byte a (i ∷ is) le = slots_past base (with_address byte (base + i.slot) (service_named i.name)) a is le ∙ address_past byte (base + i.slot) a (service_named i.name) le
+slots_past base byte a (i ∷ is) le = slots_past base
+    (with_address byte (base + i.slot) (service_named i.name)) a is le
+    ∙ address_past byte (base + i.slot) a (service_named i.name) le
 
 -- ---- zeros after a list
 

@@ -21,11 +21,14 @@ use Rattle.image_states.proofs.Data.{globals, text, tables, infos, functions, ag
 use Rattle.image_states.proofs.CodePlaced.{has_program}
 
 pub images_start : ImagesStart
-images_start program c bytes = record { data_alone = data_alone program c bytes; agrees = agrees program c; stack = stack_writes program c; arena = arena_alone program c; code = has_program program c }
+images_start program c bytes = record { data_alone = data_alone program c bytes;
+    agrees = agrees program c; stack = stack_writes program c; arena = arena_alone program c;
+    code = has_program program c }
 
 -- ---- the load
 
-none_of : (t p i e : Option LoadErr) → t ≡ None → p ≡ None → i ≡ None → e ≡ None → first_of (t ∷ p ∷ i ∷ e ∷ []) ≡ None
+none_of : (t p i e : Option LoadErr) → t ≡ None → p ≡ None → i ≡ None → e ≡ None
+    → first_of (t ∷ p ∷ i ∷ e ∷ []) ≡ None
 none_of t p i e h1 h2 h3 h4 = rw (h1, h2, h3, h4) refl
 
 module _ (program : LinearProgram) (c : HasWholeImage program) where
@@ -43,7 +46,8 @@ module _ (program : LinearProgram) (c : HasWholeImage program) where
       rw (size, below) refl
 
   known : import_refusal image ≡ None
-  known = ap (λ (is : List Import). option_map refusals.Import (first_unknown is)) (listed p (is program c.fits))
+  known = ap (λ (is : List Import). option_map refusals.Import (first_unknown is))
+      (listed p (is program c.fits))
 
   entered : has_entry image ≡ true
   entered =
@@ -51,12 +55,17 @@ module _ (program : LinearProgram) (c : HasWholeImage program) where
       let w = d.whole in
       let e = d.entry in
       ap is_code
-      (past 0 image.entry (globals program c) (text program c ∷ tables program c ∷ infos program c ∷ functions program c ∷ []) (above 0 image.entry (globals program c) (omega arith))
-      ∙ here 0 image.entry (text program c) (tables program c ∷ infos program c ∷ functions program c ∷ []) (covered 0 image.entry (text program c) (omega arith) (omega arith)))
+      (past 0 image.entry (globals program c)
+        (text program c ∷ tables program c ∷ infos program c ∷ functions program c ∷ [])
+        (above 0 image.entry (globals program c) (omega arith))
+      ∙ here 0 image.entry (text program c) (tables program c ∷ infos program c
+      ∷ functions program c ∷ []) (covered 0 image.entry (text program c) (omega arith)
+        (omega arith)))
 
   pub loads : load_refusal image ≡ None
   loads =
-      none_of (table_refusal image) (place_refusal image) (import_refusal image) (entry_refusal image)
+      none_of (table_refusal image) (place_refusal image) (import_refusal image)
+        (entry_refusal image)
       (ap (λ (t : Table (List Entry)). of_tables t) (tables_are_read program c.fits c.ranges))
       (ap (λ (b : Bool). reason_unless b (refusals.Place image.base)) placed)
       known

@@ -45,7 +45,11 @@ code_blind (KeptIn x) d h = tt
 not_allowed : false ≡ true → ⊥
 not_allowed e = cc
 
-pub expression_blind : (program : Program) (own : ℕ) (names : Names) → IsOutside names.exception → (e : Expression) (d at : ℕ) → ExpressionFits program own false e → AllBlind (expression_code names e d at)
+pub expression_blind : (program : Program) (own : ℕ) (names : Names) → IsOutside names.exception
+    → (e : Expression) (d at : ℕ) → ExpressionFits program own false e
+    → AllBlind (expression_code names e d at)
 expression_blind program own names outside e d at f =
     expression_every IsBlind operations_blind program own false names
-    (record { of_call = λ g first count h. tt; of_built_in = λ k first. tt; of_code = λ first. code_blind names.exception first outside; of_information = λ field to h. absurd (not_allowed h) }) e d at f
+    (record { of_call = λ g first count h. tt; of_built_in = λ k first. tt;
+      of_code = λ first. code_blind names.exception first outside;
+      of_information = λ field to h. absurd (not_allowed h) }) e d at f

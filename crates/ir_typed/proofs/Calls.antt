@@ -25,7 +25,9 @@ combined : (o : Operation) (d : ℕ) → ReadsWell o (Temporary d) (Temporary (d
 combined (operations.Pure p) d = tt
 combined o d = (tt, tt)
 
-module _ (program : Program) (linear : LinearProgram) (callee : (f count : ℕ) → IsCalled program f count → IsCallee linear f count) (name : BodyName) where
+module _ (program : Program) (linear : LinearProgram)
+    (callee : (f count : ℕ) → IsCalled program f count → IsCallee linear f count) (name : BodyName)
+    where
   abbrev pub AllCall : List Instruction → Type 0
   AllCall code = AllByRecursion (IsInstructionOf linear name) code
 
@@ -49,7 +51,9 @@ module _ (program : Program) (linear : LinearProgram) (callee : (f count : ℕ) 
   code_calls OfFilter d = tt
   code_calls (KeptIn x) d = tt
 
-  pub expression_calls : (own : ℕ) (info : Bool) (names : Names) (e : Expression) (d at : ℕ) → ExpressionFits program own info e → AllCall (expression_code names e d at)
+  pub expression_calls : (own : ℕ) (info : Bool) (names : Names) (e : Expression) (d at : ℕ)
+      → ExpressionFits program own info e → AllCall (expression_code names e d at)
   expression_calls own info names e d at f =
       expression_every (IsInstructionOf linear name) operations_call program own info names
-      (record { of_call = λ g first count h. callee g count h; of_built_in = λ k first. tt; of_code = code_calls names.exception; of_information = λ field to h. tt }) e d at f
+      (record { of_call = λ g first count h. callee g count h; of_built_in = λ k first. tt;
+        of_code = code_calls names.exception; of_information = λ field to h. tt }) e d at f

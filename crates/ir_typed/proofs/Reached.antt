@@ -17,4 +17,5 @@ pub is_small : ReachedIsSmall
 is_small program h c r = reached_small (lowered program) c r
 
 pub has_depths : ReachedHasDepths
-has_depths program h c r = reached_deep (lowered program) (lowered_is_whole program h) (bodies_lead program) c r
+has_depths program h c r = reached_deep (lowered program) (lowered_is_whole program h)
+    (bodies_lead program) c r

@@ -37,15 +37,18 @@ fault_small : (e : DivFault) → IsSmallOutcome (fault_of e)
 fault_small Zero = (omega arith, tt)
 fault_small Overflow = (omega arith, tt)
 
-signed_small : (part : ℤ × ℤ → ℤ) (w : Width) (m : Memory) (r : Result (ℤ × ℤ) DivFault) → IsSmallOutcome (signed_part part w m r)
+signed_small : (part : ℤ × ℤ → ℤ) (w : Width) (m : Memory) (r : Result (ℤ × ℤ) DivFault)
+    → IsSmallOutcome (signed_part part w m r)
 signed_small part w m (Ok x) = of_width w (wrapped w (part x)) (wrapped_below w (part x))
 signed_small part w m (Err e) = fault_small e
 
-unsigned_small : (part : ℕ × ℕ → ℕ) (m : Memory) (r : Result (ℕ × ℕ) DivFault) → ((x : ℕ × ℕ) → r ≡ Ok x → part x < 2 ^ 64) → IsSmallOutcome (unsigned_part part m r)
+unsigned_small : (part : ℕ × ℕ → ℕ) (m : Memory) (r : Result (ℕ × ℕ) DivFault)
+    → ((x : ℕ × ℕ) → r ≡ Ok x → part x < 2 ^ 64) → IsSmallOutcome (unsigned_part part m r)
 unsigned_small part m (Ok x) h = h x refl
 unsigned_small part m (Err e) h = fault_small e
 
-divided : (b c : Bool) (q x : ℕ × ℕ) → (if b then Err Zero else (if c then Ok q else Err Overflow)) ≡ Ok x → q ≡ x
+divided : (b c : Bool) (q x : ℕ × ℕ) → (if b then Err Zero else (if c then Ok q else Err Overflow))
+    ≡ Ok x → q ≡ x
 divided true c q x e = absurd (cc)
 divided false false q x e = absurd (cc)
 divided false true q x e = ap (λ r. elim r [ Ok y ↦ y | Err f ↦ q ]) e
@@ -56,43 +59,59 @@ module _ (w : Width) (a b : ℕ) where
 
   quotient_small : (x : ℕ × ℕ) → divided_unsigned w (low w a) (low w b) ≡ Ok x → x.0 < 2 ^ 64
   quotient_small x e =
-      let p = divided (low w b == 0) (nat_lt (low w a / low w b) (limit w)) (low w a / low w b, low w a % low w b) x e in
+      let p = divided (low w b == 0) (nat_lt (low w a / low w b) (limit w))
+        (low w a / low w b, low w a % low w b) x e in
       let d = div-le_self (low w a) (low w b) in
       let n = numerator in
       subst (λ (y : ℕ × ℕ). y.0 < 2 ^ 64) p (omega arith)
 
   remainder_small : (x : ℕ × ℕ) → divided_unsigned w (low w a) (low w b) ≡ Ok x → x.1 < 2 ^ 64
   remainder_small x e =
-      let p = divided (low w b == 0) (nat_lt (low w a / low w b) (limit w)) (low w a / low w b, low w a % low w b) x e in
+      let p = divided (low w b == 0) (nat_lt (low w a / low w b) (limit w))
+        (low w a / low w b, low w a % low w b) x e in
       let d = mod-le (low w a) (low w b) in
       let n = numerator in
       subst (λ (y : ℕ × ℕ). y.1 < 2 ^ 64) p (omega arith)
 
-refused_small : (may : ℕ → Bool) (n at a : ℕ) → at < 2 ^ 64 → first_refused may n at ≡ Some a → a < 2 ^ 64
+refused_small : (may : ℕ → Bool) (n at a : ℕ) → at < 2 ^ 64 → first_refused may n at ≡ Some a
+    → a < 2 ^ 64
 unfolding first_refused
 refused_small may zero at a lt e = absurd (cc)
 refused_small may (suc n) at a lt e = go (refused_small may n (next at) a (omega arith)) (may at) e
   where
-    go : (first_refused may n (next at) ≡ Some a → a < 2 ^ 64) → (b : Bool) → cond b (first_refused may n (next at)) (Some at) ≡ Some a → a < 2 ^ 64
+    go : (first_refused may n (next at) ≡ Some a → a < 2 ^ 64) → (b : Bool)
+      → cond b (first_refused may n (next at)) (Some at) ≡ Some a → a < 2 ^ 64
     go more true e = more e
     go more false e = subst (λ x. x < 2 ^ 64) (ap (λ o. elim o [ None ↦ at | Some y ↦ y ]) e) lt
 
-accessed_small : (reserved : ℕ → Bool) (write : Bool) (may : ℕ → Bool) (n at : ℕ) (o : OperationResult) → at < 2 ^ 64 → IsSmallOutcome o → IsSmallOutcome (accessed reserved write may n at o)
+accessed_small : (reserved : ℕ → Bool) (write : Bool) (may : ℕ → Bool) (n at : ℕ)
+    (o : OperationResult) → at < 2 ^ 64 → IsSmallOutcome o
+    → IsSmallOutcome (accessed reserved write may n at o)
 accessed_small reserved write may n at o lt h = outer (first_refused (λ a. not (reserved a)) n at)
   where
     inner : (r : Option ℕ) → first_refused may n at ≡ r → IsSmallOutcome (unless_refused write r o)
     inner None e = h
     inner (Some a) e = (omega arith, refused_small may n at a lt e)
 
-    outer : (r : Option ℕ) → IsSmallOutcome (unless_reserved r (unless_refused write (first_refused may n at) o))
+    outer : (r : Option ℕ) → IsSmallOutcome (unless_reserved r
+      (unless_refused write (first_refused may n at) o))
     outer None = inner (first_refused may n at) refl
     outer (Some a) = tt
 
-pub outcome_small : (reserved : ℕ → Bool) (o : Operation) (a b : ℕ) (m : Memory) → a < 2 ^ 64 → b < 2 ^ 64 → IsSmallOutcome (performed reserved o a b m)
+pub outcome_small : (reserved : ℕ → Bool) (o : Operation) (a b : ℕ) (m : Memory) → a < 2 ^ 64
+    → b < 2 ^ 64 → IsSmallOutcome (performed reserved o a b m)
 outcome_small reserved (operations.Pure p) a b m la lb = result_small p a b la
-outcome_small reserved (operations.Divide Signed z) a b m la lb = signed_small (λ x. x.0) (width z) m (divided_signed (width z) (signed (width z) a) (signed (width z) b))
-outcome_small reserved (operations.Divide Unsigned z) a b m la lb = unsigned_small (λ x. x.0) m (divided_unsigned (width z) (low (width z) a) (low (width z) b)) (quotient_small (width z) a b)
-outcome_small reserved (operations.Remainder Signed z) a b m la lb = signed_small (λ x. x.1) (width z) m (divided_signed (width z) (signed (width z) a) (signed (width z) b))
-outcome_small reserved (operations.Remainder Unsigned z) a b m la lb = unsigned_small (λ x. x.1) m (divided_unsigned (width z) (low (width z) a) (low (width z) b)) (remainder_small (width z) a b)
-outcome_small reserved (operations.Load w) a b m la lb = accessed_small reserved false (may_read m) (bytes_of w) a (Gives (low w (number_at m.byte (bytes_of w) a)) m) la (of_width w (low w (number_at m.byte (bytes_of w) a)) (low_below w (number_at m.byte (bytes_of w) a)))
-outcome_small reserved (operations.Store w) a b m la lb = accessed_small reserved true (may_write m) (bytes_of w) a (Gives b (with_bytes m (with_number m.byte (bytes_of w) a (low w b)))) la lb
+outcome_small reserved (operations.Divide Signed z) a b m la lb = signed_small (λ x. x.0) (width z)
+    m (divided_signed (width z) (signed (width z) a) (signed (width z) b))
+outcome_small reserved (operations.Divide Unsigned z) a b m la lb = unsigned_small (λ x. x.0) m
+    (divided_unsigned (width z) (low (width z) a) (low (width z) b)) (quotient_small (width z) a b)
+outcome_small reserved (operations.Remainder Signed z) a b m la lb = signed_small (λ x. x.1)
+    (width z) m (divided_signed (width z) (signed (width z) a) (signed (width z) b))
+outcome_small reserved (operations.Remainder Unsigned z) a b m la lb = unsigned_small (λ x. x.1) m
+    (divided_unsigned (width z) (low (width z) a) (low (width z) b)) (remainder_small (width z) a b)
+outcome_small reserved (operations.Load w) a b m la lb = accessed_small reserved false (may_read m)
+    (bytes_of w) a (Gives (low w (number_at m.byte (bytes_of w) a)) m) la
+    (of_width w (low w (number_at m.byte (bytes_of w) a))
+    (low_below w (number_at m.byte (bytes_of w) a)))
+outcome_small reserved (operations.Store w) a b m la lb = accessed_small reserved true (may_write m)
+    (bytes_of w) a (Gives b (with_bytes m (with_number m.byte (bytes_of w) a (low w b)))) la lb

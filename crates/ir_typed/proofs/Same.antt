@@ -93,7 +93,8 @@ frame x y h =
     let e = h (λ z. z.held) in
     let g = listed number x.temporaries y.temporaries (λ f. h (λ z. f z.temporaries)) in
     let k = optional number x.landed y.landed (λ f. h (λ z. f z.landed)) in
-    λ i. record { body = a i; next = b i; activation = c i; exception = d i; held = e i; temporaries = g i; landed = k i }
+    λ i. record { body = a i; next = b i; activation = c i; exception = d i; held = e i;
+      temporaries = g i; landed = k i }
 
 -- ---- what waits
 
@@ -119,18 +120,26 @@ of_kind f g h (kinds.Filter k t) = g k t
 of_kind f g h (kinds.Always t) = h t
 
 kind : IsDetermined RegionKind
-kind (kinds.Finally k) (kinds.Finally j) h = ap (λ z. kinds.Finally z) (h (of_kind (λ n. n) (λ n m. 0) (λ n. 0)))
+kind (kinds.Finally k) (kinds.Finally j) h = ap (λ z. kinds.Finally z)
+    (h (of_kind (λ n. n) (λ n m. 0) (λ n. 0)))
 kind (kinds.Filter k t) (kinds.Filter j s) h =
     let a = h (of_kind (λ n. 0) (λ n m. n) (λ n. 0)) in
     let b = h (of_kind (λ n. 0) (λ n m. m) (λ n. 0)) in
     λ i. kinds.Filter (a i) (b i)
-kind (kinds.Always t) (kinds.Always s) h = ap (λ z. kinds.Always z) (h (of_kind (λ n. 0) (λ n m. 0) (λ n. n)))
-kind (kinds.Finally k) (kinds.Filter j s) h = absurd (none_apart (h (of_kind (λ n. 0) (λ n m. 1) (λ n. 1))))
-kind (kinds.Finally k) (kinds.Always s) h = absurd (none_apart (h (of_kind (λ n. 0) (λ n m. 1) (λ n. 1))))
-kind (kinds.Filter k t) (kinds.Finally j) h = absurd (some_apart (h (of_kind (λ n. 0) (λ n m. 1) (λ n. 1))))
-kind (kinds.Filter k t) (kinds.Always s) h = absurd (some_apart (h (of_kind (λ n. 0) (λ n m. 1) (λ n. 0))))
-kind (kinds.Always t) (kinds.Finally j) h = absurd (some_apart (h (of_kind (λ n. 0) (λ n m. 1) (λ n. 1))))
-kind (kinds.Always t) (kinds.Filter j s) h = absurd (none_apart (h (of_kind (λ n. 0) (λ n m. 1) (λ n. 0))))
+kind (kinds.Always t) (kinds.Always s) h = ap (λ z. kinds.Always z)
+    (h (of_kind (λ n. 0) (λ n m. 0) (λ n. n)))
+kind (kinds.Finally k) (kinds.Filter j s) h = absurd
+    (none_apart (h (of_kind (λ n. 0) (λ n m. 1) (λ n. 1))))
+kind (kinds.Finally k) (kinds.Always s) h = absurd
+    (none_apart (h (of_kind (λ n. 0) (λ n m. 1) (λ n. 1))))
+kind (kinds.Filter k t) (kinds.Finally j) h = absurd
+    (some_apart (h (of_kind (λ n. 0) (λ n m. 1) (λ n. 1))))
+kind (kinds.Filter k t) (kinds.Always s) h = absurd
+    (some_apart (h (of_kind (λ n. 0) (λ n m. 1) (λ n. 0))))
+kind (kinds.Always t) (kinds.Finally j) h = absurd
+    (some_apart (h (of_kind (λ n. 0) (λ n m. 1) (λ n. 1))))
+kind (kinds.Always t) (kinds.Filter j s) h = absurd
+    (none_apart (h (of_kind (λ n. 0) (λ n m. 1) (λ n. 0))))
 
 region : IsDetermined Region
 region x y h =
@@ -149,13 +158,15 @@ resumption SameOperation SameOperation h = refl
 resumption AfterCall SameOperation h = absurd (none_apart (h (of_resumption 0 1)))
 resumption SameOperation AfterCall h = absurd (some_apart (h (of_resumption 0 1)))
 
-abbrev of_item : (Frame → ℕ) → (Exception → Resumption → Handler → List Handler → ℕ) → (List Region → Target → ℕ) → Item → ℕ
+abbrev of_item : (Frame → ℕ) → (Exception → Resumption → Handler → List Handler → ℕ)
+    → (List Region → Target → ℕ) → Item → ℕ
 of_item f g h (Waits w) = f w
 of_item f g h (Searches e r a rest) = g e r a rest
 of_item f g h (Unwinds rest t) = h rest t
 
 item : IsDetermined Item
-item (Waits w) (Waits v) h = ap (λ z. Waits z) (frame w v (λ f. h (of_item f (λ e r a s. 0) (λ s t. 0))))
+item (Waits w) (Waits v) h = ap (λ z. Waits z)
+    (frame w v (λ f. h (of_item f (λ e r a s. 0) (λ s t. 0))))
 item (Searches e r a s) (Searches e' r' a' s') h =
     let x = exception e e' (λ f. h (of_item (λ w. 0) (λ e r a s. f e) (λ s t. 0))) in
     let y = resumption r r' (λ f. h (of_item (λ w. 0) (λ e r a s. f r) (λ s t. 0))) in
@@ -166,12 +177,18 @@ item (Unwinds s t) (Unwinds s' t') h =
     let x = listed region s s' (λ f. h (of_item (λ w. 0) (λ e r a s. 0) (λ s t. f s))) in
     let y = target t t' (λ f. h (of_item (λ w. 0) (λ e r a s. 0) (λ s t. f t))) in
     λ i. Unwinds (x i) (y i)
-item (Waits w) (Searches e r a s) h = absurd (none_apart (h (of_item (λ w. 0) (λ e r a s. 1) (λ s t. 1))))
-item (Waits w) (Unwinds s t) h = absurd (none_apart (h (of_item (λ w. 0) (λ e r a s. 1) (λ s t. 1))))
-item (Searches e r a s) (Waits w) h = absurd (some_apart (h (of_item (λ w. 0) (λ e r a s. 1) (λ s t. 1))))
-item (Searches e r a s) (Unwinds s' t) h = absurd (some_apart (h (of_item (λ w. 0) (λ e r a s. 1) (λ s t. 0))))
-item (Unwinds s t) (Waits w) h = absurd (some_apart (h (of_item (λ w. 0) (λ e r a s. 1) (λ s t. 1))))
-item (Unwinds s t) (Searches e r a s') h = absurd (none_apart (h (of_item (λ w. 0) (λ e r a s. 1) (λ s t. 0))))
+item (Waits w) (Searches e r a s) h = absurd (none_apart
+    (h (of_item (λ w. 0) (λ e r a s. 1) (λ s t. 1))))
+item (Waits w) (Unwinds s t) h = absurd (none_apart
+    (h (of_item (λ w. 0) (λ e r a s. 1) (λ s t. 1))))
+item (Searches e r a s) (Waits w) h = absurd (some_apart
+    (h (of_item (λ w. 0) (λ e r a s. 1) (λ s t. 1))))
+item (Searches e r a s) (Unwinds s' t) h = absurd
+    (some_apart (h (of_item (λ w. 0) (λ e r a s. 1) (λ s t. 0))))
+item (Unwinds s t) (Waits w) h = absurd (some_apart
+    (h (of_item (λ w. 0) (λ e r a s. 1) (λ s t. 1))))
+item (Unwinds s t) (Searches e r a s') h = absurd
+    (none_apart (h (of_item (λ w. 0) (λ e r a s. 1) (λ s t. 0))))
 
 -- ---- the store
 
@@ -199,7 +216,8 @@ protection x y h =
 
 memory : IsDetermined Memory
 memory x y h =
-    let a = fun_ext (λ k. protection (x.protection k) (y.protection k) (λ f. h (λ z. f (z.protection k)))) in
+    let a = fun_ext (λ k. protection (x.protection k) (y.protection k)
+      (λ f. h (λ z. f (z.protection k)))) in
     let b = fun_ext (λ k. h (λ z. z.byte k)) in
     λ i. record { protection = a i; byte = b i }
 

@@ -55,30 +55,37 @@ greater_or_equal = refl
 -- ---- faults, in a memory of which 16 bytes from 4096 on may be read and written, and those from 8192 on are reserved
 
 some_memory : Memory
-some_memory = record { protection = λ a. record { rights = cond (ltb 4095 a && ltb a 4112) ReadWrite Nothing; execute = false }; byte = λ a. 7 }
+some_memory = record { protection = λ a. record { rights = cond (ltb 4095 a && ltb a 4112) ReadWrite
+    Nothing; execute = false }; byte = λ a. 7 }
 
 some_reserved : ℕ → Bool
 some_reserved a = ltb 8191 a
 
-by_zero : performed some_reserved (operations.Divide Signed Int) 7 0 some_memory ≡ Raises (record { 0 = 0xC0000094 }) None
+by_zero : performed some_reserved (operations.Divide Signed Int) 7 0 some_memory
+    ≡ Raises (record { 0 = 0xC0000094 }) None
 by_zero = refl
 
-too_large : performed some_reserved (operations.Remainder Signed Int) 0x80000000 0xFFFFFFFF some_memory ≡ Raises (record { 0 = 0xC0000095 }) None
+too_large : performed some_reserved (operations.Remainder Signed Int) 0x80000000 0xFFFFFFFF
+    some_memory ≡ Raises (record { 0 = 0xC0000095 }) None
 too_large = refl
 
-seven_by_minus_two : performed some_reserved (operations.Divide Signed Int) 7 0xFFFFFFFE some_memory ≡ Gives 0xFFFFFFFD some_memory
+seven_by_minus_two : performed some_reserved (operations.Divide Signed Int) 7 0xFFFFFFFE some_memory
+    ≡ Gives 0xFFFFFFFD some_memory
 seven_by_minus_two = refl
 
-loaded_word : performed some_reserved (operations.Load W16) 4096 0 some_memory ≡ Gives 0x0707 some_memory
+loaded_word : performed some_reserved (operations.Load W16) 4096 0 some_memory
+    ≡ Gives 0x0707 some_memory
 unfolding some_memory some_reserved first_refused number_at
 loaded_word = refl
 
 -- the first byte that may not be read is the third
-loaded_over_the_end : performed some_reserved (operations.Load W32) 4110 0 some_memory ≡ Raises (record { 0 = 0xC0000005 }) (Some (false, 4112))
+loaded_over_the_end : performed some_reserved (operations.Load W32) 4110 0 some_memory
+    ≡ Raises (record { 0 = 0xC0000005 }) (Some (false, 4112))
 unfolding some_memory some_reserved first_refused number_at
 loaded_over_the_end = refl
 
-stored_nowhere : performed some_reserved (operations.Store W8) 0 1 some_memory ≡ Raises (record { 0 = 0xC0000005 }) (Some (true, 0))
+stored_nowhere : performed some_reserved (operations.Store W8) 0 1 some_memory
+    ≡ Raises (record { 0 = 0xC0000005 }) (Some (true, 0))
 unfolding some_memory some_reserved first_refused
 stored_nowhere = refl
 

@@ -10,12 +10,14 @@ use Rattle.linear_machine.specs.Run.{start, seen, shown, exec, linear_meaning}
 use Rattle.linear_runs.proofs.Longer.{events_of, More, longer}
 
 main_more : (program : LinearProgram) (arg : ℤ) (n k : ℕ) (o : Option LinearFunction)
-    → More (with_some [] o (λ main. exec program n (start program arg main))) (with_some [] o (λ main. exec program (n + k) (start program arg main)))
+    → More (with_some [] o (λ main. exec program n (start program arg main)))
+      (with_some [] o (λ main. exec program (n + k) (start program arg main)))
 unfolding with_some
 main_more program arg n k None = refl
 main_more program arg n k (Some main) = longer program n k (start program arg main)
 
-seen_more : (program : LinearProgram) (arg : ℤ) (n k : ℕ) → More (seen program arg n) (seen program arg (n + k))
+seen_more : (program : LinearProgram) (arg : ℤ) (n k : ℕ)
+    → More (seen program arg n) (seen program arg (n + k))
 seen_more program arg n k = main_more program arg n k (slice_get program.functions program.main)
 
 shown_events : (a : Seen) → (shown a).events ≡ events_of a
@@ -34,7 +36,9 @@ stays (Finished x es) b e m h = ap shown m
 stays (Stuck es) b e m h = ap shown m
 
 pub shows_more : ShowsMore linear_meaning
-shows_more program arg n k = front (seen program arg n) (seen program arg (n + k)) (seen_more program arg n k)
+shows_more program arg n k = front (seen program arg n) (seen program arg (n + k))
+    (seen_more program arg n k)
 
 pub end_stays : EndStays linear_meaning
-end_stays program arg n k e h = stays (seen program arg n) (seen program arg (n + k)) e (seen_more program arg n k) h
+end_stays program arg n k e h = stays (seen program arg n) (seen program arg (n + k)) e
+    (seen_more program arg n k) h

@@ -31,10 +31,13 @@ pub record Site : Type 0 where
   pub held : ℕ
 
 abbrev pub frame_of : Context → Site → ℕ → List ℕ → Frame
-frame_of context site pc temps = record { body = site.body; next = pc; activation = context.activation; exception = site.exception; held = site.held; temporaries = temps; landed = None }
+frame_of context site pc temps = record { body = site.body; next = pc;
+    activation = context.activation; exception = site.exception; held = site.held;
+    temporaries = temps; landed = None }
 
 abbrev pub conf : Context → Site → ℕ → List ℕ → State → Store → Configuration
-conf context site pc temps st store = record { frame = frame_of context site pc temps; below = site.below; store = store; events = st.events }
+conf context site pc temps st store = record { frame = frame_of context site pc temps;
+    below = site.below; store = store; events = st.events }
 
 -- f is the handler with so many others outside it
 abbrev pub Picked : List Handler → ℕ → Handler → Type 0
@@ -65,10 +68,14 @@ Kept = State → Store → Type 0
 
 -- only a value may come, or only a normal end, beside a target and an end
 abbrev pub value_ways : (ℕ → State → Store → Part) → Kept → Context → Site → Ways
-value_ways v kept context site = record { context = context; site = site; held = site.held; kept = kept; value = λ x. To (v x); normal = Never; returned = λ v. Never; broke = Never; again = Never; left = Never }
+value_ways v kept context site = record { context = context; site = site; held = site.held;
+    kept = kept; value = λ x. To (v x); normal = Never; returned = λ v. Never; broke = Never;
+    again = Never; left = Never }
 
 abbrev pub normal_ways : (State → Store → Part) → Kept → Context → Site → Ways
-normal_ways t kept context site = record { context = context; site = site; held = site.held; kept = kept; value = λ x. Never; normal = To t; returned = λ v. Never; broke = Never; again = Never; left = Never }
+normal_ways t kept context site = record { context = context; site = site; held = site.held;
+    kept = kept; value = λ x. Never; normal = To t; returned = λ v. Never; broke = Never;
+    again = Never; left = Never }
 
 abbrev pub first_ways : (State → Store → Part) → Ways → Ways
 first_ways t w = record w { value = λ x. Never; normal = To t }
@@ -99,18 +106,22 @@ pub record Join (p q r : Price) : Type 0 where
   pub first_out : r.extra + p.out ≤ p.extra + r.out
   pub second_out : r.extra + p.slack + q.out ≤ p.extra + q.extra + r.out
 
-pub joins : {p q r : Price} → p.turns + q.turns ≤ r.turns → r.extra + p.slack + q.slack ≤ p.extra + q.extra + r.slack
-    → r.extra + p.out ≤ p.extra + r.out → r.extra + p.slack + q.out ≤ p.extra + q.extra + r.out → Join p q r
+pub joins : {p q r : Price} → p.turns + q.turns ≤ r.turns
+    → r.extra + p.slack + q.slack ≤ p.extra + q.extra + r.slack
+    → r.extra + p.out ≤ p.extra + r.out → r.extra + p.slack + q.out ≤ p.extra + q.extra + r.out
+    → Join p q r
 joins a b c d = record { turns = a; slack = b; first_out = c; second_out = d }
 
 -- a price that allows more
 abbrev pub Dearer : Price → Price → Type 0
-Dearer p r = (p.turns ≤ r.turns) × (r.extra + p.slack ≤ p.extra + r.slack) × (r.extra + p.out ≤ p.extra + r.out)
+Dearer p r = (p.turns ≤ r.turns) × (r.extra + p.slack ≤ p.extra + r.slack)
+    × (r.extra + p.out ≤ p.extra + r.out)
 
 module _ (linear : LinearProgram) (pace : ℕ) where
   -- the handlers that a search comes to from there
   abbrev pub found : Context → Site → List Handler
-  found context site = handlers_in site.regions context.activation (length site.below) ++ handlers linear site.below None
+  found context site = handlers_in site.regions context.activation (length site.below)
+      ++ handlers linear site.below None
 
   -- from s, at state st, the machine comes to t, at state st': at most 16 turns for each step, and
   -- at most so many steps for each turn
@@ -126,7 +137,8 @@ module _ (linear : LinearProgram) (pace : ℕ) where
     pub by : (k : ℕ) → (j : ℕ) × (j ≡ cost + k) × (s (exec linear j) ≡ t (exec linear k))
 
   pub record Finishes (s : Part) (st st' : State) (turns : ℕ) (seen : Seen) : Type 0 where
-    pub by : (j : ℕ) × (j + 16 * st'.steps_left ≤ 16 * st.steps_left + turns) × (s (exec linear j) ≡ seen)
+    pub by : (j : ℕ) × (j + 16 * st'.steps_left ≤ 16 * st.steps_left + turns)
+      × (s (exec linear j) ≡ seen)
 
   -- no step is left: so many turns were made, and one less had not shown more
   pub record Stops (s : Part) (st st' : State) (turns extra out : ℕ) : Type 0 where
@@ -141,10 +153,12 @@ module _ (linear : LinearProgram) (pace : ℕ) where
 
   -- an unwinding with the regions of this place left
   abbrev pub unwound : Context → Site → machine.Target → List ℕ → State → Store → ℕ → Part
-  unwound context site target temps st store pc next = unwind linear next target (Waits (frame_of context site pc temps) ∷ site.below) (Some site.regions) st.events store
+  unwound context site target temps st store pc next = unwind linear next target
+      (Waits (frame_of context site pc temps) ∷ site.below) (Some site.regions) st.events store
 
   -- it comes to a part with some store that may be there, and as much is held as before
-  pub record Arrival (s : Part) (st : State) (turns extra slack : ℕ) (kept : Kept) (held : ℕ) (st' : State) (t : Store → Part) : Type 0 where
+  pub record Arrival (s : Part) (st : State) (turns extra slack : ℕ) (kept : Kept) (held : ℕ)
+      (st' : State) (t : Store → Part) : Type 0 where
     pub store : Store
     pub fits : kept st' store
     pub same : st'.held ≡ held
@@ -153,17 +167,20 @@ module _ (linear : LinearProgram) (pace : ℕ) where
   abbrev pub Arrives : Part → State → Price → Kept → ℕ → State → Way → Type 0
   Arrives s st p kept held st' Never = ⊥
   Arrives s st p kept held st' (To t) = Arrival s st p.turns p.extra p.slack kept held st' (t st')
-  Arrives s st p kept held st' (Out t) = (pc : ℕ) × Arrival s st p.turns p.extra p.slack kept held st' (λ store. t st' store pc)
+  Arrives s st p kept held st' (Out t) = (pc : ℕ)
+      × Arrival s st p.turns p.extra p.slack kept held st' (λ store. t st' store pc)
 
   -- an unwinding is on its way to the handler of this level
-  pub record Targets (s : Part) (st : State) (p : Price) (kept : Kept) (context : Context) (site : Site) (level : ℕ) (exc : Exception) (st' : State) : Type 0 where
+  pub record Targets (s : Part) (st : State) (p : Price) (kept : Kept) (context : Context)
+      (site : Site) (level : ℕ) (exc : Exception) (st' : State) : Type 0 where
     pub handler : Handler
     pub picked : Picked (found context site) level handler
     pub temps : List ℕ
     pub pc : ℕ
     pub store : Store
     pub fits : kept st' store
-    pub reaches : Reaches s (unwound context site (target_of handler exc.code st'.held) temps st' store pc) st st' p.turns p.extra p.out
+    pub reaches : Reaches s (unwound context site (target_of handler exc.code st'.held) temps st'
+      store pc) st st' p.turns p.extra p.out
 
   abbrev pub Attains : Part → State → Price → Ways → State → Result → Type 0
   Attains s st p w st' (Value x) = Arrives s st p w.kept w.held st' (w.value x)

@@ -20,13 +20,16 @@ small_set (k ∷ ks) v s lt = record { count = s.count; each = at }
     at zero l = lt
     at (suc j) l = s.each (suc j) l
 
-pub wide_after : (t : Functions) (m : Memory) (c : Context) (f : StackFrame) → FrameIsAt t m c f → IsWide c.kept → IsWide (after_frame c f).kept
+pub wide_after : (t : Functions) (m : Memory) (c : Context) (f : StackFrame) → FrameIsAt t m c f
+    → IsWide c.kept → IsWide (after_frame c f).kept
 wide_after t m c f h s = small_set c.kept (rsp c + f.size + 8) s h.room
 
-pub wide_after_leaf : (t : Functions) (m : Memory) (c : Context) (back : ℕ) → LeafIsAt t m c back → IsWide c.kept → IsWide (after_leaf c back).kept
+pub wide_after_leaf : (t : Functions) (m : Memory) (c : Context) (back : ℕ) → LeafIsAt t m c back
+    → IsWide c.kept → IsWide (after_leaf c back).kept
 wide_after_leaf t m c back h s = small_set c.kept (rsp c + 8) s h.room
 
-pub wide_of : (c : Cpu) → length c.registers ≡ 16 → AllSmall c.registers → IsWide (context_of c).kept
+pub wide_of : (c : Cpu) → length c.registers ≡ 16 → AllSmall c.registers
+    → IsWide (context_of c).kept
 wide_of c n h = record { count = refl; each = at }
   where
     at : (j : ℕ) → j < 9 → slice_index (context_of c).kept j < 2 ^ 64

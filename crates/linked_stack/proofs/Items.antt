@@ -21,30 +21,43 @@ use Rattle.linked_stack.specs.Records.{On, RecordHasRoom}
 use Rattle.linked_stack.specs.RecordLaws.{RecordLeavesTheList, SearchIsOneMore, UnwindingIsOneMore}
 use Rattle.linked_stack.proofs.Laying.{bytes, laid_is, keeps_above, data_laid, record_laid, pointers_laid, placed_keeps_above, data_placed}
 
-module _ (t : Functions) (fs : List Funclet) (program : LinearProgram) (p : ImagePlan) (m : Memory) (at : ℕ) (r : DispatchRecord) (back : ℕ) (c : Context) (is : List StackItem) (items : List Item) (acts : List Activation) (on : On t fs program p m c is items acts) (room : RecordHasRoom m at r (rsp c)) (small : back < 2 ^ 64) where
+module _ (t : Functions) (fs : List Funclet) (program : LinearProgram) (p : ImagePlan) (m : Memory)
+    (at : ℕ) (r : DispatchRecord) (back : ℕ) (c : Context) (is : List StackItem) (items : List Item)
+    (acts : List Activation) (on : On t fs program p m c is items acts)
+    (room : RecordHasRoom m at r (rsp c)) (small : back < 2 ^ 64) where
   -- what was above is there still
-  pub others_are_at : IsLinkedStack t fs program p (with_bytes m (bytes m at r back (rsp c) on.data_alone room small)) c is items acts
+  pub others_are_at : IsLinkedStack t fs program p
+      (with_bytes m (bytes m at r back (rsp c) on.data_alone room small)) c is items acts
   others_are_at =
-      kept_by_stores_below t fs program p m (bytes m at r back (rsp c) on.data_alone room small) c is items acts (keeps_above m at r back (rsp c) on.data_alone room small (rsp c) room.below) on.is_there
+      kept_by_stores_below t fs program p m (bytes m at r back (rsp c) on.data_alone room small) c
+        is items acts (keeps_above m at r back (rsp c) on.data_alone room small (rsp c) room.below)
+        on.is_there
 
 pub record_leaves_the_list : RecordLeavesTheList
 unfolding placed
 record_leaves_the_list t fs program p m at r c is items acts on room = record {
-  is_there = kept_by_stores_below t fs program p m (placed m at r).byte c is items acts (placed_keeps_above m at r 0 (rsp c) on.data_alone room (omega arith) (rsp c) room.below) on.is_there;
+  is_there = kept_by_stores_below t fs program p m (placed m at r).byte c is items acts
+      (placed_keeps_above m at r 0 (rsp c) on.data_alone room (omega arith) (rsp c) room.below)
+      on.is_there;
   data_alone = data_placed m at r 0 (rsp c) on.data_alone room (omega arith);
 }
 
 pub search_is_one_more : SearchIsOneMore
-search_is_one_more t fs program p m at r is items acts exception resumption asked rest others on kind room s =
+search_is_one_more t fs program p m at r is items acts exception resumption asked rest others on
+    kind room s =
     let c = context_of r.saved in
     let small : filter_return < 2 ^ 64 = omega arith in
     let new = bytes m at r filter_return (rsp c) on.data_alone room small in
     let outer = others_are_at t fs program p m at r filter_return c is items acts on room small in
-    subst (λ (n : Memory). On t fs program p n (context_below filter_return at others) (Searching r ∷ is) (Searches exception resumption asked rest ∷ items) acts) (sym (laid_is m at r filter_return (rsp c) on.data_alone room small))
+    subst (λ (n : Memory). On t fs program p n (context_below filter_return at others)
+      (Searching r ∷ is) (Searches exception resumption asked rest ∷ items) acts)
+      (sym (laid_is m at r filter_return (rsp c) on.data_alone room small))
     (record {
       is_there = record {
         stack = (
-          record { at_host = refl; fetches = record_laid m at r filter_return (rsp c) on.data_alone room small; pointers = pointers_laid m at r filter_return (rsp c) on.data_alone room small; kind = kind; above = room.below; small = room.small },
+          record { at_host = refl; fetches = record_laid m at r filter_return (rsp c) on.data_alone
+            room small; pointers = pointers_laid m at r filter_return (rsp c) on.data_alone room
+            small; kind = kind; above = room.below; small = room.small },
           outer.stack,
         );
         linked = (
@@ -68,12 +81,17 @@ pub unwinding_is_one_more : UnwindingIsOneMore
 unwinding_is_one_more t fs program p m at r is items acts rest target others on kind room s =
     let small : finally_return < 2 ^ 64 = omega arith in
     let new = bytes m at r finally_return (rsp r.walk) on.data_alone room small in
-    let outer = others_are_at t fs program p m at r finally_return r.walk is items acts on room small in
-    subst (λ (n : Memory). On t fs program p n (context_below finally_return at others) (Unwinding r ∷ is) (Unwinds rest target ∷ items) acts) (sym (laid_is m at r finally_return (rsp r.walk) on.data_alone room small))
+    let outer = others_are_at t fs program p m at r finally_return r.walk is items acts on room
+      small in
+    subst (λ (n : Memory). On t fs program p n (context_below finally_return at others)
+      (Unwinding r ∷ is) (Unwinds rest target ∷ items) acts)
+      (sym (laid_is m at r finally_return (rsp r.walk) on.data_alone room small))
     (record {
       is_there = record {
         stack = (
-          record { at_host = refl; fetches = record_laid m at r finally_return (rsp r.walk) on.data_alone room small; pointers = pointers_laid m at r finally_return (rsp r.walk) on.data_alone room small; kind = kind; above = room.below; small = room.small },
+          record { at_host = refl; fetches = record_laid m at r finally_return (rsp r.walk)
+            on.data_alone room small; pointers = pointers_laid m at r finally_return (rsp r.walk)
+            on.data_alone room small; kind = kind; above = room.below; small = room.small },
           outer.stack,
         );
         linked = (

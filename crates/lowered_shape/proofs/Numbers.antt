@@ -34,7 +34,8 @@ numbers (t ∷ ts) = number_in t ++ numbers ts
 
 numbers_both : (a b : List Try) → numbers (a ++ b) ≡ numbers a ++ numbers b
 numbers_both [] b = refl
-numbers_both (t ∷ a) b = ap (λ xs. number_in t ++ xs) (numbers_both a b) ∙ sym (append_assoc (number_in t) (numbers a) (numbers b))
+numbers_both (t ∷ a) b = ap (λ xs. number_in t ++ xs) (numbers_both a b)
+    ∙ sym (append_assoc (number_in t) (numbers a) (numbers b))
 
 filter_number : (f : Filter) → number_in (with_filter f) ≡ filter_funclet f
 filter_number Always = refl
@@ -46,7 +47,8 @@ mutual
   statement_numbers (Block ss) = statements_numbers ss
   statement_numbers (Evaluate e) = refl
   statement_numbers (If c s) = statement_numbers s
-  statement_numbers (IfElse c s t) = numbers_both (tries_in s) (tries_in t) ∙ (λ i. statement_numbers s i ++ statement_numbers t i)
+  statement_numbers (IfElse c s t) = numbers_both (tries_in s) (tries_in t)
+      ∙ (λ i. statement_numbers s i ++ statement_numbers t i)
   statement_numbers (For ds first c next s) = statement_numbers s
   statement_numbers (DoWhile s c) = statement_numbers s
   statement_numbers (Return e) = refl
@@ -63,20 +65,24 @@ mutual
 
   statements_numbers : (ss : Statements) → numbers (tries ss) ≡ funclets ss
   statements_numbers Empty = refl
-  statements_numbers (Then s ss) = numbers_both (tries_in s) (tries ss) ∙ (λ i. statement_numbers s i ++ statements_numbers ss i)
+  statements_numbers (Then s ss) = numbers_both (tries_in s) (tries ss)
+      ∙ (λ i. statement_numbers s i ++ statements_numbers ss i)
 
 functions_numbers : (fs : List Function) → numbers (tries_of fs) ≡ sound.all_funclets fs
 functions_numbers [] = refl
-functions_numbers (f ∷ fs) = numbers_both (tries f.body) (tries_of fs) ∙ (λ i. statements_numbers f.body i ++ functions_numbers fs i)
+functions_numbers (f ∷ fs) = numbers_both (tries f.body) (tries_of fs)
+    ∙ (λ i. statements_numbers f.body i ++ functions_numbers fs i)
 
 -- ---- as many funclets as numbers
 
-filter_count : (owner : Owner) (names : Names) (f : Filter) → length (filter_funclets owner names f) ≡ length (filter_funclet f)
+filter_count : (owner : Owner) (names : Names) (f : Filter)
+    → length (filter_funclets owner names f) ≡ length (filter_funclet f)
 filter_count owner names Always = refl
 filter_count owner names (Funclet k e) = refl
 
 mutual
-  statement_count : (owner : Owner) (names : Names) (s : Statement) → length (statement_funclets owner names s) ≡ length (funclets_in s)
+  statement_count : (owner : Owner) (names : Names) (s : Statement)
+      → length (statement_funclets owner names s) ≡ length (funclets_in s)
   statement_count owner names (Declare d) = refl
   statement_count owner names (Block ss) = statements_count owner names ss
   statement_count owner names (Evaluate e) = refl
@@ -84,7 +90,8 @@ mutual
   statement_count owner names (IfElse c s t) =
       let x = statement_count owner names s in
       let y = statement_count owner names t in
-      omega (arith, length-append (statement_funclets owner names s) (statement_funclets owner names t), length-append (funclets_in s) (funclets_in t))
+      omega (arith, length-append (statement_funclets owner names s)
+        (statement_funclets owner names t), length-append (funclets_in s) (funclets_in t))
   statement_count owner names (For ds first c next s) = statement_count owner names s
   statement_count owner names (DoWhile s c) = statement_count owner names s
   statement_count owner names (Return e) = refl
@@ -97,27 +104,35 @@ mutual
       let z = filter_count owner (filter_names names) filter in
       let a = filter_funclets owner (filter_names names) filter in
       let b = statements_funclets owner (except_names names) block in
-      omega (arith, length-append (statements_funclets owner names body) (a ++ b), length-append a b, length-append (funclets body ++ filter_funclet filter) (funclets block), length-append (funclets body) (filter_funclet filter))
+      omega (arith, length-append (statements_funclets owner names body) (a ++ b),
+        length-append a b, length-append (funclets body ++ filter_funclet filter) (funclets block),
+        length-append (funclets body) (filter_funclet filter))
   statement_count owner names (TryFinally body k last) =
       let x = statements_count owner names body in
       let y = statements_count (in_funclet (k - 1) owner) (finally_names names) last in
-      let b = finally_funclet owner names last ∷ statements_funclets (in_funclet (k - 1) owner) (finally_names names) last in
-      omega (arith, length-append (statements_funclets owner names body) b, length-append (funclets body) (k ∷ funclets last))
+      let b = finally_funclet owner names last
+        ∷ statements_funclets (in_funclet (k - 1) owner) (finally_names names) last in
+      omega (arith, length-append (statements_funclets owner names body) b,
+        length-append (funclets body) (k ∷ funclets last))
 
-  statements_count : (owner : Owner) (names : Names) (ss : Statements) → length (statements_funclets owner names ss) ≡ length (funclets ss)
+  statements_count : (owner : Owner) (names : Names) (ss : Statements)
+      → length (statements_funclets owner names ss) ≡ length (funclets ss)
   statements_count owner names Empty = refl
   statements_count owner names (Then s ss) =
       let x = statement_count owner names s in
       let y = statements_count owner names ss in
-      omega (arith, length-append (statement_funclets owner names s) (statements_funclets owner names ss), length-append (funclets_in s) (funclets ss))
+      omega (arith, length-append (statement_funclets owner names s)
+        (statements_funclets owner names ss), length-append (funclets_in s) (funclets ss))
 
-pub functions_count : (number : ℕ) (fs : List Function) → length (all_funclets number fs) ≡ length (sound.all_funclets fs)
+pub functions_count : (number : ℕ) (fs : List Function)
+    → length (all_funclets number fs) ≡ length (sound.all_funclets fs)
 functions_count number [] = refl
 functions_count number (f ∷ fs) =
     let owner : Owner = record { function = number; locals = all_locals f; parent = None } in
     let x = statements_count owner (scope_of f).names f.body in
     let y = functions_count (number + 1) fs in
-    omega (arith, length-append (lowered_funclets number f) (all_funclets (number + 1) fs), length-append (funclets f.body) (sound.all_funclets fs))
+    omega (arith, length-append (lowered_funclets number f) (all_funclets (number + 1) fs),
+      length-append (funclets f.body) (sound.all_funclets fs))
 
 -- ---- sums over numbers
 
@@ -142,7 +157,8 @@ module _ (w : ℕ → ℕ) where
 
   named_sum : (rs : List Region) → total w w 0 rs ≡ sum_of (named rs)
   named_sum [] = refl
-  named_sum (r ∷ rs) = let e = named_sum rs in let k = kind_sum r.kind in omega (arith, sums_both (funclet_in r.kind) (named rs))
+  named_sum (r ∷ rs) = let e = named_sum rs in let k = kind_sum r.kind in
+      omega (arith, sums_both (funclet_in r.kind) (named rs))
 
   tries_sum : (ts : List Try) → try_total w w 0 ts ≡ sum_from_one (numbers ts)
   tries_sum [] = refl
@@ -150,8 +166,10 @@ module _ (w : ℕ → ℕ) where
   tries_sum (Asks k ∷ ts) = let e = tries_sum ts in omega arith
   tries_sum (Finishes k ∷ ts) = let e = tries_sum ts in omega arith
 
-  pub sums_agree : (p : Program) → sum_of (named (regions (lowered p))) ≡ sum_from_one (sound.all_funclets p.functions)
-  sums_agree p = sym (named_sum (regions (lowered p))) ∙ program_total w w 0 p ∙ tries_sum (all_tries p) ∙ ap sum_from_one (functions_numbers p.functions)
+  pub sums_agree : (p : Program) → sum_of (named (regions (lowered p)))
+      ≡ sum_from_one (sound.all_funclets p.functions)
+  sums_agree p = sym (named_sum (regions (lowered p))) ∙ program_total w w 0 p
+      ∙ tries_sum (all_tries p) ∙ ap sum_from_one (functions_numbers p.functions)
 
 -- ---- numbers that count up
 
@@ -197,18 +215,21 @@ once j n (k ∷ ks) up some =
           omega arith
     ]
 
-none_beyond : (m n : ℕ) (ks : List ℕ) → count_up n ks ≡ true → 1 ≤ n → n + length ks ≤ m + 1 → sum_from_one (beyond m) ks ≡ 0
+none_beyond : (m n : ℕ) (ks : List ℕ) → count_up n ks ≡ true → 1 ≤ n → n + length ks ≤ m + 1
+    → sum_from_one (beyond m) ks ≡ 0
 none_beyond m n [] up some le = refl
 none_beyond m n (k ∷ ks) up some le =
     let h = and_parts (k == n) (count_up (n + 1) ks) up in
     let e = eqb-true k n h.0 in
-    let here : beyond m (k - 1) ≡ 0 = ap (λ (b : Bool). cond b 0 1) (lt-ltb (k - 1) m (omega arith)) in
+    let here : beyond m (k - 1) ≡ 0 = ap (λ (b : Bool). cond b 0 1)
+      (lt-ltb (k - 1) m (omega arith)) in
     let rest = none_beyond m (n + 1) ks h.1 (omega arith) (omega arith) in
     omega arith
 
 -- ---- what sums say of elements
 
-all_differ : (j : ℕ) (xs : List ℕ) → sum_of (is j) xs ≡ 0 → AllByRecursion (λ x. (j == x) ≡ false) xs
+all_differ : (j : ℕ) (xs : List ℕ) → sum_of (is j) xs ≡ 0
+    → AllByRecursion (λ x. (j == x) ≡ false) xs
 all_differ j [] e = tt
 all_differ j (x ∷ xs) e = (go (j == x) refl, all_differ j xs (omega arith))
   where
@@ -250,6 +271,11 @@ lowered_names_funclets p ok =
     let up = counts p ok in
     let n = functions_count 0 p.functions in
     record {
-      there = all_small (length (lowered p).funclets) (named (regions (lowered p))) (sums_agree (beyond (length (lowered p).funclets)) p ∙ none_beyond (length (lowered p).funclets) 1 (sound.all_funclets p.functions) up (omega arith) (omega arith));
-      once = all_distinct (named (regions (lowered p))) (λ j. (let s = sums_agree (is j) p in let o = once j 1 (sound.all_funclets p.functions) up (omega arith) in omega arith));
+      there = all_small (length (lowered p).funclets) (named (regions (lowered p)))
+        (sums_agree (beyond (length (lowered p).funclets)) p
+        ∙ none_beyond (length (lowered p).funclets) 1 (sound.all_funclets p.functions) up
+          (omega arith) (omega arith));
+      once = all_distinct (named (regions (lowered p)))
+        (λ j. (let s = sums_agree (is j) p in
+        let o = once j 1 (sound.all_funclets p.functions) up (omega arith) in omega arith));
     }

@@ -44,9 +44,11 @@ finally_weight (kinds.Finally f) = refl
 finally_weight (kinds.Filter f t) = refl
 finally_weight (kinds.Always t) = refl
 
-regions_finally : (rs : List Region) → total one none 0 rs ≡ count_by (λ (r : Region). is_finally r.kind) rs
+regions_finally : (rs : List Region) → total one none 0 rs
+    ≡ count_by (λ (r : Region). is_finally r.kind) rs
 regions_finally [] = refl
-regions_finally (r ∷ rs) = (λ i. finally_weight r.kind i + regions_finally rs i) ∙ sym (sum_by-cons (λ (q : Region). cond (is_finally q.kind) 1 0) r rs)
+regions_finally (r ∷ rs) = (λ i. finally_weight r.kind i + regions_finally rs i)
+    ∙ sym (sum_by-cons (λ (q : Region). cond (is_finally q.kind) 1 0) r rs)
 
 try_finally : (t : Try) → try_weight one none 0 t ≡ cond (finishes t) 1 0
 try_finally Accepts = refl
@@ -55,16 +57,19 @@ try_finally (Finishes k) = refl
 
 tries_finally : (ts : List Try) → try_total one none 0 ts ≡ count_by finishes ts
 tries_finally [] = refl
-tries_finally (t ∷ ts) = (λ i. try_finally t i + tries_finally ts i) ∙ sym (sum_by-cons (λ (q : Try). cond (finishes q) 1 0) t ts)
+tries_finally (t ∷ ts) = (λ i. try_finally t i + tries_finally ts i)
+    ∙ sym (sum_by-cons (λ (q : Try). cond (finishes q) 1 0) t ts)
 
 always_weight : (k : RegionKind) → weight none none 1 k ≡ cond (is_always k) 1 0
 always_weight (kinds.Finally f) = refl
 always_weight (kinds.Filter f t) = refl
 always_weight (kinds.Always t) = refl
 
-regions_always : (rs : List Region) → total none none 1 rs ≡ count_by (λ (r : Region). is_always r.kind) rs
+regions_always : (rs : List Region) → total none none 1 rs
+    ≡ count_by (λ (r : Region). is_always r.kind) rs
 regions_always [] = refl
-regions_always (r ∷ rs) = (λ i. always_weight r.kind i + regions_always rs i) ∙ sym (sum_by-cons (λ (q : Region). cond (is_always q.kind) 1 0) r rs)
+regions_always (r ∷ rs) = (λ i. always_weight r.kind i + regions_always rs i)
+    ∙ sym (sum_by-cons (λ (q : Region). cond (is_always q.kind) 1 0) r rs)
 
 try_always : (t : Try) → try_weight none none 1 t ≡ cond (accepts t) 1 0
 try_always Accepts = refl
@@ -73,7 +78,8 @@ try_always (Finishes k) = refl
 
 tries_always : (ts : List Try) → try_total none none 1 ts ≡ count_by accepts ts
 tries_always [] = refl
-tries_always (t ∷ ts) = (λ i. try_always t i + tries_always ts i) ∙ sym (sum_by-cons (λ (q : Try). cond (accepts q) 1 0) t ts)
+tries_always (t ∷ ts) = (λ i. try_always t i + tries_always ts i)
+    ∙ sym (sum_by-cons (λ (q : Try). cond (accepts q) 1 0) t ts)
 
 -- ---- programs
 
@@ -86,7 +92,9 @@ lowered_is_shaped p ok fits =
       shape = shape;
       names = lowered_names_funclets p ok;
       tries = shape.count ∙ sym (regions_length rs) ∙ program_total one one 1 p ∙ tries_length ts;
-      finally = shape.finally ∙ sym (regions_finally rs) ∙ program_total one none 0 p ∙ tries_finally ts;
-      always = shape.always ∙ sym (regions_always rs) ∙ program_total none none 1 p ∙ tries_always ts;
+      finally = shape.finally ∙ sym (regions_finally rs) ∙ program_total one none 0 p
+        ∙ tries_finally ts;
+      always = shape.always ∙ sym (regions_always rs) ∙ program_total none none 1 p
+        ∙ tries_always ts;
       handlers = handlers_differ (lowered p) fits (lowered_names_funclets p ok);
     }

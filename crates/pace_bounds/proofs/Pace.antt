@@ -18,15 +18,20 @@ mul_le k a b le =
     omega arith
 
 -- what holds at a pace holds at a larger one
-slower : (program : Program) (linear : LinearProgram) (pace most : ℕ) → pace ≤ most → NoMore program linear pace → NoMore program linear most
-slower program linear pace most le h arg m n many = let p = mul_le (m + 1) pace most le in h arg m n (omega arith)
+slower : (program : Program) (linear : LinearProgram) (pace most : ℕ) → pace ≤ most
+    → NoMore program linear pace → NoMore program linear most
+slower program linear pace most le h arg m n many = let p = mul_le (m + 1) pace most le in
+    h arg m n (omega arith)
 
 pub pace_is_bounded : PaceIsBounded
 pace_is_bounded text xs bytes few = let w = resolved_weight text xs in omega arith
 
 pub accepted_follows : AcceptedFollows
-accepted_follows text xs within accepted = lowered_follows (program_of text xs) (accepted_is_sound text xs within accepted)
+accepted_follows text xs within accepted = lowered_follows (program_of text xs)
+    (accepted_is_sound text xs within accepted)
 
 pub accepted_shows_no_more : AcceptedShowsNoMore
 accepted_shows_no_more text xs bytes within accepted few =
-    slower (program_of text xs) (lowered (program_of text xs)) (pace_of (program_of text xs)) (pace_in bytes) (pace_is_bounded text xs bytes few) (lowered_shows_no_more (program_of text xs) (accepted_is_sound text xs within accepted))
+    slower (program_of text xs) (lowered (program_of text xs)) (pace_of (program_of text xs))
+      (pace_in bytes) (pace_is_bounded text xs bytes few)
+      (lowered_shows_no_more (program_of text xs) (accepted_is_sound text xs within accepted))

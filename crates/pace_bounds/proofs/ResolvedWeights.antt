@@ -70,7 +70,8 @@ statements_add = record {
   evaluation = λ e. let f = optional_is e in omega arith;
   if_alone = λ c s. omega arith;
   if_else = λ c s t. omega arith;
-  for_loop = λ ds first c next s. let e = optional_is first in let f = optional_is c in let g = optional_is next in omega arith;
+  for_loop = λ ds first c next s. let e = optional_is first in let f = optional_is c in
+      let g = optional_is next in omega arith;
   do_loop = λ s c. omega arith;
   returning = λ e. let f = optional_is e in omega arith;
   breaking = omega arith;
@@ -87,5 +88,6 @@ statements_add = record {
   several_functions = λ f fs. omega arith;
 }
 
-pub resolved_weight : (text : List ℕ) (xs : List ExternalDeclaration) → weight_of (resolve text xs).program.functions ≤ 3 * nodes_of xs
+pub resolved_weight : (text : List ℕ) (xs : List ExternalDeclaration)
+    → weight_of (resolve text xs).program.functions ≤ 3 * nodes_of xs
 resolved_weight = weight_is_bounded weights nodes_add statements_add

@@ -13,7 +13,8 @@ use Rattle.pe_image.proofs.Stored.{stored_after}
 use Rattle.pe_image.proofs.Zeros.{is_zero, first_after}
 
 -- the first 0 from an address on is that from each address up to it
-pub ends_after : (ss : List Section) → AreAscending 0 ss → (from at end : ℕ) → EndsAt ss from end → from ≤ at → at ≤ end → position is_zero (stored_in at (section_at at ss)) ≡ Some (end - at)
+pub ends_after : (ss : List Section) → AreAscending 0 ss → (from at end : ℕ) → EndsAt ss from end
+    → from ≤ at → at ≤ end → position is_zero (stored_in at (section_at at ss)) ≡ Some (end - at)
 ends_after ss up from at end h begun passed =
     let bytes = stored_in from (section_at from ss) in
     let there = position-Some is_zero bytes (end - from) 0 h.first in
@@ -26,7 +27,10 @@ ends_after ss up from at end h begun passed =
     ∙ ap (λ (k : ℕ). Some k) left
 
 -- a stretch after an address, seen from there
-pub known_after : (ss : List Section) → AreAscending 0 ss → (from at end : ℕ) → EndsAt ss from end → at ≤ from → from - at < length (stored_in at (section_at at ss)) → position is_zero (drop (from - at) (stored_in at (section_at at ss))) ≡ Some (end - at - (from - at))
+pub known_after : (ss : List Section) → AreAscending 0 ss → (from at end : ℕ) → EndsAt ss from end
+    → at ≤ from → from - at < length (stored_in at (section_at at ss))
+    → position is_zero (drop (from - at) (stored_in at (section_at at ss)))
+    ≡ Some (end - at - (from - at))
 known_after ss up from at end h le lt =
     let here : at + (from - at) ≡ from = omega arith in
     let left : end - from ≡ end - at - (from - at) = omega (arith, h.above) in
@@ -36,7 +40,9 @@ known_after ss up from at end h le lt =
     ∙ ap (λ (k : ℕ). Some k) left
 
 -- a stretch more is kept
-pub ends_kept : (ss : List Section) (old new : BTreeMap ℕ ℕ) (at end : ℕ) → ((q : ℕ) → get nat_cmp new q ≡ cond (is_at (nat_cmp end) q) (Some at) (get nat_cmp old q)) → AreEnds ss old → EndsAt ss at end → AreEnds ss new
+pub ends_kept : (ss : List Section) (old new : BTreeMap ℕ ℕ) (at end : ℕ)
+    → ((q : ℕ) → get nat_cmp new q ≡ cond (is_at (nat_cmp end) q) (Some at) (get nat_cmp old q))
+    → AreEnds ss old → EndsAt ss at end → AreEnds ss new
 ends_kept ss old new at end has before this e f found = elim (cases_eq e end) [
   | inl same ↦
       let there : Some at ≡ Some f = sym (at_key old new end at has e same) ∙ found in
@@ -51,26 +57,35 @@ none_is_short : (b : Bool) → unless_short None b ≡ None
 none_is_short true = refl
 none_is_short false = refl
 
-module _ (ss : List Section) (up : AreAscending 0 ss) (at : ℕ) (bytes : List ℕ) (is : bytes ≡ stored_in at (section_at at ss)) (long : 2 < length bytes) where
+module _ (ss : List Section) (up : AreAscending 0 ss) (at : ℕ) (bytes : List ℕ)
+    (is : bytes ≡ stored_in at (section_at at ss)) (long : 2 < length bytes) where
   after_hint : stored_in (at + 2) (section_at (at + 2) ss) ≡ drop 2 bytes
   after_hint =
-      let there : 2 < length (stored_in at (section_at at ss)) = subst (λ (b : List ℕ). 2 < length b) is long in
+      let there : 2 < length (stored_in at (section_at at ss)) = subst
+        (λ (b : List ℕ). 2 < length b) is long in
       stored_after at 2 ss up there ∙ ap (drop 2) (sym is)
 
-  ended : (o : Option ℕ) → o ≡ position is_zero (stored_in (at + 2) (section_at (at + 2) ss)) → position is_zero (drop 2 bytes) ≡ o
+  ended : (o : Option ℕ) → o ≡ position is_zero (stored_in (at + 2) (section_at (at + 2) ss))
+      → position is_zero (drop 2 bytes) ≡ o
   ended o e = sym (e ∙ ap (position is_zero) after_hint)
 
-  pub name_fits : (len : ℕ) → Some len ≡ position is_zero (stored_in (at + 2) (section_at (at + 2) ss)) → len + 2 < length bytes
-  name_fits len e = let p = position-Some is_zero (drop 2 bytes) len 0 (ended (Some len) e) in omega (arith, p.0, length-drop 2 bytes)
+  pub name_fits : (len : ℕ) → Some len ≡ position is_zero
+      (stored_in (at + 2) (section_at (at + 2) ss)) → len + 2 < length bytes
+  name_fits len e = let p = position-Some is_zero (drop 2 bytes) len 0 (ended (Some len) e) in
+      omega (arith, p.0, length-drop 2 bytes)
 
-  pub named : (len : ℕ) → Some len ≡ position is_zero (stored_in (at + 2) (section_at (at + 2) ss)) → Some (take len (drop 2 bytes)) ≡ name_at ss at
+  pub named : (len : ℕ) → Some len ≡ position is_zero (stored_in (at + 2) (section_at (at + 2) ss))
+      → Some (take len (drop 2 bytes)) ≡ name_at ss at
   named len e =
       sym (ap hinted (sym is)
-      ∙ ap (λ (o : Option ℕ). unless_short (option_map (λ n. take n (drop 2 bytes)) o) (leb 2 (length bytes))) (ended (Some len) e)
+      ∙ ap (λ (o : Option ℕ). unless_short (option_map (λ n. take n (drop 2 bytes)) o)
+        (leb 2 (length bytes))) (ended (Some len) e)
       ∙ ap (unless_short (Some (take len (drop 2 bytes)))) (le-leb 2 (length bytes) (omega arith)))
 
-  pub unnamed : None ≡ position is_zero (stored_in (at + 2) (section_at (at + 2) ss)) → None ≡ name_at ss at
+  pub unnamed : None ≡ position is_zero (stored_in (at + 2) (section_at (at + 2) ss))
+      → None ≡ name_at ss at
   unnamed e =
       sym (ap hinted (sym is)
-      ∙ ap (λ (o : Option ℕ). unless_short (option_map (λ n. take n (drop 2 bytes)) o) (leb 2 (length bytes))) (ended None e)
+      ∙ ap (λ (o : Option ℕ). unless_short (option_map (λ n. take n (drop 2 bytes)) o)
+        (leb 2 (length bytes))) (ended None e)
       ∙ none_is_short (leb 2 (length bytes)))

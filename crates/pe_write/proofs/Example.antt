@@ -14,13 +14,16 @@ front =
     u16 0x5A4D ++ zeros 58 ++ u32 0x40
     ++ u32 0x4550 ++ u16 0x8664 ++ u16 2 ++ zeros 12 ++ u16 240 ++ u16 0x23
     ++ u16 0x20B ++ u16 0 ++ u32 512 ++ zeros 8 ++ u32 0x2000 ++ u32 0x2000
-    ++ u64 0x140000000 ++ u32 4096 ++ u32 512 ++ zeros 16 ++ u32 0x3000 ++ u32 1024 ++ zeros 4 ++ u16 3 ++ zeros 38 ++ u32 16
+    ++ u64 0x140000000 ++ u32 4096 ++ u32 512 ++ zeros 16 ++ u32 0x3000 ++ u32 1024 ++ zeros 4
+    ++ u16 3 ++ zeros 38 ++ u32 16
     ++ zeros 24 ++ u32 0x2003 ++ u32 12 ++ zeros 96
 
 abbrev table : List ℕ
 table =
-    (46 ∷ 100 ∷ 97 ∷ 116 ∷ 97 ∷ 0 ∷ 0 ∷ 0 ∷ []) ++ u32 4096 ++ u32 0x1000 ++ u32 0 ++ u32 1024 ++ zeros 12 ++ u32 0xC0000040
-    ++ (46 ∷ 116 ∷ 101 ∷ 120 ∷ 116 ∷ 0 ∷ 0 ∷ 0 ∷ []) ++ u32 6 ++ u32 0x2000 ++ u32 512 ++ u32 1024 ++ zeros 12 ++ u32 0x60000020
+    (46 ∷ 100 ∷ 97 ∷ 116 ∷ 97 ∷ 0 ∷ 0 ∷ 0 ∷ []) ++ u32 4096 ++ u32 0x1000 ++ u32 0 ++ u32 1024
+      ++ zeros 12 ++ u32 0xC0000040
+    ++ (46 ∷ 116 ∷ 101 ∷ 120 ∷ 116 ∷ 0 ∷ 0 ∷ 0 ∷ []) ++ u32 6 ++ u32 0x2000 ++ u32 512 ++ u32 1024
+    ++ zeros 12 ++ u32 0x60000020
 
 abbrev bytes : List ℕ
 bytes = front ++ table ++ zeros 616 ++ code ++ zeros 506
@@ -29,8 +32,10 @@ abbrev parts : ImageParts
 parts = record {
   entry = 0x2000;
   sections =
-      record { name = 46 ∷ 100 ∷ 97 ∷ 116 ∷ 97 ∷ 0 ∷ 0 ∷ 0 ∷ []; flags = 0xC0000040; size = 4096; bytes = [] }
-      ∷ record { name = 46 ∷ 116 ∷ 101 ∷ 120 ∷ 116 ∷ 0 ∷ 0 ∷ 0 ∷ []; flags = 0x60000020; size = 6; bytes = code }
+      record { name = 46 ∷ 100 ∷ 97 ∷ 116 ∷ 97 ∷ 0 ∷ 0 ∷ 0 ∷ []; flags = 0xC0000040; size = 4096;
+        bytes = [] }
+      ∷ record { name = 46 ∷ 116 ∷ 101 ∷ 120 ∷ 116 ∷ 0 ∷ 0 ∷ 0 ∷ []; flags = 0x60000020; size = 6;
+        bytes = code }
       ∷ [];
   imports = record { rva = 0; size = 0 };
   exceptions = record { rva = 0x2003; size = 12 };
@@ -38,7 +43,8 @@ parts = record {
 }
 
 is_written : written parts ≡ bytes
-unfolding written dos_header file_header standard_fields windows_fields directory_entry directories section_fields raw_data u16 u32 u64 zeros
+unfolding written dos_header file_header standard_fields windows_fields directory_entry directories
+    section_fields raw_data u16 u32 u64 zeros
 is_written = refl
 
 abbrev sections : List Section

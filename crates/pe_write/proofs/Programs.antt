@@ -24,60 +24,82 @@ module _ (p : ImageContents) (fits : CanBeImage p) where
   r = rdata_at (sizes_of p)
 
   abbrev globals : Section
-  globals = record { address = 0x1000; size = p.data_size; raw = raw_data (data_section p); flags = 0xC0000040 }
+  globals = record { address = 0x1000; size = p.data_size; raw = raw_data (data_section p);
+      flags = 0xC0000040 }
 
   abbrev code : Section
-  code = record { address = text_at (sizes_of p); size = length p.text; raw = p.text; flags = 0x60000020 }
+  code = record { address = text_at (sizes_of p); size = length p.text; raw = p.text;
+      flags = 0x60000020 }
 
   abbrev tables : Section
   tables = record { address = r; size = 222; raw = import_tables r; flags = 0x40000040 }
 
   abbrev infos : Section
-  infos = record { address = xdata_at (sizes_of p); size = length p.xdata; raw = p.xdata; flags = 0x40000040 }
+  infos = record { address = xdata_at (sizes_of p); size = length p.xdata; raw = p.xdata;
+      flags = 0x40000040 }
 
   abbrev functions : Section
-  functions = record { address = pdata_at (sizes_of p); size = length p.pdata; raw = p.pdata; flags = 0x40000040 }
+  functions = record { address = pdata_at (sizes_of p); size = length p.pdata; raw = p.pdata;
+      flags = 0x40000040 }
 
   abbrev others : List Section
   others = infos ∷ functions ∷ []
 
   stored_of_data : length (raw_data (data_section p)) ≤ p.data_size
-  stored_of_data = let e = raw_length (data_section p) in let h = fits.stored in let w = fits.whole in omega arith
+  stored_of_data = let e = raw_length (data_section p) in let h = fits.stored in
+      let w = fits.whole in omega arith
 
   -- the byte at an address is stored in this section, and in none before it
-  inside : (rva : ℕ) (s : Section) → s.address ≤ rva → rva < s.address + length s.raw → stores_byte rva s ≡ true
-  inside rva s le lt = and_from (leb s.address rva) (ltb rva (s.address + length s.raw)) (le-leb s.address rva le) (lt-ltb rva (s.address + length s.raw) lt)
+  inside : (rva : ℕ) (s : Section) → s.address ≤ rva → rva < s.address + length s.raw
+      → stores_byte rva s ≡ true
+  inside rva s le lt = and_from (leb s.address rva) (ltb rva (s.address + length s.raw))
+      (le-leb s.address rva le) (lt-ltb rva (s.address + length s.raw) lt)
 
-  past_code : (rva : ℕ) → r ≤ rva → section_at rva (sections_of p) ≡ section_at rva (tables ∷ others)
+  past_code : (rva : ℕ) → r ≤ rva → section_at rva (sections_of p)
+      ≡ section_at rva (tables ∷ others)
   past_code rva le =
-      ap (section_or (section_at rva (code ∷ tables ∷ others)) globals) (above_holds_none rva globals (omega (arith, stored_of_data)))
-      ∙ ap (section_or (section_at rva (tables ∷ others)) code) (above_holds_none rva code (omega arith))
+      ap (section_or (section_at rva (code ∷ tables ∷ others)) globals)
+        (above_holds_none rva globals (omega (arith, stored_of_data)))
+      ∙ ap (section_or (section_at rva (tables ∷ others)) code)
+        (above_holds_none rva code (omega arith))
 
-  past_tables : (rva : ℕ) → xdata_at (sizes_of p) ≤ rva → section_at rva (sections_of p) ≡ section_at rva others
+  past_tables : (rva : ℕ) → xdata_at (sizes_of p) ≤ rva
+      → section_at rva (sections_of p) ≡ section_at rva others
   past_tables rva le =
       past_code rva (omega arith)
-      ∙ ap (section_or (section_at rva others) tables) (above_holds_none rva tables (omega (arith, tables_length r)))
+      ∙ ap (section_or (section_at rva others) tables)
+        (above_holds_none rva tables (omega (arith, tables_length r)))
 
-  pub tables_are_at : (k : ℕ) → k < 222 → stored_in (r + k) (section_at (r + k) (sections_of p)) ≡ drop k (import_tables r)
+  pub tables_are_at : (k : ℕ) → k < 222 → stored_in (r + k) (section_at (r + k) (sections_of p))
+      ≡ drop k (import_tables r)
   tables_are_at k lt =
       let back : r + k - r ≡ k = omega arith in
-      ap (stored_in (r + k)) (past_code (r + k) (omega arith) ∙ ap (section_or (section_at (r + k) others) tables) (inside (r + k) tables (omega arith) (omega (arith, tables_length r))))
+      ap (stored_in (r + k)) (past_code (r + k) (omega arith)
+        ∙ ap (section_or (section_at (r + k) others) tables)
+          (inside (r + k) tables (omega arith) (omega (arith, tables_length r))))
       ∙ ap (λ n. drop n (import_tables r)) back
 
-  pub xdata_is_at : (k : ℕ) → k < length p.xdata → stored_in (xdata_at (sizes_of p) + k) (section_at (xdata_at (sizes_of p) + k) (sections_of p)) ≡ drop k p.xdata
+  pub xdata_is_at : (k : ℕ) → k < length p.xdata
+      → stored_in (xdata_at (sizes_of p) + k)
+        (section_at (xdata_at (sizes_of p) + k) (sections_of p)) ≡ drop k p.xdata
   xdata_is_at k lt =
       let at = xdata_at (sizes_of p) in
       let back : at + k - at ≡ k = omega arith in
-      ap (stored_in (at + k)) (past_tables (at + k) (omega arith) ∙ ap (section_or (section_at (at + k) (functions ∷ [])) infos) (inside (at + k) infos (omega arith) (omega arith)))
+      ap (stored_in (at + k)) (past_tables (at + k) (omega arith)
+        ∙ ap (section_or (section_at (at + k) (functions ∷ [])) infos)
+          (inside (at + k) infos (omega arith) (omega arith)))
       ∙ ap (λ n. drop n p.xdata) back
 
-  pub pdata_is_at : (k : ℕ) → k < length p.pdata → stored_in (pdata_at (sizes_of p) + k) (section_at (pdata_at (sizes_of p) + k) (sections_of p)) ≡ drop k p.pdata
+  pub pdata_is_at : (k : ℕ) → k < length p.pdata
+      → stored_in (pdata_at (sizes_of p) + k)
+        (section_at (pdata_at (sizes_of p) + k) (sections_of p)) ≡ drop k p.pdata
   pdata_is_at k lt =
       let at = pdata_at (sizes_of p) in
       let back : at + k - at ≡ k = omega arith in
       ap (stored_in (at + k))
       (past_tables (at + k) (omega arith)
-      ∙ ap (section_or (section_at (at + k) (functions ∷ [])) infos) (above_holds_none (at + k) infos (omega arith))
+      ∙ ap (section_or (section_at (at + k) (functions ∷ [])) infos)
+        (above_holds_none (at + k) infos (omega arith))
       ∙ ap (section_or None functions) (inside (at + k) functions (omega arith) (omega arith)))
       ∙ ap (λ n. drop n p.pdata) back
 
@@ -97,7 +119,8 @@ module _ (p : ImageContents) (fits : CanBeImage p) where
   unfolding raw_data
   rdata_is =
       ap (λ n. take n (raw_data (rdata_section p))) (sym (tables_length r))
-      ∙ take-append_seam (import_tables r) (zeros (raw_size (rdata_section p) - length (import_tables r)))
+      ∙ take-append_seam (import_tables r) (zeros
+        (raw_size (rdata_section p) - length (import_tables r)))
 
   xdata_is : take (length p.xdata) (raw_data (xdata_section p)) ≡ p.xdata
   unfolding raw_data
@@ -117,10 +140,13 @@ module _ (p : ImageContents) (fits : CanBeImage p) where
     size = size_is i;
     sections =
         record { address = 0x1000; size = p.data_size; raw = data_is i; flags = 0xC0000040 }
-        ∷ record { address = text_at (sizes_of p); size = length p.text; raw = text_is i; flags = 0x60000020 }
+        ∷ record { address = text_at (sizes_of p); size = length p.text; raw = text_is i;
+          flags = 0x60000020 }
         ∷ record { address = r; size = 222; raw = rdata_is i; flags = 0x40000040 }
-        ∷ record { address = xdata_at (sizes_of p); size = length p.xdata; raw = xdata_is i; flags = 0x40000040 }
-        ∷ record { address = pdata_at (sizes_of p); size = length p.pdata; raw = pdata_is i; flags = 0x40000040 }
+        ∷ record { address = xdata_at (sizes_of p); size = length p.xdata; raw = xdata_is i;
+          flags = 0x40000040 }
+        ∷ record { address = pdata_at (sizes_of p); size = length p.pdata; raw = pdata_is i;
+          flags = 0x40000040 }
         ∷ [];
     imports = import_directory p;
     exceptions = exception_directory p;
@@ -158,31 +184,46 @@ module _ (p : ImageContents) (fits : CanBeImage p) where
         imports = (omega arith, omega arith);
         exceptions = (omega arith, omega arith);
         import_addresses = (omega arith, omega arith);
-        imported = ap imports image_is ∙ imports_are ∙ ap (λ (xs : List Import). Ok xs) (sym listed) ∙ ap (λ i. Ok (importing.imports_of i)) (sym image_is);
+        imported = ap imports image_is ∙ imports_are ∙ ap (λ (xs : List Import). Ok xs) (sym listed)
+          ∙ ap (λ i. Ok (importing.imports_of i)) (sym image_is);
       }
 
-pub read_again : (p : ImageContents) (t : Result (Vec ℕ) AllocError) → CanBeImage p → OnOk t (CanBeWritten (parts_of p)) → IfOk t (λ bytes. bytes.items ≡ written (parts_of p)) → IfOk t (λ bytes. IsImage bytes.items (image_of p))
-read_again p (Ok v) is fits same = subst (IsImage v.items) (image_is p is) (is_read (parts_of p) (Ok v) fits same)
+pub read_again : (p : ImageContents) (t : Result (Vec ℕ) AllocError) → CanBeImage p
+    → OnOk t (CanBeWritten (parts_of p)) → IfOk t (λ bytes. bytes.items ≡ written (parts_of p))
+    → IfOk t (λ bytes. IsImage bytes.items (image_of p))
+read_again p (Ok v) is fits same = subst (IsImage v.items) (image_is p is)
+    (is_read (parts_of p) (Ok v) fits same)
 read_again p (Err e) is fits same = tt
 
-pub small_file : (p : ImageContents) (t : Result (Vec ℕ) AllocError) → CanBeImage p → IfOk t (λ bytes. bytes.items ≡ written (parts_of p)) → IfOk t (λ bytes. length bytes.items ≤ end_at (sizes_of p))
-small_file p (Ok v) is same = let n = ap length same in let le = written_length (parts_of p) (can_be_written p is) in let e = size_is p is in omega arith
+pub small_file : (p : ImageContents) (t : Result (Vec ℕ) AllocError) → CanBeImage p
+    → IfOk t (λ bytes. bytes.items ≡ written (parts_of p))
+    → IfOk t (λ bytes. length bytes.items ≤ end_at (sizes_of p))
+small_file p (Ok v) is same = let n = ap length same in
+    let le = written_length (parts_of p) (can_be_written p is) in let e = size_is p is in
+    omega arith
 small_file p (Err e) is same = tt
 
-pub with_imports : (p : ImageContents) (t : Result (Vec ℕ) AllocError) → CanBeImage p → OnOk t (imports (image_of p) ≡ Ok (imports_of p))
+pub with_imports : (p : ImageContents) (t : Result (Vec ℕ) AllocError) → CanBeImage p
+    → OnOk t (imports (image_of p) ≡ Ok (imports_of p))
 with_imports p (Ok v) is = imports_are p is
 with_imports p (Err e) is = tt
 
 -- ---- the same by the values that the code has
 
-pub rdata_fits : (p : ImageContents) (s : Sizes) (n : ℕ) → CanBeImage p → s ≡ sizes_of p → n ≡ rdata_at s → n + 222 < 2 ^ 32
-rdata_fits p s n is e1 e2 = let e = is.end in let at : n ≡ rdata_at (sizes_of p) = e2 ∙ ap rdata_at e1 in omega arith
+pub rdata_fits : (p : ImageContents) (s : Sizes) (n : ℕ) → CanBeImage p → s ≡ sizes_of p
+    → n ≡ rdata_at s → n + 222 < 2 ^ 32
+rdata_fits p s n is e1 e2 = let e = is.end in let at : n ≡ rdata_at (sizes_of p) = e2
+    ∙ ap rdata_at e1 in omega arith
 
-pub text_fits : (p : ImageContents) (s : Sizes) (n : ℕ) → CanBeImage p → s ≡ sizes_of p → n ≡ text_at s → n + p.entry < 2 ^ 32
-text_fits p s n is e1 e2 = let e = is.end in let h = is.entry in let at : n ≡ text_at (sizes_of p) = e2 ∙ ap text_at e1 in omega arith
+pub text_fits : (p : ImageContents) (s : Sizes) (n : ℕ) → CanBeImage p → s ≡ sizes_of p
+    → n ≡ text_at s → n + p.entry < 2 ^ 32
+text_fits p s n is e1 e2 = let e = is.end in let h = is.entry in
+    let at : n ≡ text_at (sizes_of p) = e2 ∙ ap text_at e1 in omega arith
 
-pub pdata_fits : (p : ImageContents) (s : Sizes) (n : ℕ) → CanBeImage p → s ≡ sizes_of p → n ≡ pdata_at s → n < 2 ^ 32
-pdata_fits p s n is e1 e2 = let e = is.end in let at : n ≡ pdata_at (sizes_of p) = e2 ∙ ap pdata_at e1 in omega arith
+pub pdata_fits : (p : ImageContents) (s : Sizes) (n : ℕ) → CanBeImage p → s ≡ sizes_of p
+    → n ≡ pdata_at s → n < 2 ^ 32
+pdata_fits p s n is e1 e2 = let e = is.end in let at : n ≡ pdata_at (sizes_of p) = e2
+    ∙ ap pdata_at e1 in omega arith
 
 abbrev pub with_places : ℕ → List SectionParts → ℕ → ℕ → ℕ → ImageParts
 with_places entry ss rdata pdata size = record {
@@ -193,12 +234,18 @@ with_places entry ss rdata pdata size = record {
   import_addresses = record { rva = rdata + 88; size = 48 };
 }
 
-pub same_parts : (p : ImageContents) (s : Sizes) (n entry : ℕ) (ss : List SectionParts) (rdata pdata : ℕ) → s ≡ sizes_of p → n ≡ text_at s → entry ≡ p.entry → ss ≡ (parts_of p).sections → rdata ≡ rdata_at s → pdata ≡ pdata_at s
+pub same_parts : (p : ImageContents) (s : Sizes) (n entry : ℕ) (ss : List SectionParts)
+    (rdata pdata : ℕ) → s ≡ sizes_of p → n ≡ text_at s → entry ≡ p.entry
+    → ss ≡ (parts_of p).sections → rdata ≡ rdata_at s → pdata ≡ pdata_at s
     → with_places (n + entry) ss rdata pdata s.pdata_size ≡ parts_of p
 same_parts p s n entry ss rdata pdata e1 e2 e3 e4 e5 e6 =
     ap (λ s. with_places (n + entry) ss rdata pdata s.pdata_size) e1
-    ∙ (λ i. with_places ((e2 ∙ ap text_at e1) i + e3 i) (e4 i) ((e5 ∙ ap rdata_at e1) i) ((e6 ∙ ap pdata_at e1) i) (length p.pdata))
+    ∙ (λ i. with_places ((e2 ∙ ap text_at e1) i + e3 i) (e4 i) ((e5 ∙ ap rdata_at e1) i)
+      ((e6 ∙ ap pdata_at e1) i) (length p.pdata))
 
-pub places_fit : (p : ImageContents) (s : Sizes) (n entry : ℕ) (ss : List SectionParts) (rdata pdata : ℕ) → CanBeImage p → s ≡ sizes_of p → n ≡ text_at s → entry ≡ p.entry → ss ≡ (parts_of p).sections → rdata ≡ rdata_at s → pdata ≡ pdata_at s
+pub places_fit : (p : ImageContents) (s : Sizes) (n entry : ℕ) (ss : List SectionParts)
+    (rdata pdata : ℕ) → CanBeImage p → s ≡ sizes_of p → n ≡ text_at s → entry ≡ p.entry
+    → ss ≡ (parts_of p).sections → rdata ≡ rdata_at s → pdata ≡ pdata_at s
     → CanBeWritten (with_places (n + entry) ss rdata pdata s.pdata_size)
-places_fit p s n entry ss rdata pdata is e1 e2 e3 e4 e5 e6 = subst CanBeWritten (sym (same_parts p s n entry ss rdata pdata e1 e2 e3 e4 e5 e6)) (can_be_written p is)
+places_fit p s n entry ss rdata pdata is e1 e2 e3 e4 e5 e6 = subst CanBeWritten
+    (sym (same_parts p s n entry ss rdata pdata e1 e2 e3 e4 e5 e6)) (can_be_written p is)

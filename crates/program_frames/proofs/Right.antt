@@ -53,29 +53,43 @@ allowed_by n true = refl
 allowed_by n false = refl
 
 -- with an allocation, or without
-pub plan_near : (f : FrameLayout) (next to : ℕ) → f.size < 2 ^ 31 → next < 2 ^ 31 → IsNear to → IsPlan (plan_of f (distance next to))
-plan_near f next to size a b = record { size = size; distance = omega arith; probe = near_signed next to a b; allowed = allowed_by f.size (not (eqb f.size 0)) }
+pub plan_near : (f : FrameLayout) (next to : ℕ) → f.size < 2 ^ 31 → next < 2 ^ 31 → IsNear to
+    → IsPlan (plan_of f (distance next to))
+plan_near f next to size a b = record { size = size; distance = omega arith;
+    probe = near_signed next to a b; allowed = allowed_by f.size (not (eqb f.size 0)) }
 
-pub one_code : (f : FrameLayout) (probe : ℕ) → 0 < f.size → operations_of (plan_of f probe) ≡ Allocate f.size ∷ []
-one_code f probe some = ap (λ (none : Bool). allocation_then (not none) f.size []) (ne_eqb f.size 0 (λ z. (let q : f.size ≡ 0 = z in absurd (omega arith))))
+pub one_code : (f : FrameLayout) (probe : ℕ) → 0 < f.size
+    → operations_of (plan_of f probe) ≡ Allocate f.size ∷ []
+one_code f probe some = ap (λ (none : Bool). allocation_then (not none) f.size [])
+    (ne_eqb f.size 0 (λ z. (let q : f.size ≡ 0 = z in absurd (omega arith))))
 
-spelled_steps : (p : FramePlan) (at : ℕ) (xs : List UnwindOperation) → spelled_by spell (flat_map (instructions_of p) xs) ≡ items (steps_of spell p at xs)
+spelled_steps : (p : FramePlan) (at : ℕ) (xs : List UnwindOperation)
+    → spelled_by spell (flat_map (instructions_of p) xs) ≡ items (steps_of spell p at xs)
 spelled_steps p at [] = refl
-spelled_steps p at (x ∷ xs) = spelled_both (instructions_of p x) (flat_map (instructions_of p) xs) ∙ ap (λ (ys : List FetchedInstr). spelled_by spell (instructions_of p x) ++ ys) (spelled_steps p (at + bytes (spelled_by spell (instructions_of p x))) xs)
+spelled_steps p at (x ∷ xs) = spelled_both (instructions_of p x) (flat_map (instructions_of p) xs)
+    ∙ ap (λ (ys : List FetchedInstr). spelled_by spell (instructions_of p x) ++ ys)
+      (spelled_steps p (at + bytes (spelled_by spell (instructions_of p x))) xs)
 
 -- ---- what comes after the prologue
 
-pub rest_fine : (p : LinearProgram) (index : ℕ) (x : Placed) (n probe : ℕ) (is_plan : IsPlan (with_size n probe)) → size_of x.routine.frame ≡ n
-    → FitsProgram p → slice_get (placed p) index ≡ Some x → IsThere (site_of p) (linked p).text (text_begin p.globals) x → IsFine n probe is_plan (rest_of p x)
+pub rest_fine : (p : LinearProgram) (index : ℕ) (x : Placed) (n probe : ℕ)
+    (is_plan : IsPlan (with_size n probe)) → size_of x.routine.frame ≡ n
+    → FitsProgram p → slice_get (placed p) index ≡ Some x
+    → IsThere (site_of p) (linked p).text (text_begin p.globals) x
+    → IsFine n probe is_plan (rest_of p x)
 rest_fine p index x n probe is_plan size fits e h =
     let r = x.routine in
     let entry = entry_small r h.near in
     let room = h.room in
-    fine_both n probe is_plan (argument_code r.layout r.entry) (code_from (links p x) r.layout (body_begin x) r.body.code)
-    (fine_inner n probe is_plan (argument_code r.layout r.entry) (arguments_inner r.layout r.entry h.near.entry))
-    (body_fine n probe is_plan (links p x) r.layout (body_begin x) r.body.code (sized p index x e ∙ size) (links_near p x fits h) h.near.code (omega arith))
+    fine_both n probe is_plan (argument_code r.layout r.entry)
+      (code_from (links p x) r.layout (body_begin x) r.body.code)
+    (fine_inner n probe is_plan (argument_code r.layout r.entry)
+      (arguments_inner r.layout r.entry h.near.entry))
+    (body_fine n probe is_plan (links p x) r.layout (body_begin x) r.body.code
+      (sized p index x e ∙ size) (links_near p x fits h) h.near.code (omega arith))
 
-module _ (p : LinearProgram) (index : ℕ) (x : Placed) (f : FrameLayout) (framed : IsFramed p index x f) where
+module _ (p : LinearProgram) (index : ℕ) (x : Placed) (f : FrameLayout)
+    (framed : IsFramed p index x f) where
   here : IsThere (site_of p) (linked p).text (text_begin p.globals) x
   here = there p index x framed.fits framed.there
 
@@ -84,20 +98,25 @@ module _ (p : LinearProgram) (index : ℕ) (x : Placed) (f : FrameLayout) (frame
 
   is_plan : IsPlan (plan p x f)
   is_plan =
-      let n = site_near p.globals (routines p) (length p.functions) p.main framed.fits.globals (routines_near p framed.fits) (has_places p framed.fits) in
+      let n = site_near p.globals (routines p) (length p.functions) p.main framed.fits.globals
+        (routines_near p framed.fits) (has_places p framed.fits) in
       let text = n.text in
       let room = here.room in
       let most = sizes.1 in
-      plan_near f (x.begin + 10) (check_stack_at (site_of p).text) (omega arith) (omega arith) (omega arith)
+      plan_near f (x.begin + 10) (check_stack_at (site_of p).text) (omega arith) (omega arith)
+        (omega arith)
 
-  rest : IsFine f.size (distance (x.begin + 10) (check_stack_at (site_of p).text)) is_plan (rest_of p x)
-  rest = rest_fine p index x f.size (distance (x.begin + 10) (check_stack_at (site_of p).text)) is_plan (ap size_of framed.framed) framed.fits framed.there here
+  rest : IsFine f.size (distance (x.begin + 10) (check_stack_at (site_of p).text)) is_plan
+      (rest_of p x)
+  rest = rest_fine p index x f.size (distance (x.begin + 10) (check_stack_at (site_of p).text))
+      is_plan (ap size_of framed.framed) framed.fits framed.there here
 
   pub right : IsRight (function_of p x f)
   right =
       let q = plan p x f in
       let planned = plans_are_right spell q [] [] spells_all is_plan refl refl in
-      let d = describes f (taking_size f.size) (info_of f Nothing).codes sizes.0 refl refl q.probe in
+      let d = describes f (taking_size f.size) (info_of f Nothing).codes sizes.0 refl refl
+        q.probe in
       let leads = rest.leads [] in
       record {
         offset = omega arith;
@@ -107,7 +126,9 @@ module _ (p : LinearProgram) (index : ℕ) (x : Placed) (f : FrameLayout) (frame
         ordered = refl;
         allowed = refl;
         frame = λ ne. absurd (ne refl);
-        body = ap (λ (os : List UnwindOperation). is_body (following 0 0 os (spelled_by spell (rest_of p x)) (Body []))) (sym (one_code f q.probe sizes.0)) ∙ ap is_body leads.1;
+        body = ap (λ (os : List UnwindOperation). is_body
+          (following 0 0 os (spelled_by spell (rest_of p x)) (Body [])))
+          (sym (one_code f q.probe sizes.0)) ∙ ap is_body leads.1;
       }
 
   -- its code, in two parts
@@ -117,21 +138,33 @@ module _ (p : LinearProgram) (index : ℕ) (x : Placed) (f : FrameLayout) (frame
       let check = check_stack_at (site_of p).text in
       let a = argument_code r.layout r.entry in
       let b = code_from (links p x) r.layout (body_begin x) r.body.code in
-      ap (λ (o : Option FrameLayout). (frame_code x.begin check o ++ a) ++ b) framed.framed ∙ append_assoc (prologue_code (plan p x f)) a b
+      ap (λ (o : Option FrameLayout). (frame_code x.begin check o ++ a) ++ b) framed.framed
+        ∙ append_assoc (prologue_code (plan p x f)) a b
 
-  pub is_there : (m : Memory) → HasText m p → HasItems m (image_base + x.begin) (items (function_of p x f).steps ++ (function_of p x f).rest) (image_base + end_of x)
+  pub is_there : (m : Memory) → HasText m p → HasItems m (image_base + x.begin)
+      (items (function_of p x f).steps ++ (function_of p x f).rest) (image_base + end_of x)
   is_there m text =
       let q = plan p x f in
       let at = image_base + x.begin in
       let code = prologue_code q ++ rest_of p x in
       let room = here.room in
       let small = routine_small x.routine here.near in
-      let long : length (spelled code) ≡ routine_size x.routine = ap (λ (is : List Instr). length (spelled is)) (sym parts) ∙ code_length (site_of p) x.begin x.routine here.near in
-      let enc = encodable_both (prologue_code q) (rest_of p x) (plans_are_encodable q is_plan).0 rest.encodable in
-      let has = items_are_at m at code enc (omega arith) (subst (λ (is : List Instr). IsExecutableAt m at (spelled is)) parts (routine_is_at p m x text here)) in
-      let same : spelled_by spell code ≡ items (function_of p x f).steps ++ (function_of p x f).rest = spelled_both (prologue_code q) (rest_of p x) ∙ ap (λ (ys : List FetchedInstr). ys ++ spelled_by spell (rest_of p x)) (spelled_steps q 0 (rules.turned [] (operations_of q))) in
+      let long : length (spelled code) ≡ routine_size x.routine = ap
+        (λ (is : List Instr). length (spelled is)) (sym parts)
+        ∙ code_length (site_of p) x.begin x.routine here.near in
+      let enc = encodable_both (prologue_code q) (rest_of p x) (plans_are_encodable q is_plan).0
+        rest.encodable in
+      let has = items_are_at m at code enc (omega arith)
+        (subst (λ (is : List Instr). IsExecutableAt m at (spelled is)) parts
+        (routine_is_at p m x text here)) in
+      let same : spelled_by spell code ≡ items (function_of p x f).steps
+        ++ (function_of p x f).rest = spelled_both (prologue_code q) (rest_of p x)
+        ∙ ap (λ (ys : List FetchedInstr). ys ++ spelled_by spell (rest_of p x))
+          (spelled_steps q 0 (rules.turned [] (operations_of q))) in
       let end : at + length (spelled code) ≡ image_base + end_of x = omega arith in
-      subst (λ (n : ℕ). HasItems m at (items (function_of p x f).steps ++ (function_of p x f).rest) n) end (subst (λ (ys : List FetchedInstr). HasItems m at ys (at + length (spelled code))) same has)
+      subst (λ (n : ℕ). HasItems m at (items (function_of p x f).steps ++ (function_of p x f).rest)
+        n) end (subst (λ (ys : List FetchedInstr). HasItems m at ys (at + length (spelled code)))
+        same has)
 
 pub functions_are_at : FunctionsAreInMemory
 functions_are_at p index x f m framed text = is_there p index x f framed m text

@@ -101,7 +101,8 @@ abbrev pub nothing : LinearBody
 nothing = record { locals = 0; temporaries = 0; passed = 0; code = []; regions = [] }
 
 abbrev pub body_of_function : LinearProgram → ℕ → LinearBody
-body_of_function p index = (get_or p.functions index (record { parameters = 0; body = nothing })).body
+body_of_function p index = (get_or p.functions index
+    (record { parameters = 0; body = nothing })).body
 
 abbrev pub body_of_funclet : LinearProgram → ℕ → LinearBody
 body_of_funclet p index =

@@ -24,7 +24,8 @@ use Rattle.program_tables.specs.Entries.{has_rows}
 
 -- ---- what follows the codes
 
-flags_some : (b except finally : Bool) → if_set (not b || except) 1 + if_set (b || finally) 2 ≡ 0 → ⊥
+flags_some : (b except finally : Bool) → if_set (not b || except) 1 + if_set (b || finally) 2 ≡ 0
+    → ⊥
 flags_some true except finally e = omega arith
 flags_some false except finally e = omega arith
 
@@ -40,7 +41,8 @@ pub no_parent : (h : ℕ) (rs : List Region) → parent_of (trailer h rs) ≡ No
 no_parent h [] = refl
 no_parent h (r ∷ rs) = refl
 
-pub handled : (image : Image) (f : FrameLayout) (h : ℕ) (rs : List Region) → is_c_handler image h ≡ true → has_c_handler image (info_of f (trailer h rs)) ≡ has_rows rs
+pub handled : (image : Image) (f : FrameLayout) (h : ℕ) (rs : List Region)
+    → is_c_handler image h ≡ true → has_c_handler image (info_of f (trailer h rs)) ≡ has_rows rs
 handled image f h [] c = refl
 handled image f h (r ∷ rs) c = c
 
@@ -55,19 +57,26 @@ taking_few n some lt = elim (cases_lt n 128) [
   ]
 ]
 
-pub can_be : (f : FrameLayout) (t : Trailer) → 0 < f.size → f.size < 2 ^ 31 → IsTrailer t → CanBeWritten (info_of f t)
+pub can_be : (f : FrameLayout) (t : Trailer) → 0 < f.size → f.size < 2 ^ 31 → IsTrailer t
+    → CanBeWritten (info_of f t)
 can_be f t some lt is =
     let few = taking_few f.size some lt in
     let least = few.1 in
-    let h = can_be_written f.size (taking_size f.size) (info_of f Nothing).codes (omega arith) refl in
-    record { register = h.register; offset = h.offset; codes = h.codes; order = h.order; slots = h.slots; trailer = is }
+    let h = can_be_written f.size (taking_size f.size) (info_of f Nothing).codes (omega arith)
+      refl in
+    record { register = h.register; offset = h.offset; codes = h.codes; order = h.order;
+      slots = h.slots; trailer = is }
 
-pub is_info : (f : FrameLayout) (t : Trailer) → f.size < 2 ^ 31 → HasTrailer t → IsUnwindInfo (info_of f t)
+pub is_info : (f : FrameLayout) (t : Trailer) → f.size < 2 ^ 31 → HasTrailer t
+    → IsUnwindInfo (info_of f t)
 is_info f t lt has = record { operations = (omega arith, tt); trailer = has }
 
 -- ---- how many bytes it takes
 
-slots_by : (offset n : ℕ) (small short : Bool) → length (padded ((if small then slot offset 2 (n / 8 - 1) else (if short then slot offset 1 0 ++ u16 (n / 8) else slot offset 1 1 ++ u32 n)) ++ [])) % 4 ≡ 0
+slots_by : (offset n : ℕ) (small short : Bool)
+    → length (padded ((if small then slot offset 2 (n / 8 - 1)
+      else (if short then slot offset 1 0 ++ u16 (n / 8) else slot offset 1 1 ++ u32 n)) ++ [])) % 4
+    ≡ 0
 unfolding u16 u32
 slots_by offset n true short = refl
 slots_by offset n false true = refl
@@ -78,7 +87,8 @@ unfolding u32
 trailer_four h [] = refl
 trailer_four h (r ∷ rs) = refl
 
-unwind_four : (f : FrameLayout) (h : ℕ) (rs : List Region) → length (unwind_bytes (info_of f (trailer h rs))) % 4 ≡ 0
+unwind_four : (f : FrameLayout) (h : ℕ) (rs : List Region)
+    → length (unwind_bytes (info_of f (trailer h rs))) % 4 ≡ 0
 unfolding unwind_bytes
 unwind_four f h rs =
     let offset = taking_size f.size in
@@ -86,7 +96,8 @@ unwind_four f h rs =
     let bytes = allocation offset f.size ++ [] in
     let t = trailer h rs in
     let last = trailer_four h rs in
-    omega (arith, length-append (header (info_of f t) (length bytes)) (padded bytes ++ trailer_bytes t), length-append (padded bytes) (trailer_bytes t))
+    omega (arith, length-append (header (info_of f t) (length bytes))
+      (padded bytes ++ trailer_bytes t), length-append (padded bytes) (trailer_bytes t))
 
 pub unwind_some : (f : FrameLayout) (t : Trailer) → 0 < length (unwind_bytes (info_of f t))
 unfolding unwind_bytes
@@ -97,18 +108,22 @@ unfolding u32
 records_length [] = refl
 records_length (r ∷ rs) = let l = records_length rs in omega arith
 
-scopes_four : (funclets labels : List ℕ) (end : ℕ) (rs : List Region) → length (scope_table funclets labels end rs) % 4 ≡ 0
+scopes_four : (funclets labels : List ℕ) (end : ℕ) (rs : List Region)
+    → length (scope_table funclets labels end rs) % 4 ≡ 0
 unfolding u32
 scopes_four funclets labels end [] = refl
-scopes_four funclets labels end (r ∷ rs) = let l = records_length (scope_records funclets labels end (r ∷ rs)) in omega arith
+scopes_four funclets labels end (r ∷ rs) = let l = records_length
+    (scope_records funclets labels end (r ∷ rs)) in omega arith
 
-info_four : (s : SiteView) (labels : List ℕ) (end : ℕ) (r : RoutineView) (o : Option FrameLayout) → length (info_if s labels end r o) % 4 ≡ 0
+info_four : (s : SiteView) (labels : List ℕ) (end : ℕ) (r : RoutineView) (o : Option FrameLayout)
+    → length (info_if s labels end r o) % 4 ≡ 0
 info_four s labels end r None = refl
 info_four s labels end r (Some f) =
     let h = thunk_at s.text CSpecificHandler in
     let a = unwind_four f h r.body.regions in
     let b = scopes_four s.funclets labels end r.body.regions in
-    omega (arith, length-append (unwind_bytes (info_of f (trailer h r.body.regions))) (scope_table s.funclets labels end r.body.regions))
+    omega (arith, length-append (unwind_bytes (info_of f (trailer h r.body.regions)))
+      (scope_table s.funclets labels end r.body.regions))
 
 pub info_aligned : (s : SiteView) (at : ℕ) (r : RoutineView) → length (info_bytes s at r) % 4 ≡ 0
 unfolding info_bytes

@@ -59,40 +59,52 @@ pub template_some : (y : Layout) (i : Instruction) → 0 < template_size y i
 unfolding template_size
 template_some y (instructions.Compute to o first second) =
     let s = fetch_some y first in
-    omega (arith, sizes_append (operands_code y o first second) (finish_code y o to), sizes_append (fetch y Rax first) (fetch y Rcx second ++ before o))
+    omega (arith, sizes_append (operands_code y o first second) (finish_code y o to),
+      sizes_append (fetch y Rax first) (fetch y Rcx second ++ before o))
 template_some y (instructions.Information to field) = let s = fetched_rax y.pointers in omega arith
 template_some y (instructions.Landing to) = keep_some y to
 template_some y (instructions.Jump label) = let s = jump_size 5 0 in omega arith
 template_some y (instructions.JumpIfZero slot label) =
     let s = fetch_some y slot in
-    omega (arith, sizes_append (fetch y Rax slot) (compare_zero ∷ jump_equal (0 + sizes (test_code y slot) + 6) 0 ∷ []))
-template_some y (instructions.Call function first count) = let s = passing_call_size y first count 0 0 in omega arith
+    omega (arith, sizes_append (fetch y Rax slot)
+      (compare_zero ∷ jump_equal (0 + sizes (test_code y slot) + 6) 0 ∷ []))
+template_some y (instructions.Call function first count) = let s = passing_call_size y first count 0
+    0 in omega arith
 template_some y (instructions.CallBuiltIn function first) = let s = clear_some in omega arith
-template_some y (instructions.CallFinally funclet) = let s = call_size (0 + sizes finally_arguments + 5) 0 in omega arith
+template_some y (instructions.CallFinally funclet) = let s = call_size
+    (0 + sizes finally_arguments + 5) 0 in omega arith
 template_some y (instructions.LocalUnwind label) = let s = call_size 15 0 in omega arith
 template_some y instructions.Separator = nop_some
-template_some y (instructions.Return from) = let s = fetch_some y from in omega (arith, sizes_append (fetch y Rax from) (epilogue y.frame))
+template_some y (instructions.Return from) = let s = fetch_some y from in
+    omega (arith, sizes_append (fetch y Rax from) (epilogue y.frame))
 
 -- ---- labels
 
-pub label_least : (y : Layout) (at : ℕ) (body : List Instruction) (i end : ℕ) → at + body_size y body ≤ end → at ≤ address_or (label_list y at body) i end
+pub label_least : (y : Layout) (at : ℕ) (body : List Instruction) (i end : ℕ)
+    → at + body_size y body ≤ end → at ≤ address_or (label_list y at body) i end
 label_least y at [] zero end le = omega arith
 label_least y at [] (suc i) end le = omega arith
 label_least y at (b ∷ body) zero end le = omega arith
-label_least y at (b ∷ body) (suc i) end le = let l = label_least y (at + template_size y b) body i end (omega arith) in omega arith
+label_least y at (b ∷ body) (suc i) end le = let l = label_least y (at + template_size y b) body i
+    end (omega arith) in omega arith
 
-pub label_most : (y : Layout) (at : ℕ) (body : List Instruction) (i end : ℕ) → at + body_size y body ≤ end → address_or (label_list y at body) i end ≤ end
+pub label_most : (y : Layout) (at : ℕ) (body : List Instruction) (i end : ℕ)
+    → at + body_size y body ≤ end → address_or (label_list y at body) i end ≤ end
 label_most y at [] zero end le = omega arith
 label_most y at [] (suc i) end le = omega arith
 label_most y at (b ∷ body) zero end le = omega arith
-label_most y at (b ∷ body) (suc i) end le = label_most y (at + template_size y b) body i end (omega arith)
+label_most y at (b ∷ body) (suc i) end le = label_most y (at + template_size y b) body i end
+    (omega arith)
 
 -- one instruction begins before another
-pub labels_rise : (y : Layout) (at : ℕ) (body : List Instruction) (i j end : ℕ) → at + body_size y body ≤ end → i < j → i < length body → address_or (label_list y at body) i end < address_or (label_list y at body) j end
+pub labels_rise : (y : Layout) (at : ℕ) (body : List Instruction) (i j end : ℕ)
+    → at + body_size y body ≤ end → i < j → i < length body
+    → address_or (label_list y at body) i end < address_or (label_list y at body) j end
 labels_rise y at [] i j end le lt in' = absurd (omega arith)
 labels_rise y at (b ∷ body) i zero end le lt in' = absurd (omega arith)
 labels_rise y at (b ∷ body) zero (suc j) end le lt in' =
     let s = template_some y b in
     let l = label_least y (at + template_size y b) body j end (omega arith) in
     omega arith
-labels_rise y at (b ∷ body) (suc i) (suc j) end le lt in' = labels_rise y (at + template_size y b) body i j end (omega arith) (omega arith) (omega arith)
+labels_rise y at (b ∷ body) (suc i) (suc j) end le lt in' = labels_rise y (at + template_size y b)
+    body i j end (omega arith) (omega arith) (omega arith)

@@ -11,7 +11,8 @@ times_2 k a b = let e = times_1 k (a + b) in let f = mul-add k a b in omega arit
 pub times_3 : (k a b c : ℕ) → k * (1 + (a + (b + c))) ≡ k + (k * a + (k * b + k * c))
 times_3 k a b c = let e = times_2 k a (b + c) in let f = mul-add k b c in omega arith
 
-pub times_4 : (k a b c d : ℕ) → k * (1 + (a + (b + (c + d)))) ≡ k + (k * a + (k * b + (k * c + k * d)))
+pub times_4 : (k a b c d : ℕ) → k * (1 + (a + (b + (c + d))))
+    ≡ k + (k * a + (k * b + (k * c + k * d)))
 times_4 k a b c d = let e = times_3 k a b (c + d) in let f = mul-add k c d in omega arith
 
 -- once is no more than as many times as something that is at least one

@@ -105,7 +105,8 @@ pub record StatementsAdd (w : Weights) : Type 0 where
   pub continuing : w.statement Continue ≤ w.each
   pub leaving : w.statement Leave ≤ w.each
   pub accepting : (body block : Statements)
-      → w.statement (TryExcept body Always block) ≤ w.each + (w.statements body + w.statements block)
+      → w.statement (TryExcept body Always block)
+      ≤ w.each + (w.statements body + w.statements block)
   pub filtering : (body : Statements) (k : ℕ) (e : Expression) (block : Statements)
       → w.statement (TryExcept body (Funclet k e) block)
       ≤ w.each + (w.statements body + (w.expression e + w.statements block))

@@ -31,7 +31,8 @@ or_right true b h = refl
 or_right false b h = h
 
 -- a local that is seen is the one that was declared last, or was seen before
-pub seen_cases : (seen : SeenNames) (x y : ℕ) → with_local x seen y ≡ true → (y ≡ x) ⊎ (seen y ≡ true)
+pub seen_cases : (seen : SeenNames) (x y : ℕ) → with_local x seen y ≡ true
+    → (y ≡ x) ⊎ (seen y ≡ true)
 seen_cases seen x y h = of (either (nat_eq y x) (seen y) h)
   where
     of : (nat_eq y x ≡ true) ⊎ (seen y ≡ true) → (y ≡ x) ⊎ (seen y ≡ true)

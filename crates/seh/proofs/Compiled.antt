@@ -28,7 +28,9 @@ use Rattle.seh_ir.specs.Lowered.{lowered}
 
 -- ---- by linear code
 
-pub of_linear : (program : Program) (p : LinearProgram) (image : List ℕ) → p ≡ lowered program → AllByRecursion (λ b. b < 256) image → image ≡ written (parts_of (linked p)) → IsImage image (image_of (linked p)) → IsImageOf image program
+pub of_linear : (program : Program) (p : LinearProgram) (image : List ℕ) → p ≡ lowered program
+    → AllByRecursion (λ b. b < 256) image → image ≡ written (parts_of (linked p))
+    → IsImage image (image_of (linked p)) → IsImageOf image program
 of_linear program p image e octets bytes read = record {
   octets = octets;
   written = bytes ∙ ap (λ (q : LinearProgram). written (parts_of (linked q))) e;
@@ -38,32 +40,41 @@ of_linear program p image e octets bytes read = record {
 -- ---- of accepted texts
 
 -- a program has no more nodes than its text has bytes
-few : (text : List ℕ) (whole : List ExternalDeclaration) → IsAccepted text whole → nodes_of whole ≤ length text
+few : (text : List ℕ) (whole : List ExternalDeclaration) → IsAccepted text whole
+    → nodes_of whole ≤ length text
 few text whole a =
     let tokens = few_tokens text a.read.tokens a.read.lexed in
     let count = nodes.program text whole a.read.tokens a.read.derives in
     omega arith
 
 -- each is within the limits of linking
-pub accepted_fits : (text : List ℕ) (whole : List ExternalDeclaration) (p : Program) → length text ≤ 1048576 → IsCheckedAs text whole p → FitsProgram (lowered p)
+pub accepted_fits : (text : List ℕ) (whole : List ExternalDeclaration) (p : Program)
+    → length text ≤ 1048576 → IsCheckedAs text whole p → FitsProgram (lowered p)
 accepted_fits text whole p short checked =
     let a = checked.accepted in
     subst (λ (r : Program). FitsProgram (lowered r)) (sym checked.resolved)
     (texts_fit text a.read.tokens whole a.read.lexed a.read.derives a.read.within a.rules short)
 
-pub of_checked : (text image : List ℕ) (whole : List ExternalDeclaration) (p : Program) → length text ≤ 1048576 → IsCheckedAs text whole p → IsImageOf image p → IsCompiled text image
+pub of_checked : (text image : List ℕ) (whole : List ExternalDeclaration) (p : Program)
+    → length text ≤ 1048576 → IsCheckedAs text whole p → IsImageOf image p → IsCompiled text image
 of_checked text image whole p short checked link =
     let a = checked.accepted in
-    let w : IsImageOf image (resolve text whole).program = subst (λ (r : Program). IsImageOf image r) checked.resolved link in
-    let fits = texts_fit text a.read.tokens whole a.read.lexed a.read.derives a.read.within a.rules short in
+    let w : IsImageOf image (resolve text whole).program = subst
+      (λ (r : Program). IsImageOf image r) checked.resolved link in
+    let fits = texts_fit text a.read.tokens whole a.read.lexed a.read.derives a.read.within a.rules
+      short in
     let sound = accepted_is_sound text whole a.read.within a.rules in
     record {
       whole = whole;
       accepted = a;
       linked = w;
-      table = record { read = tables_are_read (lowered (resolve text whole).program) fits (lowered_has_regions (resolve text whole).program); shape = lowered_is_shaped (resolve text whole).program sound fits };
+      table = record { read = tables_are_read (lowered (resolve text whole).program) fits
+        (lowered_has_regions (resolve text whole).program);
+        shape = lowered_is_shaped (resolve text whole).program sound fits };
       realises = realise text whole image a.read.within a.rules fits w;
-      no_more = nothing_more text whole image a.read.within a.rules fits w (length text) (few text whole a);
+      no_more = nothing_more text whole image a.read.within a.rules fits w (length text)
+        (few text whole a);
       frames = lowered_finds_callers (resolve text whole).program fits;
-      walks = accepted_walk_the_shadow text whole image a.read.within a.rules fits w (length text) (few text whole a);
+      walks = accepted_walk_the_shadow text whole image a.read.within a.rules fits w (length text)
+        (few text whole a);
     }

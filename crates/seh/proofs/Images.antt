@@ -9,7 +9,9 @@ use Rattle.seh.specs.Streams.{Stream}
 use Rattle.seh.specs.Answers.{IsRunAnswer, IsTextRunAnswer}
 
 -- the run of an image that was compiled
-pub of_image : (options : RunOptions) (text image : List ℕ) (out out' : Stream) (answer : Result CommandOutcome Refusal) → IsCompiled text image → IsRunAnswer options image out out' answer → IsTextRunAnswer options text out out' answer
+pub of_image : (options : RunOptions) (text image : List ℕ) (out out' : Stream)
+    (answer : Result CommandOutcome Refusal) → IsCompiled text image
+    → IsRunAnswer options image out out' answer → IsTextRunAnswer options text out out' answer
 of_image options text image out out' (Ok done) compiled h = (image, compiled, h)
 of_image options text image out out' (Err (refusals.Image e)) compiled h = (image, compiled, h)
 of_image options text image out out' (Err (refusals.Load e)) compiled h = (image, compiled, h)
@@ -17,7 +19,8 @@ of_image options text image out out' (Err refusals.WriteFault) compiled h = (ima
 of_image options text image out out' (Err r) compiled h = absurd h
 
 -- a text that wasn't compiled
-pub of_refusal : (options : RunOptions) (text : List ℕ) (out : Stream) (e : Refusal) → IsTextRefusal text e → IsTextRunAnswer options text out out (Err e)
+pub of_refusal : (options : RunOptions) (text : List ℕ) (out : Stream) (e : Refusal)
+    → IsTextRefusal text e → IsTextRunAnswer options text out out (Err e)
 of_refusal options text out (refusals.Text e) h = (h, refl)
 of_refusal options text out refusals.NoMemory h = refl
 of_refusal options text out e h = absurd h

@@ -18,28 +18,44 @@ module _ (options : RunOptions) (p : Program) (again : ℤ) (same : again ≡ op
   abbrev shown : Shown Ended
   shown = meaning p again options.turns
 
-  pub ended_same : (e : Ended) → e ≡ texts.ended_within options.turns shown.end → e ≡ texts.ended_within options.turns (shown_of options p).end
-  ended_same e h = h ∙ ap (λ a. texts.ended_within options.turns (meaning p a options.turns).end) same
+  pub ended_same : (e : Ended) → e ≡ texts.ended_within options.turns shown.end
+      → e ≡ texts.ended_within options.turns (shown_of options p).end
+  ended_same e h = h ∙ ap (λ a. texts.ended_within options.turns (meaning p a options.turns).end)
+      same
 
   text_same : texts.text options.trace options.turns shown ≡ text_of options p
   text_same = ap (λ a. texts.text options.trace options.turns (meaning p a options.turns)) same
 
-  pub grew_same : (a b : Option (List ℕ)) → Grew a (texts.text options.trace options.turns shown) b → Grew a (text_of options p) b
+  pub grew_same : (a b : Option (List ℕ)) → Grew a (texts.text options.trace options.turns shown) b
+      → Grew a (text_of options p) b
   grew_same a b h = subst (λ t. Grew a t b) text_same h
 
-  pub part_same : (a b : Option (List ℕ)) (n : ℕ) → TookPart a (texts.text options.trace options.turns shown) b n → TookPart a (text_of options p) b n
+  pub part_same : (a b : Option (List ℕ)) (n : ℕ)
+      → TookPart a (texts.text options.trace options.turns shown) b n
+      → TookPart a (text_of options p) b n
   part_same a b n h = subst (λ t. TookPart a t b n) text_same h
 
   pub front_same : (text : List ℕ) (out out' : Stream) → IsProgramOf text p
-      → (part : List ℕ) × ((rest : List ℕ) × (texts.text options.trace options.turns shown ≡ part ++ rest)) × Grew out.bytes part out'.bytes
+      → (part : List ℕ) × ((rest : List ℕ) × (texts.text options.trace options.turns shown
+      ≡ part ++ rest)) × Grew out.bytes part out'.bytes
       → TookMeaningFront options text out out'
-  front_same text out out' is h = record { program = p; is = is; took = (h.0, (h.1.0, sym text_same ∙ h.1.1), h.2) }
+  front_same text out out' is h = record { program = p; is = is;
+      took = (h.0, (h.1.0, sym text_same ∙ h.1.1), h.2) }
 
-  pub write_same : (e : MeanErr) (n : ℕ) → e ≡ Write n → (a b : Option (List ℕ)) → texts.TookFront e a (texts.text options.trace options.turns shown) b → TookPart a (text_of options p) b n
-  write_same e n is a b h = part_same a b n (subst (λ x. texts.TookFront x a (texts.text options.trace options.turns shown) b) is h)
+  pub write_same : (e : MeanErr) (n : ℕ) → e ≡ Write n → (a b : Option (List ℕ))
+      → texts.TookFront e a (texts.text options.trace options.turns shown) b
+      → TookPart a (text_of options p) b n
+  write_same e n is a b h = part_same a b n (subst
+      (λ x. texts.TookFront x a (texts.text options.trace options.turns shown) b) is h)
 
-  pub memory_same : (e : MeanErr) → e ≡ Memory → (text : List ℕ) (out out' : Stream) → IsProgramOf text p → texts.TookFront e out.bytes (texts.text options.trace options.turns shown) out'.bytes → TookMeaningFront options text out out'
-  memory_same e is text out out' found h = front_same text out out' found (subst (λ x. texts.TookFront x out.bytes (texts.text options.trace options.turns shown) out'.bytes) is h)
+  pub memory_same : (e : MeanErr) → e ≡ Memory → (text : List ℕ) (out out' : Stream)
+      → IsProgramOf text p → texts.TookFront e out.bytes
+        (texts.text options.trace options.turns shown) out'.bytes
+      → TookMeaningFront options text out out'
+  memory_same e is text out out' found h = front_same text out out' found
+      (subst (λ x. texts.TookFront x out.bytes (texts.text options.trace options.turns shown)
+      out'.bytes) is h)
 
-pub rose_of : (e : MeanErr) (n : ℕ) → e ≡ Write n → (f f' : ℕ) → texts.MeaningHasCause e f f' → Rose f f'
+pub rose_of : (e : MeanErr) (n : ℕ) → e ≡ Write n → (f f' : ℕ) → texts.MeaningHasCause e f f'
+    → Rose f f'
 rose_of e n is f f' h = subst (λ x. texts.MeaningHasCause x f f') is h

@@ -7,6 +7,9 @@ use Rattle.seh_host.specs.Running.{Running, first_running, run_of}
 use Rattle.command_line.specs.declared.command.RunOptions.{RunOptions}
 use Rattle.seh.specs.Answers.{shown_by}
 
-pub shown_is : (options : RunOptions) (bytes : List ℕ) (image : Image) (r : Running) → IsImage bytes image → r ≡ first_running image options.argument → run_of options.turns r ≡ shown_by options bytes
+pub shown_is : (options : RunOptions) (bytes : List ℕ) (image : Image) (r : Running)
+    → IsImage bytes image → r ≡ first_running image options.argument
+    → run_of options.turns r ≡ shown_by options bytes
 unfolding machine
-shown_is options bytes image r is e = ap (run_of options.turns) e ∙ sym (ap (λ read. machine_of read options.argument options.turns) is)
+shown_is options bytes image r is e = ap (run_of options.turns) e
+    ∙ sym (ap (λ read. machine_of read options.argument options.turns) is)

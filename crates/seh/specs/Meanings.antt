@@ -30,7 +30,8 @@ pub record IsProgramOf (text : List ℕ) (p : Program) : Type 0 where
   pub checked : IsCheckedAs text declarations p
 
 -- a part of the text of the meaning was taken, from the front
-pub record TookMeaningFront (options : RunOptions) (text : List ℕ) (out out' : Stream) : Type 0 where
+pub record TookMeaningFront (options : RunOptions) (text : List ℕ) (out out' : Stream) : Type 0
+    where
   pub program : Program
   pub is : IsProgramOf text program
   pub took : texts.TookFront Memory out.bytes (text_of options program) out'.bytes
@@ -46,7 +47,8 @@ IsMeaningAnswer options text out out' (Err (refusals.Text e)) = TextIsRefused te
     × Quiet out out'
 IsMeaningAnswer options text out out' (Err refusals.WriteFault) =
     (p : Program) × IsProgramOf text p × IsCutOff (text_of options p) out out'
-IsMeaningAnswer options text out out' (Err refusals.NoMemory) = TookMeaningFront options text out out'
+IsMeaningAnswer options text out out' (Err refusals.NoMemory) = TookMeaningFront options text out
+    out'
 IsMeaningAnswer options text out out' answer = ⊥
 
 -- want of memory comes before anything is written, or in the middle of the text

@@ -11,7 +11,10 @@ use Rattle.virtual_unwind.specs.CallerOf.{Functions}
 use Rattle.host_model.specs.Dispatch.{raised}
 use Rattle.host_model.specs.HostStep.{turned}
 
-pub fault_turned : (t : Functions) (c d : Cpu) (m n : Memory) (code : Code) (access : Option (Bool × ℕ)) (a : Answer State) → steps.Fault code access ≡ step_answer a → d ≡ cpu_after c a → n ≡ memory_after m a → raised t (state d n) code 0 access d ≡ turned t (state c m) a
+pub fault_turned : (t : Functions) (c d : Cpu) (m n : Memory) (code : Code)
+    (access : Option (Bool × ℕ)) (a : Answer State) → steps.Fault code access ≡ step_answer a
+    → d ≡ cpu_after c a → n ≡ memory_after m a
+    → raised t (state d n) code 0 access d ≡ turned t (state c m) a
 fault_turned t c d m n code access (Ok s) e f h = absurd cc
 fault_turned t c d m n code access (Err (stops.Host a)) e f h = absurd cc
 fault_turned t c d m n code access (Err stops.Illegal) e f h = absurd cc

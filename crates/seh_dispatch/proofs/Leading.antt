@@ -17,19 +17,25 @@ led_one : (e : Event) (t : Turn) → led (e ∷ []) t ≡ with_event e t
 led_one e (Continues s es) = refl
 led_one e (Ends es end) = refl
 
-pub led_quiet : (c : Cpu) (m : Memory) (x : Led) (o : code.TurnOutcome) (t : Turn) → x ≡ quiet o → turn_of c m o ≡ t → led_turn c m x ≡ t
+pub led_quiet : (c : Cpu) (m : Memory) (x : Led) (o : code.TurnOutcome) (t : Turn) → x ≡ quiet o
+    → turn_of c m o ≡ t → led_turn c m x ≡ t
 led_quiet c m x o t e f = ap (led_turn c m) e ∙ led_none (turn_of c m o) ∙ f
 
-pub led_told : (c : Cpu) (m : Memory) (o : code.TurnOutcome) (e : Event) (t : Turn) → turn_of c m o ≡ t → led_turn c m (record { first = Some e; outcome = o }) ≡ with_event e t
+pub led_told : (c : Cpu) (m : Memory) (o : code.TurnOutcome) (e : Event) (t : Turn)
+    → turn_of c m o ≡ t → led_turn c m (record { first = Some e; outcome = o }) ≡ with_event e t
 led_told c m o e t f = led_one e (turn_of c m o) ∙ ap (with_event e) f
 
-pub made_quiet : (c : Cpu) (m : Memory) (x : Made) (o : code.TurnOutcome) (t : Turn) → x ≡ all_quiet o → turn_of c m o ≡ t → made_turn c m x ≡ t
-made_quiet c m x o t e f = ap (made_turn c m) e ∙ led_none (led_turn c m (quiet o)) ∙ led_none (turn_of c m o) ∙ f
+pub made_quiet : (c : Cpu) (m : Memory) (x : Made) (o : code.TurnOutcome) (t : Turn)
+    → x ≡ all_quiet o → turn_of c m o ≡ t → made_turn c m x ≡ t
+made_quiet c m x o t e f = ap (made_turn c m) e ∙ led_none (led_turn c m (quiet o))
+    ∙ led_none (turn_of c m o) ∙ f
 
-pub made_later : (c : Cpu) (m : Memory) (x : Led) (t : Turn) → led_turn c m x ≡ t → made_turn c m (record { first = None; rest = x }) ≡ t
+pub made_later : (c : Cpu) (m : Memory) (x : Led) (t : Turn) → led_turn c m x ≡ t
+    → made_turn c m (record { first = None; rest = x }) ≡ t
 made_later c m x t f = led_none (led_turn c m x) ∙ f
 
-pub made_told : (c : Cpu) (m : Memory) (x : Led) (e : Event) (t : Turn) → led_turn c m x ≡ t → made_turn c m (record { first = Some e; rest = x }) ≡ with_event e t
+pub made_told : (c : Cpu) (m : Memory) (x : Led) (e : Event) (t : Turn) → led_turn c m x ≡ t
+    → made_turn c m (record { first = Some e; rest = x }) ≡ with_event e t
 made_told c m x e t f = led_one e (led_turn c m x) ∙ ap (with_event e) f
 
 pub ruleset leading = (led_quiet, led_told, made_quiet, made_later, made_told)

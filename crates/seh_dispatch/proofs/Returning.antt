@@ -13,21 +13,27 @@ use Rattle.host_model.specs.Turns.{Turn, stopped}
 use Rattle.host_model.specs.HostStep.{returned, returning}
 use Rattle.seh_dispatch.specs.Outcomes.{back_of}
 
-some_back : (c d : Cpu) (m : Memory) (go : State → Turn) (a : Result ℕ RefusedAccess) → Some d ≡ back_of c a → returned (state c m) a go ≡ go (state d m)
+some_back : (c d : Cpu) (m : Memory) (go : State → Turn) (a : Result ℕ RefusedAccess)
+    → Some d ≡ back_of c a → returned (state c m) a go ≡ go (state d m)
 some_back c d m go (Ok a) e = ap (λ (x : Cpu). go (state x m)) (same (sym e))
   where
     same : {x y : Cpu} → (let o : Option Cpu = Some x in o) ≡ Some y → x ≡ y
     same e = cc
 some_back c d m go (Err a) e = absurd cc
 
-no_back : (c : Cpu) (m : Memory) (go : State → Turn) (a : Result ℕ RefusedAccess) → None ≡ back_of c a → returned (state c m) a go ≡ stopped (stop_cause reasons.Unreadable (register c Rsp))
+no_back : (c : Cpu) (m : Memory) (go : State → Turn) (a : Result ℕ RefusedAccess)
+    → None ≡ back_of c a → returned (state c m) a go
+    ≡ stopped (stop_cause reasons.Unreadable (register c Rsp))
 no_back c m go (Ok a) e = absurd cc
 no_back c m go (Err a) e = refl
 
-pub returning_to : (c d : Cpu) (m : Memory) (go : State → Turn) → Some d ≡ back_of c (loaded m (register c Rsp) W64) → returning (state c m) go ≡ go (state d m)
+pub returning_to : (c d : Cpu) (m : Memory) (go : State → Turn)
+    → Some d ≡ back_of c (loaded m (register c Rsp) W64) → returning (state c m) go ≡ go (state d m)
 returning_to c d m go e = some_back c d m go (loaded m (register c Rsp) W64) e
 
-pub not_returning : (c : Cpu) (m : Memory) (go : State → Turn) → None ≡ back_of c (loaded m (register c Rsp) W64) → returning (state c m) go ≡ stopped (stop_cause reasons.Unreadable (register c Rsp))
+pub not_returning : (c : Cpu) (m : Memory) (go : State → Turn)
+    → None ≡ back_of c (loaded m (register c Rsp) W64)
+    → returning (state c m) go ≡ stopped (stop_cause reasons.Unreadable (register c Rsp))
 not_returning c m go e = no_back c m go (loaded m (register c Rsp) W64) e
 
 pub ruleset returning_steps = (returning_to, not_returning)

@@ -15,10 +15,12 @@ zero_none (r ∷ rows) = refl
 pub row_zero : (rows : List ScopeRecord) (n : ℕ) → n ≡ 0 → row_before rows n ≡ None
 row_zero rows n e = ap (row_before rows) e ∙ zero_none rows
 
-head_some : (x : ScopeRecord) (xs : List ScopeRecord) (row : ScopeRecord) (rest : List ScopeRecord) → x ∷ xs ≡ row ∷ rest → (let o : Option ScopeRecord = Some x in o) ≡ Some row
+head_some : (x : ScopeRecord) (xs : List ScopeRecord) (row : ScopeRecord) (rest : List ScopeRecord)
+    → x ∷ xs ≡ row ∷ rest → (let o : Option ScopeRecord = Some x in o) ≡ Some row
 head_some x xs row rest e = cc
 
-some_at : (rows : List ScopeRecord) (m : ℕ) (row : ScopeRecord) (rest : List ScopeRecord) → drop m rows ≡ row ∷ rest → row_before rows (suc m) ≡ Some row
+some_at : (rows : List ScopeRecord) (m : ℕ) (row : ScopeRecord) (rest : List ScopeRecord)
+    → drop m rows ≡ row ∷ rest → row_before rows (suc m) ≡ Some row
 some_at [] zero row rest e = absurd cc
 some_at [] (suc m) row rest e = absurd cc
 some_at (r ∷ rows) zero row rest e = head_some r rows row rest e
@@ -29,12 +31,18 @@ none_at [] m e = refl
 none_at (r ∷ rows) zero e = absurd cc
 none_at (r ∷ rows) (suc m) e = none_at rows m e
 
-pub row_some : (rows : List ScopeRecord) (n m : ℕ) (row : ScopeRecord) (rest : List ScopeRecord) → n ≡ suc m → drop m rows ≡ row ∷ rest → row_before rows n ≡ Some row
+pub row_some : (rows : List ScopeRecord) (n m : ℕ) (row : ScopeRecord) (rest : List ScopeRecord)
+    → n ≡ suc m → drop m rows ≡ row ∷ rest → row_before rows n ≡ Some row
 row_some rows n m row rest e f = ap (row_before rows) e ∙ some_at rows m row rest f
 
-pub row_none : (rows : List ScopeRecord) (n m : ℕ) → n ≡ suc m → drop m rows ≡ [] → row_before rows n ≡ None
+pub row_none : (rows : List ScopeRecord) (n m : ℕ) → n ≡ suc m → drop m rows ≡ []
+    → row_before rows n ≡ None
 row_none rows n m e f = ap (row_before rows) e ∙ none_at rows m f
 
 -- a row that isn't that of a finally block
-pub jumping_to : (t : Functions) (s : State) (at : ℕ) (r : DispatchRecord) (row : ScopeRecord) (o : Option ScopeRecord) (base : ℕ) → Some row ≡ o → row.jump_target ≢ 0 → base ≡ t.base → jumping t s at r o ≡ accepted t s at r r.frame ((base + row.jump_target) % 2 ^ 64)
-jumping_to t s at r row o base e n f = ap (jumping t s at r) (sym e) ∙ ap (if_finally t s at r row.jump_target) (ne_eqb row.jump_target 0 n) ∙ ap (λ b. accepted t s at r r.frame ((b + row.jump_target) % 2 ^ 64)) (sym f)
+pub jumping_to : (t : Functions) (s : State) (at : ℕ) (r : DispatchRecord) (row : ScopeRecord)
+    (o : Option ScopeRecord) (base : ℕ) → Some row ≡ o → row.jump_target ≢ 0 → base ≡ t.base
+    → jumping t s at r o ≡ accepted t s at r r.frame ((base + row.jump_target) % 2 ^ 64)
+jumping_to t s at r row o base e n f = ap (jumping t s at r) (sym e)
+    ∙ ap (if_finally t s at r row.jump_target) (ne_eqb row.jump_target 0 n)
+    ∙ ap (λ b. accepted t s at r r.frame ((b + row.jump_target) % 2 ^ 64)) (sym f)

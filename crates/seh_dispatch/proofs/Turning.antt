@@ -20,15 +20,26 @@ use Rattle.seh_dispatch.specs.Ends.{over_if, over_cpu}
 
 -- what is shown of a turn that continues: what was made of it, and the event of its arrival
 abbrev pub all_shown : Functions → List Funclet → Cpu → Made → Option Event → List Event
-all_shown t fs c made shown = (listed made.first ++ (listed made.rest.first ++ listed shown)) ++ arrivals c (distance t.base c.rip) 1 fs
+all_shown t fs c made shown = (listed made.first ++ (listed made.rest.first ++ listed shown))
+    ++ arrivals c (distance t.base c.rip) 1 fs
 
-pub goes_turn : (t : Functions) (fs : List Funclet) (s : State) (c : Cpu) (m : Memory) (made : Made) (shown : Option Event) → made_turn c m made ≡ turned t s (step s) → made.rest.outcome ≡ outcomes.Continues shown → turn t fs s ≡ Continues (state c m) (all_shown t fs c made shown)
+pub goes_turn : (t : Functions) (fs : List Funclet) (s : State) (c : Cpu) (m : Memory) (made : Made)
+    (shown : Option Event) → made_turn c m made ≡ turned t s (step s)
+    → made.rest.outcome ≡ outcomes.Continues shown
+    → turn t fs s ≡ Continues (state c m) (all_shown t fs c made shown)
 unfolding turn
-goes_turn t fs s c m made shown e f = ap (arrived t fs) (sym e ∙ ap (λ (o : code.TurnOutcome). led (listed made.first) (led (listed made.rest.first) (turn_of c m o))) f)
+goes_turn t fs s c m made shown e f = ap (arrived t fs)
+    (sym e ∙ ap (λ (o : code.TurnOutcome). led (listed made.first)
+    (led (listed made.rest.first) (turn_of c m o))) f)
 
-pub ends_turn : (t : Functions) (fs : List Funclet) (s : State) (c : Cpu) (m : Memory) (made : Made) (end : RunEnd) → made_turn c m made ≡ turned t s (step s) → made.rest.outcome ≡ outcomes.Ends end → turn t fs s ≡ Ends (listed made.first ++ (listed made.rest.first ++ [])) end
+pub ends_turn : (t : Functions) (fs : List Funclet) (s : State) (c : Cpu) (m : Memory) (made : Made)
+    (end : RunEnd) → made_turn c m made ≡ turned t s (step s)
+    → made.rest.outcome ≡ outcomes.Ends end → turn t fs s
+    ≡ Ends (listed made.first ++ (listed made.rest.first ++ [])) end
 unfolding turn
-ends_turn t fs s c m made end e f = ap (arrived t fs) (sym e ∙ ap (λ (o : code.TurnOutcome). led (listed made.first) (led (listed made.rest.first) (turn_of c m o))) f)
+ends_turn t fs s c m made end e f = ap (arrived t fs)
+    (sym e ∙ ap (λ (o : code.TurnOutcome). led (listed made.first)
+    (led (listed made.rest.first) (turn_of c m o))) f)
 
 pub left_over : (c : Cpu) (m : Memory) → left c m (over_cpu c) ≡ host (state c m)
 left_over c m = go (eqb c.rip 0)

@@ -10,7 +10,8 @@ use Rattle.seh_io.specs.Successive.{grew_more}
 pub lost_nothing : (a : Option (List ℕ)) → Lost a [] a
 lost_nothing a all known = (all, refl, known)
 
-pub lost_more : (a b c : Option (List ℕ)) (xs ys : List ℕ) → Lost a xs b → Lost b ys c → Lost a (xs ++ ys) c
+pub lost_more : (a b c : Option (List ℕ)) (xs ys : List ℕ) → Lost a xs b → Lost b ys c
+    → Lost a (xs ++ ys) c
 lost_more a b c xs ys p q all known =
     let first = p all known in
     let second = q first.0 first.2 in
@@ -20,34 +21,45 @@ pub grew_nothing : (a : Option (List ℕ)) → Grew a [] a
 grew_nothing a before known = known ∙ ap Some (sym (append-nil before))
 
 -- the next n bytes of a piece, as a slice of what follows the first i
-pub next_bytes : (i n : ℕ) (xs : List ℕ) → take i xs ++ take n (take (length xs - i) (drop i xs)) ≡ take (i + n) xs
+pub next_bytes : (i n : ℕ) (xs : List ℕ) → take i xs ++ take n (take (length xs - i) (drop i xs))
+    ≡ take (i + n) xs
 next_bytes i n xs =
     let all : length (drop i xs) ≤ length xs - i = omega (arith, length-drop i xs) in
-    ap (λ ys. take i xs ++ take n ys) (take_all (length xs - i) (drop i xs) all) ∙ sym (take-add i n xs)
+    ap (λ ys. take i xs ++ take n ys) (take_all (length xs - i) (drop i xs) all)
+      ∙ sym (take-add i n xs)
 
-pub grew_next : (a b c : Option (List ℕ)) (xs : List ℕ) (i n : ℕ) → Grew a (take i xs) b → Grew b (take n (take (length xs - i) (drop i xs))) c → Grew a (take (i + n) xs) c
+pub grew_next : (a b c : Option (List ℕ)) (xs : List ℕ) (i n : ℕ) → Grew a (take i xs) b
+    → Grew b (take n (take (length xs - i) (drop i xs))) c → Grew a (take (i + n) xs) c
 grew_next a b c xs i n p q =
-    subst (λ ys. Grew a ys c) (next_bytes i n xs) (grew_more a b c (take i xs) (take n (take (length xs - i) (drop i xs))) p q)
+    subst (λ ys. Grew a ys c) (next_bytes i n xs)
+      (grew_more a b c (take i xs) (take n (take (length xs - i) (drop i xs))) p q)
 
-pub grew_still : (a b c : Option (List ℕ)) (xs ys : List ℕ) (n : ℕ) → n ≡ 0 → Grew a xs b → Grew b (take n ys) c → Grew a xs c
+pub grew_still : (a b c : Option (List ℕ)) (xs ys : List ℕ) (n : ℕ) → n ≡ 0 → Grew a xs b
+    → Grew b (take n ys) c → Grew a xs c
 grew_still a b c xs ys n e p q =
     let r = subst (λ (k : ℕ). Grew b (take k ys) c) e q in
     subst (λ t. Grew a t c) (append-nil xs) (grew_more a b c xs [] p r)
 
 -- a source that has lost more than so many bytes held more
-pub held_more : (a b : Option (List ℕ)) (xs : List ℕ) (most : ℕ) → Lost a xs b → most < length xs → ForSome a (λ all. most < length all)
+pub held_more : (a b : Option (List ℕ)) (xs : List ℕ) (most : ℕ) → Lost a xs b → most < length xs
+    → ForSome a (λ all. most < length all)
 held_more a b xs most p h all known =
     let first = p all known in
     omega (arith, ap length first.1, length-append xs first.0)
 
 -- n bytes from a place on, laid over the front of a buffer
-pub laid : (bytes got buf : List ℕ) (at n : ℕ) → at + n ≤ length bytes → got ≡ take n (drop at bytes) → Lost (Some (drop at bytes)) (take n (got ++ drop n buf)) (Some (drop (at + n) bytes))
+pub laid : (bytes got buf : List ℕ) (at n : ℕ) → at + n ≤ length bytes
+    → got ≡ take n (drop at bytes) → Lost (Some (drop at bytes)) (take n (got ++ drop n buf))
+      (Some (drop (at + n) bytes))
 laid bytes got buf at n within copied all known =
     let rest = drop at bytes in
-    let size : length got ≡ n = ap length copied ∙ length-take-le n rest (omega (arith, length-drop at bytes)) in
-    let front : take n (got ++ drop n buf) ≡ take n rest = ap (λ k. take k (got ++ drop n buf)) (sym size) ∙ take-append_seam got (drop n buf) ∙ copied in
+    let size : length got ≡ n = ap length copied
+      ∙ length-take-le n rest (omega (arith, length-drop at bytes)) in
+    let front : take n (got ++ drop n buf) ≡ take n rest = ap (λ k. take k (got ++ drop n buf))
+      (sym size) ∙ take-append_seam got (drop n buf) ∙ copied in
     let all_is : all ≡ rest = cc in (
       drop (at + n) bytes,
-      all_is ∙ sym (take-append-drop n rest) ∙ ap (λ t. t ++ drop n rest) (sym front) ∙ ap (λ t. take n (got ++ drop n buf) ++ t) (drop-drop n at bytes),
+      all_is ∙ sym (take-append-drop n rest) ∙ ap (λ t. t ++ drop n rest) (sym front)
+        ∙ ap (λ t. take n (got ++ drop n buf) ++ t) (drop-drop n at bytes),
       refl,
     )

@@ -22,8 +22,12 @@ wrote_nothing w text was = record {
 }
 
 -- one whose write fails has taken a part
-pub wrote_part : (count count' : ℕ) (taken taken' : Option (List ℕ)) (faults faults' : ℕ) (text : List ℕ) (k : ℕ) → k ≤ length text → Grew taken (take k text) taken' → Rose faults faults' → faults ≤ faults' → count' ≡ min (count + k) last_count → Wrote (writer false count taken faults) text (writer true count' taken' faults')
-wrote_part count count' taken taken' faults faults' text k within grew rose rising counted = record {
+pub wrote_part : (count count' : ℕ) (taken taken' : Option (List ℕ)) (faults faults' : ℕ)
+    (text : List ℕ) (k : ℕ) → k ≤ length text → Grew taken (take k text) taken'
+    → Rose faults faults' → faults ≤ faults' → count' ≡ min (count + k) last_count
+    → Wrote (writer false count taken faults) text (writer true count' taken' faults')
+wrote_part count count' taken taken' faults faults' text k within grew rose rising
+    counted = record {
   part = take k text;
   begins = (drop k text, sym (take-append-drop k text));
   grew = grew;
@@ -42,21 +46,30 @@ module _ (x y z : Writer) (t u : List ℕ) (p : Wrote x t y) (q : Wrote y u z) w
       let whole = wrote_more x y z t u p q in
       subst (λ s. Grew x.taken s z.taken) (whole.whole is) whole.grew
 
-  pub ran_part : (count : ℕ) → x.count ≡ 0 → count ≡ z.count → TookPart x.taken (t ++ u) z.taken count
+  pub ran_part : (count : ℕ) → x.count ≡ 0 → count ≡ z.count
+      → TookPart x.taken (t ++ u) z.taken count
   ran_part count fresh e =
       let whole = wrote_more x y z t u p q in
-      record { part = whole.part; begins = whole.begins; grew = whole.grew; counted = let counted = whole.counted in omega arith }
+      record { part = whole.part; begins = whole.begins; grew = whole.grew;
+        counted = let counted = whole.counted in omega arith }
 
-pub on_ok : (r : Result (Unit {0}) WriteFault) (P : Type 0) (Q : WriteFault → Type 0) (R : Type 0) → MatchResult r (λ _. P) Q → (P → R) → OnOk r R
+pub on_ok : (r : Result (Unit {0}) WriteFault) (P : Type 0) (Q : WriteFault → Type 0) (R : Type 0)
+    → MatchResult r (λ _. P) Q → (P → R) → OnOk r R
 on_ok (Ok _) P Q R h then = then h
 on_ok (Err e) P Q R h then = tt
 
-pub on_err : (r : Result (Unit {0}) WriteFault) (P : Type 0) (Q : WriteFault → Type 0) (R : WriteFault → Type 0) → MatchResult r (λ _. P) Q → ((e : WriteFault) → Q e → R e) → IfErr r R
+pub on_err : (r : Result (Unit {0}) WriteFault) (P : Type 0) (Q : WriteFault → Type 0)
+    (R : WriteFault → Type 0) → MatchResult r (λ _. P) Q → ((e : WriteFault) → Q e → R e)
+    → IfErr r R
 on_err (Ok _) P Q R h then = tt
 on_err (Err e) P Q R h then = then e h
 
-pub same_grew : (a a' b b' : Option (List ℕ)) (s s' : List ℕ) → a ≡ a' → s ≡ s' → b ≡ b' → Grew a s b → Grew a' s' b'
-same_grew a a' b b' s s' e f k h = subst (λ c. Grew c s' b') e (subst (λ c. Grew a c b') f (subst (λ c. Grew a s c) k h))
+pub same_grew : (a a' b b' : Option (List ℕ)) (s s' : List ℕ) → a ≡ a' → s ≡ s' → b ≡ b'
+    → Grew a s b → Grew a' s' b'
+same_grew a a' b b' s s' e f k h = subst (λ c. Grew c s' b') e
+    (subst (λ c. Grew a c b') f (subst (λ c. Grew a s c) k h))
 
-pub same_part : (a a' b b' : Option (List ℕ)) (s s' : List ℕ) (n : ℕ) → a ≡ a' → s ≡ s' → b ≡ b' → TookPart a s b n → TookPart a' s' b' n
-same_part a a' b b' s s' n e f k h = subst (λ c. TookPart c s' b' n) e (subst (λ c. TookPart a c b' n) f (subst (λ c. TookPart a s c n) k h))
+pub same_part : (a a' b b' : Option (List ℕ)) (s s' : List ℕ) (n : ℕ) → a ≡ a' → s ≡ s' → b ≡ b'
+    → TookPart a s b n → TookPart a' s' b' n
+same_part a a' b b' s s' n e f k h = subst (λ c. TookPart c s' b' n) e
+    (subst (λ c. TookPart a c b' n) f (subst (λ c. TookPart a s c n) k h))

@@ -19,11 +19,13 @@ use Rattle.seh_records.specs.declared.layout.TheConstants.{RECORD_SIZE}
 
 -- ---- words that come before others
 
-apart : (x n a k : ℕ) → x + n ≤ a → a + k ≤ 2 ^ 64 → (i : ℕ) → i < n → IsApart ((x + i) % 2 ^ 64) a k
+apart : (x n a k : ℕ) → x + n ≤ a → a + k ≤ 2 ^ 64 → (i : ℕ) → i < n
+    → IsApart ((x + i) % 2 ^ 64) a k
 apart x n a k before top i il j jl e = absurd (omega arith)
 
 -- a number below the words is as before
-before_words : (byte : ℕ → ℕ) (ws : List ℕ) (a n x : ℕ) → a + 8 * length ws ≤ 2 ^ 64 → x + n ≤ a → number_at (with_words byte a ws) n x ≡ number_at byte n x
+before_words : (byte : ℕ → ℕ) (ws : List ℕ) (a n x : ℕ) → a + 8 * length ws ≤ 2 ^ 64 → x + n ≤ a
+    → number_at (with_words byte a ws) n x ≡ number_at byte n x
 unfolding with_words
 before_words byte [] a n x top le = refl
 before_words byte (w ∷ []) a n x top le =
@@ -35,13 +37,15 @@ before_words byte (w ∷ u ∷ ws) a n x top le =
     ∙ leaves_others byte 8 a w n x (omega arith) (omega arith) (apart x n a 8 le (omega arith))
 
 -- each word is read back
-word_back : (byte : ℕ → ℕ) (ws : List ℕ) (a k : ℕ) → a + 8 * length ws ≤ 2 ^ 64 → k < length ws → number_at (with_words byte a ws) 8 (a + 8 * k) ≡ get_or ws k 0 % 2 ^ 64
+word_back : (byte : ℕ → ℕ) (ws : List ℕ) (a k : ℕ) → a + 8 * length ws ≤ 2 ^ 64 → k < length ws
+    → number_at (with_words byte a ws) 8 (a + 8 * k) ≡ get_or ws k 0 % 2 ^ 64
 unfolding with_words
 word_back byte [] a k top lt = absurd (omega arith)
 word_back byte (w ∷ []) a (suc k) top lt = absurd (omega arith)
 word_back byte (w ∷ []) a zero top lt =
     let z : a + 8 * 0 ≡ a = omega arith in
-    ap (number_at (with_number byte 8 a w) 8) z ∙ stored_is_loaded byte 8 a w (omega arith) (omega arith)
+    ap (number_at (with_number byte 8 a w) 8) z
+      ∙ stored_is_loaded byte 8 a w (omega arith) (omega arith)
 word_back byte (w ∷ u ∷ ws) a zero top lt =
     let e : (a + 8) % 2 ^ 64 ≡ a + 8 = omega arith in
     let z : a + 8 * 0 ≡ a = omega arith in
@@ -65,10 +69,12 @@ with_number-small byte n a v h x = here (is_among n a x) (h x)
     here true l = omega arith
     here false l = l
 
-with_words-small : (byte : ℕ → ℕ) (ws : List ℕ) (a : ℕ) → AreBytes byte → AreBytes (with_words byte a ws)
+with_words-small : (byte : ℕ → ℕ) (ws : List ℕ) (a : ℕ) → AreBytes byte
+    → AreBytes (with_words byte a ws)
 unfolding with_words
 with_words-small byte [] a h x = h x
-with_words-small byte (w ∷ ws) a h x = with_words-small (with_number byte 8 a w) ws ((a + 8) % 2 ^ 64) (with_number-small byte 8 a w h) x
+with_words-small byte (w ∷ ws) a h x = with_words-small (with_number byte 8 a w) ws
+    ((a + 8) % 2 ^ 64) (with_number-small byte 8 a w h) x
 
 -- ---- the words are below 2^64
 
@@ -88,11 +94,14 @@ all_more x xs h rest = record { at = go }
 all_append : (xs ys : List ℕ) → Small xs → Small ys → Small (xs ++ ys)
 all_append xs ys p q = record { at = λ j lt. go j lt (cases_lt j (length xs)) }
   where
-    go : (j : ℕ) → j < length (xs ++ ys) → (j < length xs) ⊎ (length xs ≤ j) → get_or (xs ++ ys) j 0 < 2 ^ 64
+    go : (j : ℕ) → j < length (xs ++ ys) → (j < length xs) ⊎ (length xs ≤ j)
+      → get_or (xs ++ ys) j 0 < 2 ^ 64
     go j lt (inl l) = subst (λ n. n < 2 ^ 64) (sym (get_or_append_left xs ys 0 j l)) (p.at j l)
     go j lt (inr g) =
         let z : length xs + (j - length xs) ≡ j = omega arith in
-        subst (λ n. n < 2 ^ 64) (sym (get_or-append-add xs ys (j - length xs) 0) ∙ ap (λ k. get_or (xs ++ ys) k 0) z) (q.at (j - length xs) (omega (arith, length-append xs ys)))
+        subst (λ n. n < 2 ^ 64) (sym (get_or-append-add xs ys (j - length xs) 0)
+          ∙ ap (λ k. get_or (xs ++ ys) k 0) z)
+            (q.at (j - length xs) (omega (arith, length-append xs ys)))
 
 all_zeros : (n : ℕ) → Small (replicate n 0)
 all_zeros zero = all_nil
@@ -116,9 +125,18 @@ words_small at r fit =
     let q : (at + 256) % 2 ^ 64 < 2 ^ 64 = omega arith in
     let w : r.code.0 + 2 ^ 32 * r.flags < 2 ^ 64 = omega arith in
     let t : r.count < 2 ^ 64 = omega arith in
-    let h : Small (head at r) = all_more _ _ (lit< tt) (all_more _ _ (kind_small r.kind) (all_more _ _ fit.frame (all_more _ _ fit.row (all_more _ _ fit.target_frame (all_more _ _ fit.target (all_more _ _ p (all_more _ _ q (all_more _ _ w (all_more _ _ z (all_more _ _ fit.rip (all_more _ _ t all_nil))))))))))) in
+    let h : Small (head at r) = all_more _ _ (lit< tt)
+      (all_more _ _ (kind_small r.kind) (all_more _ _ fit.frame
+      (all_more _ _ fit.row (all_more _ _ fit.target_frame
+      (all_more _ _ fit.target (all_more _ _ p
+      (all_more _ _ q (all_more _ _ w (all_more _ _ z
+      (all_more _ _ fit.rip (all_more _ _ t all_nil))))))))))) in
     let o : Small (0 ∷ []) = all_more _ _ z all_nil in
-    let g : Small (front r) = all_more _ _ z (all_more _ _ z (all_more _ _ z (all_more _ _ z (all_more _ _ z (all_more _ _ z (all_more _ _ z (all_more _ _ z (all_more _ _ flags (all_more _ _ z (all_more _ _ z (all_more _ _ z (all_more _ _ z (all_more _ _ z (all_more _ _ z all_nil)))))))))))))) in
+    let g : Small (front r) = all_more _ _ z (all_more _ _ z
+      (all_more _ _ z (all_more _ _ z (all_more _ _ z
+      (all_more _ _ z (all_more _ _ z (all_more _ _ z
+      (all_more _ _ flags (all_more _ _ z (all_more _ _ z
+      (all_more _ _ z (all_more _ _ z (all_more _ _ z (all_more _ _ z all_nil)))))))))))))) in
     let b : Small (back r) = all_more _ _ fit.rip (all_zeros 122) in
     let v : Small (r.walk.rip ∷ []) = all_more _ _ fit.walk_rip all_nil in
     let w1 = head at r ++ r.parameters in
@@ -127,7 +145,11 @@ words_small at r fit =
     let w4 = w3 ++ r.saved.registers in
     let w5 = w4 ++ back r in
     let w6 = w5 ++ (r.walk.rip ∷ []) in
-    all_append w6 r.walk.kept (all_append w5 (r.walk.rip ∷ []) (all_append w4 (back r) (all_append w3 r.saved.registers (all_append w2 (front r) (all_append w1 (0 ∷ []) (all_append (head at r) r.parameters h (record { at = fit.parameters_small })) o) g) (record { at = fit.registers_small })) b) v) (record { at = fit.kept_small })
+    all_append w6 r.walk.kept (all_append w5 (r.walk.rip ∷ [])
+      (all_append w4 (back r) (all_append w3 r.saved.registers
+      (all_append w2 (front r) (all_append w1 (0 ∷ [])
+      (all_append (head at r) r.parameters h (record { at = fit.parameters_small })) o) g)
+      (record { at = fit.registers_small })) b) v) (record { at = fit.kept_small })
 
 -- ---- a record
 
@@ -136,31 +158,43 @@ written : Memory → ℕ → DispatchRecord → Memory
 written m at r = with_bytes m (with_words m.byte ((at + 32) % 2 ^ 64) (words at r))
 
 -- which is how a record is placed
-placed_is_written : (m : Memory) (at : ℕ) (r : DispatchRecord) → RecordFits r → at + RECORD_SIZE ≤ 2 ^ 64 → written m at r ≡ placed m at r
+placed_is_written : (m : Memory) (at : ℕ) (r : DispatchRecord) → RecordFits r
+    → at + RECORD_SIZE ≤ 2 ^ 64 → written m at r ≡ placed m at r
 unfolding written placed
-placed_is_written m at r fit top = ap (with_bytes m) (one_block m.byte (words at r) ((at + 32) % 2 ^ 64) 192 (sym (count_words r at fit)) (omega arith))
+placed_is_written m at r fit top = ap (with_bytes m)
+    (one_block m.byte (words at r) ((at + 32) % 2 ^ 64) 192 (sym (count_words r at fit))
+    (omega arith))
 
 -- modes are as before
-placed_readable : (m : Memory) (at : ℕ) (r : DispatchRecord) → Readable m at → Readable (placed m at r) at
+placed_readable : (m : Memory) (at : ℕ) (r : DispatchRecord) → Readable m at
+    → Readable (placed m at r) at
 unfolding placed
 placed_readable m at r h = h
 
-placed_bytes : (m : Memory) (at : ℕ) (r : DispatchRecord) → RecordFits r → at + RECORD_SIZE ≤ 2 ^ 64 → AreBytes m.byte → AreBytes (placed m at r).byte
+placed_bytes : (m : Memory) (at : ℕ) (r : DispatchRecord) → RecordFits r → at + RECORD_SIZE ≤ 2 ^ 64
+    → AreBytes m.byte → AreBytes (placed m at r).byte
 unfolding written
-placed_bytes m at r fit top h = subst (λ (p : Memory). AreBytes p.byte) (placed_is_written m at r fit top) (with_words-small m.byte (words at r) ((at + 32) % 2 ^ 64) h)
+placed_bytes m at r fit top h = subst (λ (p : Memory). AreBytes p.byte)
+    (placed_is_written m at r fit top) (with_words-small m.byte (words at r) ((at + 32) % 2 ^ 64) h)
 
-written_words : (m : Memory) (at : ℕ) (r : DispatchRecord) → RecordFits r → at + RECORD_SIZE ≤ 2 ^ 64 → words_at (written m at r).byte 192 ((at + 32) % 2 ^ 64) ≡ words at r
+written_words : (m : Memory) (at : ℕ) (r : DispatchRecord) → RecordFits r
+    → at + RECORD_SIZE ≤ 2 ^ 64 → words_at (written m at r).byte 192 ((at + 32) % 2 ^ 64)
+    ≡ words at r
 unfolding written
 written_words m at r fit top =
     let n = count_words r at fit in
     let a = (at + 32) % 2 ^ 64 in
     ap (λ k. words_at (with_words m.byte a (words at r)) k a) (sym n)
-    ∙ run_is (with_words m.byte a (words at r)) (words at r) a (omega arith) (λ j lt. word_back m.byte (words at r) a j (omega arith) lt ∙ (let s = (words_small at r fit).at j lt in let e : get_or (words at r) j 0 % 2 ^ 64 ≡ get_or (words at r) j 0 = omega arith in e))
+    ∙ run_is (with_words m.byte a (words at r)) (words at r) a (omega arith)
+      (λ j lt. word_back m.byte (words at r) a j (omega arith) lt
+    ∙ (let s = (words_small at r fit).at j lt in
+      let e : get_or (words at r) j 0 % 2 ^ 64 ≡ get_or (words at r) j 0 = omega arith in e))
 
 placed_words : (m : Memory) (at : ℕ) (r : DispatchRecord) → RecordFits r → at + RECORD_SIZE ≤ 2 ^ 64
     → words_at (placed m at r).byte 192 ((at + 32) % 2 ^ 64) ≡ words at r
 placed_words m at r fit top =
-    ap (λ (p : Memory). words_at p.byte 192 ((at + 32) % 2 ^ 64)) (sym (placed_is_written m at r fit top))
+    ap (λ (p : Memory). words_at p.byte 192 ((at + 32) % 2 ^ 64))
+      (sym (placed_is_written m at r fit top))
     ∙ written_words m at r fit top
 
 pub placed_is_record : PlacedIsRecord
@@ -188,14 +222,16 @@ placing_leaves_others m at r x top fit out =
     so (inr p) n = inr (omega arith)
 
 -- a record that is placed is fetched, also where it ends at the last address
-placed_back : (m : Memory) (at : ℕ) (r : DispatchRecord) → at + RECORD_SIZE ≤ 2 ^ 64 → AreBytes m.byte → RecordFits r
+placed_back : (m : Memory) (at : ℕ) (r : DispatchRecord) → at + RECORD_SIZE ≤ 2 ^ 64
+    → AreBytes m.byte → RecordFits r
     → Readable m at → fetched (placed m at r) at ≡ Some r
 placed_back m at r end bytes fit readable =
     fetched_back (placed m at r) at r end (placed_bytes m at r fit end bytes) fit
     (placed_words m at r fit end) (placed_readable m at r readable)
 
 pub placed_is_fetched : PlacedIsFetched
-placed_is_fetched m at r top bytes fit readable = placed_back m at r (omega arith) bytes fit readable
+placed_is_fetched m at r top bytes fit readable = placed_back m at r (omega arith) bytes fit
+    readable
 
 pub placed_is_fetched_where_not_refused : PlacedIsFetchedWhereNotRefused
 placed_is_fetched_where_not_refused m at r lt bytes fit free =

@@ -8,17 +8,21 @@ use Rattle.seh_search.specs.declared.search_result.SearchResult.{SearchResult}
 use Rattle.seh_search.specs.declared.search_result.SearchResult.TheVariants.{Nobody}
 use Rattle.seh_search.specs.Search.{search, decided}
 
-pub search-more : (n k : ℕ) (t : Functions) (m : Memory) (w u : WalkState) → n ≡ k + 1 → decided t w (visited t m w) ≡ Ok u → search k t m u ≡ search n t m w
+pub search-more : (n k : ℕ) (t : Functions) (m : Memory) (w u : WalkState) → n ≡ k + 1
+    → decided t w (visited t m w) ≡ Ok u → search k t m u ≡ search n t m w
 unfolding search
 search-more zero k t m w u e d = absurd (omega arith)
-search-more (suc n) k t m w u e d = let h : k ≡ n = omega arith in ap (λ j. search j t m u) h ∙ sym (ap (continue_walk (search n t m)) d)
+search-more (suc n) k t m w u e d = let h : k ≡ n = omega arith in ap (λ j. search j t m u) h
+    ∙ sym (ap (continue_walk (search n t m)) d)
 
-pub search-ends : (n : ℕ) (t : Functions) (m : Memory) (w : WalkState) (s : SearchResult) → 0 < n → decided t w (visited t m w) ≡ Err s → search n t m w ≡ s
+pub search-ends : (n : ℕ) (t : Functions) (m : Memory) (w : WalkState) (s : SearchResult) → 0 < n
+    → decided t w (visited t m w) ≡ Err s → search n t m w ≡ s
 unfolding search
 search-ends zero t m w s lt d = absurd (omega arith)
 search-ends (suc n) t m w s lt d = ap (continue_walk (search n t m)) d
 
-pub search-none : (n : ℕ) (t : Functions) (m : Memory) (w : WalkState) → n ≡ 0 → search n t m w ≡ Nobody
+pub search-none : (n : ℕ) (t : Functions) (m : Memory) (w : WalkState) → n ≡ 0
+    → search n t m w ≡ Nobody
 unfolding search
 search-none zero t m w e = refl
 search-none (suc n) t m w e = absurd (omega arith)

@@ -29,36 +29,50 @@ above_seen t w u at = go (ltb at (rsp u.context))
     go true = refl
     go false = refl
 
-filter_seen : (t : Functions) (w : WalkState) (at : ℕ) (o : Option DispatchRecord) → seen t w (filter_item at (fetch_answer at o)) ≡ past_filter at o
+filter_seen : (t : Functions) (w : WalkState) (at : ℕ) (o : Option DispatchRecord)
+    → seen t w (filter_item at (fetch_answer at o)) ≡ past_filter at o
 filter_seen t w at None = refl
 filter_seen t w at (Some r) = go r.kind
   where
-    go : (k : Kind) → seen t w (searching_item at r k) ≡ walk.if_search at (above at (walk.saved_in r)) (walk.is_search k)
+    go : (k : Kind) → seen t w (searching_item at r k)
+      ≡ walk.if_search at (above at (walk.saved_in r)) (walk.is_search k)
     go Search = above_seen t w (walk.saved_in r) at
     go ExceptionUnwind = refl
     go LocalUnwind = refl
 
-finally_seen : (t : Functions) (w : WalkState) (at : ℕ) (o : Option DispatchRecord) → seen t w (finally_item at (fetch_answer at o)) ≡ past_finally at o
+finally_seen : (t : Functions) (w : WalkState) (at : ℕ) (o : Option DispatchRecord)
+    → seen t w (finally_item at (fetch_answer at o)) ≡ past_finally at o
 finally_seen t w at None = refl
 finally_seen t w at (Some r) = go r.kind
   where
-    go : (k : Kind) → seen t w (unwinding_item at r k) ≡ walk.if_search at (above at (walk.walk_in r)) (not (walk.is_search k))
+    go : (k : Kind) → seen t w (unwinding_item at r k)
+      ≡ walk.if_search at (above at (walk.walk_in r)) (not (walk.is_search k))
     go Search = refl
     go ExceptionUnwind = above_seen t w (walk.walk_in r) at
     go LocalUnwind = above_seen t w (walk.walk_in r) at
 
-framed_seen : (t : Functions) (m : Memory) (w : WalkState) (a : Answer CallerFrame) → caller_in t m w.context ≡ a → seen t w (item_of (shown a)) ≡ framed a
-framed_seen t m w (Ok f) e = ap (λ (o : Option Info). walk.Frame (record { frame = f.frame; context = f.context; asked = o }) (record { context = f.context; row = 0 })) (sym (the_entry_is_asked t m w.context f e))
+framed_seen : (t : Functions) (m : Memory) (w : WalkState) (a : Answer CallerFrame)
+    → caller_in t m w.context ≡ a → seen t w (item_of (shown a)) ≡ framed a
+framed_seen t m w (Ok f) e = ap (λ (o : Option Info). walk.Frame
+    (record { frame = f.frame; context = f.context; asked = o })
+    (record { context = f.context; row = 0 })) (sym (the_entry_is_asked t m w.context f e))
 framed_seen t m w (Err e) h = refl
 
-pub item_filter : (t : Functions) (w : WalkState) (at : ℕ) (o : Option DispatchRecord) (a : Result DispatchRecord BadRecord) (c : code.WalkItem) → c ≡ filter_item at a → a ≡ fetch_answer at o → seen t w c ≡ past_filter at o
+pub item_filter : (t : Functions) (w : WalkState) (at : ℕ) (o : Option DispatchRecord)
+    (a : Result DispatchRecord BadRecord) (c : code.WalkItem) → c ≡ filter_item at a
+    → a ≡ fetch_answer at o → seen t w c ≡ past_filter at o
 item_filter t w at o a c e f = ap (seen t w) (e ∙ ap (filter_item at) f) ∙ filter_seen t w at o
 
-pub item_finally : (t : Functions) (w : WalkState) (at : ℕ) (o : Option DispatchRecord) (a : Result DispatchRecord BadRecord) (c : code.WalkItem) → c ≡ finally_item at a → a ≡ fetch_answer at o → seen t w c ≡ past_finally at o
+pub item_finally : (t : Functions) (w : WalkState) (at : ℕ) (o : Option DispatchRecord)
+    (a : Result DispatchRecord BadRecord) (c : code.WalkItem) → c ≡ finally_item at a
+    → a ≡ fetch_answer at o → seen t w c ≡ past_finally at o
 item_finally t w at o a c e f = ap (seen t w) (e ∙ ap (finally_item at) f) ∙ finally_seen t w at o
 
-pub item_frame : (t : Tables) (m : Memory) (w : WalkState) (a : Result Caller UnwindErr) (c : code.WalkItem) → c ≡ item_of a → a ≡ shown (caller_of t m w.context) → seen (functions_of t) w c ≡ framed (caller_in (functions_of t) m w.context)
+pub item_frame : (t : Tables) (m : Memory) (w : WalkState) (a : Result Caller UnwindErr)
+    (c : code.WalkItem) → c ≡ item_of a → a ≡ shown (caller_of t m w.context)
+    → seen (functions_of t) w c ≡ framed (caller_in (functions_of t) m w.context)
 unfolding caller_of
-item_frame t m w a c e f = ap (seen (functions_of t) w) (e ∙ ap item_of f) ∙ framed_seen (functions_of t) m w (caller_in (functions_of t) m w.context) refl
+item_frame t m w a c e f = ap (seen (functions_of t) w) (e ∙ ap item_of f)
+    ∙ framed_seen (functions_of t) m w (caller_in (functions_of t) m w.context) refl
 
 pub ruleset items = (item_filter, item_finally, item_frame)

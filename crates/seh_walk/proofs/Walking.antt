@@ -26,30 +26,44 @@ module _ (t : Functions) (m : Memory) (w : WalkState) (P : ℕ → Type 0) where
   abbrev Keeps : Visited → Type 0
   Keeps i = (u : WalkState) → ContinuesAt i u → P (rsp u.context)
 
-  above_keeps : (at : ℕ) (v : WalkState) → (at < rsp v.context → P (rsp v.context)) → Keeps (above at v)
+  above_keeps : (at : ℕ) (v : WalkState) → (at < rsp v.context → P (rsp v.context))
+      → Keeps (above at v)
   above_keeps at v h u l = go (ltb at (rsp v.context)) refl l
     where
-      go : (b : Bool) → ltb at (rsp v.context) ≡ b → ContinuesAt (if_above at v b) u → P (rsp u.context)
-      go true e l = subst (λ (x : WalkState). P (rsp x.context)) l (h (ltb-true at (rsp v.context) e))
+      go : (b : Bool) → ltb at (rsp v.context) ≡ b → ContinuesAt (if_above at v b) u
+        → P (rsp u.context)
+      go true e l = subst (λ (x : WalkState). P (rsp x.context)) l
+        (h (ltb-true at (rsp v.context) e))
       go false e l = absurd l
 
   search_keeps : (at : ℕ) (i : Visited) (b : Bool) → Keeps i → Keeps (if_search at i b)
   search_keeps at i true h = h
   search_keeps at i false h = λ u l. absurd l
 
-  filter_keeps : (at : ℕ) (o : Option DispatchRecord) → ((r : DispatchRecord) → o ≡ Some r → at < rsp (context_of r.saved) → P (rsp (context_of r.saved))) → Keeps (past_filter at o)
+  filter_keeps : (at : ℕ) (o : Option DispatchRecord)
+      → ((r : DispatchRecord) → o ≡ Some r → at < rsp (context_of r.saved)
+      → P (rsp (context_of r.saved))) → Keeps (past_filter at o)
   filter_keeps at None h = λ u l. absurd l
-  filter_keeps at (Some r) h = search_keeps at (above at (saved_in r)) (is_search r.kind) (above_keeps at (saved_in r) (h r refl))
+  filter_keeps at (Some r) h = search_keeps at (above at (saved_in r)) (is_search r.kind)
+      (above_keeps at (saved_in r) (h r refl))
 
-  finally_keeps : (at : ℕ) (o : Option DispatchRecord) → ((r : DispatchRecord) → o ≡ Some r → at < rsp r.walk → P (rsp r.walk)) → Keeps (past_finally at o)
+  finally_keeps : (at : ℕ) (o : Option DispatchRecord)
+      → ((r : DispatchRecord) → o ≡ Some r → at < rsp r.walk → P (rsp r.walk))
+      → Keeps (past_finally at o)
   finally_keeps at None h = λ u l. absurd l
-  finally_keeps at (Some r) h = search_keeps at (above at (walk_in r)) (not (is_search r.kind)) (above_keeps at (walk_in r) (h r refl))
+  finally_keeps at (Some r) h = search_keeps at (above at (walk_in r)) (not (is_search r.kind))
+      (above_keeps at (walk_in r) (h r refl))
 
-  framed_keeps : (a : Answer CallerFrame) → ((f : CallerFrame) → a ≡ Ok f → P (rsp f.context)) → Keeps (framed a)
+  framed_keeps : (a : Answer CallerFrame) → ((f : CallerFrame) → a ≡ Ok f → P (rsp f.context))
+      → Keeps (framed a)
   framed_keeps (Ok f) h u l = subst (λ (x : WalkState). P (rsp x.context)) l (h f refl)
   framed_keeps (Err e) h u l = absurd l
 
-  module _ (saved : (r : DispatchRecord) → fetched m (rsp w.context) ≡ Some r → rsp w.context < rsp (context_of r.saved) → P (rsp (context_of r.saved))) (walk : (r : DispatchRecord) → fetched m (rsp w.context) ≡ Some r → rsp w.context < rsp r.walk → P (rsp r.walk)) (caller : (f : CallerFrame) → caller_in t m w.context ≡ Ok f → P (rsp f.context)) where
+  module _ (saved : (r : DispatchRecord) → fetched m (rsp w.context) ≡ Some r
+      → rsp w.context < rsp (context_of r.saved) → P (rsp (context_of r.saved)))
+        (walk : (r : DispatchRecord) → fetched m (rsp w.context) ≡ Some r
+      → rsp w.context < rsp r.walk → P (rsp r.walk))
+        (caller : (f : CallerFrame) → caller_in t m w.context ≡ Ok f → P (rsp f.context)) where
     by_finally : (b : Bool) → Keeps (if_finally t m w b)
     by_finally true = finally_keeps (rsp w.context) (fetched m (rsp w.context)) walk
     by_finally false = framed_keeps (caller_in t m w.context) caller
@@ -68,7 +82,8 @@ module _ (t : Functions) (m : Memory) (w : WalkState) (P : ℕ → Type 0) where
 
 -- ---- RSP rises
 
-risen_above : (c : Context) (a : Answer CallerFrame) (f : CallerFrame) → (a >>= rising c) ≡ Ok f → rsp c < rsp f.context
+risen_above : (c : Context) (a : Answer CallerFrame) (f : CallerFrame) → (a >>= rising c) ≡ Ok f
+    → rsp c < rsp f.context
 risen_above c (Err x) f e = absurd cc
 risen_above c (Ok g) f e = go (ltb (rsp c) (rsp g.context)) refl e
   where
@@ -76,15 +91,18 @@ risen_above c (Ok g) f e = go (ltb (rsp c) (rsp g.context)) refl e
     same e = cc
 
     go : (b : Bool) → ltb (rsp c) (rsp g.context) ≡ b → risen c g b ≡ Ok f → rsp c < rsp f.context
-    go true h e = subst (λ (x : CallerFrame). rsp c < rsp x.context) (same e) (ltb-true (rsp c) (rsp g.context) h)
+    go true h e = subst (λ (x : CallerFrame). rsp c < rsp x.context) (same e)
+      (ltb-true (rsp c) (rsp g.context) h)
     go false h e = absurd cc
 
-caller_above : (t : Functions) (m : Memory) (c : Context) (f : CallerFrame) → caller_in t m c ≡ Ok f → rsp c < rsp f.context
+caller_above : (t : Functions) (m : Memory) (c : Context) (f : CallerFrame) → caller_in t m c ≡ Ok f
+    → rsp c < rsp f.context
 unfolding caller_in
 caller_above t m c f e = risen_above c (of_entry m c (distance t.base c.rip) (entry_of t c.rip)) f e
 
 pub walks_rise : WalksRise
-walks_rise t m w u l = keeps t m w (λ n. rsp w.context < n) (λ r e h. h) (λ r e h. h) (λ f e. caller_above t m w.context f e) u l
+walks_rise t m w u l = keeps t m w (λ n. rsp w.context < n) (λ r e h. h) (λ r e h. h)
+    (λ f e. caller_above t m w.context f e) u l
 
 -- ---- RSP stays an address
 
@@ -104,7 +122,8 @@ fetched_small m at h = by_reading (first_refused (may_read m) RECORD_SIZE at)
   where
     by_kind : (o : Option Kind) → IsSmallRecord (of_kind m at o)
     by_kind None = tt
-    by_kind (Some k) = (run_small m.byte 16 ((at + 0x178) % 2 ^ 64) 4 h, run_small m.byte 9 ((at + 1496) % 2 ^ 64) 0 h)
+    by_kind (Some k) = (run_small m.byte 16 ((at + 0x178) % 2 ^ 64) 4 h,
+      run_small m.byte 9 ((at + 1496) % 2 ^ 64) 0 h)
 
     by_mark : (b : Bool) → IsSmallRecord (if_marked m at b)
     by_mark true = by_kind (kind_of (word m at 40))
@@ -117,4 +136,6 @@ fetched_small m at h = by_reading (first_refused (may_read m) RECORD_SIZE at)
 pub walks_stay_below : WalksStayBelow
 walks_stay_below t m w u bytes small l =
     let at = rsp w.context in
-    keeps t m w (λ n. n < 2 ^ 64) (λ r e h. (subst IsSmallRecord e (fetched_small m at bytes)).0) (λ r e h. (subst IsSmallRecord e (fetched_small m at bytes)).1) (λ f e. subst IsSmallFound e (caller_small m bytes t w.context small)) u l
+    keeps t m w (λ n. n < 2 ^ 64) (λ r e h. (subst IsSmallRecord e (fetched_small m at bytes)).0)
+      (λ r e h. (subst IsSmallRecord e (fetched_small m at bytes)).1)
+      (λ f e. subst IsSmallFound e (caller_small m bytes t w.context small)) u l

@@ -25,7 +25,9 @@ use Rattle.set_locals.proofs.Fine.{IsAround}
 use Rattle.set_locals.proofs.Shapes.{statement_long, statements_long, grows, statement_first, statements_first, begins}
 use Rattle.set_locals.proofs.Pieces.{WayIn, return_leads, value_leads, returned_leads, test_leads, from_here}
 
-module _ (linear : LinearProgram) (lists : BodyName → List SeenNames) (name : BodyName) (locals : ℕ) (room : locals_at linear name ≡ locals) (scope : LoweringContext) (before seen : SeenNames) (around : IsAround locals scope.names before seen) where
+module _ (linear : LinearProgram) (lists : BodyName → List SeenNames) (name : BodyName) (locals : ℕ)
+    (room : locals_at linear name ≡ locals) (scope : LoweringContext) (before seen : SeenNames)
+    (around : IsAround locals scope.names before seen) where
   abbrev sets : BodyName → ℕ → SeenNames
   sets n label = set_in (lists n) label
 
@@ -45,9 +47,13 @@ module _ (linear : LinearProgram) (lists : BodyName → List SeenNames) (name : 
   pub record IfParts (c : Expression) (s : Statement) (at : ℕ) : Type 0 where
     pub is_there : At (at + expression_size c + 1) (statement_sets free seen s)
     pub end : IsRecordedAt (at + expression_size c + 1 + statement_size s) (after_statement seen s)
-    pub leads : Lead (at + expression_size c + 1) (statement_code scope s (at + expression_size c + 1)) → Lead at (statement_code scope (If c s) at)
+    pub leads : Lead (at + expression_size c + 1)
+      (statement_code scope s (at + expression_size c + 1))
+      → Lead at (statement_code scope (If c s) at)
 
-  pub if_parts : (c : Expression) (s : Statement) (at : ℕ) → expression_within before c ≡ true → At at (statement_sets free seen (If c s)) → IsRecordedAt (at + statement_size (If c s)) seen → IfParts c s at
+  pub if_parts : (c : Expression) (s : Statement) (at : ℕ) → expression_within before c ≡ true
+      → At at (statement_sets free seen (If c s)) → IsRecordedAt (at + statement_size (If c s)) seen
+      → IfParts c s at
   if_parts c s at w h end =
       let n = expression_size c in
       let place = at + n in
@@ -62,25 +68,38 @@ module _ (linear : LinearProgram) (lists : BodyName → List SeenNames) (name : 
       let leaves : IsRecordedAt out seen = subst (λ k. IsRecordedAt k seen) same end in
       let hs = back (lists name) at then tests body (omega arith) h in
       let end' = within (sets name out) seen (after_statement seen s) leaves (grows s seen) in
-      let start = begins (lists name) then out body seen (after_statement seen s) hs (statement_first s free seen) (omega arith) end' in
-      let even = even_list (lists name) seen (suc n) at then (omega arith) (front (lists name) at tests body h) start in
+      let start = begins (lists name) then out body seen (after_statement seen s) hs
+        (statement_first s free seen) (omega arith) end' in
+      let even = even_list (lists name) seen (suc n) at then (omega arith)
+        (front (lists name) at tests body h) start in
       record {
         is_there = hs;
         end = end';
-        leads = λ x. both_lead linear sets name at place (expression_code scope.names c 0 at) (JumpIfZero (Temporary 0) out ∷ statement_code scope s then) (omega arith)
-            (value_leads linear lists name locals room scope.names before seen around c at w (even_part (sets name) seen at then at place even (omega arith) (omega arith) (omega arith)))
-            (test_leads linear lists name locals room scope.names before seen around place out 0 (even.inside place (omega arith) (omega arith)) leaves start, x);
+        leads = λ x. both_lead linear sets name at place (expression_code scope.names c 0 at)
+          (JumpIfZero (Temporary 0) out ∷ statement_code scope s then) (omega arith)
+            (value_leads linear lists name locals room scope.names before seen around c at w
+              (even_part (sets name) seen at then at place even (omega arith) (omega arith)
+              (omega arith)))
+            (test_leads linear lists name locals room scope.names before seen around place out 0
+              (even.inside place (omega arith) (omega arith)) leaves start, x);
       }
 
   pub record IfElseParts (c : Expression) (s t : Statement) (at : ℕ) : Type 0 where
     pub is_there : At (at + expression_size c + 1) (statement_sets free seen s)
     pub end : IsRecordedAt (at + expression_size c + 1 + statement_size s) (after_statement seen s)
-    pub other_is_at : At (at + expression_size c + 1 + statement_size s + 1) (statement_sets free seen t)
-    pub other_end : IsRecordedAt (at + expression_size c + 1 + statement_size s + 1 + statement_size t) (after_statement seen t)
-    pub leads : Lead (at + expression_size c + 1) (statement_code scope s (at + expression_size c + 1)) → Lead (at + expression_size c + 1 + statement_size s + 1) (statement_code scope t (at + expression_size c + 1 + statement_size s + 1))
+    pub other_is_at : At (at + expression_size c + 1 + statement_size s + 1)
+      (statement_sets free seen t)
+    pub other_end : IsRecordedAt (at + expression_size c + 1 + statement_size s + 1
+      + statement_size t) (after_statement seen t)
+    pub leads : Lead (at + expression_size c + 1)
+      (statement_code scope s (at + expression_size c + 1))
+      → Lead (at + expression_size c + 1 + statement_size s + 1)
+        (statement_code scope t (at + expression_size c + 1 + statement_size s + 1))
         → Lead at (statement_code scope (IfElse c s t) at)
 
-  pub if_else_parts : (c : Expression) (s t : Statement) (at : ℕ) → expression_within before c ≡ true → At at (statement_sets free seen (IfElse c s t)) → IsRecordedAt (at + statement_size (IfElse c s t)) seen → IfElseParts c s t at
+  pub if_else_parts : (c : Expression) (s t : Statement) (at : ℕ)
+      → expression_within before c ≡ true → At at (statement_sets free seen (IfElse c s t))
+      → IsRecordedAt (at + statement_size (IfElse c s t)) seen → IfElseParts c s t at
   if_else_parts c s t at w h end =
       let n = expression_size c in
       let place = at + n in
@@ -101,44 +120,70 @@ module _ (linear : LinearProgram) (lists : BodyName → List SeenNames) (name : 
       let h1 = back (lists name) at then tests (yes ++ (seen ∷ no)) (omega arith) h in
       let h2 = back (lists name) then skip yes (seen ∷ no) (omega arith) h1 in
       let end_no = within (sets name out) seen (after_statement seen t) leaves (grows t seen) in
-      let start_no = begins (lists name) otherwise out no seen (after_statement seen t) h2.1 (statement_first t free seen) (omega arith) end_no in
+      let start_no = begins (lists name) otherwise out no seen (after_statement seen t) h2.1
+        (statement_first t free seen) (omega arith) end_no in
       let here_skip = head_recorded (lists name) skip seen no h2 in
-      let end_yes = within (sets name skip) seen (after_statement seen s) (is_same (sets name skip) seen here_skip) (grows s seen) in
+      let end_yes = within (sets name skip) seen (after_statement seen s)
+        (is_same (sets name skip) seen here_skip) (grows s seen) in
       let first = front (lists name) then yes (seen ∷ no) h1 in
-      let start = begins (lists name) then skip yes seen (after_statement seen s) first (statement_first s free seen) (omega arith) end_yes in
-      let even = even_list (lists name) seen (suc n) at then (omega arith) (front (lists name) at tests (yes ++ (seen ∷ no)) h) start in
+      let start = begins (lists name) then skip yes seen (after_statement seen s) first
+        (statement_first s free seen) (omega arith) end_yes in
+      let even = even_list (lists name) seen (suc n) at then (omega arith)
+        (front (lists name) at tests (yes ++ (seen ∷ no)) h) start in
       record {
         is_there = first;
         end = end_yes;
         other_is_at = h2.1;
         other_end = end_no;
-        leads = λ x y. both_lead linear sets name at place (expression_code scope.names c 0 at) (JumpIfZero (Temporary 0) otherwise ∷ (statement_code scope s then ++ (Jump out ∷ statement_code scope t otherwise))) (omega arith)
-            (value_leads linear lists name locals room scope.names before seen around c at w (even_part (sets name) seen at then at place even (omega arith) (omega arith) (omega arith))) (
-              test_leads linear lists name locals room scope.names before seen around place otherwise 0 (even.inside place (omega arith) (omega arith)) start_no start,
-              both_lead linear sets name then skip (statement_code scope s then) (Jump out ∷ statement_code scope t otherwise) (omega arith) x (from_here linear lists name skip out seen here_skip leaves, y),
+        leads = λ x y. both_lead linear sets name at place (expression_code scope.names c 0 at)
+          (JumpIfZero (Temporary 0) otherwise
+          ∷ (statement_code scope s then ++ (Jump out ∷ statement_code scope t otherwise)))
+            (omega arith)
+            (value_leads linear lists name locals room scope.names before seen around c at w
+              (even_part (sets name) seen at then at place even (omega arith) (omega arith)
+              (omega arith))) (
+              test_leads linear lists name locals room scope.names before seen around place
+                otherwise 0 (even.inside place (omega arith) (omega arith)) start_no start,
+              both_lead linear sets name then skip (statement_code scope s then)
+                (Jump out ∷ statement_code scope t otherwise) (omega arith) x
+                (from_here linear lists name skip out seen here_skip leaves, y),
             );
       }
 
-  pub returns_lead : (e : Option Expression) (at : ℕ) → optional_within before e ≡ true → WayIn linear lists name seen scope.exit → At at (statement_sets free seen (Return e)) → IsRecordedAt (at + statement_size (Return e)) seen → Lead at (statement_code scope (Return e) at)
+  pub returns_lead : (e : Option Expression) (at : ℕ) → optional_within before e ≡ true
+      → WayIn linear lists name seen scope.exit → At at (statement_sets free seen (Return e))
+      → IsRecordedAt (at + statement_size (Return e)) seen
+      → Lead at (statement_code scope (Return e) at)
   returns_lead e at w exit h end =
       let n = returned_size e in
       let mid = at + n in
       let same : at + (n + 2) ≡ mid + 2 = omega arith in
-      let even = even_list (lists name) seen (n + 2) at (mid + 2) (omega arith) h (subst (λ k. IsRecordedAt k seen) same end) in
+      let even = even_list (lists name) seen (n + 2) at (mid + 2) (omega arith) h
+        (subst (λ k. IsRecordedAt k seen) same end) in
       let l = returned_length scope.names e at in
-      both_lead linear sets name at mid (returned_code scope.names e at) (return_code scope.exit) (omega arith)
-      (returned_leads linear lists name locals room scope.names before seen around e at w (even_part (sets name) seen at (mid + 2) at mid even (omega arith) (omega arith) (omega arith)))
-      (return_leads linear lists name scope.exit mid seen exit (even_part (sets name) seen at (mid + 2) mid (mid + 2) even (omega arith) (omega arith) (omega arith)))
+      both_lead linear sets name at mid (returned_code scope.names e at) (return_code scope.exit)
+        (omega arith)
+      (returned_leads linear lists name locals room scope.names before seen around e at w
+        (even_part (sets name) seen at (mid + 2) at mid even (omega arith) (omega arith)
+        (omega arith)))
+      (return_leads linear lists name scope.exit mid seen exit
+        (even_part (sets name) seen at (mid + 2) mid (mid + 2) even (omega arith) (omega arith)
+        (omega arith)))
 
   -- a statement, and those after it
   pub record ThenParts (s : Statement) (ss : Statements) (at : ℕ) : Type 0 where
     pub is_there : At at (statement_sets free seen s)
     pub end : IsRecordedAt (at + statement_size s) (after_statement seen s)
     pub other_is_at : At (at + statement_size s) (statements_sets free (after_statement seen s) ss)
-    pub other_end : IsRecordedAt (at + statement_size s + statements_size ss) (after_statement seen s)
-    pub leads : Lead at (statement_code scope s at) → Lead (at + statement_size s) (statements_code scope ss (at + statement_size s)) → Lead at (statements_code scope (Then s ss) at)
+    pub other_end : IsRecordedAt (at + statement_size s + statements_size ss)
+      (after_statement seen s)
+    pub leads : Lead at (statement_code scope s at)
+      → Lead (at + statement_size s) (statements_code scope ss (at + statement_size s))
+      → Lead at (statements_code scope (Then s ss) at)
 
-  pub then_parts : (s : Statement) (ss : Statements) (at : ℕ) → At at (statements_sets free seen (Then s ss)) → IsRecordedAt (at + statements_size (Then s ss)) seen → ThenParts s ss at
+  pub then_parts : (s : Statement) (ss : Statements) (at : ℕ)
+      → At at (statements_sets free seen (Then s ss))
+      → IsRecordedAt (at + statements_size (Then s ss)) seen → ThenParts s ss at
   then_parts s ss at h end =
       let more = after_statement seen s in
       let next = at + statement_size s in
@@ -149,12 +194,15 @@ module _ (linear : LinearProgram) (lists : BodyName → List SeenNames) (name : 
       let lr = statements_long ss free more in
       let l = statement_length scope s at in
       let same : at + (statement_size s + statements_size ss) ≡ out = omega arith in
-      let end' = within (sets name out) seen more (subst (λ k. IsRecordedAt k seen) same end) (grows s seen) in
+      let end' = within (sets name out) seen more (subst (λ k. IsRecordedAt k seen) same end)
+        (grows s seen) in
       let rest = back (lists name) at next sl rl (omega arith) h in
       record {
         is_there = front (lists name) at sl rl h;
-        end = begins (lists name) next out rl more more rest (statements_first ss free more more (itself more)) (omega arith) end';
+        end = begins (lists name) next out rl more more rest
+          (statements_first ss free more more (itself more)) (omega arith) end';
         other_is_at = rest;
         other_end = end';
-        leads = λ x y. both_lead linear sets name at next (statement_code scope s at) (statements_code scope ss next) (omega arith) x y;
+        leads = λ x y. both_lead linear sets name at next (statement_code scope s at)
+          (statements_code scope ss next) (omega arith) x y;
       }

@@ -359,7 +359,8 @@ put_decreases m (Global access _) a v p = omega arith
 put_decreases m (Indirection access _) a v p = omega arith
 put_decreases m (Element access _ _) a v p = omega arith
 
-operated_decreases : (m : Machine) (o : Operation) (a b : ℕ) (p : Place) (x : performing.OperationResult)
+operated_decreases : (m : Machine) (o : Operation) (a b : ℕ) (p : Place)
+    (x : performing.OperationResult)
     → distance (operated m o a b p x) < at_worth m 21
 unfolding plan_worth
 operated_decreases m o a b p (performing.Gives v memory) = omega arith

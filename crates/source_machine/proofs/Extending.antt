@@ -90,7 +90,8 @@ finish_shows m k last p Normal = nothing m.state.events
 finish_shows m k last p LeftTry = nothing m.state.events
 finish_shows m k last p how = nothing m.state.events
 
-resumed_shows : (m : Machine) (f : ContinuationFrame) (how : Result) → Shows m.state.events (resumed m f how)
+resumed_shows : (m : Machine) (f : ContinuationFrame) (how : Result)
+    → Shows m.state.events (resumed m f how)
 resumed_shows m (Operand f) how = value_shows m (operand_plan f) how
 resumed_shows m (Assignment f) how = value_shows m (assignment_plan f) how
 resumed_shows m (InStatement f) how = value_shows m (in_statement_plan f) how
@@ -100,7 +101,8 @@ resumed_shows m (EndsCall n) how = call_shows m n how
 resumed_shows m (Lands held block p) how = land_shows m held block p how
 resumed_shows m (Finishes k last p) how = finish_shows m k last p how
 
-given_shows : (m : Machine) (how : Result) (fs : List ContinuationFrame) → Shows m.state.events (given m how fs)
+given_shows : (m : Machine) (how : Result) (fs : List ContinuationFrame)
+    → Shows m.state.events (given m how fs)
 given_shows m how [] = nothing m.state.events
 given_shows m how (f ∷ fs) =
     resumed_shows (record m { handlers = outside f m.handlers; stack = fs }) f how
@@ -137,7 +139,8 @@ put_shows m (Global access _) a v p = nothing m.state.events
 put_shows m (Indirection access _) a v p = nothing m.state.events
 put_shows m (Element access _ _) a v p = nothing m.state.events
 
-operated_shows : (m : Machine) (o : Operation) (a b : ℕ) (p : Place) (x : performing.OperationResult)
+operated_shows : (m : Machine) (o : Operation) (a b : ℕ) (p : Place)
+    (x : performing.OperationResult)
     → Shows m.state.events (operated m o a b p x)
 operated_shows m o a b p (performing.Gives v memory) = nothing m.state.events
 operated_shows m o a b p (performing.Raises code access) = nothing m.state.events

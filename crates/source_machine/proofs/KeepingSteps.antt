@@ -88,7 +88,8 @@ module _ (program : Program) (d : Does) where
   put_keeps m (Indirection access _) a v p = refl
   put_keeps m (Element access _ _) a v p = refl
 
-  operated_keeps : (m : Machine) (o : Operation) (a b : ℕ) (p : Place) (x : performing.OperationResult)
+  operated_keeps : (m : Machine) (o : Operation) (a b : ℕ) (p : Place)
+      (x : performing.OperationResult)
       → comes program d (operated m o a b p x)
       ≡ from program d m (tried d o a b (context_at m.handlers p) m.state x)
   unfolding and_then

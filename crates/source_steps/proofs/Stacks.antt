@@ -5,7 +5,8 @@ use Rattle.std.proofs.lemmas.List.{map-append, reverse-append}
 use Rattle.source_plans.specs.declared.frame.ContinuationFrame.{ContinuationFrame}
 use Rattle.source_plans.specs.Views.{frame_of}
 
-pub pushed : (fs : List ContinuationFrame) (f : ContinuationFrame) → reverse (map frame_of (fs ++ f ∷ [])) ≡ frame_of f
+pub pushed : (fs : List ContinuationFrame) (f : ContinuationFrame)
+    → reverse (map frame_of (fs ++ f ∷ [])) ≡ frame_of f
     ∷ reverse (map frame_of fs)
 pushed fs f =
     ap reverse (map-append frame_of fs (f ∷ []))

@@ -20,7 +20,8 @@ pub two : (x y z : Writer) (a b : List ℕ) → Wrote x a y → Wrote y b z → 
 two x y z a b p q = wrote_more x y z a b p q
 
 -- who writes the rest, after a text that begins it, has written the whole
-pub then_rest : (x y z : Writer) (t u rest : List ℕ) → rest ≡ t ++ u → Wrote x t y → Wrote y u z → Wrote x rest z
+pub then_rest : (x y z : Writer) (t u rest : List ℕ) → rest ≡ t ++ u → Wrote x t y → Wrote y u z
+    → Wrote x rest z
 then_rest x y z t u rest e p q = same x z (t ++ u) rest (wrote_more x y z t u p q) (sym e)
 
 pub done : (x : Writer) (rest : List ℕ) → rest ≡ [] → Wrote x rest x
@@ -28,26 +29,38 @@ done x rest e = same x x [] rest (wrote_none x) (sym e)
 
 -- ---- one entry more
 
-end_next : (rs : List RuntimeFunction) (index k : ℕ) → k ≡ suc index → end_before rs k ≡ (get_or rs index no_range).end
+end_next : (rs : List RuntimeFunction) (index k : ℕ) → k ≡ suc index
+    → end_before rs k ≡ (get_or rs index no_range).end
 end_next rs index zero e = absurd (omega arith)
-end_next rs index (suc k) e = let h : k ≡ index = omega arith in ap (λ n. (get_or rs n no_range).end) h
+end_next rs index (suc k) e = let h : k ≡ index = omega arith in
+    ap (λ n. (get_or rs n no_range).end) h
 
 pub entry_first : (t : Tables) (index : ℕ) → index < length t.ranges
-    → all_lines t.image index (end_before t.ranges index) (drop index t.ranges) ≡ entry_lines index (entry_at t index) ++ all_lines t.image (index + 1) (end_before t.ranges (index + 1)) (drop (index + 1) t.ranges)
+    → all_lines t.image index (end_before t.ranges index) (drop index t.ranges)
+    ≡ entry_lines index (entry_at t index) ++ all_lines t.image (index + 1)
+      (end_before t.ranges (index + 1)) (drop (index + 1) t.ranges)
 entry_first t index lt =
     let e : suc index ≡ index + 1 = omega arith in
     let r = get_or t.ranges index no_range in
     ap (all_lines t.image index (end_before t.ranges index)) (drop-cons t.ranges index no_range lt)
-    ∙ ap (λ n. entry_lines index (entry_at t index) ++ all_lines t.image (index + 1) r.end (drop n t.ranges)) e
-    ∙ ap (λ n. entry_lines index (entry_at t index) ++ all_lines t.image (index + 1) n (drop (index + 1) t.ranges)) (sym (end_next t.ranges index (index + 1) (omega arith)))
+    ∙ ap (λ n. entry_lines index (entry_at t index)
+    ++ all_lines t.image (index + 1) r.end (drop n t.ranges)) e
+    ∙ ap (λ n. entry_lines index (entry_at t index)
+    ++ all_lines t.image (index + 1) n (drop (index + 1) t.ranges))
+      (sym (end_next t.ranges index (index + 1) (omega arith)))
 
-pub entries_over : (t : Tables) (index : ℕ) → length t.ranges ≤ index → all_lines t.image index (end_before t.ranges index) (drop index t.ranges) ≡ []
-entries_over t index le = ap (all_lines t.image index (end_before t.ranges index)) (drop_all index t.ranges le)
+pub entries_over : (t : Tables) (index : ℕ) → length t.ranges ≤ index
+    → all_lines t.image index (end_before t.ranges index) (drop index t.ranges) ≡ []
+entries_over t index le = ap (all_lines t.image index (end_before t.ranges index))
+    (drop_all index t.ranges le)
 
-pub table_read : (t : Tables) (image : Image) → directory image ≡ Ok t.ranges → t.image ≡ image → all_lines t.image 0 0 t.ranges ++ count_line (length t.ranges) ≡ view image
-table_read t image is same = ap (λ (i : Image). all_lines i 0 0 t.ranges ++ count_line (length t.ranges)) same ∙ ap (table_lines image) (sym is)
+pub table_read : (t : Tables) (image : Image) → directory image ≡ Ok t.ranges → t.image ≡ image
+    → all_lines t.image 0 0 t.ranges ++ count_line (length t.ranges) ≡ view image
+table_read t image is same = ap (λ (i : Image). all_lines i 0 0 t.ranges
+    ++ count_line (length t.ranges)) same ∙ ap (table_lines image) (sym is)
 
-pub table_refused : (image : Image) (e : TableErr) → directory image ≡ Err e → table_lines image (Err e) ≡ view image
+pub table_refused : (image : Image) (e : TableErr) → directory image ≡ Err e
+    → table_lines image (Err e) ≡ view image
 table_refused image e is = ap (table_lines image) (sym is)
 
 -- ---- what became of the whole
@@ -55,5 +68,7 @@ table_refused image e is = ap (table_lines image) (sym is)
 pub whole : (x z : Writer) (t : List ℕ) → Wrote x t z → z.failed ≡ false → Grew x.taken t z.taken
 whole x z t p is = subst (λ (s : List ℕ). Grew x.taken s z.taken) (p.whole is) p.grew
 
-pub part : (x z : Writer) (t : List ℕ) (n : ℕ) → Wrote x t z → x.count ≡ 0 → n ≡ z.count → TookPart x.taken t z.taken n
-part x z t n p fresh e = record { part = p.part; begins = p.begins; grew = p.grew; counted = let counted = p.counted in omega arith }
+pub part : (x z : Writer) (t : List ℕ) (n : ℕ) → Wrote x t z → x.count ≡ 0 → n ≡ z.count
+    → TookPart x.taken t z.taken n
+part x z t n p fresh e = record { part = p.part; begins = p.begins; grew = p.grew;
+    counted = let counted = p.counted in omega arith }

@@ -94,14 +94,17 @@ work_length (operations.Remainder s z) = omega arith
 work_length (operations.Load w) = omega arith
 work_length (operations.Store w) = omega arith
 
-pub compute_length : (y : Layout) (to : Slot) (o : Operation) (first second : Slot) → length (compute_code y to o first second) ≤ 10
+pub compute_length : (y : Layout) (to : Slot) (o : Operation) (first second : Slot)
+    → length (compute_code y to o first second) ≤ 10
 compute_length y to o first second =
     let a = fetch_length y Rax first in
     let b = fetch_length y Rcx second in
     let c = before_length o in
     let d = work_length o in
     let e = keep_length y to in
-    omega (arith, length-append (operands_code y o first second) (finish_code y o to), length-append (fetch y Rax first) (fetch y Rcx second ++ before o), length-append (fetch y Rcx second) (before o), length-append (work o) (keep y to))
+    omega (arith, length-append (operands_code y o first second) (finish_code y o to),
+      length-append (fetch y Rax first) (fetch y Rcx second ++ before o),
+      length-append (fetch y Rcx second) (before o), length-append (work o) (keep y to))
 
 epilogue_length : (n : ℕ) → length (epilogue n) ≤ 2
 epilogue_length zero = omega arith
@@ -116,15 +119,22 @@ abbrev pub PassesFew : Instruction → Type 0
 PassesFew (instructions.Call function first count) = count ≤ 8
 PassesFew i = Unit {0}
 
-pub template_length : (k : Links) (y : Layout) (at : ℕ) (i : Instruction) → PassesFew i → length (template k y at i) ≤ 15
-template_length k y at (instructions.Compute to o first second) few = let l = compute_length y to o first second in omega arith
-template_length k y at (instructions.Information to field) few = let l = keep_length y to in omega arith
+pub template_length : (k : Links) (y : Layout) (at : ℕ) (i : Instruction) → PassesFew i
+    → length (template k y at i) ≤ 15
+template_length k y at (instructions.Compute to o first second) few = let l = compute_length y to o
+    first second in omega arith
+template_length k y at (instructions.Information to field) few = let l = keep_length y to in
+    omega arith
 template_length k y at (instructions.Landing to) few = let l = keep_length y to in omega arith
 template_length k y at (instructions.Jump label) few = omega arith
-template_length k y at (instructions.JumpIfZero slot label) few = let l = fetch_length y Rax slot in omega (arith, length-append (fetch y Rax slot) (compare_zero ∷ jump_equal (at + sizes (test_code y slot) + 6) (k.label label) ∷ []))
+template_length k y at (instructions.JumpIfZero slot label) few = let l = fetch_length y Rax slot in
+    omega (arith, length-append (fetch y Rax slot)
+    (compare_zero ∷ jump_equal (at + sizes (test_code y slot) + 6) (k.label label) ∷ []))
 template_length k y at (instructions.Call function first count) few =
     let l = passing_length y first 4 (count - 4) in
-    omega (arith, length-append (passing_code y first 4 (count - 4)) (call_code y (Temporary first) first (at + sizes (passing_code y first 4 (count - 4))) (k.function function)))
+    omega (arith, length-append (passing_code y first 4 (count - 4))
+      (call_code y (Temporary first) first (at + sizes (passing_code y first 4 (count - 4)))
+      (k.function function)))
 template_length k y at (instructions.CallBuiltIn function first) few = omega arith
 template_length k y at (instructions.CallFinally funclet) few = omega arith
 template_length k y at (instructions.LocalUnwind label) few = omega arith
@@ -141,4 +151,5 @@ sizes_small (i ∷ is) = let r = sizes_small is in let l = longest i in omega ar
 
 pub template_small : (y : Layout) (i : Instruction) → PassesFew i → template_size y i ≤ 225
 unfolding template_size
-template_small y i few = let l = template_length nowhere y 0 i few in omega (arith, sizes_small (template nowhere y 0 i))
+template_small y i few = let l = template_length nowhere y 0 i few in
+    omega (arith, sizes_small (template nowhere y 0 i))

@@ -10,11 +10,13 @@ bytes_by offset size small short =
     if small then slot offset 2 (size / 8 - 1)
     else (if short then slot offset 1 0 ++ u16 (size / 8) else slot offset 1 1 ++ u32 size)
 
-few_by : (offset size : ℕ) (small short : Bool) → length (bytes_by offset size small short ++ []) ≤ 510
+few_by : (offset size : ℕ) (small short : Bool)
+    → length (bytes_by offset size small short ++ []) ≤ 510
 unfolding u16 u32
 few_by offset size true short = omega arith
 few_by offset size false true = omega arith
 few_by offset size false false = omega arith
 
-pub few : (offset size : ℕ) → length (codes_bytes (record { offset = offset; operation = Allocate size } ∷ [])) ≤ 510
+pub few : (offset size : ℕ) → length (codes_bytes
+    (record { offset = offset; operation = Allocate size } ∷ [])) ≤ 510
 few offset size = few_by offset size (is_small size) (is_short 8 size)

@@ -27,27 +27,33 @@ record KeepsRest (m m' : Memory) : Type 0 where
   writes : (a : ℕ) → may_write m' a ≡ true → (may_write m a ≡ true) ⊎ (in_arena a ≡ true)
 
 arena_range : (a : ℕ) → in_arena a ≡ true → (ARENA_START ≤ a) × (a < ARENA_END)
-arena_range a e = let q = and_parts (leb ARENA_START a) (ltb a ARENA_END) e in (leb-true ARENA_START a q.0, ltb-true a ARENA_END q.1)
+arena_range a e = let q = and_parts (leb ARENA_START a) (ltb a ARENA_END) e in
+    (leb-true ARENA_START a q.0, ltb-true a ARENA_END q.1)
 
 in_range : (a : ℕ) → ARENA_START ≤ a → a < ARENA_END → in_arena a ≡ true
-in_range a l u = and_from (leb ARENA_START a) (ltb a ARENA_END) (le-leb ARENA_START a l) (lt-ltb a ARENA_END u)
+in_range a l u = and_from (leb ARENA_START a) (ltb a ARENA_END) (le-leb ARENA_START a l)
+    (lt-ltb a ARENA_END u)
 
 module _ (m : Memory) (at : ℕ) where
   nothing_set : KeepsRest m m
-  nothing_set = record { byte = refl; execute = λ a. refl; outside = λ a o. refl; writes = λ a w. inl w }
+  nothing_set = record { byte = refl; execute = λ a. refl; outside = λ a o. refl;
+      writes = λ a w. inl w }
 
   page_set : (r : Rights) → in_arena at ≡ true → KeepsRest m (with_rights m at (Some r))
   page_set r e = record {
     byte = refl;
     execute = λ a. same a (nat_eq (a / 4096) (at / 4096));
-    outside = λ a o. ap (λ b. cond b (record (m.protection a) { rights = r }) (m.protection a)) (ne_eqb (a / 4096) (at / 4096) (λ h. past a o h));
+    outside = λ a o. ap (λ b. cond b (record (m.protection a) { rights = r }) (m.protection a))
+      (ne_eqb (a / 4096) (at / 4096) (λ h. past a o h));
     writes = λ a w. by a (nat_eq (a / 4096) (at / 4096)) refl w;
   }
     where
       range : (ARENA_START ≤ at) × (at < ARENA_END)
       range = arena_range at e
 
-      same : (a : ℕ) (b : Bool) → (let x : Protection = cond b (record (m.protection a) { rights = r }) (m.protection a) in x).execute ≡ (m.protection a).execute
+      same : (a : ℕ) (b : Bool) → (let x : Protection = cond b
+        (record (m.protection a) { rights = r }) (m.protection a) in x).execute
+        ≡ (m.protection a).execute
       same a true = refl
       same a false = refl
 
@@ -56,7 +62,9 @@ module _ (m : Memory) (at : ℕ) where
       past a (inl l) h = let p = range.0 in absurd (omega arith)
       past a (inr g) h = let p = range.1 in absurd (omega arith)
 
-      by : (a : ℕ) (b : Bool) → nat_eq (a / 4096) (at / 4096) ≡ b → is_writable (let x : Protection = cond b (record (m.protection a) { rights = r }) (m.protection a) in x).rights ≡ true → (may_write m a ≡ true) ⊎ (in_arena a ≡ true)
+      by : (a : ℕ) (b : Bool) → nat_eq (a / 4096) (at / 4096) ≡ b
+        → is_writable (let x : Protection = cond b (record (m.protection a) { rights = r })
+          (m.protection a) in x).rights ≡ true → (may_write m a ≡ true) ⊎ (in_arena a ≡ true)
       by a false h w = inl w
       by a true h w =
           let same_page = eqb-true (a / 4096) (at / 4096) h in
@@ -71,11 +79,14 @@ module _ (m : Memory) (at : ℕ) where
       of_rights None e = nothing_set
       of_rights (Some r) e = page_set r e
 
-      by : (b : Bool) → in_arena at ≡ b → KeepsRest m (with_rights m at (cond b (rights_numbered n) None))
+      by : (b : Bool) → in_arena at ≡ b → KeepsRest m
+        (with_rights m at (cond b (rights_numbered n) None))
       by true e = of_rights (rights_numbered n) e
       by false e = nothing_set
 
-module _ (t : Functions) (fs : List Funclet) (program : LinearProgram) (p : ImagePlan) (q : Sites) (image : IsProgramImage t fs program p q) (m source : Memory) (at : ℕ) (n : ℤ) (h : IsMachineMemory t fs program p q m source) where
+module _ (t : Functions) (fs : List Funclet) (program : LinearProgram) (p : ImagePlan) (q : Sites)
+    (image : IsProgramImage t fs program p q) (m source : Memory) (at : ℕ) (n : ℤ)
+    (h : IsMachineMemory t fs program p q m source) where
   abbrev pub after : Memory
   after = protected m at n
 
@@ -86,27 +97,35 @@ module _ (t : Functions) (fs : List Funclet) (program : LinearProgram) (p : Imag
   same_byte a = ap (λ (f : ℕ → ℕ). f a) kept.byte
 
   no_code : (a : ℕ) → may_write after a ≡ true → (after.protection a).execute ≡ false
-  no_code a w = kept.execute a ∙ elim (kept.writes a w) [ inl x ↦ h.data_alone.no_code a x | inr x ↦ h.arena a x ]
+  no_code a w = kept.execute a ∙ elim (kept.writes a w)
+      [ inl x ↦ h.data_alone.no_code a x | inr x ↦ h.arena a x ]
 
   -- the source has the same rights there
-  same_rights : (a : ℕ) (o : Option Rights) → m.protection a ≡ source.protection a → (with_rights m at o).protection a ≡ (with_rights source at o).protection a
+  same_rights : (a : ℕ) (o : Option Rights) → m.protection a ≡ source.protection a
+      → (with_rights m at o).protection a ≡ (with_rights source at o).protection a
   same_rights a None e = e
-  same_rights a (Some r) e = ap (λ (x : Protection). cond (nat_eq (a / 4096) (at / 4096)) (record x { rights = r }) x) e
+  same_rights a (Some r) e = ap (λ (x : Protection). cond (nat_eq (a / 4096) (at / 4096))
+      (record x { rights = r }) x) e
 
   agrees : Agrees (is_reserved program.globals) after (protected source at n)
   agrees = record {
-    byte = λ a r. same_byte a ∙ h.agrees.byte a r ∙ sym (ap (λ (f : ℕ → ℕ). f a) (rights_set source at n).byte);
+    byte = λ a r. same_byte a ∙ h.agrees.byte a r
+      ∙ sym (ap (λ (f : ℕ → ℕ). f a) (rights_set source at n).byte);
     protection = λ a r. same_rights a (rights_asked at n) (h.agrees.protection a r);
     guard = h.agrees.guard;
   }
 
   pub arena_memory : IsMachineMemory t fs program p q after (protected source at n)
   arena_memory = record {
-    data_alone = record { bytes = λ a. (let e = same_byte a in let s = h.data_alone.bytes a in omega arith); no_code = no_code };
+    data_alone = record { bytes = λ a. (let e = same_byte a in let s = h.data_alone.bytes a in
+      omega arith); no_code = no_code };
     agrees = agrees;
-    stack = λ a l u. ap (λ (x : Protection). is_writable x.rights) (kept.outside a (inr (omega arith))) ∙ h.stack a l u;
+    stack = λ a l u. ap (λ (x : Protection). is_writable x.rights)
+      (kept.outside a (inr (omega arith))) ∙ h.stack a l u;
     arena = λ a e. kept.execute a ∙ h.arena a e;
-    code = program_stays t fs program p q image m after (record { byte = λ a l u own. same_byte a; protection = λ a l u own. kept.outside a (inr (omega arith)) }) h.code;
+    code = program_stays t fs program p q image m after
+      (record { byte = λ a l u own. same_byte a;
+      protection = λ a l u own. kept.outside a (inr (omega arith)) }) h.code;
   }
 
   -- what is code isn't in the arena

@@ -50,7 +50,8 @@ unfolding template_size
 kept_some y first = template_some y (instructions.Landing (Temporary first))
 
 -- the first of some words
-front : (m : Memory) (at end : ℕ) (vs : List ℕ) (n : ℕ) → HoldsWords m at end vs → HoldsWords m at end (take n vs)
+front : (m : Memory) (at end : ℕ) (vs : List ℕ) (n : ℕ) → HoldsWords m at end vs
+    → HoldsWords m at end (take n vs)
 front m at end [] n h = empty n
   where
     empty : (n : ℕ) → HoldsWords m at end (take n [])
@@ -63,9 +64,12 @@ front m at end (v ∷ vs) zero h = fits (v ∷ vs) at h
     fits (w ∷ ws) a h = let r = fits ws (a + 8) h.1 in omega arith
 front m at end (v ∷ vs) (suc n) h = (h.0, front m (at + 8) end vs n h.1)
 
-module _ (t : Functions) (fs : List Funclet) (program : LinearProgram) (p : ImagePlan) (q : Sites) (image : IsProgramImage t fs program p q) (roomy : HaveRoom program) where
-  module _ (s : State) (c : Configuration) (b : Begins t fs program p q s c) (counted : IsCounted t fs program p q image c) (f first count : ℕ)
-      (at : slice_get b.body.slots.code.code c.frame.next ≡ Some (instructions.Call f first count)) where
+module _ (t : Functions) (fs : List Funclet) (program : LinearProgram) (p : ImagePlan) (q : Sites)
+    (image : IsProgramImage t fs program p q) (roomy : HaveRoom program) where
+  module _ (s : State) (c : Configuration) (b : Begins t fs program p q s c)
+      (counted : IsCounted t fs program p q image c) (f first count : ℕ)
+      (at : slice_get b.body.slots.code.code c.frame.next ≡ Some (instructions.Call f first count))
+        where
     abbrev y : Layout
     y = p.layout c.frame.body
 
@@ -80,7 +84,8 @@ module _ (t : Functions) (fs : List Funclet) (program : LinearProgram) (p : Imag
 
     -- the caller's state once the callee has returned, but for its memory
     abbrev pub later : State
-    later = record { cpu = record { registers = s.cpu.registers; rip = back; flags = s.cpu.flags }; memory = s.memory }
+    later = record { cpu = record { registers = s.cpu.registers; rip = back; flags = s.cpu.flags };
+      memory = s.memory }
 
     abbrev called_at : ℕ
     called_at = q.function f
@@ -94,7 +99,9 @@ module _ (t : Functions) (fs : List Funclet) (program : LinearProgram) (p : Imag
     back_is : back ≡ place + sizes (passing ++ beginning)
     back_is =
         let five = call_size (return_at y first (place + sizes passing)) called_at in
-        omega (arith, sizes_append passing beginning, sizes_append (arguments_code y first) (call (return_at y first (place + sizes passing)) called_at ∷ []))
+        omega (arith, sizes_append passing beginning,
+          sizes_append (arguments_code y first)
+          (call (return_at y first (place + sizes passing)) called_at ∷ []))
 
     resumed : IsResumed t fs program p q c.frame.body b.body.slots.code c.frame.next back
     resumed = record {
@@ -110,7 +117,8 @@ module _ (t : Functions) (fs : List Funclet) (program : LinearProgram) (p : Imag
 
     pub back_inside : (place ≤ back) × (back < p.address c.frame.body (c.frame.next + 1))
     back_inside =
-        let n = next_address t fs program p q image roomy s c b counted (instructions.Call f first count) at in
+        let n = next_address t fs program p q image roomy s c b counted
+          (instructions.Call f first count) at in
         let z = call_template y f first count in
         let k = kept_some y first in
         (omega arith, omega (arith, n, z, b.rip, k))
@@ -137,17 +145,23 @@ module _ (t : Functions) (fs : List Funclet) (program : LinearProgram) (p : Imag
         let l = back_inside.0 in
         (omega arith, omega arith)
 
-    above_waiting : (name : BodyName) (below : List Item) → IsAbove t fs program p c.frame name below → IsAbove t fs program p (waiting c first).frame name below
+    above_waiting : (name : BodyName) (below : List Item)
+      → IsAbove t fs program p c.frame name below
+      → IsAbove t fs program p (waiting c first).frame name below
     above_waiting (FunctionBody n) below h = h
     above_waiting (FuncletBody k) below h = by_funclet (slice_get program.funclets k) below h
       where
-        by_funclet : (o : Option LinearFunclet) (items : List Item) → FuncletIsAbove t fs program p k c.frame o items → FuncletIsAbove t fs program p k (waiting c first).frame o items
+        by_funclet : (o : Option LinearFunclet) (items : List Item)
+          → FuncletIsAbove t fs program p k c.frame o items
+          → FuncletIsAbove t fs program p k (waiting c first).frame o items
         by_funclet None items h = absurd h
         by_funclet (Some g) [] h = absurd h
         by_funclet (Some g) (Searches exception resumption asked rest ∷ []) h = absurd h
         by_funclet (Some g) (Searches exception resumption asked rest ∷ Waits w ∷ below) h = h
-        by_funclet (Some g) (Searches exception resumption asked rest ∷ Searches a b c d ∷ below) h = absurd h
-        by_funclet (Some g) (Searches exception resumption asked rest ∷ Unwinds a b ∷ below) h = absurd h
+        by_funclet (Some g) (Searches exception resumption asked rest ∷ Searches a b c d ∷ below)
+          h = absurd h
+        by_funclet (Some g) (Searches exception resumption asked rest ∷ Unwinds a b ∷ below)
+          h = absurd h
         by_funclet (Some g) (Unwinds rest target ∷ []) h = absurd h
         by_funclet (Some g) (Unwinds rest target ∷ Waits w ∷ below) h = h
         by_funclet (Some g) (Unwinds rest target ∷ Searches a b c d ∷ below) h = absurd h
@@ -180,16 +194,27 @@ module _ (t : Functions) (fs : List Funclet) (program : LinearProgram) (p : Imag
     }
 
     -- the caller on top of what waits below it
-    pub awaits : (m : Memory) (room : ℕ) → room ≤ 32 + 8 * b.body.slots.code.passed → p.leaf c.frame.body ≡ false → KeepsStackBut s.memory m sp sp (sp + room) → IsData m
-        → (is : List StackItem) × ((others : List ℕ) → length others ≡ 8 → On t fs program p m (context_below back sp others) is (Waits (waiting c first).frame ∷ c.below) b.body.acts)
+    pub awaits : (m : Memory) (room : ℕ) → room ≤ 32 + 8 * b.body.slots.code.passed
+      → p.leaf c.frame.body ≡ false → KeepsStackBut s.memory m sp sp (sp + room) → IsData m
+        → (is : List StackItem) × ((others : List ℕ) → length others ≡ 8
+        → On t fs program p m (context_below back sp others) is
+          (Waits (waiting c first).frame ∷ c.below) b.body.acts)
     awaits m room few framed keeps data_alone =
-        let top = body_on_top t fs program p q image later (waiting c first) c.frame.next in_body resumed b.memory.code in
+        let top = body_on_top t fs program p q image later (waiting c first) c.frame.next in_body
+          resumed b.memory.code in
         let low = sp_low t fs program p q image s c b counted in
-        let is_there : IsLinkedStack t fs program p m (context_of later.cpu) top.is (Waits (waiting c first).frame ∷ c.below) b.body.acts =
-        outgoing_is_free s.memory m t fs program p image.laid_out room (context_of later.cpu) keeps (omega arith) top.is (waiting c first).frame c.below b.body.acts
-        (λ o e. subst (λ (x : LinearBody). room ≤ 32 + 8 * x.passed) (same_body b.body.slots.code o (sym b.body.slots.body ∙ e)) few) framed top.on.is_there in (
+        let is_there : IsLinkedStack t fs program p m (context_of later.cpu) top.is
+          (Waits (waiting c first).frame ∷ c.below) b.body.acts =
+        outgoing_is_free s.memory m t fs program p image.laid_out room (context_of later.cpu) keeps
+          (omega arith) top.is (waiting c first).frame c.below b.body.acts
+        (λ o e. subst (λ (x : LinearBody). room ≤ 32 + 8 * x.passed)
+          (same_body b.body.slots.code o (sym b.body.slots.body ∙ e)) few) framed top.on.is_there in
+          (
           top.is,
-          λ others n. on_moved t fs program p m (context_of later.cpu) (context_below back sp others) top.is (Waits (waiting c first).frame ∷ c.below) b.body.acts refl (omega (arith, n)) refl refl (record { is_there = is_there; data_alone = data_alone }),
+          λ others n. on_moved t fs program p m (context_of later.cpu)
+            (context_below back sp others) top.is (Waits (waiting c first).frame ∷ c.below)
+            b.body.acts refl (omega (arith, n)) refl refl
+            (record { is_there = is_there; data_alone = data_alone }),
         )
       where
         same_body : (x o : LinearBody) → Some x ≡ Some o → x ≡ o

@@ -28,15 +28,23 @@ unfolding size opcode_register
 clear_size = refl
 
 abbrev pub with_arguments_of : MachineView → BodyState → ℕ → MachineView
-with_arguments_of v b first = with_four (cleared v) (b.slots (Temporary first)) (b.slots (Temporary (first + 1))) (b.slots (Temporary (first + 2))) (b.slots (Temporary (first + 3)))
+with_arguments_of v b first = with_four (cleared v) (b.slots (Temporary first))
+    (b.slots (Temporary (first + 1))) (b.slots (Temporary (first + 2)))
+    (b.slots (Temporary (first + 3)))
 
 -- the service is reached, with the return address at RSP
-pub record ServiceReached (p : FramePlace) (first : ℕ) (v : MachineView) (rip service : ℕ) (f : Flags) (b : BodyState) : Type 0 where
+pub record ServiceReached (p : FramePlace) (first : ℕ) (v : MachineView) (rip service : ℕ)
+    (f : Flags) (b : BodyState) : Type 0 where
   pub flags : Flags
-  pub comes : Reaches 7 (machine v rip f) (machine (pushed (with_arguments_of v b first) p.sp (return_at p.layout first (rip + 5))) service flags)
+  pub comes : Reaches 7 (machine v rip f) (machine
+      (pushed (with_arguments_of v b first) p.sp (return_at p.layout first (rip + 5))) service
+      flags)
 
-pub service_reached : (p : FramePlace) (first : ℕ) (v : MachineView) (rip to service : ℕ) (f : Flags) (b : BodyState) → Roomy p → first + 4 ≤ p.counts.temporaries → sp_of v ≡ p.sp → FrameHolds p v.memory b → HasBelow v.memory p.sp 8
-    → IsNear (return_at p.layout first (rip + 5)) to → HasCode v.memory rip (call_built_in_code p.layout first rip to) → HasThunk v.memory to service
+pub service_reached : (p : FramePlace) (first : ℕ) (v : MachineView) (rip to service : ℕ)
+    (f : Flags) (b : BodyState) → Roomy p → first + 4 ≤ p.counts.temporaries → sp_of v ≡ p.sp
+    → FrameHolds p v.memory b → HasBelow v.memory p.sp 8
+    → IsNear (return_at p.layout first (rip + 5)) to
+    → HasCode v.memory rip (call_built_in_code p.layout first rip to) → HasThunk v.memory to service
     → ServiceReached p first v rip service f b
 service_reached p first v rip to service f b room le at h below near code thunk =
     let y = p.layout in
@@ -46,15 +54,20 @@ service_reached p first v rip to service f b room le at h below near code thunk 
     let next : rip + size clear_result ≡ rip + 5 = ap (λ (k : ℕ). rip + k) n in
     let there : rip + sizes (clear_result ∷ []) ≡ rip + 5 = omega arith in
     let rest = subst (λ a. HasCode v.memory a call) there parts.1 in
-    let begin = code_split v.memory (rip + 5) (begin_call y first (rip + 5) to) (keep y (Temporary first)) rest in
+    let begin = code_split v.memory (rip + 5) (begin_call y first (rip + 5) to)
+      (keep y (Temporary first)) rest in
     let w = cleared v in
     let u = with_arguments_of v b first in
     let back = return_at y first (rip + 5) in
-    let one : Reaches 1 (machine v rip f) (machine w (rip + 5) f) = one_reaches clear_result v w rip (rip + 5) f f refl refl parts.0 (ap (λ (a : ℕ). effect (machine v a f) clear_result) next) in
+    let one : Reaches 1 (machine v rip f) (machine w (rip + 5) f) = one_reaches clear_result v w rip
+      (rip + 5) f f refl refl parts.0 (ap (λ (a : ℕ). effect (machine v a f) clear_result) next) in
     let five = call_begins p first w (rip + 5) to f b room le at h below near begin.0 in
-    let last = thunk_reaches (pushed u p.sp back) to service five.flags (pushed_thunk u p.sp back to service below thunk) in
+    let last = thunk_reaches (pushed u p.sp back) to service five.flags
+      (pushed_thunk u p.sp back to service below thunk) in
     record {
       flags = five.flags;
-      comes = reaches_then 1 6 (machine v rip f) (machine w (rip + 5) f) (machine (pushed u p.sp back) service five.flags) one
-          (reaches_then 5 1 (machine w (rip + 5) f) (machine (pushed u p.sp back) to five.flags) (machine (pushed u p.sp back) service five.flags) five.comes last);
+      comes = reaches_then 1 6 (machine v rip f) (machine w (rip + 5) f)
+        (machine (pushed u p.sp back) service five.flags) one
+          (reaches_then 5 1 (machine w (rip + 5) f) (machine (pushed u p.sp back) to five.flags)
+            (machine (pushed u p.sp back) service five.flags) five.comes last);
     }

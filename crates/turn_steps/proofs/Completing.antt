@@ -63,8 +63,10 @@ some_length : (code : List Instr) → 1 ≤ sizes code → 1 ≤ length code
 some_length [] le = absurd (omega arith)
 some_length (i ∷ is) le = omega arith
 
-module _ (t : Functions) (fs : List Funclet) (program : LinearProgram) (p : ImagePlan) (q : Sites) (image : IsProgramImage t fs program p q) (made : IsWellMade program p)
-    (s : State) (c : Configuration) (w : WorksOn t fs program p q s c) (known : IsKnown program c) where
+module _ (t : Functions) (fs : List Funclet) (program : LinearProgram) (p : ImagePlan) (q : Sites)
+    (image : IsProgramImage t fs program p q) (made : IsWellMade program p)
+    (s : State) (c : Configuration) (w : WorksOn t fs program p q s c) (known : IsKnown program c)
+      where
   abbrev to : Slot
   to = w.again.to
 
@@ -115,8 +117,10 @@ module _ (t : Functions) (fs : List Funclet) (program : LinearProgram) (p : Imag
 
   module _ (n label rip : ℕ) (d : BodyState) (values ts : List ℕ) (landed : Option ℕ)
       (r : ReachesBody here n s rip (seen_by_templates s).rest d)
-      (at : rip ≡ p.address c.frame.body label) (lt : label < length body.code) (small : rip < 2 ^ 64)
-      (leaves : Leaves body d values ts) (nothing : landed ≡ None) (keep : RunsKeep t fs program p q image old c begins counted n s) where
+      (at : rip ≡ p.address c.frame.body label) (lt : label < length body.code)
+        (small : rip < 2 ^ 64)
+      (leaves : Leaves body d values ts) (nothing : landed ≡ None)
+        (keep : RunsKeep t fs program p q image old c begins counted n s) where
     abbrev u : State
     u = machine r.after rip r.flags
 
@@ -128,7 +132,9 @@ module _ (t : Functions) (fs : List Funclet) (program : LinearProgram) (p : Imag
 
     ran : Ran t fs program p q image old c begins counted u d values ts
     ran = record {
-      changed = record { changes = r.changes; keeps = record { protection = keeps.protection; fixed = keeps.fixed; count = keeps.count; small = keeps.small } };
+      changed = record { changes = r.changes;
+        keeps = record { protection = keeps.protection; fixed = keeps.fixed; count = keeps.count;
+        small = keeps.small } };
       holds = r.holds;
       stack = sp;
       leaves = leaves;
@@ -137,26 +143,37 @@ module _ (t : Functions) (fs : List Funclet) (program : LinearProgram) (p : Imag
     -- each turn keeps the shadow
     keeps_shadow : AllKeep t fs n s
     keeps_shadow =
-        keep u r.comes (ends_at t fs program p q image old c begins counted u label at lt (kept_by_rest r.after.rest s.cpu.registers r.rest) (is_after t fs program p q image old c begins counted u d values ts ran around.caller around.owner))
+        keep u r.comes (ends_at t fs program p q image old c begins counted u label at lt
+          (kept_by_rest r.after.rest s.cpu.registers r.rest)
+          (is_after t fs program p q image old c begins counted u d values ts ran around.caller
+          around.owner))
 
     quietly : Comes t fs n s [] u
-    quietly = reaches_quietly t fs program p q image n s u r.comes keeps_shadow w.memory.code (quiet_at t fs program p q image made.room old c begins counted label rip at lt small u refl)
+    quietly = reaches_quietly t fs program p q image n s u r.comes keeps_shadow w.memory.code
+      (quiet_at t fs program p q image made.room old c begins counted label rip at lt small u refl)
 
-    continues : Begins t fs program p q u (further t fs program p q image c begins.body.acts label values ts landed d.memory c.events)
+    continues : Begins t fs program p q u (further t fs program p q image c begins.body.acts label
+      values ts landed d.memory c.events)
     continues =
-        begins_next t fs program p q image old c begins counted u d values ts ran label landed c.events at lt (stays_sane s u keeps small w.sane)
+        begins_next t fs program p q image old c begins counted u d values ts ran label landed
+          c.events at lt (stays_sane s u keeps small w.sane)
         (λ value e. let z : ◌≡◌ {A = Option ℕ} None (Some value) = sym nothing ∙ e in absurd cc)
         around.caller around.owner
 
-    moves_on : ((next : Next) → act program i next c ≡ next (at_other t fs program p q image made.room c label values ts landed d.memory c.events)) → 1 ≤ n → n + 3 * length ts ≤ 16 + 3 * length c.frame.temporaries
+    moves_on : ((next : Next) → act program i next c
+      ≡ next (at_other t fs program p q image made.room c label values ts landed d.memory c.events))
+      → 1 ≤ n → n + 3 * length ts ≤ 16 + 3 * length c.frame.temporaries
         → Moves t fs program 16 turns_left (Begins t fs program p q) s c i
     moves_on acts some few =
-        let store : locals_of (with_values begins.body.acts c.frame.activation values) ≡ slice_set c.store.activations c.frame.activation values =
-        activated begins.body.acts c.frame.activation values is_there ∙ ap (λ xs. slice_set xs c.frame.activation values) (sym begins.body.store) in
+        let store : locals_of (with_values begins.body.acts c.frame.activation values)
+          ≡ slice_set c.store.activations c.frame.activation values =
+        activated begins.body.acts c.frame.activation values is_there
+          ∙ ap (λ xs. slice_set xs c.frame.activation values) (sym begins.body.store) in
         record {
           turns = n;
           some = some;
-          configuration = at_other t fs program p q image made.room c label values ts landed d.memory c.events;
+          configuration = at_other t fs program p q image made.room c label values ts landed
+            d.memory c.events;
           few = omega arith;
           state = u;
           events = [];
@@ -181,21 +198,27 @@ module _ (t : Functions) (fs : List Funclet) (program : LinearProgram) (p : Imag
     abbrev after : BodyState
     after = record { slots = with_slot now.slots to value; memory = m }
 
-    run : ReachesBody here (length finish) s (s.cpu.rip + sizes finish) (seen_by_templates s).rest after
+    run : ReachesBody here (length finish) s (s.cpu.rip + sizes finish) (seen_by_templates s).rest
+      after
     run =
-        subst (λ x. ReachesBody here (length finish) x (s.cpu.rip + sizes finish) (seen_by_templates s).rest after) (sym (is_machine s w.sane.count))
+        subst (λ x. ReachesBody here (length finish) x (s.cpu.rip + sizes finish)
+          (seen_by_templates s).rest after) (sym (is_machine s w.sane.count))
         (subst (λ x. Finished here o to (seen_by_templates s) s.cpu.rip s.cpu.flags
         now x) (midst.same_outcome t fs program p q image made s c w known (Gives value m) gives)
         (midst.made_here t fs program p q image made s c w known))
 
-    meant : (next : Next) → act program i next c ≡ written (record c { store = record c.store { memory = m } }) to value next
+    meant : (next : Next) → act program i next c
+      ≡ written (record c { store = record c.store { memory = m } }) to value next
     meant = acts_as program c to o first second (Gives value m) gives
 
     fits : FitsAfter c.frame.temporaries to
-    fits = fits_when_read t fs program p q image made.room old c begins counted around to value m (subst HasRule (meant (exec program zero)) rule)
+    fits = fits_when_read t fs program p q image made.room old c begins counted around to value m
+      (subst HasRule (meant (exec program zero)) rule)
 
-    acts : (next : Next) → act program i next c ≡ next (stored t fs program p q image made.room old c begins counted around to value m)
-    acts next = meant next ∙ writes t fs program p q image made.room old c begins counted around to value m fits next
+    acts : (next : Next) → act program i next c
+      ≡ next (stored t fs program p q image made.room old c begins counted around to value m)
+    acts next = meant next ∙ writes t fs program p q image made.room old c begins counted around to
+      value m fits next
 
     within : c.frame.next + 1 < length body.code
     within =
@@ -209,29 +232,41 @@ module _ (t : Functions) (fs : List Funclet) (program : LinearProgram) (p : Imag
         omega (
           arith,
           w.again.here,
-          next_address t fs program p q image made.room old c begins counted i (midst.at_here t fs program p q image made s c w known),
+          next_address t fs program p q image made.room old c begins counted i
+            (midst.at_here t fs program p q image made s c w known),
           whole_size y to o first second,
         )
 
     rest_keeps : RunsKeep t fs program p q image old c begins counted (length finish) s
     rest_keeps =
-        finish_keeps t fs program p q image made.room old c begins counted around to o first second (midst.at_here t fs program p q image made s c w known) s (seen_by_templates s) (is_machine s w.sane.count)
-        (record { rip = w.again.here; registers = refl; is_there = is_here t fs program p q image old c begins counted }) refl refl (record { protection = refl; fixed = λ a f. refl; count = refl; small = λ h. h })
-        (register s.cpu Rax) (register s.cpu Rcx) value m (midst.first_small t fs program p q image made s c w known) (midst.second_small t fs program p q image made s c w known)
-        (midst.operands_wait t fs program p q image made s c w known) (midst.same_outcome t fs program p q image made s c w known (Gives value m) gives)
+        finish_keeps t fs program p q image made.room old c begins counted around to o first second
+          (midst.at_here t fs program p q image made s c w known) s (seen_by_templates s)
+          (is_machine s w.sane.count)
+        (record { rip = w.again.here; registers = refl;
+          is_there = is_here t fs program p q image old c begins counted }) refl refl
+          (record { protection = refl; fixed = λ a f. refl; count = refl; small = λ h. h })
+        (register s.cpu Rax) (register s.cpu Rcx) value m
+          (midst.first_small t fs program p q image made s c w known)
+          (midst.second_small t fs program p q image made s c w known)
+        (midst.operands_wait t fs program p q image made s c w known)
+          (midst.same_outcome t fs program p q image made s c w known (Gives value m) gives)
 
     pub completed : Moves t fs program 16 turns_left (Begins t fs program p q) s c i
     completed =
         let ops = operands_code y o first second in
         let len = compute_length y to o first second in
         let more = one_more c.frame.temporaries to value fits in
-        let high = label_small t fs program p q image made.room old c begins counted around (c.frame.next + 1) within in
+        let high = label_small t fs program p q image made.room old c begins counted around
+          (c.frame.next + 1) within in
         let at = next_at in
-        let there : HasSlots (counts_of body) i = has_slots t fs program p q image made.room old c begins counted i (midst.at_here t fs program p q image made s c w known) in
+        let there : HasSlots (counts_of body) i = has_slots t fs program p q image made.room old c
+          begins counted i (midst.at_here t fs program p q image made s c w known) in
         moves_on (length finish) (c.frame.next + 1) (s.cpu.rip + sizes finish) after
-        (locals_after (linear.locals_of c.store c.frame.activation) to value) (temporaries_after c.frame.temporaries to value) c.frame.landed
+        (locals_after (linear.locals_of c.store c.frame.activation) to value)
+          (temporaries_after c.frame.temporaries to value) c.frame.landed
         run at within (omega arith)
-        (leaves_stored t fs program p q image made.room old c begins counted around to value m (held_here t fs program p q image made old c begins known) fits there.0)
+        (leaves_stored t fs program p q image made.room old c begins counted around to value m
+          (held_here t fs program p q image made old c begins known) fits there.0)
         (midst.free t fs program p q image made s c w known) rest_keeps acts
         (some_length finish (some_finish y o to))
         (omega (arith, length-append ops finish))

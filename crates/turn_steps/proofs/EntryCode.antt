@@ -20,17 +20,25 @@ use Rattle.body_states.specs.Programs.{HasProgram, IsProgramImage}
 use Rattle.body_states.proofs.FrameMaking.{making_steps}
 
 abbrev pub making_frame : ImagePlan → Sites → ℕ → Bool → List Instr
-making_frame p q f leaf = frame_code (p.layout (FunctionBody f)).frame (q.function f) q.check_stack leaf
+making_frame p q f leaf = frame_code (p.layout (FunctionBody f)).frame (q.function f) q.check_stack
+    leaf
 
 -- the frame is made first; after the arguments the body begins; so many turns does that take
-pub record HasEntry (program : LinearProgram) (p : ImagePlan) (q : Sites) (f count : ℕ) (m : Memory) (leaf : Bool) : Type 0 where
+pub record HasEntry (program : LinearProgram) (p : ImagePlan) (q : Sites) (f count : ℕ) (m : Memory)
+    (leaf : Bool) : Type 0 where
   pub making : HasCode m (q.function f) (making_frame p q f leaf)
-  pub storing : HasCode m (q.function f + sizes (making_frame p q f leaf)) (parameters_code (p.layout (FunctionBody f)) 0 count)
-  pub ends : q.function f + sizes (making_frame p q f leaf) + sizes (parameters_code (p.layout (FunctionBody f)) 0 count) ≡ p.address (FunctionBody f) 0
+  pub storing : HasCode m (q.function f + sizes (making_frame p q f leaf))
+      (parameters_code (p.layout (FunctionBody f)) 0 count)
+  pub ends : q.function f + sizes (making_frame p q f leaf)
+      + sizes (parameters_code (p.layout (FunctionBody f)) 0 count) ≡ p.address (FunctionBody f) 0
   pub turns : (n : ℕ) → making_steps leaf (p.layout (FunctionBody f)).frame ≡ n
-      → n + length (parameters_code (p.layout (FunctionBody f)) 0 count) ≡ making_steps (p.leaf (FunctionBody f)) (p.layout (FunctionBody f)).frame + length (arguments_code program p (FunctionBody f))
+      → n + length (parameters_code (p.layout (FunctionBody f)) 0 count)
+      ≡ making_steps (p.leaf (FunctionBody f)) (p.layout (FunctionBody f)).frame
+      + length (arguments_code program p (FunctionBody f))
 
-module _ (t : Functions) (fs : List Funclet) (program : LinearProgram) (p : ImagePlan) (q : Sites) (image : IsProgramImage t fs program p q) (f count : ℕ) (fn : LinearFunction) (callee : slice_get program.functions f ≡ Some fn) (parameters : fn.parameters ≡ count) where
+module _ (t : Functions) (fs : List Funclet) (program : LinearProgram) (p : ImagePlan) (q : Sites)
+    (image : IsProgramImage t fs program p q) (f count : ℕ) (fn : LinearFunction)
+    (callee : slice_get program.functions f ≡ Some fn) (parameters : fn.parameters ≡ count) where
   abbrev layout : Layout
   layout = p.layout (FunctionBody f)
 
@@ -40,27 +48,39 @@ module _ (t : Functions) (fs : List Funclet) (program : LinearProgram) (p : Imag
   there : body_of program (FunctionBody f) ≡ Some fn.body
   there = ap function_body callee
 
-  entry_is : (leaf : Bool) → p.leaf (FunctionBody f) ≡ leaf → entry_code program p q (FunctionBody f) ≡ making_frame p q f leaf ++ parameters_code layout 0 count
+  entry_is : (leaf : Bool) → p.leaf (FunctionBody f) ≡ leaf
+      → entry_code program p q (FunctionBody f)
+      ≡ making_frame p q f leaf ++ parameters_code layout 0 count
   entry_is leaf e =
       ap (λ x. making_frame p q f x ++ function_arguments layout (slice_get program.functions f)) e
       ∙ ap (λ x. making_frame p q f leaf ++ function_arguments layout x) callee
       ∙ ap (λ n. making_frame p q f leaf ++ parameters_code layout 0 n) parameters
 
-  codes : (m : Memory) → HasProgram t fs program p q m → (leaf : Bool) → p.leaf (FunctionBody f) ≡ leaf → HasCode m target (making_frame p q f leaf) × HasCode m (target + sizes (making_frame p q f leaf)) (parameters_code layout 0 count)
+  codes : (m : Memory) → HasProgram t fs program p q m → (leaf : Bool)
+      → p.leaf (FunctionBody f) ≡ leaf → HasCode m target (making_frame p q f leaf)
+      × HasCode m (target + sizes (making_frame p q f leaf)) (parameters_code layout 0 count)
   codes m has leaf e =
-      let whole = code_split m target (entry_code program p q (FunctionBody f)) (code_from (links_of p q (FunctionBody f)) layout (p.address (FunctionBody f) 0) fn.body.code) (has.code (FunctionBody f) fn.body there) in
-      code_split m target (making_frame p q f leaf) (parameters_code layout 0 count) (subst (HasCode m target) (entry_is leaf e) whole.0)
+      let whole = code_split m target (entry_code program p q (FunctionBody f))
+        (code_from (links_of p q (FunctionBody f)) layout (p.address (FunctionBody f) 0)
+        fn.body.code) (has.code (FunctionBody f) fn.body there) in
+      code_split m target (making_frame p q f leaf) (parameters_code layout 0 count)
+        (subst (HasCode m target) (entry_is leaf e) whole.0)
 
   -- a function's code begins so where the program is
-  pub has_entry : (m : Memory) → HasProgram t fs program p q m → (leaf : Bool) → p.leaf (FunctionBody f) ≡ leaf → HasEntry program p q f count m leaf
+  pub has_entry : (m : Memory) → HasProgram t fs program p q m → (leaf : Bool)
+      → p.leaf (FunctionBody f) ≡ leaf → HasEntry program p q f count m leaf
   has_entry m has leaf e = record {
     making = (codes m has leaf e).0;
     storing = (codes m has leaf e).1;
     ends =
         let a = (image.addresses (FunctionBody f) fn.body there).first in
         let z = ap sizes (entry_is leaf e) in
-        omega (arith, a, z, sizes_append (making_frame p q f leaf) (parameters_code layout 0 count));
+        omega (arith, a, z, sizes_append (making_frame p q f leaf)
+          (parameters_code layout 0 count));
     turns = λ n same.
-        let arguments : arguments_code program p (FunctionBody f) ≡ parameters_code layout 0 count = ap (λ x. function_arguments layout x) callee ∙ ap (λ k. parameters_code layout 0 k) parameters in
-        λ i. (sym same ∙ ap (λ l. making_steps l layout.frame) (sym e)) i + length (sym arguments i);
+        let arguments : arguments_code program p (FunctionBody f)
+          ≡ parameters_code layout 0 count = ap (λ x. function_arguments layout x) callee
+          ∙ ap (λ k. parameters_code layout 0 k) parameters in
+        λ i. (sym same ∙ ap (λ l. making_steps l layout.frame) (sym e)) i
+          + length (sym arguments i);
   }

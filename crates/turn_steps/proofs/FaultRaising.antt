@@ -69,7 +69,8 @@ write_small : (w : Bool) → write_number w < 2 ^ 64
 write_small true = omega arith
 write_small false = omega arith
 
-parameters_small : (access : Option (Bool × ℕ)) → IsSmallAccess access → AllSmall (parameters access)
+parameters_small : (access : Option (Bool × ℕ)) → IsSmallAccess access
+    → AllSmall (parameters access)
 parameters_small None h j lt = zeros_small 15 j
 parameters_small (Some x) h zero lt = write_small x.0
 parameters_small (Some x) h (suc zero) lt = h
@@ -78,12 +79,16 @@ parameters_small (Some x) h (suc (suc j)) lt = zeros_small 13 j
 abbrev pub exception_of : Code → Option (Bool × ℕ) → Exception
 exception_of code access = record { code = code.0; flag = false; access = access }
 
-is_exception : (code : Code) (access : Option (Bool × ℕ)) → IsSmallOutcome (Raises code access) → IsException code 0 access (exception_of code access)
-is_exception code access h = record { same_code = refl; same_flag = refl; same_access = refl; code_small = h.0; one_flag = omega arith; access_small = parameters_small access h.1 }
+is_exception : (code : Code) (access : Option (Bool × ℕ)) → IsSmallOutcome (Raises code access)
+    → IsException code 0 access (exception_of code access)
+is_exception code access h = record { same_code = refl; same_flag = refl; same_access = refl;
+    code_small = h.0; one_flag = omega arith; access_small = parameters_small access h.1 }
 
-module _ (t : Functions) (fs : List Funclet) (program : LinearProgram) (p : ImagePlan) (q : Sites) (image : IsProgramImage t fs program p q) (made : IsWellMade program p)
+module _ (t : Functions) (fs : List Funclet) (program : LinearProgram) (p : ImagePlan) (q : Sites)
+    (image : IsProgramImage t fs program p q) (made : IsWellMade program p)
     (fits : FlagsFit program)
-    (s : State) (c : Configuration) (w : WorksOn t fs program p q s c) (known : IsKnown program c) where
+    (s : State) (c : Configuration) (w : WorksOn t fs program p q s c) (known : IsKnown program c)
+      where
   abbrev to : Slot
   to = w.again.to
 
@@ -127,38 +132,57 @@ module _ (t : Functions) (fs : List Funclet) (program : LinearProgram) (p : Imag
   untouched = record { above = λ x le. refl; code = λ x e. refl }
 
   asks : Asks t fs program p q image s.cpu s.cpu s.memory s.memory.byte c w.body.acts
-  asks = asks_host t fs program p q image s.cpu s.cpu s.memory s.memory.byte c c.frame.next c.store.memory w.body resumed w.memory.code untouched w.memory w.sane w.sane
+  asks = asks_host t fs program p q image s.cpu s.cpu s.memory s.memory.byte c c.frame.next
+      c.store.memory w.body resumed w.memory.code untouched w.memory w.sane w.sane
 
   live : IsLive s
-  live = let l = (code_here t fs program p q image made s c w known).placed.low in ne_eqb s.cpu.rip 0 (λ e. absurd (omega arith))
+  live = let l = (code_here t fs program p q image made s c w known).placed.low in
+      ne_eqb s.cpu.rip 0 (λ e. absurd (omega arith))
 
-  module _ (code : Code) (access : Option (Bool × ℕ)) (raises : ComesTo program c o first second (Raises code access)) where
+  module _ (code : Code) (access : Option (Bool × ℕ))
+      (raises : ComesTo program c o first second (Raises code access)) where
     is_raised : outcome t fs program p q image made s c w known ≡ Raises code access
     is_raised = same_outcome t fs program p q image made s c w known (Raises code access) raises
 
     faults : step s ≡ Err (stops.Fault code access)
     faults =
         ap step (is_machine s w.sane.count)
-        ∙ subst (λ x. Finished (frame_here t fs program p q image made s c w known) o to (seen_by_templates s) s.cpu.rip s.cpu.flags (slots_now t fs program p q image made s c w known) x) is_raised
+        ∙ subst (λ x. Finished (frame_here t fs program p q image made s c w known) o to
+          (seen_by_templates s) s.cpu.rip s.cpu.flags
+          (slots_now t fs program p q image made s c w known) x) is_raised
         (made_here t fs program p q image made s c w known)
 
     small : IsSmallOutcome (Raises code access)
     small =
         subst IsSmallOutcome is_raised
-        (outcome_small (is_reserved program.globals) o _ _ c.store.memory (first_small t fs program p q image made s c w known) (second_small t fs program p q image made s c w known))
+        (outcome_small (is_reserved program.globals) o _ _ c.store.memory
+          (first_small t fs program p q image made s c w known)
+          (second_small t fs program p q image made s c w known))
 
-    acts : (next : Next) → act program i next c ≡ raise program next (exception_of code access) SameOperation c
+    acts : (next : Next) → act program i next c
+      ≡ raise program next (exception_of code access) SameOperation c
     acts = acts_as program c to o first second (Raises code access) raises
 
     shows : HasRule (act program i (exec program zero) c)
-        → Shows t fs program p q (arrived t fs (raised t s code 0 access s.cpu)) (raise_event (exception_of code access) ∷ [])
-        (λ next. raise program next (exception_of code access) SameOperation c) c.events (turns_left c) (callers (context_of s.cpu) asks.is)
+        → Shows t fs program p q (arrived t fs (raised t s code 0 access s.cpu))
+          (raise_event (exception_of code access) ∷ [])
+        (λ next. raise program next (exception_of code access) SameOperation c) c.events
+          (turns_left c) (callers (context_of s.cpu) asks.is)
     shows rule =
-        raised_as t fs program p q image fits s s.cpu asks.is w.body.acts c asks.asks w.memory w.body.store code 0 access (exception_of code access) SameOperation
-        (is_exception code access small) ((image.resumptions SameOperation c.frame s.cpu).says w.again) (subst HasRule (acts (exec program zero)) rule)
+        raised_as t fs program p q image fits s s.cpu asks.is w.body.acts c asks.asks w.memory
+          w.body.store code 0 access (exception_of code access) SameOperation
+        (is_exception code access small) ((image.resumptions SameOperation c.frame s.cpu).says
+          w.again) (subst HasRule (acts (exec program zero)) rule)
 
-    pub raised_at_once : HasRule (act program i (exec program zero) c) → KnownNext program c i → IsMatched t fs program 7 turns_left (Represents t fs program p q) s c i
+    pub raised_at_once : HasRule (act program i (exec program zero) c) → KnownNext program c i
+      → IsMatched t fs program 7 turns_left (Represents t fs program p q) s c i
     raised_at_once rule next =
-        matched_when_shown t fs program p q 7 0 (turns_left c) s s c i (arrived t fs (raised t s code 0 access s.cpu)) (raise_event (exception_of code access) ∷ [])
-        (λ next. raise program next (exception_of code access) SameOperation c) (callers (context_of s.cpu) asks.is) (comes_nowhere t fs s) live (fault_turns t fs s code access faults)
-        (raised_keeps t fs program p q s code access (callers (context_of s.cpu) asks.is) faults (on_stack t s.memory (context_of s.cpu) 0 asks.is asks.asks.on.is_there.stack)) (shows rule) acts (omega arith) next
+        matched_when_shown t fs program p q 7 0 (turns_left c) s s c i
+          (arrived t fs (raised t s code 0 access s.cpu))
+          (raise_event (exception_of code access) ∷ [])
+        (λ next. raise program next (exception_of code access) SameOperation c)
+          (callers (context_of s.cpu) asks.is) (comes_nowhere t fs s) live
+          (fault_turns t fs s code access faults)
+        (raised_keeps t fs program p q s code access (callers (context_of s.cpu) asks.is) faults
+          (on_stack t s.memory (context_of s.cpu) 0 asks.is asks.asks.on.is_there.stack))
+          (shows rule) acts (omega arith) next

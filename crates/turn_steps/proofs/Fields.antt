@@ -53,11 +53,15 @@ recorded_field NumberParameters r = r.count
 recorded_field (ExceptionInformation k) r = get_or r.parameters k 0
 
 -- it is at its place in the EXCEPTION_RECORD
-pub field_is_at : (m : Memory) (at : ℕ) (r : DispatchRecord) (field : Field) → at + 1568 < 2 ^ 64 → IsField field → fetched m at ≡ Some r
-    → number_at m.byte (bytes_of (field_width field)) (at + 96 + field_at field) ≡ recorded_field field r
+pub field_is_at : (m : Memory) (at : ℕ) (r : DispatchRecord) (field : Field) → at + 1568 < 2 ^ 64
+    → IsField field → fetched m at ≡ Some r
+    → number_at m.byte (bytes_of (field_width field)) (at + 96 + field_at field)
+    ≡ recorded_field field r
 field_is_at m at r field top is e = let f = fetched_is m at r e in by field is f.kind f.same
   where
-    by : (field : Field) → IsField field → (k : Kind) → r ≡ recorded m at k → number_at m.byte (bytes_of (field_width field)) (at + 96 + field_at field) ≡ recorded_field field r
+    by : (field : Field) → IsField field → (k : Kind) → r ≡ recorded m at k
+      → number_at m.byte (bytes_of (field_width field)) (at + 96 + field_at field)
+      ≡ recorded_field field r
     by ExceptionCode is k e =
         let z : at + 96 + 0 ≡ (at + 96) % 2 ^ 64 = omega arith in
         ap (number_at m.byte 4) z ∙ sym (ap (λ (x : DispatchRecord). x.code.0) e)
@@ -71,11 +75,13 @@ field_is_at m at r field top is e = let f = fetched_is m at r e in by field is f
         let z : at + 96 + (32 + 8 * i) ≡ at + 128 + 8 * i = omega arith in
         let w : at + 128 ≡ (at + 128) % 2 ^ 64 = omega arith in
         ap (number_at m.byte 8) z ∙ ap (λ x. number_at m.byte 8 (x + 8 * i)) w
-        ∙ word_in m.byte r.parameters 15 ((at + 128) % 2 ^ 64) i (sym (ap (λ (x : DispatchRecord). x.parameters) e)) is (omega arith)
+        ∙ word_in m.byte r.parameters 15 ((at + 128) % 2 ^ 64) i
+          (sym (ap (λ (x : DispatchRecord). x.parameters) e)) is (omega arith)
 
 -- ---- the exception's own numbers
 
-flags_are : (flags : ℕ) (flag : Bool) → flags < 2 → (flags % 2 == 0) ≡ not flag → flags ≡ of_test flag
+flags_are : (flags : ℕ) (flag : Bool) → flags < 2 → (flags % 2 == 0) ≡ not flag
+    → flags ≡ of_test flag
 flags_are flags true small e =
     let odd : nat_eq (flags % 2) 0 ≡ false = e in
     go flags small odd
@@ -101,31 +107,42 @@ zero_among zero k = refl
 zero_among (suc n) zero = refl
 zero_among (suc n) (suc k) = zero_among n k
 
-parameters_are : (access : Option (Bool × ℕ)) (k : ℕ) → get_or (parameters access) k 0 ≡ parameter_of access k
+parameters_are : (access : Option (Bool × ℕ)) (k : ℕ)
+    → get_or (parameters access) k 0 ≡ parameter_of access k
 parameters_are None k = zero_among 15 k
 parameters_are (Some x) zero = tests_are x.0
 parameters_are (Some x) (suc zero) = refl
 parameters_are (Some x) (suc (suc k)) =
-    let first : nat_eq (suc (suc k)) 0 ≡ false = ne_eqb (suc (suc k)) 0 (λ e. absurd (omega arith)) in
-    let second : nat_eq (suc (suc k)) 1 ≡ false = ne_eqb (suc (suc k)) 1 (λ e. absurd (omega arith)) in
-    zero_among 13 k ∙ sym (ap (λ b. cond b (of_test x.0) (cond (nat_eq (suc (suc k)) 1) x.1 0)) first ∙ ap (λ b. cond b x.1 0) second)
+    let first : nat_eq (suc (suc k)) 0 ≡ false = ne_eqb (suc (suc k)) 0
+      (λ e. absurd (omega arith)) in
+    let second : nat_eq (suc (suc k)) 1 ≡ false = ne_eqb (suc (suc k)) 1
+      (λ e. absurd (omega arith)) in
+    zero_among 13 k ∙ sym (ap (λ b. cond b (of_test x.0) (cond (nat_eq (suc (suc k)) 1) x.1 0))
+      first ∙ ap (λ b. cond b x.1 0) second)
 
 module _ (t : Functions) (fs : List Funclet) (program : LinearProgram) (p : ImagePlan) where
-  pub field_is : (r : DispatchRecord) (exception : Exception) (field : Field) → HasException t fs program p r exception → recorded_field field r ≡ field_of field exception
+  pub field_is : (r : DispatchRecord) (exception : Exception) (field : Field)
+      → HasException t fs program p r exception → recorded_field field r ≡ field_of field exception
   field_is r exception ExceptionCode h = h.code
   field_is r exception ExceptionFlags h = flags_are r.flags exception.flag h.one_flag h.flag
   field_is r exception NumberParameters h = h.count ∙ counts_are exception.access
-  field_is r exception (ExceptionInformation k) h = ap (λ (xs : List ℕ). get_or xs k 0) h.parameters ∙ parameters_are exception.access k
+  field_is r exception (ExceptionInformation k) h = ap (λ (xs : List ℕ). get_or xs k 0) h.parameters
+      ∙ parameters_are exception.access k
 
 -- each fits its field
-pub field_fits : (r : DispatchRecord) (field : Field) → IsField field → RecordFits r → r.flags < 2 → field_number field (recorded_field field r) ≡ recorded_field field r
+pub field_fits : (r : DispatchRecord) (field : Field) → IsField field → RecordFits r → r.flags < 2
+    → field_number field (recorded_field field r) ≡ recorded_field field r
 field_fits r ExceptionCode is f one = let s = f.code in omega arith
 field_fits r ExceptionFlags is f one = omega arith
 field_fits r NumberParameters is f one = let s = f.count in omega arith
-field_fits r (ExceptionInformation k) is f one = let n = f.parameters in let s = f.parameters_small k (omega arith) in let e : get_or r.parameters k 0 % 2 ^ 64 ≡ get_or r.parameters k 0 = omega arith in e
+field_fits r (ExceptionInformation k) is f one = let n = f.parameters in
+    let s = f.parameters_small k (omega arith) in
+    let e : get_or r.parameters k 0 % 2 ^ 64 ≡ get_or r.parameters k 0 = omega arith in e
 
-pub field_small : (r : DispatchRecord) (field : Field) → IsField field → RecordFits r → recorded_field field r < 2 ^ 64
+pub field_small : (r : DispatchRecord) (field : Field) → IsField field → RecordFits r
+    → recorded_field field r < 2 ^ 64
 field_small r ExceptionCode is f = let s = f.code in omega arith
 field_small r ExceptionFlags is f = let s = f.flags in omega arith
 field_small r NumberParameters is f = let s = f.count in omega arith
-field_small r (ExceptionInformation k) is f = let n = f.parameters in f.parameters_small k (omega arith)
+field_small r (ExceptionInformation k) is f = let n = f.parameters in
+    f.parameters_small k (omega arith)

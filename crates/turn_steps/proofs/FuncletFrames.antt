@@ -40,7 +40,8 @@ use Rattle.body_steps.proofs.Words.{word_is, word_of, may_read_written}
 use Rattle.body_steps.proofs.Views.{stack_is_reserved}
 use Rattle.body_steps.proofs.Programs.{program_stays}
 
-pub same_regions : (rs : List Region) (label : ℕ) → AllByRecursion (λ (r : Region). holds label r ≡ holds label r) rs
+pub same_regions : (rs : List Region) (label : ℕ)
+    → AllByRecursion (λ (r : Region). holds label r ≡ holds label r) rs
 same_regions [] label = tt
 same_regions (r ∷ rs) label = (refl, same_regions rs label)
 
@@ -51,7 +52,10 @@ pub apart : true ≡ false → ⊥
 apart z = cc
 
 -- memory that differs within a part of the stack alone
-module _ (t : Functions) (fs : List Funclet) (program : LinearProgram) (p : ImagePlan) (q : Sites) (image : IsProgramImage t fs program p q) (m m' source : Memory) (lo hi : ℕ) (w : Within lo hi m m') (low : STACK_START ≤ lo) (high : hi ≤ STACK_END) (memory : IsMachineMemory t fs program p q m source) where
+module _ (t : Functions) (fs : List Funclet) (program : LinearProgram) (p : ImagePlan) (q : Sites)
+    (image : IsProgramImage t fs program p q) (m m' source : Memory) (lo hi : ℕ)
+    (w : Within lo hi m m') (low : STACK_START ≤ lo) (high : hi ≤ STACK_END)
+    (memory : IsMachineMemory t fs program p q m source) where
   same_protection : (a : ℕ) → m'.protection a ≡ m.protection a
   same_protection a = ap (λ (f : ℕ → Protection). f a) w.protection
 
@@ -59,7 +63,8 @@ module _ (t : Functions) (fs : List Funclet) (program : LinearProgram) (p : Imag
   outside a r = elim (cases_lt a lo) [
     | inl lt ↦ inl lt
     | inr le ↦ elim (cases_lt a hi) [
-      | inl lt ↦ let x : true ≡ false = sym (stack_is_reserved program.globals a (omega arith) (omega arith)) ∙ r in absurd cc
+      | inl lt ↦ let x : true ≡ false = sym (stack_is_reserved program.globals a (omega arith)
+        (omega arith)) ∙ r in absurd cc
       | inr ge ↦ inr ge
     ]
   ]
@@ -68,7 +73,8 @@ module _ (t : Functions) (fs : List Funclet) (program : LinearProgram) (p : Imag
   outside_code a e = elim (cases_lt a lo) [
     | inl lt ↦ inl lt
     | inr le ↦ elim (cases_lt a hi) [
-      | inl lt ↦ let x : true ≡ false = sym e ∙ memory.data_alone.no_code a (memory.stack a (omega arith) (omega arith)) in absurd cc
+      | inl lt ↦ let x : true ≡ false = sym e
+      ∙ memory.data_alone.no_code a (memory.stack a (omega arith) (omega arith)) in absurd cc
       | inr ge ↦ inr ge
     ]
   ]
@@ -77,15 +83,22 @@ module _ (t : Functions) (fs : List Funclet) (program : LinearProgram) (p : Imag
   no_more a e = ap (λ (x : Protection). x.execute) (same_protection a) ∙ e
 
   pub stack_writable : (a : ℕ) → STACK_START ≤ a → a < STACK_END → may_write m' a ≡ true
-  stack_writable a l h = ap (λ (x : Protection). is_writable x.rights) (same_protection a) ∙ memory.stack a l h
+  stack_writable a l h = ap (λ (x : Protection). is_writable x.rights) (same_protection a)
+      ∙ memory.stack a l h
 
   pub memory_stays : IsMachineMemory t fs program p q m' source
   memory_stays = record {
-    data_alone = record { bytes = w.bytes memory.data_alone.bytes; no_code = λ a e. no_more a (memory.data_alone.no_code a (ap (λ (x : Protection). is_writable x.rights) (sym (same_protection a)) ∙ e)) };
-    agrees = record { byte = λ a r. w.byte a (outside a r) ∙ memory.agrees.byte a r; protection = λ a r. same_protection a ∙ memory.agrees.protection a r; guard = memory.agrees.guard };
+    data_alone = record { bytes = w.bytes memory.data_alone.bytes;
+      no_code = λ a e. no_more a (memory.data_alone.no_code a
+      (ap (λ (x : Protection). is_writable x.rights) (sym (same_protection a)) ∙ e)) };
+    agrees = record { byte = λ a r. w.byte a (outside a r) ∙ memory.agrees.byte a r;
+      protection = λ a r. same_protection a ∙ memory.agrees.protection a r;
+      guard = memory.agrees.guard };
     stack = stack_writable;
     arena = λ a e. no_more a (memory.arena a e);
-    code = program_stays t fs program p q image m m' (record { byte = λ a l h own. w.byte a (inr (omega arith)); protection = λ a l h own. same_protection a }) memory.code;
+    code = program_stays t fs program p q image m m'
+      (record { byte = λ a l h own. w.byte a (inr (omega arith));
+      protection = λ a l h own. same_protection a }) memory.code;
   }
 
   pub stack_stays : KeepsStack m m' hi
@@ -97,16 +110,23 @@ module _ (t : Functions) (fs : List Funclet) (program : LinearProgram) (p : Imag
   }
 
   -- a word above
-  pub word_stays : (at v : ℕ) → STACK_START ≤ at → hi ≤ at → at + 8 ≤ STACK_END → word m at ≡ Ok v → word m' at ≡ Ok v
-  word_stays at v b l h e = word_of m' at v (omega arith) (λ a x z. may_read_written m' a (stack_writable a (omega arith) (omega arith)))
-      (same_number m'.byte m.byte 8 at (omega arith) (λ a x z. w.byte a (inr (omega arith))) ∙ word_is m at v e)
+  pub word_stays : (at v : ℕ) → STACK_START ≤ at → hi ≤ at → at + 8 ≤ STACK_END → word m at ≡ Ok v
+      → word m' at ≡ Ok v
+  word_stays at v b l h e = word_of m' at v (omega arith)
+      (λ a x z. may_read_written m' a (stack_writable a (omega arith) (omega arith)))
+      (same_number m'.byte m.byte 8 at (omega arith) (λ a x z. w.byte a (inr (omega arith)))
+        ∙ word_is m at v e)
 
   -- and one within
-  pub word_within : (at v : ℕ) → lo ≤ at → at + 8 ≤ hi → number_at m'.byte 8 at ≡ v → word m' at ≡ Ok v
-  word_within at v l h e = word_of m' at v (omega arith) (λ a x z. may_read_written m' a (stack_writable a (omega arith) (omega arith))) e
+  pub word_within : (at v : ℕ) → lo ≤ at → at + 8 ≤ hi → number_at m'.byte 8 at ≡ v
+      → word m' at ≡ Ok v
+  word_within at v l h e = word_of m' at v (omega arith)
+      (λ a x z. may_read_written m' a (stack_writable a (omega arith) (omega arith))) e
 
 -- a funclet is called, by the dispatcher or by a body: below its return address is the list
-pub record ArrivesBelow (t : Functions) (fs : List Funclet) (program : LinearProgram) (p : ImagePlan) (s : State) (k activation first : ℕ) (items : List Item) (acts : List Activation) : Type 0 where
+pub record ArrivesBelow (t : Functions) (fs : List Funclet) (program : LinearProgram)
+    (p : ImagePlan) (s : State) (k activation first : ℕ) (items : List Item)
+    (acts : List Activation) : Type 0 where
   pub rip : s.cpu.rip ≡ p.funclet k
   pub name : BodyName
   pub funclet : IsFunclet t fs program p name k
@@ -119,10 +139,15 @@ pub record ArrivesBelow (t : Functions) (fs : List Funclet) (program : LinearPro
   pub returns : word s.memory (register s.cpu Rsp) ≡ Ok back
   pub returns_to : ReturnsTo t fs program p items back
   pub is : List StackItem
-  pub on : (others : List ℕ) → length others ≡ 8 → On t fs program p s.memory (context_below back at others) is items acts
+  pub on : (others : List ℕ) → length others ≡ 8
+      → On t fs program p s.memory (context_below back at others) is items acts
   pub sane : IsSane s
 
-abbrev pub arrives_below : (t : Functions) (fs : List Funclet) (program : LinearProgram) (p : ImagePlan) (s : State) (k activation first : ℕ) (items : List Item) (acts : List Activation) → (a : Arrives t fs program p s k activation first items acts) → ReturnsTo t fs program p items a.back → ArrivesBelow t fs program p s k activation first items acts
+abbrev pub arrives_below : (t : Functions) (fs : List Funclet) (program : LinearProgram)
+    (p : ImagePlan) (s : State) (k activation first : ℕ) (items : List Item)
+    (acts : List Activation) → (a : Arrives t fs program p s k activation first items acts)
+    → ReturnsTo t fs program p items a.back → ArrivesBelow t fs program p s k activation first items
+      acts
 arrives_below t fs program p s k activation first items acts a to = record {
   rip = a.rip;
   name = a.name;
@@ -141,37 +166,53 @@ arrives_below t fs program p s k activation first items acts a to = record {
 }
 
 -- what a funclet's frame is made with
-module _ (t : Functions) (fs : List Funclet) (program : LinearProgram) (p : ImagePlan) (q : Sites) (image : IsProgramImage t fs program p q) where
+module _ (t : Functions) (fs : List Funclet) (program : LinearProgram) (p : ImagePlan) (q : Sites)
+    (image : IsProgramImage t fs program p q) where
   -- a funclet of the program, as its frame is laid out
   pub record IsLaid (k : ℕ) : Type 0 where
     pub funclet : LinearFunclet
     pub there : slice_get program.funclets k ≡ Some funclet
     pub plan : IsFuncletPlan program p k funclet.body
 
-  abbrev pub funclet_laid : (k : ℕ) (f : LinearFunclet) → slice_get program.funclets k ≡ Some f → IsLaid k
-  funclet_laid k f there = record { funclet = f; there = there; plan = image.laid_out (FuncletBody k) f.body (ap funclet_body there) }
+  abbrev pub funclet_laid : (k : ℕ) (f : LinearFunclet) → slice_get program.funclets k ≡ Some f
+      → IsLaid k
+  funclet_laid k f there = record { funclet = f; there = there;
+      plan = image.laid_out (FuncletBody k) f.body (ap funclet_body there) }
 
   -- the state after its frame is made, with the base in its place; RIP is at the first instruction
-  pub record HasFrame (s u : State) (k first activation : ℕ) (items : List Item) (acts : List Activation) (l : IsLaid k) (a : ArrivesBelow t fs program p s k activation first items acts) : Type 0 where
+  pub record HasFrame (s u : State) (k first activation : ℕ) (items : List Item)
+      (acts : List Activation) (l : IsLaid k)
+      (a : ArrivesBelow t fs program p s k activation first items acts) : Type 0 where
     pub stack : register s.cpu Rsp ≡ register u.cpu Rsp + (p.layout (FuncletBody k)).frame
     pub low : STACK_START ≤ register u.cpu Rsp
-    pub within : Within (register u.cpu Rsp) (register u.cpu Rsp + (p.layout (FuncletBody k)).frame) s.memory u.memory
-    pub number : number_at u.memory.byte 8 (register u.cpu Rsp + l.plan.layout.slot) ≡ a.reaches.base
+    pub within : Within (register u.cpu Rsp) (register u.cpu Rsp + (p.layout (FuncletBody k)).frame)
+      s.memory u.memory
+    pub number : number_at u.memory.byte 8 (register u.cpu Rsp + l.plan.layout.slot)
+      ≡ a.reaches.base
     pub distance : IsActivation acts activation a.reaches.base (p.layout (FuncletBody k)).locals
     pub rip : u.cpu.rip ≡ p.address (FuncletBody k) 0
     pub sane : IsSane u
 
   abbrev pub first_frame : ℕ → ℕ → Exception → ℕ → Frame
-  first_frame k activation exception held = record { body = FuncletBody k; next = 0; activation = activation; exception = exception; held = held; temporaries = []; landed = None }
+  first_frame k activation exception held = record { body = FuncletBody k; next = 0;
+      activation = activation; exception = exception; held = held; temporaries = []; landed = None }
 
   abbrev pub beginning : Frame → List Item → Store → List Event → Configuration
-  beginning f items store events = record { frame = f; below = items; store = store; events = events }
+  beginning f items store events = record { frame = f; below = items; store = store;
+      events = events }
 
-  module _ (s u : State) (k first activation : ℕ) (items : List Item) (acts : List Activation) (l : IsLaid k) (a : ArrivesBelow t fs program p s k activation first items acts) (h : HasFrame s u k first activation items acts l a)
-      (exception : Exception) (held : ℕ) (store : Store) (events : List Event) (memory : IsMachineMemory t fs program p q s.memory store.memory) (stored : store.activations ≡ locals_of acts) (top : a.at ≤ STACK_END)
-      (some : 0 < length l.funclet.body.code) (space : HasSpace (register u.cpu Rsp) below_end (length acts + held))
-      (above : FuncletIsAbove t fs program p k (first_frame k activation exception held) (Some l.funclet) items)
-      (pointers : HasPointers t fs program p u.memory (p.layout (FuncletBody k)) (register u.cpu Rsp) (p.layout (FuncletBody k)).frame items) where
+  module _ (s u : State) (k first activation : ℕ) (items : List Item) (acts : List Activation)
+      (l : IsLaid k) (a : ArrivesBelow t fs program p s k activation first items acts)
+      (h : HasFrame s u k first activation items acts l a)
+      (exception : Exception) (held : ℕ) (store : Store) (events : List Event)
+        (memory : IsMachineMemory t fs program p q s.memory store.memory)
+        (stored : store.activations ≡ locals_of acts) (top : a.at ≤ STACK_END)
+      (some : 0 < length l.funclet.body.code)
+        (space : HasSpace (register u.cpu Rsp) below_end (length acts + held))
+      (above : FuncletIsAbove t fs program p k (first_frame k activation exception held)
+        (Some l.funclet) items)
+      (pointers : HasPointers t fs program p u.memory (p.layout (FuncletBody k))
+        (register u.cpu Rsp) (p.layout (FuncletBody k)).frame items) where
     abbrev pub y : Layout
     y = p.layout (FuncletBody k)
 
@@ -187,24 +228,32 @@ module _ (t : Functions) (fs : List Funclet) (program : LinearProgram) (p : Imag
     keeps : KeepsStack s.memory u.memory (sp + y.frame + 8)
     keeps =
         let e = high in
-        let z = stack_stays t fs program p q image s.memory u.memory store.memory sp (sp + y.frame) h.within h.low (omega arith) memory in
-        record { bytes = λ x from to. z.bytes x (omega arith) to; protection = z.protection; code = z.code; no_more_code = z.no_more_code }
+        let z = stack_stays t fs program p q image s.memory u.memory store.memory sp (sp + y.frame)
+          h.within h.low (omega arith) memory in
+        record { bytes = λ x from to. z.bytes x (omega arith) to; protection = z.protection;
+          code = z.code; no_more_code = z.no_more_code }
 
     at_is : a.at ≡ sp + y.frame + 8
     at_is = let e = h.stack in let f = a.stack in omega arith
 
-    pub list : (others : List ℕ) → length others ≡ 8 → On t fs program p u.memory (context_below a.back (sp + y.frame + 8) others) a.is items acts
+    pub list : (others : List ℕ) → length others ≡ 8
+      → On t fs program p u.memory (context_below a.back (sp + y.frame + 8) others) a.is items acts
     list others eight =
         let e = high in
         let lo = h.low in
-        let on = subst (λ x. On t fs program p s.memory (context_below a.back x others) a.is items acts) at_is (a.on others eight) in
+        let on = subst (λ x. On t fs program p s.memory (context_below a.back x others) a.is items
+          acts) at_is (a.on others eight) in
         record {
-          is_there = kept_by_other_memories t fs program p s.memory u.memory (context_below a.back (sp + y.frame + 8) others) a.is items acts keeps (omega arith) on.is_there;
-          data_alone = (memory_stays t fs program p q image s.memory u.memory store.memory sp (sp + y.frame) h.within h.low (omega arith) memory).data_alone;
+          is_there = kept_by_other_memories t fs program p s.memory u.memory
+            (context_below a.back (sp + y.frame + 8) others) a.is items acts keeps (omega arith)
+            on.is_there;
+          data_alone = (memory_stays t fs program p q image s.memory u.memory store.memory sp
+            (sp + y.frame) h.within h.low (omega arith) memory).data_alone;
         }
 
     pub in_code : InCode p (FuncletBody k) 0 u.cpu.rip
-    in_code = let g = (image.addresses (FuncletBody k) l.funclet.body is).rises 0 some in let r = h.rip in record { low = omega arith; high = omega arith }
+    in_code = let g = (image.addresses (FuncletBody k) l.funclet.body is).rises 0 some in
+      let r = h.rip in record { low = omega arith; high = omega arith }
 
     pub kept_base : HasActivation u.memory y sp y.frame activation acts (FuncletBody k)
     kept_base =
@@ -216,14 +265,18 @@ module _ (t : Functions) (fs : List Funclet) (program : LinearProgram) (p : Imag
           base = a.reaches.base;
           some = l.plan.layout.base;
           room = omega arith;
-          kept = word_within t fs program p q image s.memory u.memory store.memory sp (sp + y.frame) h.within h.low (omega arith) memory (sp + l.plan.layout.slot) a.reaches.base (omega arith) (omega arith) h.number;
+          kept = word_within t fs program p q image s.memory u.memory store.memory sp (sp + y.frame)
+            h.within h.low (omega arith) memory (sp + l.plan.layout.slot) a.reaches.base
+            (omega arith) (omega arith) h.number;
           activation = h.distance;
         }
 
     pub no_temporaries : HoldsWords u.memory (sp + y.temporaries) (sp + y.frame) []
     no_temporaries = let w = l.plan.layout.temporaries in omega arith
 
-    abbrev pub slots : BodyWaits t fs program p u.memory (context_of u.cpu) (slots_end y (p.leaf (FuncletBody k))) (last_temporary y (FuncletBody k) (p.leaf (FuncletBody k))) (first_frame k activation exception held) acts
+    abbrev pub slots : BodyWaits t fs program p u.memory (context_of u.cpu)
+      (slots_end y (p.leaf (FuncletBody k))) (last_temporary y (FuncletBody k)
+      (p.leaf (FuncletBody k))) (first_frame k activation exception held) acts
     slots = record {
       code = l.funclet.body;
       body = is;
@@ -231,31 +284,40 @@ module _ (t : Functions) (fs : List Funclet) (program : LinearProgram) (p : Imag
       instruction = in_code;
       same = same_regions (regions_of (body_of program (FuncletBody k))) 0;
       small = h.sane.rip_small;
-      activation = subst (λ z. HasActivation u.memory y sp (slots_end y z) activation acts (FuncletBody k)) (sym l.plan.framed) kept_base;
-      temporaries = subst (λ z. HoldsWords u.memory (sp + y.temporaries) (sp + last_temporary y (FuncletBody k) z) []) (sym l.plan.framed) no_temporaries;
+      activation = subst (λ z. HasActivation u.memory y sp (slots_end y z) activation acts
+        (FuncletBody k)) (sym l.plan.framed) kept_base;
+      temporaries = subst (λ z. HoldsWords u.memory (sp + y.temporaries)
+        (sp + last_temporary y (FuncletBody k) z) []) (sym l.plan.framed) no_temporaries;
       space = space;
     }
 
-    abbrev pub in_body : InBody t fs program p q u (beginning (first_frame k activation exception held) items store events)
+    abbrev pub in_body : InBody t fs program p q u
+      (beginning (first_frame k activation exception held) items store events)
     in_body = record {
       acts = acts;
       store = stored;
       slots = slots;
       pointers = pointers;
-      above = subst (λ o. FuncletIsAbove t fs program p k (first_frame k activation exception held) o items) (sym l.there) above;
+      above = subst (λ o. FuncletIsAbove t fs program p k (first_frame k activation exception held)
+        o items) (sym l.there) above;
       home = λ e. absurd (apart (sym e ∙ l.plan.framed));
       back = a.back;
       returns_to = a.returns_to;
-      returns = (let e = high in word_stays t fs program p q image s.memory u.memory store.memory sp (sp + y.frame) h.within h.low (omega arith) memory (sp + y.frame) a.back (let z = h.low in omega arith) (omega arith) (omega arith) (subst (λ x. word s.memory x ≡ Ok a.back) h.stack a.returns));
+      returns = (let e = high in word_stays t fs program p q image s.memory u.memory store.memory sp
+        (sp + y.frame) h.within h.low (omega arith) memory (sp + y.frame) a.back
+        (let z = h.low in omega arith) (omega arith) (omega arith)
+        (subst (λ x. word s.memory x ≡ Ok a.back) h.stack a.returns));
       is = a.is;
       below = list;
     }
 
-    abbrev pub begins : Begins t fs program p q u (beginning (first_frame k activation exception held) items store events)
+    abbrev pub begins : Begins t fs program p q u
+      (beginning (first_frame k activation exception held) items store events)
     begins = record {
       rip = h.rip;
       sane = h.sane;
-      memory = (let e = high in memory_stays t fs program p q image s.memory u.memory store.memory sp (sp + y.frame) h.within h.low (omega arith) memory);
+      memory = (let e = high in memory_stays t fs program p q image s.memory u.memory store.memory
+        sp (sp + y.frame) h.within h.low (omega arith) memory);
       body = in_body;
       landed = λ code e. absurd (nothing_landed code e);
     }

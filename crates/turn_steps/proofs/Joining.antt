@@ -15,14 +15,20 @@ use Rattle.turn_steps.proofs.FaultSteps.{continuations}
 use Rattle.turn_steps.specs.RaiseLaws.{BodiesContinue}
 use Rattle.turn_steps.proofs.RaiseContinuing.{continuations_after_calls}
 
-begun_represents : (t : Functions) (fs : List Funclet) (program : LinearProgram) (p : ImagePlan) (q : Sites) (most : ℕ) (s : State) (c : Configuration)
-    → LeadsTo t fs most (Begins t fs program p q) s c → LeadsTo t fs most (Represents t fs program p q) s c
-begun_represents t fs program p q most s c l = record { turns = l.turns; few = l.few; state = l.state; comes = l.comes; is_there = inl l.is_there }
+begun_represents : (t : Functions) (fs : List Funclet) (program : LinearProgram) (p : ImagePlan)
+    (q : Sites) (most : ℕ) (s : State) (c : Configuration)
+    → LeadsTo t fs most (Begins t fs program p q) s c
+    → LeadsTo t fs most (Represents t fs program p q) s c
+begun_represents t fs program p q most s c l =
+    record { turns = l.turns; few = l.few; state = l.state; comes = l.comes;
+    is_there = inl l.is_there }
 
 pub bodies_continue : BodiesContinue
 bodies_continue t fs program p q image made s saved is acts AfterCall c on sane says memory store =
-    let x = continuations_after_calls t fs program p q image made s saved is acts c on sane says memory store in
+    let x = continuations_after_calls t fs program p q image made s saved is acts c on sane says
+      memory store in
     (x.0, λ known free. begun_represents t fs program p q _ _ _ (x.1 known free))
-bodies_continue t fs program p q image made s saved is acts SameOperation c on sane says memory store =
+bodies_continue t fs program p q image made s saved is acts SameOperation c on sane says memory
+    store =
     let x = continuations t fs program p q image made s saved is acts c on sane says memory store in
     (x.0, λ known free. x.1)

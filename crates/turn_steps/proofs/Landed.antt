@@ -41,56 +41,90 @@ abbrev pub landed : Frame → ℕ → Option ℕ → Frame
 landed body label None = record body { next = label }
 landed body label (Some code) = record body { next = label; temporaries = []; landed = Some code }
 
-abbrev pub arrival : Frame → List Item → ℕ → Option ℕ → Memory → List Activation → List Event → Configuration
-arrival body below label code source outer shown = on_top (landed body label code) below source outer (shown ++ landing_events code)
+abbrev pub arrival : Frame → List Item → ℕ → Option ℕ → Memory → List Activation → List Event
+    → Configuration
+arrival body below label code source outer shown = on_top (landed body label code) below source
+    outer (shown ++ landing_events code)
 
-pub arrives_there : (body : Frame) (below : List Item) (target : Target) (code : Option ℕ) (source : Memory) (outer : List Activation) (shown : List Event) (next : Next)
-    → arrive target code next (on_top body below source outer shown) ≡ next (arrival body below target.label code source outer shown)
-arrives_there body below target None source outer shown next = ap (λ (es : List Event). next (on_top (landed body target.label None) below source outer es)) (sym (append-nil shown))
+pub arrives_there : (body : Frame) (below : List Item) (target : Target) (code : Option ℕ)
+    (source : Memory) (outer : List Activation) (shown : List Event) (next : Next)
+    → arrive target code next (on_top body below source outer shown)
+    ≡ next (arrival body below target.label code source outer shown)
+arrives_there body below target None source outer shown next = ap
+    (λ (es : List Event). next (on_top (landed body target.label None) below source outer es))
+    (sym (append-nil shown))
 arrives_there body below target (Some code) source outer shown next = refl
 
-module _ (t : Functions) (fs : List Funclet) (program : LinearProgram) (p : ImagePlan) (q : Sites) (image : IsProgramImage t fs program p q) where
+module _ (t : Functions) (fs : List Funclet) (program : LinearProgram) (p : ImagePlan) (q : Sites)
+    (image : IsProgramImage t fs program p q) where
   -- the state of the machine represents it
-  lands_in_body : (s : State) (to : Context) (framed : StackFrame) (is : List StackItem) (body : Frame) (below : List Item) (outer : List Activation) (rax address label : ℕ) (code : Option ℕ) (source : Memory) (shown : List Event)
-      → On t fs program p s.memory to (Framed framed ∷ is) (Waits body ∷ below) outer → address ≡ p.address body.body label → p.lands body.body label ≡ true → IsSane (at_landing s to rax address)
-      → IsMachineMemory t fs program p q s.memory source → rax ≡ landing_value code → (code ≡ None → body.landed ≡ None)
-      → Begins t fs program p q (at_landing s to rax address) (arrival body below label code source outer shown)
-  lands_in_body s to framed is body below outer rax address label code source shown on at lands sane memory is_code clear =
+  lands_in_body : (s : State) (to : Context) (framed : StackFrame) (is : List StackItem)
+      (body : Frame) (below : List Item) (outer : List Activation) (rax address label : ℕ)
+      (code : Option ℕ) (source : Memory) (shown : List Event)
+      → On t fs program p s.memory to (Framed framed ∷ is) (Waits body ∷ below) outer
+      → address ≡ p.address body.body label → p.lands body.body label ≡ true
+      → IsSane (at_landing s to rax address)
+      → IsMachineMemory t fs program p q s.memory source → rax ≡ landing_value code
+      → (code ≡ None → body.landed ≡ None)
+      → Begins t fs program p q (at_landing s to rax address)
+        (arrival body below label code source outer shown)
+  lands_in_body s to framed is body below outer rax address label code source shown on at lands sane
+      memory is_code clear =
       let w = on.is_there.linked.0.waits in
-      let inside = subst (InCode p body.body label) (sym at) (first_in_code t fs program p q image body.body w.code label w.body (image.landings body.body w.code label w.body lands)) in
+      let inside = subst (InCode p body.body label) (sym at)
+        (first_in_code t fs program p q image body.body w.code label w.body
+        (image.landings body.body w.code label w.body lands)) in
       by_code code inside is_code clear
     where
-      by_code : (code : Option ℕ) → InCode p body.body label address → rax ≡ landing_value code → (code ≡ None → body.landed ≡ None) → Begins t fs program p q (at_landing s to rax address) (arrival body below label code source outer shown)
+      by_code : (code : Option ℕ) → InCode p body.body label address → rax ≡ landing_value code
+        → (code ≡ None → body.landed ≡ None) → Begins t fs program p q (at_landing s to rax address)
+          (arrival body below label code source outer shown)
       by_code None inside is_code clear = record {
         rip = at;
         sane = sane;
         memory = memory;
-        body = waits_in_body t fs program p q image (at_landing s to rax address) to (Framed framed ∷ is) body below outer label body.temporaries body.landed source (shown ++ []) on refl inside sane.rip_small (all_front s.memory body.temporaries);
+        body = waits_in_body t fs program p q image (at_landing s to rax address) to
+          (Framed framed ∷ is) body below outer label body.temporaries body.landed source
+          (shown ++ []) on refl inside sane.rip_small (all_front s.memory body.temporaries);
         landed = λ x e. let z = sym (clear refl) ∙ e in absurd cc;
       }
       by_code (Some code) inside is_code clear = record {
         rip = at;
         sane = sane;
         memory = memory;
-        body = waits_in_body t fs program p q image (at_landing s to rax address) to (Framed framed ∷ is) body below outer label [] (Some code) source (shown ++ landing_events (Some code)) on refl inside sane.rip_small (no_front s.memory body.temporaries);
+        body = waits_in_body t fs program p q image (at_landing s to rax address) to
+          (Framed framed ∷ is) body below outer label [] (Some code) source
+          (shown ++ landing_events (Some code)) on refl inside sane.rip_small
+          (no_front s.memory body.temporaries);
         landed = λ x e. let z : code ≡ x = same_code code x e in is_code ∙ z;
       }
 
-  pub lands_as : (s : State) (at : ℕ) (r : DispatchRecord) (is : List StackItem) (turn : Turn) (w : Unwound) (left : ℕ) → IsUnwinding t fs program p s at r is w → (l : LandsThere t fs program p s r turn w) → IsMachineMemory t fs program p q s.memory w.source
-      → turns_left (arrival l.body l.below w.target.label w.target.code w.source l.outer w.shown) ≤ left → (w.target.code ≡ None → l.body.landed ≡ None)
-      → ContinuesAs t fs program p q turn (λ next. linear.unwind program next w.target w.items w.left w.shown (store_of w.source w.acts)) w.shown left (callers r.walk is)
+  pub lands_as : (s : State) (at : ℕ) (r : DispatchRecord) (is : List StackItem) (turn : Turn)
+      (w : Unwound) (left : ℕ) → IsUnwinding t fs program p s at r is w
+      → (l : LandsThere t fs program p s r turn w)
+      → IsMachineMemory t fs program p q s.memory w.source
+      → turns_left (arrival l.body l.below w.target.label w.target.code w.source l.outer w.shown)
+      ≤ left → (w.target.code ≡ None → l.body.landed ≡ None)
+      → ContinuesAs t fs program p q turn (λ next. linear.unwind program next w.target w.items
+        w.left w.shown (store_of w.source w.acts)) w.shown left (callers r.walk is)
   lands_as s at r is turn w left u l memory few clear = record {
     state = at_landing s l.to (landing_value w.target.code) r.target;
     events = landing_events w.target.code;
     turns = l.turns;
     configuration = arrival l.body l.below w.target.label w.target.code w.source l.outer w.shown;
     few = few;
-    acts = λ next. l.goes next ∙ arrives_there l.body l.below (record w.target { held = l.held }) w.target.code w.source l.outer w.shown next;
+    acts = λ next. l.goes next ∙ arrives_there l.body l.below (record w.target { held = l.held })
+      w.target.code w.source l.outer w.shown next;
     shown = refl;
     quiet = l.quiet (at_landing s l.to (landing_value w.target.code) r.target).cpu;
-    walk = landing_walk t fs program p q image s at r is turn w u l (landing_value w.target.code) memory;
-    leads = λ known. at_once (lands_in_body s l.to l.framed l.is l.body l.below l.outer (landing_value w.target.code) r.target w.target.label w.target.code w.source w.shown l.on l.at_address l.lands l.sane memory refl clear);
+    walk = landing_walk t fs program p q image s at r is turn w u l (landing_value w.target.code)
+      memory;
+    leads = λ known. at_once (lands_in_body s l.to l.framed l.is l.body l.below l.outer
+      (landing_value w.target.code) r.target w.target.label w.target.code w.source w.shown l.on
+      l.at_address l.lands l.sane memory refl clear);
   }
     where
-      at_once : {u : State} {d : Configuration} → Begins t fs program p q u d → LeadsTo t fs entry_turns (Represents t fs program p q) u d
-      at_once {u} {d} h = record { turns = 0; few = omega arith; state = u; comes = (refl, refl); is_there = inl h }
+      at_once : {u : State} {d : Configuration} → Begins t fs program p q u d
+        → LeadsTo t fs entry_turns (Represents t fs program p q) u d
+      at_once {u} {d} h = record { turns = 0; few = omega arith; state = u; comes = (refl, refl);
+        is_there = inl h }

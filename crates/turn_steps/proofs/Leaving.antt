@@ -53,7 +53,8 @@ ends_soon : (n : ℕ) → (1 ≤ length (epilogue n)) × (length (epilogue n) �
 ends_soon zero = (omega arith, omega arith)
 ends_soon (suc n) = (omega arith, omega arith)
 
-pub returns_soon : (y : Layout) (x : Slot) → (1 ≤ length (return_code y x)) × (length (return_code y x) ≤ 4)
+pub returns_soon : (y : Layout) (x : Slot) → (1 ≤ length (return_code y x))
+    × (length (return_code y x) ≤ 4)
 returns_soon y x =
     let n = length-append (fetch y Rax x) (epilogue y.frame) in
     let a = fetched_soon y x in
@@ -61,8 +62,10 @@ returns_soon y x =
     let c = (ends_soon y.frame).1 in
     (omega arith, omega arith)
 
-module _ (t : Functions) (fs : List Funclet) (program : LinearProgram) (p : ImagePlan) (q : Sites) (image : IsProgramImage t fs program p q) (roomy : HaveRoom program) where
-  module _ (s : State) (c : Configuration) (b : Begins t fs program p q s c) (counted : IsCounted t fs program p q image c) (from : Slot)
+module _ (t : Functions) (fs : List Funclet) (program : LinearProgram) (p : ImagePlan) (q : Sites)
+    (image : IsProgramImage t fs program p q) (roomy : HaveRoom program) where
+  module _ (s : State) (c : Configuration) (b : Begins t fs program p q s c)
+      (counted : IsCounted t fs program p q image c) (from : Slot)
       (at : slice_get b.body.slots.code.code c.frame.next ≡ Some (instructions.Return from)) where
     abbrev pub layout : Layout
     layout = p.layout c.frame.body
@@ -87,7 +90,8 @@ module _ (t : Functions) (fs : List Funclet) (program : LinearProgram) (p : Imag
         let small = number_small s.memory 8 (sp + layout.frame) b.memory.data_alone.bytes in
         record {
           number = r;
-          readable = λ a l u. may_read_written s.memory a (b.memory.stack a (omega arith) (omega arith));
+          readable = λ a l u. may_read_written s.memory a
+            (b.memory.stack a (omega arith) (omega arith));
           small = omega (arith, r, small);
         }
 
@@ -104,8 +108,10 @@ module _ (t : Functions) (fs : List Funclet) (program : LinearProgram) (p : Imag
         the_same : (a b : ℕ) → Some a ≡ Some b → a ≡ b
         the_same a b e = cc
 
-        by : (slot : Slot) → IsSlot (counts_of b.body.slots.code) slot → read c slot ≡ Some x → (slots t fs program p q image roomy s c b counted).slots slot ≡ x
-        by (Local i) lt e = (slots_here t fs program p q image s c b counted).locals i lt ∙ the_same _ x e
+        by : (slot : Slot) → IsSlot (counts_of b.body.slots.code) slot → read c slot ≡ Some x
+          → (slots t fs program p q image roomy s c b counted).slots slot ≡ x
+        by (Local i) lt e = (slots_here t fs program p q image s c b counted).locals i lt
+          ∙ the_same _ x e
         by (Temporary i) lt e = (slots_here t fs program p q image s c b counted).temporaries i x e
 
     -- the state after it
@@ -113,21 +119,29 @@ module _ (t : Functions) (fs : List Funclet) (program : LinearProgram) (p : Imag
     run =
         let top = frame_top t fs program p q image s c b counted in
         let low = sp_low t fs program p q image s c b counted in
-        return_run (frame t fs program p q image roomy s c b counted) from view back s.cpu.rip s.cpu.flags (slots t fs program p q image roomy s c b counted) (room_here t fs program p q image s c b counted)
-        is_there (length-drop 3 s.cpu.registers ∙ (let z = b.sane.count in omega arith)) (sp_is t fs program p q image roomy s c b counted) (omega arith) (holds_here t fs program p q image s c b counted) has_back
+        return_run (frame t fs program p q image roomy s c b counted) from view back s.cpu.rip
+          s.cpu.flags (slots t fs program p q image roomy s c b counted)
+          (room_here t fs program p q image s c b counted)
+        is_there (length-drop 3 s.cpu.registers ∙ (let z = b.sane.count in omega arith))
+          (sp_is t fs program p q image roomy s c b counted) (omega arith)
+          (holds_here t fs program p q image s c b counted) has_back
         (template_here t fs program p q image roomy s c b counted (instructions.Return from) at)
 
     abbrev after_view : MachineView
-    after_view = record { rax = result; rcx = view.rcx; rdx = view.rdx; rest = view.rest; memory = view.memory }
+    after_view = record { rax = result; rcx = view.rcx; rdx = view.rdx; rest = view.rest;
+      memory = view.memory }
 
     abbrev pub after : State
     after = machine (moved after_view (sp + layout.frame + 8)) back run.flags
 
     pub reaches : Reaches n s after
-    reaches = subst (λ z. Reaches n z after) (sym (same_state t fs program p q image roomy s c b counted)) run.comes
+    reaches = subst (λ z. Reaches n z after) (sym
+      (same_state t fs program p q image roomy s c b counted)) run.comes
 
     pub sp_after : register after.cpu Rsp ≡ sp + layout.frame + 8
-    sp_after = sym (index_of (with_sp view.rest (sp + layout.frame + 8)) 1) ∙ sp_moved view (sp + layout.frame + 8) (length-drop 3 s.cpu.registers ∙ (let z = b.sane.count in omega arith))
+    sp_after = sym (index_of (with_sp view.rest (sp + layout.frame + 8)) 1)
+      ∙ sp_moved view (sp + layout.frame + 8)
+        (length-drop 3 s.cpu.registers ∙ (let z = b.sane.count in omega arith))
 
     pub sane_after : IsSane after
     sane_after = stays_sane s after (reaches_keeps n s after reaches) has_back.small b.sane
@@ -138,6 +152,11 @@ module _ (t : Functions) (fs : List Funclet) (program : LinearProgram) (p : Imag
         let top = frame_top t fs program p q image s c b counted in
         let low = sp_low t fs program p q image s c b counted in
         let f = frame t fs program p q image roomy s c b counted in
-        returns_keep t fs program p q image c.frame.body b.body.slots.code b.body.slots.body c.frame.next from at s after (top_of t fs program p q image s c b counted) b.body.back (others_of s.cpu.registers) b.body.is b.rip
+        returns_keep t fs program p q image c.frame.body b.body.slots.code b.body.slots.body
+          c.frame.next from at s after (top_of t fs program p q image s c b counted) b.body.back
+          (others_of s.cpu.registers) b.body.is b.rip
         (begins_beneath t fs program p q image s c b counted) refl b.memory.code (omega arith)
-        (fetch_plain layout.frame 8 layout from (fetch_fine f.layout f.counts f.sp f.base true from (room_here t fs program p q image s c b counted) is_there)) (reaches_steps n s after reaches)
+        (fetch_plain layout.frame 8 layout from
+          (fetch_fine f.layout f.counts f.sp f.base true from
+          (room_here t fs program p q image s c b counted) is_there))
+          (reaches_steps n s after reaches)

@@ -22,18 +22,21 @@ use Rattle.body_states.specs.Programs.{IsMachineMemory}
 use Rattle.body_states.proofs.QuietTurns.{KeepsCode, program_kept}
 
 -- the whole stack is reserved
-stack_is_reserved : (globals : List ℕ) (a : ℕ) → STACK_START ≤ a → a < STACK_END → is_reserved globals a ≡ true
+stack_is_reserved : (globals : List ℕ) (a : ℕ) → STACK_START ≤ a → a < STACK_END
+    → is_reserved globals a ≡ true
 stack_is_reserved globals a l u =
     let low : nat_le 0x6FFF0000 a ≡ true = le-leb 0x6FFF0000 a (omega arith) in
     let high : nat_lt a 0x70800000 ≡ true = lt-ltb a 0x70800000 u in
     rw (low, high) refl
 
 -- protections and all that isn't in the stack are as they were, and the stack may be written
-module _ (t : Functions) (fs : List Funclet) (program : LinearProgram) (p : ImagePlan) (q : Sites) (m m' source : Memory) (untouched : IsUntouched m m') where
+module _ (t : Functions) (fs : List Funclet) (program : LinearProgram) (p : ImagePlan) (q : Sites)
+    (m m' source : Memory) (untouched : IsUntouched m m') where
   outside_stays : (a : ℕ) → (STACK_START ≤ a → a < STACK_END → ⊥) → m'.byte a ≡ m.byte a
   outside_stays a out = by (cases_lt a STACK_START) (cases_lt a STACK_END)
     where
-      by : (a < STACK_START) ⊎ (STACK_START ≤ a) → (a < STACK_END) ⊎ (STACK_END ≤ a) → m'.byte a ≡ m.byte a
+      by : (a < STACK_START) ⊎ (STACK_START ≤ a) → (a < STACK_END) ⊎ (STACK_END ≤ a)
+        → m'.byte a ≡ m.byte a
       by (inl l) e = untouched.outside a (inl l)
       by (inr g) (inr h) = untouched.outside a (inr h)
       by (inr g) (inl l) = absurd (out g l)
@@ -43,12 +46,16 @@ module _ (t : Functions) (fs : List Funclet) (program : LinearProgram) (p : Imag
 
   module _ (h : IsMachineMemory t fs program p q m source) where
     pub keeps_code : KeepsCode m m'
-    keeps_code = record { protection = untouched.protection; fixed = λ a fix. outside_stays a (λ l u. let w = h.stack a l u in let z : true ≡ false = sym w ∙ fix in absurd cc) }
+    keeps_code = record { protection = untouched.protection;
+      fixed = λ a fix. outside_stays a (λ l u. let w = h.stack a l u in let z : true ≡ false = sym w
+      ∙ fix in absurd cc) }
 
     agrees : Agrees (is_reserved program.globals) m' source
     agrees = record {
-      byte = λ a own. outside_stays a (λ l u. let r = stack_is_reserved program.globals a l u in let z : true ≡ false = sym r ∙ own in absurd cc) ∙ h.agrees.byte a own;
-      protection = λ a own. ap (λ (f : ℕ → Protection). f a) untouched.protection ∙ h.agrees.protection a own;
+      byte = λ a own. outside_stays a (λ l u. let r = stack_is_reserved program.globals a l u in
+        let z : true ≡ false = sym r ∙ own in absurd cc) ∙ h.agrees.byte a own;
+      protection = λ a own. ap (λ (f : ℕ → Protection). f a) untouched.protection
+        ∙ h.agrees.protection a own;
       guard = h.agrees.guard;
     }
 
@@ -70,7 +77,8 @@ untouched_then a b c f g = record {
 }
 
 -- a record is placed below the list
-pub placing : (m : Memory) (at : ℕ) (r : DispatchRecord) (above : ℕ) → IsData m → RecordHasRoom m at r above → above ≤ STACK_END → IsUntouched m (placed m at r)
+pub placing : (m : Memory) (at : ℕ) (r : DispatchRecord) (above : ℕ) → IsData m
+    → RecordHasRoom m at r above → above ≤ STACK_END → IsUntouched m (placed m at r)
 unfolding placed
 placing m at r above data_alone room le =
     let below = room.below in
@@ -82,6 +90,9 @@ placing m at r above data_alone room le =
       outside = λ x o. by x o low.low;
     }
   where
-    by : (x : ℕ) → (x < STACK_START) ⊎ (STACK_END ≤ x) → 0x70000008 ≤ at → (placed m at r).byte x ≡ m.byte x
-    by x (inl q) l = let below = room.below in placing_leaves_others m at r x (omega arith) room.fits (inl (omega arith))
-    by x (inr q) l = let below = room.below in placing_leaves_others m at r x (omega arith) room.fits (inr (omega arith))
+    by : (x : ℕ) → (x < STACK_START) ⊎ (STACK_END ≤ x) → 0x70000008 ≤ at
+      → (placed m at r).byte x ≡ m.byte x
+    by x (inl q) l = let below = room.below in
+      placing_leaves_others m at r x (omega arith) room.fits (inl (omega arith))
+    by x (inr q) l = let below = room.below in
+      placing_leaves_others m at r x (omega arith) room.fits (inr (omega arith))

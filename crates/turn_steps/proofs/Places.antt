@@ -48,7 +48,8 @@ use Rattle.body_steps.proofs.Running.{each}
 -- the code that makes an operation and keeps its result has an instruction
 pub some_finish : (y : Layout) (o : Operation) (to : Slot) → 1 ≤ sizes (finish_code y o to)
 unfolding template_size
-some_finish y o to = let k = template_some y (instructions.Landing to) in omega (arith, sizes_append (work o) (keep y to))
+some_finish y o to = let k = template_some y (instructions.Landing to) in
+    omega (arith, sizes_append (work o) (keep y to))
 
 pub record IsSome (code : List Instr) : Type 0 where
   pub item : Instr
@@ -61,7 +62,8 @@ is_some (i ∷ is) le = record { item = i; left = is; parts = refl }
 
 -- its parts, and the whole
 pub whole_size : (y : Layout) (to : Slot) (o : Operation) (first second : Slot)
-    → template_size y (instructions.Compute to o first second) ≡ sizes (operands_code y o first second) + sizes (finish_code y o to)
+    → template_size y (instructions.Compute to o first second)
+    ≡ sizes (operands_code y o first second) + sizes (finish_code y o to)
 unfolding template_size
 whole_size y to o first second = sizes_append (operands_code y o first second) (finish_code y o to)
 
@@ -73,8 +75,10 @@ pub record HasRoomSomewhere (y : Layout) (n : Counts) : Type 0 where
   pub base : ℕ
   pub room : SlotsHaveRoom y n sp base
 
-own_room : (y : Layout) (n : Counts) → y.base ≡ None → y.temporaries + 8 * n.temporaries < 2 ^ 31 → y.locals + 8 * n.locals < 2 ^ 31
-    → (0 + (y.locals + 8 * n.locals) ≤ 0 + y.temporaries) ⊎ (0 + (y.temporaries + 8 * n.temporaries) ≤ 0 + y.locals) → HasRoomSomewhere y n
+own_room : (y : Layout) (n : Counts) → y.base ≡ None → y.temporaries + 8 * n.temporaries < 2 ^ 31
+    → y.locals + 8 * n.locals < 2 ^ 31
+    → (0 + (y.locals + 8 * n.locals) ≤ 0 + y.temporaries)
+    ⊎ (0 + (y.temporaries + 8 * n.temporaries) ≤ 0 + y.locals) → HasRoomSomewhere y n
 own_room y n none temporaries locals apart = record {
   sp = 0;
   base = 0;
@@ -88,7 +92,8 @@ own_room y n none temporaries locals apart = record {
   };
 }
 
-function_room : (y : Layout) (b : LinearBody) → IsFunctionLayout y b → HasRoomSomewhere y (counts_of b)
+function_room : (y : Layout) (b : LinearBody) → IsFunctionLayout y b
+    → HasRoomSomewhere y (counts_of b)
 function_room y b l =
     let x = l.temporaries in
     let z = l.locals in
@@ -102,7 +107,8 @@ leaf_room y b l =
     let s = l.few in
     own_room y (counts_of b) l.none (omega arith) (omega arith) (inl (omega arith))
 
-funclet_room : (y f : Layout) (b g : LinearBody) → IsFuncletLayout y f b → IsFunctionLayout f g → b.locals ≡ g.locals → HasRoomSomewhere y (counts_of b)
+funclet_room : (y f : Layout) (b g : LinearBody) → IsFuncletLayout y f b → IsFunctionLayout f g
+    → b.locals ≡ g.locals → HasRoomSomewhere y (counts_of b)
 funclet_room y f b g l m same =
     let x = l.temporaries in
     let z = l.locals in
@@ -119,35 +125,51 @@ funclet_room y f b g l m same =
         high = omega arith;
         base_high = omega arith;
         apart = inr (omega arith);
-        kept_base = subst (λ (o : Option ℕ). HasBase y o 0 8192) (sym l.base) (omega arith, omega arith);
+        kept_base = subst (λ (o : Option ℕ). HasBase y o 0 8192) (sym l.base)
+          (omega arith, omega arith);
       };
     }
 
-module _ (t : Functions) (fs : List Funclet) (program : LinearProgram) (p : ImagePlan) (q : Sites) (image : IsProgramImage t fs program p q) where
-  by_leaf : (f : ℕ) (b : LinearBody) (leaf : Bool) → IsLayoutIf program p (p.layout (FunctionBody f)) b leaf → HasRoomSomewhere (p.layout (FunctionBody f)) (counts_of b)
+module _ (t : Functions) (fs : List Funclet) (program : LinearProgram) (p : ImagePlan) (q : Sites)
+    (image : IsProgramImage t fs program p q) where
+  by_leaf : (f : ℕ) (b : LinearBody) (leaf : Bool)
+      → IsLayoutIf program p (p.layout (FunctionBody f)) b leaf
+      → HasRoomSomewhere (p.layout (FunctionBody f)) (counts_of b)
   by_leaf f b true l = leaf_room (p.layout (FunctionBody f)) b l
   by_leaf f b false l = function_room (p.layout (FunctionBody f)) b l
 
-  by_name : (name : BodyName) (b : LinearBody) → IsLaidOut program p name b → HasRoomSomewhere (p.layout name) (counts_of b)
+  by_name : (name : BodyName) (b : LinearBody) → IsLaidOut program p name b
+      → HasRoomSomewhere (p.layout name) (counts_of b)
   by_name (FunctionBody f) b l = by_leaf f b (p.leaf (FunctionBody f)) l
   by_name (FuncletBody k) b l =
-      let g : IsLaidOut program p (FunctionBody l.funclet.function) l.function = image.laid_out (FunctionBody l.funclet.function) l.function l.function_there in
-      funclet_room (p.layout (FuncletBody k)) (p.layout (FunctionBody l.funclet.function)) b l.function l.layout
-      (subst (λ (leaf : Bool). IsLayoutIf program p (p.layout (FunctionBody l.funclet.function)) l.function leaf) l.function_framed g) l.same_locals
+      let g : IsLaidOut program p (FunctionBody l.funclet.function) l.function = image.laid_out
+        (FunctionBody l.funclet.function) l.function l.function_there in
+      funclet_room (p.layout (FuncletBody k)) (p.layout (FunctionBody l.funclet.function)) b
+        l.function l.layout
+      (subst (λ (leaf : Bool). IsLayoutIf program p (p.layout (FunctionBody l.funclet.function))
+        l.function leaf) l.function_framed g) l.same_locals
 
   -- ---- code
 
   -- the template of an instruction is at its address
-  pub template_is_at : (m : Memory) (name : BodyName) (b : LinearBody) (label : ℕ) (i : Instruction) → HasProgram t fs program p q m → body_of program name ≡ Some b → slice_get b.code label ≡ Some i
-      → HasCode m (p.address name label) (template (links_of p q name) (p.layout name) (p.address name label) i)
-  template_is_at m name b label i has there is = template_there t fs program p q image name b there m has label i is
+  pub template_is_at : (m : Memory) (name : BodyName) (b : LinearBody) (label : ℕ) (i : Instruction)
+      → HasProgram t fs program p q m → body_of program name ≡ Some b
+      → slice_get b.code label ≡ Some i
+      → HasCode m (p.address name label) (template (links_of p q name) (p.layout name)
+        (p.address name label) i)
+  template_is_at m name b label i has there is = template_there t fs program p q image name b there
+      m has label i is
 
   -- an operation's instructions from the one on that may fault
-  pub finish_is_at : (m : Memory) (name : BodyName) (b : LinearBody) (label : ℕ) (to : Slot) (o : Operation) (first second : Slot)
-      → HasProgram t fs program p q m → body_of program name ≡ Some b → slice_get b.code label ≡ Some (instructions.Compute to o first second)
-      → HasCode m (p.address name label + sizes (operands_code (p.layout name) o first second)) (finish_code (p.layout name) o to)
+  pub finish_is_at : (m : Memory) (name : BodyName) (b : LinearBody) (label : ℕ) (to : Slot)
+      (o : Operation) (first second : Slot)
+      → HasProgram t fs program p q m → body_of program name ≡ Some b
+      → slice_get b.code label ≡ Some (instructions.Compute to o first second)
+      → HasCode m (p.address name label + sizes (operands_code (p.layout name) o first second))
+        (finish_code (p.layout name) o to)
   finish_is_at m name b label to o first second has there is =
-      (code_split m (p.address name label) (operands_code (p.layout name) o first second) (finish_code (p.layout name) o to)
+      (code_split m (p.address name label) (operands_code (p.layout name) o first second)
+        (finish_code (p.layout name) o to)
       (template_is_at m name b label (instructions.Compute to o first second) has there is)).1
 
   -- ---- a funclet's first instruction makes its frame
@@ -156,36 +178,48 @@ module _ (t : Functions) (fs : List Funclet) (program : LinearProgram) (p : Imag
   at_place m at = record { cpu = record { registers = []; rip = at; flags = no_flags }; memory = m }
 
   -- what is read at code
-  first_read : (m : Memory) (at : ℕ) (i : Instr) (is : List Instr) → Fine (i ∷ is) → HasCode m at (i ∷ is) → leading (executable m 15 at) ≡ Some (i, length (chosen i))
+  first_read : (m : Memory) (at : ℕ) (i : Instr) (is : List Instr) → Fine (i ∷ is)
+      → HasCode m at (i ∷ is) → leading (executable m 15 at) ≡ Some (i, length (chosen i))
   unfolding Rattle.template_code.specs.Bytes.size
   first_read m at i is fine code =
       let parts = bytes_split m at (chosen i) (spelled is) code.is_there in
       let l = code.placed.low in
       let h = code.placed.high in
-      reads (at_place m at) i (chosen i) (spells i fine.0) (longest i) parts.0 (record { low = l; high = omega arith })
+      reads (at_place m at) i (chosen i) (spells i fine.0) (longest i) parts.0
+        (record { low = l; high = omega arith })
 
   -- ---- so none begins at other code
 
-  elsewhere : (m : Memory) (at k : ℕ) (code : List Instr) → Fine code → 1 ≤ sizes code → HasCode m at code → HasProgram t fs program p q m → k < length program.funclets → at ≢ p.funclet k
+  elsewhere : (m : Memory) (at k : ℕ) (code : List Instr) → Fine code → 1 ≤ sizes code
+      → HasCode m at code → HasProgram t fs program p q m → k < length program.funclets
+      → at ≢ p.funclet k
   elsewhere m at k [] fine some code has lt e = absurd (omega arith)
   elsewhere m at k (i ∷ is) fine some code has lt e =
       let read = first_read m at i is fine code in
       let quiet = none_taking (i ∷ is) fine in
       elim (slice_get_cases program.funclets k).1 [
-        | inl x ↦ funclet_makes t fs program p q image m k x.0 i (length (chosen i)) x.2 has (ap (λ (a : ℕ). leading (executable m 15 a)) (sym e) ∙ read) quiet.0
+        | inl x ↦ funclet_makes t fs program p q image m k x.0 i (length (chosen i)) x.2 has
+          (ap (λ (a : ℕ). leading (executable m 15 a)) (sym e) ∙ read) quiet.0
         | inr x ↦ let le = x.0 in absurd (omega arith)
       ]
 
   -- where an operation of a body may fault
-  pub quiet_in_midst : (roomy : HaveRoom program) (m : Memory) (name : BodyName) (b : LinearBody) (label : ℕ) (to : Slot) (o : Operation) (first second : Slot)
-      → HasProgram t fs program p q m → body_of program name ≡ Some b → slice_get b.code label ≡ Some (instructions.Compute to o first second)
-      → (c : Cpu) → arrivals c (distance t.base (p.address name label + sizes (operands_code (p.layout name) o first second))) 1 fs ≡ []
+  pub quiet_in_midst : (roomy : HaveRoom program) (m : Memory) (name : BodyName) (b : LinearBody)
+      (label : ℕ) (to : Slot) (o : Operation) (first second : Slot)
+      → HasProgram t fs program p q m → body_of program name ≡ Some b
+      → slice_get b.code label ≡ Some (instructions.Compute to o first second)
+      → (c : Cpu) → arrivals c (distance t.base
+        (p.address name label + sizes (operands_code (p.layout name) o first second))) 1 fs ≡ []
   quiet_in_midst roomy m name b label to o first second has there is c =
       let y = p.layout name in
       let at = p.address name label + sizes (operands_code y o first second) in
       let code = finish_is_at m name b label to o first second has there is in
-      let slots : HasSlots (counts_of b) (instructions.Compute to o first second) = each (HasSlots (counts_of b)) b.code label (instructions.Compute to o first second) (roomy name b there).slots is in
+      let slots : HasSlots (counts_of b) (instructions.Compute to o first second) = each
+        (HasSlots (counts_of b)) b.code label (instructions.Compute to o first second)
+        (roomy name b there).slots is in
       let somewhere = by_name name b (image.laid_out name b there) in
-      let fine = finish_fine y (counts_of b) somewhere.sp somewhere.base o to somewhere.room slots.0 in
+      let fine = finish_fine y (counts_of b) somewhere.sp somewhere.base o to somewhere.room
+        slots.0 in
       let high = code.placed.high in
-      image.funclets.none at (omega arith) (λ k lt. elsewhere m at k (finish_code y o to) fine (some_finish y o to) code has lt) c
+      image.funclets.none at (omega arith) (λ k lt. elsewhere m at k (finish_code y o to) fine
+        (some_finish y o to) code has lt) c

@@ -18,9 +18,12 @@ use Rattle.x64_templates.specs.CallStates.{pushed, HasBelow, HasBack}
 use Rattle.x64_templates.proofs.PlacedCode.{all_may}
 use Rattle.x64_templates.proofs.Entries.{beside, pushed_back, pushed_bytes}
 
-module _ (v : MachineView) (sp ret : ℕ) (low : STACK_START + 8 ≤ sp) (high : sp ≤ STACK_END) (data_alone : IsData v.memory) (may : (a : ℕ) → STACK_START ≤ a → a < STACK_END → may_write v.memory a ≡ true) where
+module _ (v : MachineView) (sp ret : ℕ) (low : STACK_START + 8 ≤ sp) (high : sp ≤ STACK_END)
+    (data_alone : IsData v.memory) (may : (a : ℕ) → STACK_START ≤ a → a < STACK_END
+    → may_write v.memory a ≡ true) where
   pub below : HasBelow v.memory sp 8
-  below = record { enough = omega arith; high = omega arith; writable = λ a from to. may a (omega arith) (omega arith) }
+  below = record { enough = omega arith; high = omega arith;
+      writable = λ a from to. may a (omega arith) (omega arith) }
 
   abbrev pub bytes : ℕ → ℕ
   bytes = with_number v.memory.byte 8 (sp - 8) ret
@@ -34,7 +37,8 @@ module _ (v : MachineView) (sp ret : ℕ) (low : STACK_START + 8 ≤ sp) (high :
       by : (x + 8 < sp) ⊎ (sp ≤ x + 8) → (x < sp) ⊎ (sp ≤ x) → bytes x ≡ v.memory.byte x
       by (inl l) o = elsewhere x (inl l)
       by (inr g) (inr h) = elsewhere x (inr h)
-      by (inr g) (inl l) = let w : (v.memory.protection x).execute ≡ false = data_alone.no_code x (may x (omega arith) (omega arith)) in absurd cc
+      by (inr g) (inl l) = let w : (v.memory.protection x).execute
+        ≡ false = data_alone.no_code x (may x (omega arith) (omega arith)) in absurd cc
 
   pub keeps_above : KeepsAbove v.memory bytes sp
   keeps_above = record { above = λ x le. elsewhere x (inr le); code = code_same }
@@ -47,7 +51,8 @@ module _ (v : MachineView) (sp ret : ℕ) (low : STACK_START + 8 ≤ sp) (high :
       by x (inr g) = elsewhere x (inr (omega arith))
 
   pub pushed_data : IsData (pushed v sp ret).memory
-  pushed_data = record { bytes = pushed_bytes v sp ret data_alone.bytes; no_code = data_alone.no_code }
+  pushed_data = record { bytes = pushed_bytes v sp ret data_alone.bytes;
+      no_code = data_alone.no_code }
 
   -- ---- the service returns there
 
@@ -61,8 +66,11 @@ module _ (v : MachineView) (sp ret : ℕ) (low : STACK_START + 8 ≤ sp) (high :
     pub returns_there : loaded there.memory (register there.cpu Rsp) W64 ≡ Ok ret
     returns_there =
         let b : HasBack (pushed v sp ret).memory (sp - 8) ret = pushed_back v sp ret below small in
-        let can = all_may (may_read there.memory) 8 (sp - 8) (omega arith) (λ a p q. b.readable a p q) in
-        ap (λ a. loaded there.memory a W64) sp_there ∙ ap (λ (o : Option ℕ). access false o (number_at there.memory.byte 8 (sp - 8))) can ∙ ap (λ x. Ok x) b.number
+        let can = all_may (may_read there.memory) 8 (sp - 8) (omega arith)
+          (λ a p q. b.readable a p q) in
+        ap (λ a. loaded there.memory a W64) sp_there
+          ∙ ap (λ (o : Option ℕ). access false o (number_at there.memory.byte 8 (sp - 8))) can
+          ∙ ap (λ x. Ok x) b.number
 
     abbrev pub saved : Cpu
     saved = (back there ret).cpu
@@ -70,4 +78,5 @@ module _ (v : MachineView) (sp ret : ℕ) (low : STACK_START + 8 ≤ sp) (high :
     pub sp_saved : register saved Rsp ≡ sp
     sp_saved =
         let e : (register there.cpu Rsp + 8) % 2 ^ 64 % 2 ^ 64 ≡ sp = omega (arith, sp_there) in
-        get_or-set_same (set v.rest 1 (sp - 8)) 1 ((register there.cpu Rsp + 8) % 2 ^ 64 % 2 ^ 64) 0 (omega (arith, length-set v.rest 1 (sp - 8))) ∙ e
+        get_or-set_same (set v.rest 1 (sp - 8)) 1 ((register there.cpu Rsp + 8) % 2 ^ 64 % 2 ^ 64) 0
+          (omega (arith, length-set v.rest 1 (sp - 8))) ∙ e

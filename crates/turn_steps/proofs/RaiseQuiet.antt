@@ -36,28 +36,37 @@ use Rattle.body_states.specs.Layouts.{IsFuncletPlan}
 use Rattle.body_states.specs.Programs.{HasProgram, IsProgramImage}
 
 -- the first instruction of code that is somewhere is read there
-reads_first : (m : Memory) (at : ℕ) (j : Instr) → is_encodable j ≡ true → HasCode m at (j ∷ []) → leading (executable m 15 at) ≡ Some (j, length (chosen j))
+reads_first : (m : Memory) (at : ℕ) (j : Instr) → is_encodable j ≡ true → HasCode m at (j ∷ [])
+    → leading (executable m 15 at) ≡ Some (j, length (chosen j))
 unfolding size
 reads_first m at j fine code =
     let parts = bytes_split m at (chosen j) [] code.is_there in
     let l = code.placed.low in
     let h = code.placed.high in
-    let s : State = record { cpu = record { registers = []; rip = at; flags = no_flags }; memory = m } in
-    reads s j (chosen j) (spells j fine) (longest j) parts.0 (record { low = l; high = omega arith })
+    let s : State = record { cpu = record { registers = []; rip = at; flags = no_flags };
+      memory = m } in
+    reads s j (chosen j) (spells j fine) (longest j) parts.0
+      (record { low = l; high = omega arith })
 
 abbrev taking : Option (Instr × ℕ) → Bool
 taking None = true
 taking (Some x) = takes_frame x.0
 
-never_both : (i j : Instr) (m n : ℕ) → ◌≡◌ {A = Option (Instr × ℕ)} (Some (i, m)) (Some (j, n)) → takes_frame i ≡ true → takes_frame j ≡ false → ⊥
-never_both i j m n e makes quiet = let z : true ≡ false = sym makes ∙ ap taking e ∙ quiet in absurd cc
+never_both : (i j : Instr) (m n : ℕ) → ◌≡◌ {A = Option (Instr × ℕ)} (Some (i, m)) (Some (j, n))
+    → takes_frame i ≡ true → takes_frame j ≡ false → ⊥
+never_both i j m n e makes quiet = let z : true ≡ false = sym makes ∙ ap taking e ∙ quiet in
+    absurd cc
 
-made_at_once : (size at check : ℕ) (leaf : Bool) → leaf ≡ false → size ≤ 4096 → frame_code size at check leaf ≡ enter_code size
-made_at_once size at check leaf e small = ap (frame_code size at check) e ∙ ap (making size at check) (le-leb size 4096 small)
+made_at_once : (size at check : ℕ) (leaf : Bool) → leaf ≡ false → size ≤ 4096
+    → frame_code size at check leaf ≡ enter_code size
+made_at_once size at check leaf e small = ap (frame_code size at check) e
+    ∙ ap (making size at check) (le-leb size 4096 small)
 
-module _ (t : Functions) (fs : List Funclet) (program : LinearProgram) (p : ImagePlan) (q : Sites) (image : IsProgramImage t fs program p q) where
+module _ (t : Functions) (fs : List Funclet) (program : LinearProgram) (p : ImagePlan) (q : Sites)
+    (image : IsProgramImage t fs program p q) where
   -- a funclet begins with an instruction that makes its frame
-  makes_frame : (m : Memory) (k : ℕ) (f : LinearFunclet) (j : Instr) → slice_get program.funclets k ≡ Some f → HasProgram t fs program p q m
+  makes_frame : (m : Memory) (k : ℕ) (f : LinearFunclet) (j : Instr)
+      → slice_get program.funclets k ≡ Some f → HasProgram t fs program p q m
       → is_encodable j ≡ true → takes_frame j ≡ false → HasCode m (p.funclet k) (j ∷ []) → ⊥
   makes_frame m k f j there has fine quiet code =
       let name = FuncletBody k in
@@ -67,16 +76,24 @@ module _ (t : Functions) (fs : List Funclet) (program : LinearProgram) (p : Imag
       let y = p.layout name in
       let first = frame_code y.frame (p.funclet k) q.check_stack (p.leaf name) in
       let all = has.code name f.body is in
-      let entry = code_split m (p.funclet k) (entry_code program p q name) (code_from (links_of p q name) y (p.address name 0) f.body.code) all in
+      let entry = code_split m (p.funclet k) (entry_code program p q name)
+        (code_from (links_of p q name) y (p.address name 0) f.body.code) all in
       let frame = code_split m (p.funclet k) first (arguments_code program p name) entry.0 in
-      let i = instrs.Arithmetic operations.Sub W64 (places.Register Rsp) (operands.Immediate y.frame) in
-      let made : HasCode m (p.funclet k) (i ∷ []) = subst (HasCode m (p.funclet k)) (made_at_once y.frame (p.funclet k) q.check_stack (p.leaf name) plan.framed small) frame.0 in
-      never_both i j (length (chosen i)) (length (chosen j)) (sym (reads_first m (p.funclet k) i (near y.frame (omega arith)) made) ∙ reads_first m (p.funclet k) j fine code) refl quiet
+      let i = instrs.Arithmetic operations.Sub W64 (places.Register Rsp)
+        (operands.Immediate y.frame) in
+      let made : HasCode m (p.funclet k) (i ∷ []) = subst (HasCode m (p.funclet k))
+        (made_at_once y.frame (p.funclet k) q.check_stack (p.leaf name) plan.framed small)
+        frame.0 in
+      never_both i j (length (chosen i)) (length (chosen j))
+        (sym (reads_first m (p.funclet k) i (near y.frame (omega arith)) made)
+        ∙ reads_first m (p.funclet k) j fine code) refl quiet
 
-  pub quiet_code : (m : Memory) (at : ℕ) (j : Instr) (c : Cpu) → HasProgram t fs program p q m → is_encodable j ≡ true → takes_frame j ≡ false → HasCode m at (j ∷ []) → at < 2 ^ 64
+  pub quiet_code : (m : Memory) (at : ℕ) (j : Instr) (c : Cpu) → HasProgram t fs program p q m
+      → is_encodable j ≡ true → takes_frame j ≡ false → HasCode m at (j ∷ []) → at < 2 ^ 64
       → arrivals c (distance t.base at) 1 fs ≡ []
   quiet_code m at j c has fine quiet code small =
       image.funclets.none at small (λ k inside e. elim (slice_get_cases program.funclets k).1 [
-        | inl x ↦ makes_frame m k x.0 j x.2 has fine quiet (subst (λ a. HasCode m a (j ∷ [])) e code)
+        | inl x ↦ makes_frame m k x.0 j x.2 has fine quiet
+          (subst (λ a. HasCode m a (j ∷ [])) e code)
         | inr x ↦ let le = x.0 in absurd (omega arith)
       ]) c

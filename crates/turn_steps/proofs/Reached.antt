@@ -50,25 +50,33 @@ clear_size : size clear_result ≡ 5
 unfolding size opcode_register
 clear_size = refl
 
-service_low : (f : BuiltIn) → (0 < address_of (service_of f)) × (address_of (service_of f) < 0x100000000)
+service_low : (f : BuiltIn) → (0 < address_of (service_of f))
+    × (address_of (service_of f) < 0x100000000)
 service_low Put = (omega arith, omega arith)
 service_low Protect = (omega arith, omega arith)
 service_low RaiseException = (omega arith, omega arith)
 
 -- an instruction of a body begins within it
-offset_most : (y : Layout) (body : List Instruction) (number : ℕ) → offset_of y body number ≤ body_size y body
+offset_most : (y : Layout) (body : List Instruction) (number : ℕ)
+    → offset_of y body number ≤ body_size y body
 offset_most y [] zero = omega arith
 offset_most y [] (suc number) = omega arith
 offset_most y (i ∷ body) zero = omega arith
 offset_most y (i ∷ body) (suc number) = let r = offset_most y body number in omega arith
 
-built_in_size : (y : Layout) (f : BuiltIn) (first : ℕ) → template_size y (instructions.CallBuiltIn f first) ≡ 5 + (sizes (arguments_code y first) + 5 + sizes (keep y (Temporary first)))
+built_in_size : (y : Layout) (f : BuiltIn) (first : ℕ)
+    → template_size y (instructions.CallBuiltIn f first)
+    ≡ 5 + (sizes (arguments_code y first) + 5 + sizes (keep y (Temporary first)))
 unfolding template_size
-built_in_size y f first = let a = call_code_size y (Temporary first) first 5 0 in let b = clear_size in omega arith
+built_in_size y f first = let a = call_code_size y (Temporary first) first 5 0 in
+    let b = clear_size in omega arith
 
-module _ (t : Functions) (fs : List Funclet) (program : LinearProgram) (p : ImagePlan) (q : Sites) (image : IsProgramImage t fs program p q) (roomy : HaveRoom program) where
-  module _ (s : State) (c : Configuration) (b : Begins t fs program p q s c) (counted : IsCounted t fs program p q image c) (f : BuiltIn) (first : ℕ)
-      (at : slice_get b.body.slots.code.code c.frame.next ≡ Some (instructions.CallBuiltIn f first)) where
+module _ (t : Functions) (fs : List Funclet) (program : LinearProgram) (p : ImagePlan) (q : Sites)
+    (image : IsProgramImage t fs program p q) (roomy : HaveRoom program) where
+  module _ (s : State) (c : Configuration) (b : Begins t fs program p q s c)
+      (counted : IsCounted t fs program p q image c) (f : BuiltIn) (first : ℕ)
+      (at : slice_get b.body.slots.code.code c.frame.next ≡ Some (instructions.CallBuiltIn f first))
+        where
     abbrev pub layout : Layout
     layout = p.layout c.frame.body
 
@@ -102,12 +110,15 @@ module _ (t : Functions) (fs : List Funclet) (program : LinearProgram) (p : Imag
     many =
         let x = numbers.slots (Temporary (first + 2)) in
         let z = numbers.slots (Temporary (first + 3)) in
-        length-set (set view.rest 5 x) 6 z ∙ length-set view.rest 5 x ∙ length-drop 3 s.cpu.registers ∙ (let k = b.sane.count in omega arith)
+        length-set (set view.rest 5 x) 6 z ∙ length-set view.rest 5 x
+          ∙ length-drop 3 s.cpu.registers ∙ (let k = b.sane.count in omega arith)
 
     -- the next instruction begins after the result is kept
-    pub next_is : p.address c.frame.body (c.frame.next + 1) ≡ back + sizes (keep layout (Temporary first))
+    pub next_is : p.address c.frame.body (c.frame.next + 1)
+      ≡ back + sizes (keep layout (Temporary first))
     next_is =
-        let n = next_address t fs program p q image roomy s c b counted (instructions.CallBuiltIn f first) at in
+        let n = next_address t fs program p q image roomy s c b counted
+          (instructions.CallBuiltIn f first) at in
         let z = built_in_size layout f first in
         omega arith
 
@@ -134,12 +145,18 @@ module _ (t : Functions) (fs : List Funclet) (program : LinearProgram) (p : Imag
         let z = inside.high in
         (omega arith, omega arith, omega arith, omega arith)
 
-    reached : ServiceReached (frame t fs program p q image roomy s c b counted) first view s.cpu.rip service s.cpu.flags numbers
+    reached : ServiceReached (frame t fs program p q image roomy s c b counted) first view s.cpu.rip
+      service s.cpu.flags numbers
     reached =
-        service_reached (frame t fs program p q image roomy s c b counted) first view s.cpu.rip (q.thunk f) service s.cpu.flags numbers (room_here t fs program p q image s c b counted)
-        (has_slots t fs program p q image roomy s c b counted (instructions.CallBuiltIn f first) at) (sp_is t fs program p q image roomy s c b counted) (holds_here t fs program p q image s c b counted)
-        (below view sp back (let l = low in omega arith) top b.memory.data_alone b.memory.stack) near
-        (template_here t fs program p q image roomy s c b counted (instructions.CallBuiltIn f first) at) (b.memory.code.thunks f).thunk
+        service_reached (frame t fs program p q image roomy s c b counted) first view s.cpu.rip
+          (q.thunk f) service s.cpu.flags numbers (room_here t fs program p q image s c b counted)
+        (has_slots t fs program p q image roomy s c b counted (instructions.CallBuiltIn f first) at)
+          (sp_is t fs program p q image roomy s c b counted)
+          (holds_here t fs program p q image s c b counted)
+        (below view sp back (let l = low in omega arith) top b.memory.data_alone b.memory.stack)
+          near
+        (template_here t fs program p q image roomy s c b counted (instructions.CallBuiltIn f first)
+          at) (b.memory.code.thunks f).thunk
 
     pub flags_there : Flags
     flags_there = reached.flags
@@ -150,10 +167,15 @@ module _ (t : Functions) (fs : List Funclet) (program : LinearProgram) (p : Imag
 
     pub reaches : Reaches 7 s at_service
     unfolding flags_there
-    reaches = subst (λ x. Reaches 7 x (machine (pushed given sp back) service reached.flags)) (sym (same_state t fs program p q image roomy s c b counted)) reached.comes
+    reaches = subst (λ x. Reaches 7 x (machine (pushed given sp back) service reached.flags))
+      (sym (same_state t fs program p q image roomy s c b counted)) reached.comes
 
     pub comes_there : Comes t fs 7 s [] at_service
-    comes_there = reaches_quietly t fs program p q image 7 s at_service reaches (built_in_keeps t fs program p q image roomy s c b counted f first at at_service reaches refl (subst (λ r. IsNear (return_at layout first (r + 5)) (q.thunk f)) b.rip near)) b.memory.code (host_quiet t fs program p q image s.memory service at_service.cpu b.memory.code (service_low f).1)
+    comes_there = reaches_quietly t fs program p q image 7 s at_service reaches
+      (built_in_keeps t fs program p q image roomy s c b counted f first at at_service reaches refl
+      (subst (λ r. IsNear (return_at layout first (r + 5)) (q.thunk f)) b.rip near)) b.memory.code
+      (host_quiet t fs program p q image s.memory service at_service.cpu b.memory.code
+      (service_low f).1)
 
     pub live_there : IsLive at_service
     live_there = let l = (service_low f).0 in ne_eqb service 0 (λ e. absurd (omega arith))
@@ -162,17 +184,25 @@ module _ (t : Functions) (fs : List Funclet) (program : LinearProgram) (p : Imag
     back_small = let n = back_near.1 in omega arith
 
     pub returns : loaded at_service.memory (register at_service.cpu Rsp) W64 ≡ Ok back
-    returns = returns_there given sp back (let l = low in omega arith) top b.memory.data_alone b.memory.stack service flags_there back_small many
+    returns = returns_there given sp back (let l = low in omega arith) top b.memory.data_alone
+      b.memory.stack service flags_there back_small many
 
     -- after the call the result is kept
     pub code_after : HasCode s.memory back (keep layout (Temporary first))
     code_after =
-        let whole = template_here t fs program p q image roomy s c b counted (instructions.CallBuiltIn f first) at in
-        let parts = code_split s.memory s.cpu.rip (clear_result ∷ []) (call_code layout (Temporary first) first (s.cpu.rip + 5) (q.thunk f)) whole in
+        let whole = template_here t fs program p q image roomy s c b counted
+          (instructions.CallBuiltIn f first) at in
+        let parts = code_split s.memory s.cpu.rip (clear_result ∷ [])
+          (call_code layout (Temporary first) first (s.cpu.rip + 5) (q.thunk f)) whole in
         let n = clear_size in
         let there : s.cpu.rip + sizes (clear_result ∷ []) ≡ s.cpu.rip + 5 = omega arith in
-        let rest = subst (λ a. HasCode s.memory a (call_code layout (Temporary first) first (s.cpu.rip + 5) (q.thunk f))) there parts.1 in
-        let last = code_split s.memory (s.cpu.rip + 5) (begin_call layout first (s.cpu.rip + 5) (q.thunk f)) (keep layout (Temporary first)) rest in
+        let rest = subst (λ a. HasCode s.memory a
+          (call_code layout (Temporary first) first (s.cpu.rip + 5) (q.thunk f))) there parts.1 in
+        let last = code_split s.memory (s.cpu.rip + 5)
+          (begin_call layout first (s.cpu.rip + 5) (q.thunk f)) (keep layout (Temporary first))
+          rest in
         let five = call_size back (q.thunk f) in
-        let long : s.cpu.rip + 5 + sizes (begin_call layout first (s.cpu.rip + 5) (q.thunk f)) ≡ back = omega (arith, sizes_append (arguments_code layout first) (call back (q.thunk f) ∷ [])) in
+        let long : s.cpu.rip + 5 + sizes (begin_call layout first (s.cpu.rip + 5) (q.thunk f))
+          ≡ back = omega (arith, sizes_append (arguments_code layout first)
+            (call back (q.thunk f) ∷ [])) in
         subst (λ x. HasCode s.memory x (keep layout (Temporary first))) long last.1

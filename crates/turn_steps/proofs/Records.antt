@@ -18,7 +18,8 @@ use Rattle.ir_typed.specs.Waiting.{AreWaiting}
 use Rattle.turn_steps.specs.Outcomes.{AreClear}
 
 -- no body that waits has just taken over
-pub are_clear : (program : LinearProgram) (items : List Item) → AreWaiting program items → AreClear items
+pub are_clear : (program : LinearProgram) (items : List Item) → AreWaiting program items
+    → AreClear items
 are_clear program [] h = tt
 are_clear program (Waits f ∷ below) h = (h.0.landed, are_clear program below h.2)
 are_clear program (Searches exception resumption asked rest ∷ below) h = are_clear program below h.2
@@ -37,18 +38,25 @@ pub record IsUnwindingOnTop (c : Context) (is : List StackItem) : Type 0 where
   pub at_host : c.rip ≡ finally_return
 
 module _ (t : Functions) (fs : List Funclet) (program : LinearProgram) (p : ImagePlan) where
-  pub search_on_top : (m : Memory) (c : Context) (is : List StackItem) (exception : Exception) (resumption : Resumption) (asked : Handler) (rest : List Handler) (items : List Item) (acts : List Activation)
-      → IsStack t m c is → Linked t fs program p m c is (Searches exception resumption asked rest ∷ items) acts → IsSearchOnTop c is
+  pub search_on_top : (m : Memory) (c : Context) (is : List StackItem) (exception : Exception)
+      (resumption : Resumption) (asked : Handler) (rest : List Handler) (items : List Item)
+      (acts : List Activation)
+      → IsStack t m c is → Linked t fs program p m c is
+        (Searches exception resumption asked rest ∷ items) acts → IsSearchOnTop c is
   search_on_top m c [] exception resumption asked rest items acts s h = absurd h
   search_on_top m c (Framed f ∷ is) exception resumption asked rest items acts s h = absurd h
   search_on_top m c (Leaf back ∷ is) exception resumption asked rest items acts s h = absurd h
   search_on_top m c (Unwinding r ∷ is) exception resumption asked rest items acts s h = absurd h
-  search_on_top m c (Searching r ∷ is) exception resumption asked rest items acts s h = record { dispatch = r; others = is; items = refl; at_host = s.0.at_host }
+  search_on_top m c (Searching r ∷ is) exception resumption asked rest items acts s
+      h = record { dispatch = r; others = is; items = refl; at_host = s.0.at_host }
 
-  pub unwinding_on_top : (m : Memory) (c : Context) (is : List StackItem) (rest : List Region) (target : Target) (items : List Item) (acts : List Activation)
-      → IsStack t m c is → Linked t fs program p m c is (Unwinds rest target ∷ items) acts → IsUnwindingOnTop c is
+  pub unwinding_on_top : (m : Memory) (c : Context) (is : List StackItem) (rest : List Region)
+      (target : Target) (items : List Item) (acts : List Activation)
+      → IsStack t m c is → Linked t fs program p m c is (Unwinds rest target ∷ items) acts
+      → IsUnwindingOnTop c is
   unwinding_on_top m c [] rest target items acts s h = absurd h
   unwinding_on_top m c (Framed f ∷ is) rest target items acts s h = absurd h
   unwinding_on_top m c (Leaf back ∷ is) rest target items acts s h = absurd h
   unwinding_on_top m c (Searching r ∷ is) rest target items acts s h = absurd h
-  unwinding_on_top m c (Unwinding r ∷ is) rest target items acts s h = record { dispatch = r; others = is; items = refl; at_host = s.0.at_host }
+  unwinding_on_top m c (Unwinding r ∷ is) rest target items acts s
+      h = record { dispatch = r; others = is; items = refl; at_host = s.0.at_host }

@@ -12,12 +12,16 @@ use Rattle.linked_stack.specs.ImagePlan.{ImagePlan}
 use Rattle.body_states.specs.Sites.{Sites}
 use Rattle.body_states.specs.Programs.{HasProgram, IsProgramImage}
 
-module _ (t : Functions) (fs : List Funclet) (program : LinearProgram) (p : ImagePlan) (q : Sites) (image : IsProgramImage t fs program p q) where
-  funclet_high : (m : Memory) (k : ℕ) → HasProgram t fs program p q m → k < length program.funclets → 0x100000000 ≤ p.funclet k
+module _ (t : Functions) (fs : List Funclet) (program : LinearProgram) (p : ImagePlan) (q : Sites)
+    (image : IsProgramImage t fs program p q) where
+  funclet_high : (m : Memory) (k : ℕ) → HasProgram t fs program p q m → k < length program.funclets
+      → 0x100000000 ≤ p.funclet k
   funclet_high m k has lt = elim (slice_get_cases program.funclets k).1 [
     | inl x ↦ (has.code (FuncletBody k) x.0.body (ap funclet_body x.2)).placed.low
     | inr x ↦ let le = x.0 in absurd (omega arith)
   ]
 
-  pub host_quiet : (m : Memory) (a : ℕ) (c : Cpu) → HasProgram t fs program p q m → a < 0x100000000 → arrivals c (distance t.base a) 1 fs ≡ []
-  host_quiet m a c has lt = image.funclets.none a (omega arith) (λ k inside e. let h = funclet_high m k has inside in absurd (omega arith)) c
+  pub host_quiet : (m : Memory) (a : ℕ) (c : Cpu) → HasProgram t fs program p q m → a < 0x100000000
+      → arrivals c (distance t.base a) 1 fs ≡ []
+  host_quiet m a c has lt = image.funclets.none a (omega arith)
+      (λ k inside e. let h = funclet_high m k has inside in absurd (omega arith)) c

@@ -35,34 +35,60 @@ unfolding pick
 either_bare true x y p q = p
 either_bare false x y p q = q
 
-past_code : (name : BodyName) (target : Target) → target.code ≡ None → (target_past name target).code ≡ None
+past_code : (name : BodyName) (target : Target) → target.code ≡ None
+    → (target_past name target).code ≡ None
 past_code (FunctionBody f) target e = e
 past_code (FuncletBody k) target e = e
 
 module _ (program : LinearProgram) where
-  arrive_bare : (target : Target) (c : Configuration) → target.code ≡ None → c.frame.landed ≡ None → IsBare (arrive target target.code noticing c)
-  arrive_bare target c e clear = subst (λ (o : Option ℕ). IsBare (arrive target o noticing c)) (sym e) (ap marks clear)
+  arrive_bare : (target : Target) (c : Configuration) → target.code ≡ None → c.frame.landed ≡ None
+      → IsBare (arrive target target.code noticing c)
+  arrive_bare target c e clear = subst (λ (o : Option ℕ). IsBare (arrive target o noticing c))
+      (sym e) (ap marks clear)
 
-  finally_bare : (k : ℕ) (abnormal : Bool) (held : ℕ) (below : List Item) (c : Configuration) (o : Option ℕ) → IsBare (with_some c.events o (λ flag. deeper 2 held c.store c.events (noticing (begin_finally k flag abnormal held below c))))
+  finally_bare : (k : ℕ) (abnormal : Bool) (held : ℕ) (below : List Item) (c : Configuration)
+      (o : Option ℕ) → IsBare (with_some c.events o
+      (λ flag. deeper 2 held c.store c.events
+      (noticing (begin_finally k flag abnormal held below c))))
   unfolding with_some
   finally_bare k abnormal held below c None = tt
-  finally_bare k abnormal held below c (Some flag) = either_bare (nat_lt 1000 (length c.store.activations + held + 2)) (Finished (Deep 1001) c.events) (noticing (begin_finally k flag abnormal held below c)) tt refl
+  finally_bare k abnormal held below c (Some flag) = either_bare
+      (nat_lt 1000 (length c.store.activations + held + 2)) (Finished (Deep 1001) c.events)
+      (noticing (begin_finally k flag abnormal held below c)) tt refl
 
-  region_bare : (target : Target) (kind : RegionKind) (rest : List Region) (further : Seen) (c : Configuration) → IsBare further → IsBare (leave_region program noticing target kind rest further c)
-  region_bare target (kinds.Finally k) rest further c h = finally_bare k true target.held (Unwinds rest target ∷ Waits c.frame ∷ c.below) c (flag_of (slice_get program.funclets k))
+  region_bare : (target : Target) (kind : RegionKind) (rest : List Region) (further : Seen)
+      (c : Configuration) → IsBare further → IsBare
+      (leave_region program noticing target kind rest further c)
+  region_bare target (kinds.Finally k) rest further c h = finally_bare k true target.held
+      (Unwinds rest target ∷ Waits c.frame ∷ c.below) c (flag_of (slice_get program.funclets k))
   region_bare target (kinds.Filter k label) rest further c h = h
   region_bare target (kinds.Always label) rest further c h = h
 
-  body_bare : (target : Target) (out : Store → Seen) (regions : List Region) (c : Configuration) → target.code ≡ None → c.frame.landed ≡ None → ((store : Store) → IsBare (out store)) → IsBare (unwind_body program noticing target out regions c)
-  body_bare target out [] c e clear h = either_bare (nat_eq target.depth (length c.below)) (arrive target target.code noticing c) (out (left_store c.frame.body c.frame.activation c.store)) (arrive_bare target c e clear) (h (left_store c.frame.body c.frame.activation c.store))
+  body_bare : (target : Target) (out : Store → Seen) (regions : List Region) (c : Configuration)
+      → target.code ≡ None → c.frame.landed ≡ None → ((store : Store) → IsBare (out store))
+      → IsBare (unwind_body program noticing target out regions c)
+  body_bare target out [] c e clear h = either_bare (nat_eq target.depth (length c.below))
+      (arrive target target.code noticing c) (out
+      (left_store c.frame.body c.frame.activation c.store)) (arrive_bare target c e clear)
+      (h (left_store c.frame.body c.frame.activation c.store))
   body_bare target out (r ∷ regions) c e clear h =
-      either_bare (stops target r (length c.below)) (arrive target target.code noticing c) (leave_region program noticing target r.kind regions (unwind_body program noticing target out regions c) c) (arrive_bare target c e clear)
-      (region_bare target r.kind regions (unwind_body program noticing target out regions c) c (body_bare target out regions c e clear h))
+      either_bare (stops target r (length c.below)) (arrive target target.code noticing c)
+        (leave_region program noticing target r.kind regions
+        (unwind_body program noticing target out regions c) c) (arrive_bare target c e clear)
+      (region_bare target r.kind regions (unwind_body program noticing target out regions c) c
+        (body_bare target out regions c e clear h))
 
-  pub unwind_bare : (target : Target) (items : List Item) (left : Option (List Region)) (es : List Event) (store : Store) → target.code ≡ None → AreClear items → IsBare (unwind program noticing target items left es store)
+  pub unwind_bare : (target : Target) (items : List Item) (left : Option (List Region))
+      (es : List Event) (store : Store) → target.code ≡ None → AreClear items
+      → IsBare (unwind program noticing target items left es store)
   unwind_bare target [] left es store e clear = tt
   unwind_bare target (Waits f ∷ below) left es store e clear =
-      body_bare target (λ store. unwind program noticing (target_past f.body target) below None es store) (regions_left left (regions_at program f.body f.next)) (record { frame = f; below = below; store = store; events = es }) e clear.0
-      (λ store. unwind_bare (target_past f.body target) below None es store (past_code f.body target e) clear.1)
-  unwind_bare target (Searches exception resumption asked rest ∷ below) left es store e clear = unwind_bare target below None es store e clear
-  unwind_bare target (Unwinds rest older ∷ below) left es store e clear = unwind_bare target below (Some rest) es store e clear
+      body_bare target (λ store. unwind program noticing (target_past f.body target) below None es
+        store) (regions_left left (regions_at program f.body f.next))
+        (record { frame = f; below = below; store = store; events = es }) e clear.0
+      (λ store. unwind_bare (target_past f.body target) below None es store
+        (past_code f.body target e) clear.1)
+  unwind_bare target (Searches exception resumption asked rest ∷ below) left es store e
+      clear = unwind_bare target below None es store e clear
+  unwind_bare target (Unwinds rest older ∷ below) left es store e clear = unwind_bare target below
+      (Some rest) es store e clear

@@ -6,7 +6,8 @@ use Rattle.seh_num.specs.declared.event.Event.{Event}
 use Rattle.seh_num.specs.declared.event.Event.TheVariants as events
 use Rattle.unset_locals.specs.Marks.{begins_block}
 
-ends_with_block : (more : List Event) (k : ℕ) (abnormal : Bool) → begins_block (more ++ events.Finally k abnormal ∷ []) ≡ true
+ends_with_block : (more : List Event) (k : ℕ) (abnormal : Bool)
+    → begins_block (more ++ events.Finally k abnormal ∷ []) ≡ true
 ends_with_block [] k abnormal = refl
 ends_with_block (events.Put n ∷ more) k abnormal = ends_with_block more k abnormal
 ends_with_block (events.Raise code flag access ∷ more) k abnormal = ends_with_block more k abnormal
@@ -15,7 +16,8 @@ ends_with_block (events.Answer n ∷ more) k abnormal = ends_with_block more k a
 ends_with_block (events.Finally n b ∷ more) k abnormal = refl
 ends_with_block (events.Except code ∷ more) k abnormal = ends_with_block more k abnormal
 
-no_block : (more : List Event) (e : Event) → begins_block more ≡ false → begins_block (e ∷ []) ≡ false → begins_block (more ++ e ∷ []) ≡ false
+no_block : (more : List Event) (e : Event) → begins_block more ≡ false
+    → begins_block (e ∷ []) ≡ false → begins_block (more ++ e ∷ []) ≡ false
 no_block [] e h q = q
 no_block (events.Put n ∷ more) e h q = no_block more e h q
 no_block (events.Raise code flag access ∷ more) e h q = no_block more e h q
@@ -37,16 +39,21 @@ module _ (before : List Event) where
   joined : (es : List Event) (e : Event) (a : Adds es) → es ++ e ∷ [] ≡ before ++ (a.more ++ e ∷ [])
   joined es e a = ap (λ l. l ++ e ∷ []) a.is ∙ append_assoc before a.more (e ∷ [])
 
-  pub adds_one : (es : List Event) (e : Event) → Adds es → begins_block (e ∷ []) ≡ false → Adds (es ++ e ∷ [])
-  adds_one es e a q = record { more = a.more ++ e ∷ []; is = joined es e a; quiet = no_block a.more e a.quiet q }
+  pub adds_one : (es : List Event) (e : Event) → Adds es → begins_block (e ∷ []) ≡ false
+      → Adds (es ++ e ∷ [])
+  adds_one es e a q = record { more = a.more ++ e ∷ []; is = joined es e a;
+      quiet = no_block a.more e a.quiet q }
 
-  added : (es more : List Event) → es ≡ before ++ more → begins_block (drop (length before) es) ≡ begins_block more
-  added es more e = ap (λ l. begins_block (drop (length before) l)) e ∙ ap (λ l. begins_block l) (drop-append_seam before more)
+  added : (es more : List Event) → es ≡ before ++ more
+      → begins_block (drop (length before) es) ≡ begins_block more
+  added es more e = ap (λ l. begins_block (drop (length before) l)) e
+      ∙ ap (λ l. begins_block l) (drop-append_seam before more)
 
   pub quiet_events : (es : List Event) → Adds es → begins_block (drop (length before) es) ≡ false
   quiet_events es a = added es a.more a.is ∙ a.quiet
 
-  pub block_events : (es : List Event) (k : ℕ) (abnormal : Bool) → Adds es → begins_block (drop (length before) (es ++ events.Finally k abnormal ∷ [])) ≡ true
+  pub block_events : (es : List Event) (k : ℕ) (abnormal : Bool) → Adds es
+      → begins_block (drop (length before) (es ++ events.Finally k abnormal ∷ [])) ≡ true
   block_events es k abnormal a =
       let e = events.Finally k abnormal in
       added (es ++ e ∷ []) (a.more ++ e ∷ []) (joined es e a) ∙ ends_with_block a.more k abnormal

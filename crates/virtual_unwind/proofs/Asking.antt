@@ -20,23 +20,29 @@ none_asked : (o : Option Entry) (frame : ℕ) (a : Answer Context) → IsAsked o
 none_asked o frame (Ok c) = refl
 none_asked o frame (Err e) = tt
 
-own_asked : (e : Entry) (frame : ℕ) (a : Answer Context) → IsAsked (Some e) (found frame (Some e.info) a)
+own_asked : (e : Entry) (frame : ℕ) (a : Answer Context)
+    → IsAsked (Some e) (found frame (Some e.info) a)
 own_asked e frame (Ok c) = refl
 own_asked e frame (Err x) = tt
 
-past_asked : (m : Memory) (e : Entry) (c : Context) (o : Option (List Instr)) → IsAsked (Some e) (past_prologue m e.info e.parents c o)
+past_asked : (m : Memory) (e : Entry) (c : Context) (o : Option (List Instr))
+    → IsAsked (Some e) (past_prologue m e.info e.parents c o)
 past_asked m e c (Some is) = none_asked (Some e) _ _
 past_asked m e c None = own_asked e _ _
 
-by_asked : (m : Memory) (e : Entry) (c : Context) (d : ℕ) (b : Bool) → IsAsked (Some e) (by_distance m e.info e.parents c d b)
+by_asked : (m : Memory) (e : Entry) (c : Context) (d : ℕ) (b : Bool)
+    → IsAsked (Some e) (by_distance m e.info e.parents c d b)
 by_asked m e c d true = none_asked (Some e) _ _
 by_asked m e c d false = past_asked m e c (tail_at e.info.frame_register m c.rip)
 
-entry_asked : (m : Memory) (c : Context) (rva : ℕ) (o : Option Entry) → IsAsked o (of_entry m c rva o)
+entry_asked : (m : Memory) (c : Context) (rva : ℕ) (o : Option Entry)
+    → IsAsked o (of_entry m c rva o)
 entry_asked m c rva None = none_asked None _ _
-entry_asked m c rva (Some e) = by_asked m e c (rva - e.range.begin) (ltb (rva - e.range.begin) e.info.prologue_size)
+entry_asked m c rva (Some e) = by_asked m e c (rva - e.range.begin)
+    (ltb (rva - e.range.begin) e.info.prologue_size)
 
-risen_asked : (o : Option Entry) (c : Context) (a : Answer CallerFrame) → IsAsked o a → IsAsked o (a >>= rising c)
+risen_asked : (o : Option Entry) (c : Context) (a : Answer CallerFrame) → IsAsked o a
+    → IsAsked o (a >>= rising c)
 risen_asked o c (Err e) h = tt
 risen_asked o c (Ok f) h = go (ltb (rsp c) (rsp f.context))
   where
@@ -46,4 +52,6 @@ risen_asked o c (Ok f) h = go (ltb (rsp c) (rsp f.context))
 
 pub the_entry_is_asked : TheEntryIsAsked
 unfolding caller_in
-the_entry_is_asked t m c f e = subst (IsAsked (entry_of t c.rip)) e (risen_asked (entry_of t c.rip) c (of_entry m c (distance t.base c.rip) (entry_of t c.rip)) (entry_asked m c (distance t.base c.rip) (entry_of t c.rip)))
+the_entry_is_asked t m c f e = subst (IsAsked (entry_of t c.rip)) e
+    (risen_asked (entry_of t c.rip) c (of_entry m c (distance t.base c.rip) (entry_of t c.rip))
+    (entry_asked m c (distance t.base c.rip) (entry_of t c.rip)))

@@ -19,44 +19,60 @@ use Rattle.whole_runs.proofs.All.{runs_show_all}
 use Rattle.whole_runs.proofs.NoMore.{in_midst, runs_show_no_more}
 
 pub all : RunsShowAll
-all t fs program pace credit n turns s c follows rule enough = runs_show_all t fs program pace credit n turns s c follows rule enough
+all t fs program pace credit n turns s c follows rule enough = runs_show_all t fs program pace
+    credit n turns s c follows rule enough
 
 pub no_more : RunsShowNoMore
-no_more t fs program pace credit m n s c follows calm fewer = runs_show_no_more t fs program pace credit n m s c follows calm fewer
+no_more t fs program pace credit m n s c follows calm fewer = runs_show_no_more t fs program pace
+    credit n m s c follows calm fewer
 
-module _ (t : Functions) (fs : List Funclet) (program : LinearProgram) (pace : ℕ) (credit : Configuration → ℕ) (arg : ℤ) (first n : ℕ) (s : State) (b : RunBegins t fs program pace credit arg first s n) where
+module _ (t : Functions) (fs : List Funclet) (program : LinearProgram) (pace : ℕ)
+    (credit : Configuration → ℕ) (arg : ℤ) (first n : ℕ) (s : State)
+    (b : RunBegins t fs program pace credit arg first s n) where
   -- the run of linear code
   pub from_main : seen program arg n ≡ exec program n (start program arg b.main)
   unfolding with_some
-  from_main = ap (λ (o : Option LinearFunction). with_some [] o (λ main. exec program n (start program arg main))) b.is_main
+  from_main = ap (λ (o : Option LinearFunction). with_some [] o
+      (λ main. exec program n (start program arg main))) b.is_main
 
   first_run : (turns : ℕ) → run t fs (first + turns) (host s) [] ≡ run t fs turns (host b.state) []
   first_run turns = run_comes t fs first turns s b.state [] [] b.comes
 
-  pub program_all : (turns : ℕ) → HasRule (seen program arg n) → first + pace * n ≤ turns → ShowsAll (shown (seen program arg n)) (run t fs turns (host s) [])
+  pub program_all : (turns : ℕ) → HasRule (seen program arg n) → first + pace * n ≤ turns
+      → ShowsAll (shown (seen program arg n)) (run t fs turns (host s) [])
   program_all turns rule enough =
       let none = b.no_credit in
       let split : turns ≡ first + (turns - first) = omega arith in
       subst (λ (x : Seen). ShowsAll (shown x) (run t fs turns (host s) [])) (sym from_main)
-      (subst (λ (x : Shown RunEnd). ShowsAll (shown (exec program n (start program arg b.main))) x) (sym (ap (λ k. run t fs k (host s) []) split ∙ first_run (turns - first)))
-      (runs_show_all t fs program pace credit n (turns - first) b.state (start program arg b.main) b.follows (subst HasRule from_main rule) (omega arith)))
+      (subst (λ (x : Shown RunEnd). ShowsAll (shown (exec program n (start program arg b.main))) x)
+        (sym (ap (λ k. run t fs k (host s) []) split ∙ first_run (turns - first)))
+      (runs_show_all t fs program pace credit n (turns - first) b.state (start program arg b.main)
+        b.follows (subst HasRule from_main rule) (omega arith)))
 
-  pub program_no_more : (m : ℕ) → IsCalm (seen program arg n) → m ≤ n → ShowsNoMore (shown (seen program arg n)) (run t fs m (host s) [])
+  pub program_no_more : (m : ℕ) → IsCalm (seen program arg n) → m ≤ n
+      → ShowsNoMore (shown (seen program arg n)) (run t fs m (host s) [])
   program_no_more m calm fewer =
-      elim (cases_lt m first) as (λ _. ShowsNoMore (shown (seen program arg n)) (run t fs m (host s) [])) [
-        | inl lt ↦ in_midst t fs (shown (seen program arg n)) first m s b.state [] [] b.comes lt ((shown (seen program arg n)).events, refl)
+      elim (cases_lt m first) as (λ _. ShowsNoMore (shown (seen program arg n))
+        (run t fs m (host s) [])) [
+        | inl lt ↦ in_midst t fs (shown (seen program arg n)) first m s b.state [] [] b.comes lt
+          ((shown (seen program arg n)).events, refl)
         | inr le ↦
             let split : m ≡ first + (m - first) = omega arith in
             subst (λ (x : Seen). ShowsNoMore (shown x) (run t fs m (host s) [])) (sym from_main)
-            (subst (λ (x : Shown RunEnd). ShowsNoMore (shown (exec program n (start program arg b.main))) x) (sym (ap (λ k. run t fs k (host s) []) split ∙ first_run (m - first)))
-            (runs_show_no_more t fs program pace credit n (m - first) b.state (start program arg b.main) b.follows (subst IsCalm from_main calm) (omega arith)))
+            (subst (λ (x : Shown RunEnd). ShowsNoMore
+              (shown (exec program n (start program arg b.main))) x)
+              (sym (ap (λ k. run t fs k (host s) []) split ∙ first_run (m - first)))
+            (runs_show_no_more t fs program pace credit n (m - first) b.state
+              (start program arg b.main) b.follows (subst IsCalm from_main calm) (omega arith)))
       ]
 
 pub programs_all : ProgramsShowAll
-programs_all t fs program pace credit arg first n turns s b rule enough = program_all t fs program pace credit arg first n s b turns rule enough
+programs_all t fs program pace credit arg first n turns s b rule enough = program_all t fs program
+    pace credit arg first n s b turns rule enough
 
 pub programs_no_more : ProgramsShowNoMore
-programs_no_more t fs program pace credit arg first m n s b calm fewer = program_no_more t fs program pace credit arg first n s b m calm fewer
+programs_no_more t fs program pace credit arg first m n s b calm fewer = program_no_more t fs
+    program pace credit arg first n s b m calm fewer
 
 pub enough : TurnsAreEnough
 enough n first le = omega arith

@@ -24,18 +24,25 @@ module _ (t : Functions) (fs : List Funclet) where
   pub comes_nowhere : (s : State) → Comes t fs 0 s [] s
   comes_nowhere s = (refl, refl)
 
-  pub comes_one : (s u : State) (events : List Event) → IsLive s → turn t fs s ≡ Continues u events → KeepsShadow t fs s u → Comes t fs 1 s events u
-  comes_one s u events live e keeps = record { live = live; state = u; first = events; others = []; turns = e; shadow = keeps; whole = sym (append-nil events); rest = (refl, refl) }
+  pub comes_one : (s u : State) (events : List Event) → IsLive s → turn t fs s ≡ Continues u events
+      → KeepsShadow t fs s u → Comes t fs 1 s events u
+  comes_one s u events live e keeps = record { live = live; state = u; first = events; others = [];
+      turns = e; shadow = keeps; whole = sym (append-nil events); rest = (refl, refl) }
 
   -- an instruction that is run, with the event of the funclet at which RIP arrives, if it does
-  pub comes_by_step : (s u : State) → IsLive s → step s ≡ Ok u → KeepsShadow t fs s u → Comes t fs 1 s (arrivals u.cpu (distance t.base u.cpu.rip) 1 fs) u
+  pub comes_by_step : (s u : State) → IsLive s → step s ≡ Ok u → KeepsShadow t fs s u
+      → Comes t fs 1 s (arrivals u.cpu (distance t.base u.cpu.rip) 1 fs) u
   unfolding turn
-  comes_by_step s u live e keeps = comes_one s u (arrivals u.cpu (distance t.base u.cpu.rip) 1 fs) live (ap (λ x. arrived t fs (turned t s x)) e) keeps
+  comes_by_step s u live e keeps = comes_one s u (arrivals u.cpu (distance t.base u.cpu.rip) 1 fs)
+      live (ap (λ x. arrived t fs (turned t s x)) e) keeps
 
-  pub comes_then : (k n : ℕ) (s u w : State) (a b : List Event) → Comes t fs k s a u → Comes t fs n u b w → Comes t fs (k + n) s (a ++ b) w
+  pub comes_then : (k n : ℕ) (s u w : State) (a b : List Event) → Comes t fs k s a u
+      → Comes t fs n u b w → Comes t fs (k + n) s (a ++ b) w
   comes_then zero n s u w a b r q =
       let e : n ≡ 0 + n = omega arith in
-      subst (λ m. Comes t fs m s (a ++ b) w) e (subst (λ (x : List Event). Comes t fs n s (x ++ b) w) (sym r.0) (subst (λ (v : State). Comes t fs n v b w) (sym r.1) q))
+      subst (λ m. Comes t fs m s (a ++ b) w) e
+        (subst (λ (x : List Event). Comes t fs n s (x ++ b) w) (sym r.0)
+        (subst (λ (v : State). Comes t fs n v b w) (sym r.1) q))
   comes_then (suc k) n s u w a b r q =
       let e : suc (k + n) ≡ suc k + n = omega arith in
       subst (λ m. Comes t fs m s (a ++ b) w) e (record {
@@ -51,36 +58,50 @@ module _ (t : Functions) (fs : List Funclet) where
 
   -- ---- runs
 
-  pub run_live : (n : ℕ) (s : State) (out : List Event) → IsLive s → run t fs (suc n) (host s) out ≡ continued_by (run t fs n) out (turn t fs s)
+  pub run_live : (n : ℕ) (s : State) (out : List Event) → IsLive s
+      → run t fs (suc n) (host s) out ≡ continued_by (run t fs n) out (turn t fs s)
   unfolding run
   run_live n s out e = ap (λ (b : Bool). or_turn t fs (run t fs n) out (over s b)) e
 
-  pub run_ended : (n : ℕ) (e : RunEnd) (out : List Event) → run t fs n (Ended e) out ≡ record { events = out; end = Some e }
+  pub run_ended : (n : ℕ) (e : RunEnd) (out : List Event)
+      → run t fs n (Ended e) out ≡ record { events = out; end = Some e }
   unfolding run
   run_ended zero e out = refl
   run_ended (suc n) e out = refl
 
-  pub run_returned : (n : ℕ) (s : State) (out : List Event) → s.cpu.rip ≡ 0 → run t fs n (host s) out ≡ record { events = out; end = Some (ends.Exit (signed W32 (register s.cpu Rax))) }
-  run_returned n s out e = ap (λ a. run t fs n (over s (a == 0)) out) e ∙ run_ended n (ends.Exit (signed W32 (register s.cpu Rax))) out
+  pub run_returned : (n : ℕ) (s : State) (out : List Event) → s.cpu.rip ≡ 0
+      → run t fs n (host s) out ≡ record { events = out;
+        end = Some (ends.Exit (signed W32 (register s.cpu Rax))) }
+  run_returned n s out e = ap (λ a. run t fs n (over s (a == 0)) out) e
+      ∙ run_ended n (ends.Exit (signed W32 (register s.cpu Rax))) out
 
   -- a run begins with the turns that it makes first
-  pub run_comes : (k n : ℕ) (s u : State) (out events : List Event) → Comes t fs k s events u → run t fs (k + n) (host s) out ≡ run t fs n (host u) (out ++ events)
+  pub run_comes : (k n : ℕ) (s u : State) (out events : List Event) → Comes t fs k s events u
+      → run t fs (k + n) (host s) out ≡ run t fs n (host u) (out ++ events)
   run_comes zero n s u out events r =
       let e : 0 + n ≡ n = omega arith in
-      ap (λ m. run t fs m (host s) out) e ∙ ap (λ (v : State). run t fs n (host v) out) r.1 ∙ ap (run t fs n (host u)) (sym (append-nil out)) ∙ ap (λ (x : List Event). run t fs n (host u) (out ++ x)) (sym r.0)
+      ap (λ m. run t fs m (host s) out) e ∙ ap (λ (v : State). run t fs n (host v) out) r.1
+        ∙ ap (run t fs n (host u)) (sym (append-nil out))
+        ∙ ap (λ (x : List Event). run t fs n (host u) (out ++ x)) (sym r.0)
   run_comes (suc k) n s u out events r =
       let e : suc k + n ≡ suc (k + n) = omega arith in
-      ap (λ m. run t fs m (host s) out) e ∙ run_live (k + n) s out r.live ∙ ap (continued_by (run t fs (k + n)) out) r.turns
+      ap (λ m. run t fs m (host s) out) e ∙ run_live (k + n) s out r.live
+        ∙ ap (continued_by (run t fs (k + n)) out) r.turns
       ∙ run_comes k n r.state u (out ++ r.first) r.others r.rest
-      ∙ ap (run t fs n (host u)) (append_assoc out r.first r.others) ∙ ap (λ (x : List Event). run t fs n (host u) (out ++ x)) (sym r.whole)
+      ∙ ap (run t fs n (host u)) (append_assoc out r.first r.others)
+      ∙ ap (λ (x : List Event). run t fs n (host u) (out ++ x)) (sym r.whole)
 
   -- a run that ends by its next turn
-  pub run_dies : (n : ℕ) (s : State) (out last : List Event) (e : RunEnd) → IsLive s → turn t fs s ≡ Ends last e → run t fs (suc n) (host s) out ≡ record { events = out ++ last; end = Some e }
-  run_dies n s out last e live ends = run_live n s out live ∙ ap (continued_by (run t fs n) out) ends ∙ run_ended n e (out ++ last)
+  pub run_dies : (n : ℕ) (s : State) (out last : List Event) (e : RunEnd) → IsLive s
+      → turn t fs s ≡ Ends last e → run t fs (suc n) (host s) out
+      ≡ record { events = out ++ last; end = Some e }
+  run_dies n s out last e live ends = run_live n s out live
+      ∙ ap (continued_by (run t fs n) out) ends ∙ run_ended n e (out ++ last)
 
   -- ---- in the midst of turns
 
-  pub run_pauses : (s : State) (out : List Event) → IsLive s → run t fs zero (host s) out ≡ record { events = out; end = None }
+  pub run_pauses : (s : State) (out : List Event) → IsLive s
+      → run t fs zero (host s) out ≡ record { events = out; end = None }
   unfolding run
   run_pauses s out e = ap (λ (b : Bool). record { events = out; end = end_of (over s b) }) e
 
@@ -91,15 +112,20 @@ module _ (t : Functions) (fs : List Funclet) where
     pub whole : events ≡ part ++ others
     pub runs : run t fs m (host s) out ≡ record { events = out ++ part; end = None }
 
-  pub midst : (k m : ℕ) (s u : State) (out events : List Event) → Comes t fs k s events u → m < k → Midst m s out events
+  pub midst : (k m : ℕ) (s u : State) (out events : List Event) → Comes t fs k s events u → m < k
+      → Midst m s out events
   midst zero m s u out events r lt = absurd (omega arith)
   midst (suc k) zero s u out events r lt =
-      record { part = []; others = events; whole = refl; runs = run_pauses s out r.live ∙ ap (λ (x : List Event). record { events = x; end = None }) (sym (append-nil out)) }
+      record { part = []; others = events; whole = refl; runs = run_pauses s out r.live
+        ∙ ap (λ (x : List Event). record { events = x; end = None }) (sym (append-nil out)) }
   midst (suc k) (suc m) s u out events r lt =
       let x = midst k m r.state u (out ++ r.first) r.others r.rest (omega arith) in
       record {
         part = r.first ++ x.part;
         others = x.others;
-        whole = r.whole ∙ ap (λ (ys : List Event). r.first ++ ys) x.whole ∙ sym (append_assoc r.first x.part x.others);
-        runs = run_live m s out r.live ∙ ap (continued_by (run t fs m) out) r.turns ∙ x.runs ∙ ap (λ (ys : List Event). record { events = ys; end = None }) (append_assoc out r.first x.part);
+        whole = r.whole ∙ ap (λ (ys : List Event). r.first ++ ys) x.whole
+          ∙ sym (append_assoc r.first x.part x.others);
+        runs = run_live m s out r.live ∙ ap (continued_by (run t fs m) out) r.turns ∙ x.runs
+          ∙ ap (λ (ys : List Event). record { events = ys; end = None })
+            (append_assoc out r.first x.part);
       }

@@ -46,20 +46,24 @@ rex_length : (t : Bool) (b : ℕ) → length (cond t (b ∷ []) []) ≤ 1
 rex_length true b = omega arith
 rex_length false b = omega arith
 
-displacement_by : (t : Bool) (d : ℕ) → length (cond t (little 1 (low W8 d)) (little 4 (low W32 d))) ≤ 4
+displacement_by : (t : Bool) (d : ℕ) → length (cond t (little 1 (low W8 d)) (little 4 (low W32 d)))
+    ≤ 4
 displacement_by true d = omega arith
 displacement_by false d = omega arith
 
-shorter_by : (t : Bool) (xs ys : List ℕ) (n : ℕ) → length xs ≤ n → length ys ≤ n → length (cond t xs ys) ≤ n
+shorter_by : (t : Bool) (xs ys : List ℕ) (n : ℕ) → length xs ≤ n → length ys ≤ n
+    → length (cond t xs ys) ≤ n
 shorter_by true xs ys n x y = x
 shorter_by false xs ys n x y = y
 
 at_register_length : (r : ℕ) (b : Reg) (d : ℕ) → length (at_register r b None d) ≤ 6
 at_register_length r b d =
     let e = displacement_by (is_signed W8 W64 d) d in
-    shorter_by (number b % 8 == 4) ((64 * mode d + 8 * r + 4) ∷ sib None 4 ∷ displacement d) ((64 * mode d + 8 * r + number b % 8) ∷ displacement d) 6 (omega arith) (omega arith)
+    shorter_by (number b % 8 == 4) ((64 * mode d + 8 * r + 4) ∷ sib None 4 ∷ displacement d)
+      ((64 * mode d + 8 * r + number b % 8) ∷ displacement d) 6 (omega arith) (omega arith)
 
-word_length : (op r : ℕ) (b : Reg) (d : ℕ) → length (modrm W64 (opcodes.One op) r (places.Memory (above b d))) ≤ 8
+word_length : (op r : ℕ) (b : Reg) (d : ℕ) → length
+    (modrm W64 (opcodes.One op) r (places.Memory (above b d))) ≤ 8
 unfolding modrm
 word_length op r b d =
     let at = places.Memory (above b d) in
@@ -72,7 +76,8 @@ fetched_size : (to base : Reg) (d : ℕ) → size (fetched to base d) ≤ 8
 unfolding size
 fetched_size to base d = word_length 0x8B (number to) base d
 
-kept_size : (r base : Reg) (d : ℕ) → size (instrs.Move W64 (places.Memory (above base d)) (operands.Register r)) ≤ 8
+kept_size : (r base : Reg) (d : ℕ) → size (instrs.Move W64 (places.Memory (above base d))
+    (operands.Register r)) ≤ 8
 unfolding size
 kept_size r base d = word_length 0x89 (number r) base d
 
@@ -80,11 +85,13 @@ kept_size r base d = word_length 0x89 (number r) base d
 
 fetch_local_size : (o : Option ℕ) (r : Reg) (d : ℕ) → sizes (fetch_local o r d) ≤ 16
 fetch_local_size None r d = let a = fetched_size r Rsp d in omega arith
-fetch_local_size (Some b) r d = let a = fetched_size r Rsp b in let c = fetched_size r r d in omega arith
+fetch_local_size (Some b) r d = let a = fetched_size r Rsp b in let c = fetched_size r r d in
+    omega arith
 
 keep_local_size : (o : Option ℕ) (d : ℕ) → sizes (keep_local o d) ≤ 16
 keep_local_size None d = let a = kept_size Rax Rsp d in omega arith
-keep_local_size (Some b) d = let a = fetched_size Rcx Rsp b in let c = kept_size Rax Rcx d in omega arith
+keep_local_size (Some b) d = let a = fetched_size Rcx Rsp b in let c = kept_size Rax Rcx d in
+    omega arith
 
 pub fetch_size : (y : Layout) (r : Reg) (x : Slot) → sizes (fetch y r x) ≤ slot_room x
 fetch_size y r (Temporary i) = let a = fetched_size r Rsp (temporary_at y i) in omega arith
@@ -176,13 +183,17 @@ operation_size (operations.Store W16) = omega arith
 operation_size (operations.Store W32) = omega arith
 operation_size (operations.Store W64) = omega arith
 
-compute_size : (y : Layout) (to : Slot) (o : Operation) (first second : Slot) → sizes (compute_code y to o first second) ≤ slot_room to + slot_room first + slot_room second + 11
+compute_size : (y : Layout) (to : Slot) (o : Operation) (first second : Slot)
+    → sizes (compute_code y to o first second)
+    ≤ slot_room to + slot_room first + slot_room second + 11
 compute_size y to o first second =
     let a = fetch_size y Rax first in
     let b = fetch_size y Rcx second in
     let c = operation_size o in
     let e = keep_size y to in
-    omega (arith, sizes_append (operands_code y o first second) (finish_code y o to), sizes_append (fetch y Rax first) (fetch y Rcx second ++ before o), sizes_append (fetch y Rcx second) (before o), sizes_append (work o) (keep y to))
+    omega (arith, sizes_append (operands_code y o first second) (finish_code y o to),
+      sizes_append (fetch y Rax first) (fetch y Rcx second ++ before o),
+      sizes_append (fetch y Rcx second) (before o), sizes_append (work o) (keep y to))
 
 -- ---- the others
 
@@ -197,7 +208,9 @@ compare_zero_size : size compare_zero ≤ 4
 unfolding size modrm
 compare_zero_size = omega arith
 
-epilogue_by : (t : Bool) (n : ℕ) → length (cond t (modrm W64 (opcodes.One 0x83) 0 (places.Register Rsp) ++ little 1 (low W8 n)) (modrm W64 (opcodes.One 0x81) 0 (places.Register Rsp) ++ little 4 (low W32 n))) ≤ 7
+epilogue_by : (t : Bool) (n : ℕ) → length (cond t
+    (modrm W64 (opcodes.One 0x83) 0 (places.Register Rsp) ++ little 1 (low W8 n))
+    (modrm W64 (opcodes.One 0x81) 0 (places.Register Rsp) ++ little 4 (low W32 n))) ≤ 7
 unfolding modrm
 epilogue_by true n = omega arith
 epilogue_by false n = omega arith
@@ -223,7 +236,8 @@ arguments_size y first =
     let d = fetched_size R9 Rsp (temporary_at y (first + 3)) in
     omega arith
 
-called_size : (y : Layout) (to : Slot) (first at target : ℕ) → sizes (call_code y to first at target) ≤ 37 + slot_room to
+called_size : (y : Layout) (to : Slot) (first at target : ℕ)
+    → sizes (call_code y to first at target) ≤ 37 + slot_room to
 called_size y to first at target =
     let a = arguments_size y first in
     let b = keep_size y to in
@@ -247,7 +261,8 @@ unfolding size
 nothing_size = omega arith
 
 -- no template takes more than its room
-pub template_in_room : (y : Layout) (i : Instruction) → PassesFew i → template_size y i ≤ instruction_room i
+pub template_in_room : (y : Layout) (i : Instruction) → PassesFew i
+    → template_size y i ≤ instruction_room i
 unfolding template_size
 template_in_room y (instructions.Compute to o first second) few = compute_size y to o first second
 template_in_room y (instructions.Information to field) few =
@@ -270,7 +285,8 @@ template_in_room y (instructions.Call function first count) few =
     let le : count ≤ 8 = few in
     let e = passing_call_size y first count 0 0 in
     omega arith
-template_in_room y (instructions.CallBuiltIn function first) few = let a = clear_size in let b = called_size y (Temporary first) first 5 0 in omega arith
+template_in_room y (instructions.CallBuiltIn function first) few = let a = clear_size in
+    let b = called_size y (Temporary first) first 5 0 in omega arith
 template_in_room y (instructions.CallFinally funclet) few = finally_size 0 0
 template_in_room y (instructions.LocalUnwind label) few = unwind_size 0 0 0
 template_in_room y instructions.Separator few = let e = nothing_size in omega arith

@@ -41,18 +41,21 @@ opcode_length : (op : Opcode) → length (opcode_bytes op) ≤ 2
 opcode_length (opcodes.One b) = omega arith
 opcode_length (opcodes.Two b) = omega arith
 
-displacement_by : (t : Bool) (d : ℕ) → length (cond t (little 1 (low W8 d)) (little 4 (low W32 d))) ≤ 4
+displacement_by : (t : Bool) (d : ℕ) → length (cond t (little 1 (low W8 d)) (little 4 (low W32 d)))
+    ≤ 4
 displacement_by true d = omega (arith, length-little 1 (low W8 d))
 displacement_by false d = omega (arith, length-little 4 (low W32 d))
 
-shorter_by : (t : Bool) (xs ys : List ℕ) (n : ℕ) → length xs ≤ n → length ys ≤ n → length (cond t xs ys) ≤ n
+shorter_by : (t : Bool) (xs ys : List ℕ) (n : ℕ) → length xs ≤ n → length ys ≤ n
+    → length (cond t xs ys) ≤ n
 shorter_by true xs ys n x y = x
 shorter_by false xs ys n x y = y
 
 at_register_length : (r : ℕ) (b : Reg) (i : Option Index) (d : ℕ) → length (at_register r b i d) ≤ 6
 at_register_length r b None d =
     let e = displacement_by (is_signed W8 W64 d) d in
-    shorter_by (number b % 8 == 4) ((64 * mode d + 8 * r + 4) ∷ sib None 4 ∷ displacement d) ((64 * mode d + 8 * r + number b % 8) ∷ displacement d) 6 (omega arith) (omega arith)
+    shorter_by (number b % 8 == 4) ((64 * mode d + 8 * r + 4) ∷ sib None 4 ∷ displacement d)
+      ((64 * mode d + 8 * r + number b % 8) ∷ displacement d) 6 (omega arith) (omega arith)
 at_register_length r b (Some i) d = let e = displacement_by (is_signed W8 W64 d) d in omega arith
 
 memory_length : (r : ℕ) (b : Base) (i : Option Index) (d : ℕ) → length (memory_bytes r b i d) ≤ 6
@@ -64,7 +67,8 @@ place_length : (r : ℕ) (at : RegisterOrMemory) → length (place_bytes r at) �
 place_length r (places.Register b) = omega arith
 place_length r (places.Memory m) = memory_length r m.base m.index m.displacement
 
-modrm_length : (w : Width) (op : Opcode) (r : ℕ) (at : RegisterOrMemory) → length (modrm w op r at) ≤ 10
+modrm_length : (w : Width) (op : Opcode) (r : ℕ) (at : RegisterOrMemory)
+    → length (modrm w op r at) ≤ 10
 unfolding modrm
 modrm_length w op r at =
     let p = prefixes w (modrm_bits w r at) in
@@ -89,24 +93,38 @@ immediate_most W16 = omega arith
 immediate_most W32 = omega arith
 immediate_most W64 = omega arith
 
-modrm_most : (w : Width) (op : Opcode) (r : ℕ) (at : RegisterOrMemory) → length (modrm w op r at) ≤ 15
+modrm_most : (w : Width) (op : Opcode) (r : ℕ) (at : RegisterOrMemory)
+    → length (modrm w op r at) ≤ 15
 modrm_most w op r at = omega (arith, modrm_length w op r at)
 
 -- with a number after it
-modrm_more : (w : Width) (op : Opcode) (r : ℕ) (at : RegisterOrMemory) (n v : ℕ) → n ≤ 4 → length (modrm w op r at ++ little n v) ≤ 15
-modrm_more w op r at n v h = let a = length-append (modrm w op r at) (little n v) in let b = length-little n v in let c = modrm_length w op r at in omega arith
+modrm_more : (w : Width) (op : Opcode) (r : ℕ) (at : RegisterOrMemory) (n v : ℕ) → n ≤ 4
+    → length (modrm w op r at ++ little n v) ≤ 15
+modrm_more w op r at n v h = let a = length-append (modrm w op r at) (little n v) in
+    let b = length-little n v in let c = modrm_length w op r at in omega arith
 
-immediate_more : (w : Width) (op : Opcode) (r : ℕ) (at : RegisterOrMemory) (u : Width) (v : ℕ) → length (modrm w op r at ++ immediate_bytes u v) ≤ 15
-immediate_more w op r at u v = modrm_more w op r at (bytes_of (immediate_of u)) (low (immediate_of u) v) (immediate_most u)
+immediate_more : (w : Width) (op : Opcode) (r : ℕ) (at : RegisterOrMemory) (u : Width) (v : ℕ)
+    → length (modrm w op r at ++ immediate_bytes u v) ≤ 15
+immediate_more w op r at u v = modrm_more w op r at (bytes_of (immediate_of u))
+    (low (immediate_of u) v) (immediate_most u)
 
-register_more : (w : Width) (op : ℕ) (r : Reg) (n v : ℕ) → n ≤ 8 → length (opcode_register w op r ++ little n v) ≤ 15
-register_more w op r n v h = let a = length-append (opcode_register w op r) (little n v) in let b = length-little n v in let c = opcode_register_length w op r in omega arith
+register_more : (w : Width) (op : ℕ) (r : Reg) (n v : ℕ) → n ≤ 8
+    → length (opcode_register w op r ++ little n v) ≤ 15
+register_more w op r n v h = let a = length-append (opcode_register w op r) (little n v) in
+    let b = length-little n v in let c = opcode_register_length w op r in omega arith
 
-arithmetic_length : (o : Operation) (w : Width) (to : RegisterOrMemory) (v : ℕ) → length (arithmetic_bytes o w to v) ≤ 15
+arithmetic_length : (o : Operation) (w : Width) (to : RegisterOrMemory) (v : ℕ)
+    → length (arithmetic_bytes o w to v) ≤ 15
 arithmetic_length o W8 to v = immediate_more W8 (opcodes.One 0x80) (opcode_extension o) to W8 v
-arithmetic_length o W16 to v = shorter_by (is_signed W8 W16 v) _ _ 15 (modrm_more W16 (opcodes.One 0x83) (opcode_extension o) to 1 (low W8 v) (omega arith)) (immediate_more W16 (opcodes.One 0x81) (opcode_extension o) to W16 v)
-arithmetic_length o W32 to v = shorter_by (is_signed W8 W32 v) _ _ 15 (modrm_more W32 (opcodes.One 0x83) (opcode_extension o) to 1 (low W8 v) (omega arith)) (immediate_more W32 (opcodes.One 0x81) (opcode_extension o) to W32 v)
-arithmetic_length o W64 to v = shorter_by (is_signed W8 W64 v) _ _ 15 (modrm_more W64 (opcodes.One 0x83) (opcode_extension o) to 1 (low W8 v) (omega arith)) (immediate_more W64 (opcodes.One 0x81) (opcode_extension o) to W64 v)
+arithmetic_length o W16 to v = shorter_by (is_signed W8 W16 v) _ _ 15
+    (modrm_more W16 (opcodes.One 0x83) (opcode_extension o) to 1 (low W8 v) (omega arith))
+    (immediate_more W16 (opcodes.One 0x81) (opcode_extension o) to W16 v)
+arithmetic_length o W32 to v = shorter_by (is_signed W8 W32 v) _ _ 15
+    (modrm_more W32 (opcodes.One 0x83) (opcode_extension o) to 1 (low W8 v) (omega arith))
+    (immediate_more W32 (opcodes.One 0x81) (opcode_extension o) to W32 v)
+arithmetic_length o W64 to v = shorter_by (is_signed W8 W64 v) _ _ 15
+    (modrm_more W64 (opcodes.One 0x83) (opcode_extension o) to 1 (low W8 v) (omega arith))
+    (immediate_more W64 (opcodes.One 0x81) (opcode_extension o) to W64 v)
 
 move_length : (w : Width) (to : Reg) (v : ℕ) → length (move_bytes w to v) ≤ 15
 move_length W8 to v = immediate_more W8 (opcodes.One 0xC6) 0 (places.Register to) W8 v
@@ -120,7 +138,8 @@ plain_length W16 op = omega arith
 plain_length W32 op = omega arith
 plain_length W64 op = omega arith
 
-count_length : (w : Width) (d : ℕ) (to : RegisterOrMemory) (by : Count) → length (count_bytes w d to by) ≤ 15
+count_length : (w : Width) (d : ℕ) (to : RegisterOrMemory) (by : Count)
+    → length (count_bytes w d to by) ≤ 15
 count_length w d to (counts.Immediate n) = modrm_more w (opcodes.One 0xC1) d to 1 n (omega arith)
 count_length w d to counts.Cl = modrm_most w (opcodes.One 0xD3) d to
 
@@ -128,23 +147,34 @@ displaced_length : (b c d : ℕ) → length (b ∷ c ∷ little 4 d) ≤ 15
 displaced_length b c d = omega (arith, length-little 4 d)
 
 pub longest : (i : Instr) → encoded_len i ≤ 15
-longest (instrs.Move w to (operands.Register r)) = modrm_most w (opcodes.One (sized_opcode w 0x88)) (number r) to
-longest (instrs.Move w (places.Register r) (operands.Memory m)) = modrm_most w (opcodes.One (sized_opcode w 0x8A)) (number r) (places.Memory m)
+longest (instrs.Move w to (operands.Register r)) = modrm_most w (opcodes.One (sized_opcode w 0x88))
+    (number r) to
+longest (instrs.Move w (places.Register r) (operands.Memory m)) = modrm_most w
+    (opcodes.One (sized_opcode w 0x8A)) (number r) (places.Memory m)
 longest (instrs.Move w (places.Register r) (operands.Immediate v)) = move_length w r v
 longest (instrs.Move w (places.Memory n) (operands.Memory m)) = omega arith
-longest (instrs.Move w (places.Memory n) (operands.Immediate v)) = immediate_more w (opcodes.One (sized_opcode w 0xC6)) 0 (places.Memory n) w v
-longest (instrs.Extend e w to n from) = modrm_most (extend_width w n) (extend_opcode e n) (number to) from
+longest (instrs.Move w (places.Memory n) (operands.Immediate v)) = immediate_more w
+    (opcodes.One (sized_opcode w 0xC6)) 0 (places.Memory n) w v
+longest (instrs.Extend e w to n from) = modrm_most (extend_width w n) (extend_opcode e n)
+    (number to) from
 longest (instrs.LoadAddress w to m) = modrm_most w (opcodes.One 0x8D) (number to) (places.Memory m)
-longest (instrs.Arithmetic o w to (operands.Register r)) = modrm_most w (opcodes.One (sized_opcode w (8 * opcode_extension o))) (number r) to
+longest (instrs.Arithmetic o w to (operands.Register r)) = modrm_most w
+    (opcodes.One (sized_opcode w (8 * opcode_extension o))) (number r) to
 longest (instrs.Arithmetic o w to (operands.Immediate v)) = arithmetic_length o w to v
-longest (instrs.Arithmetic o w (places.Register r) (operands.Memory m)) = modrm_most w (opcodes.One (sized_opcode w (8 * opcode_extension o + 2))) (number r) (places.Memory m)
+longest (instrs.Arithmetic o w (places.Register r) (operands.Memory m)) = modrm_most w
+    (opcodes.One (sized_opcode w (8 * opcode_extension o + 2))) (number r) (places.Memory m)
 longest (instrs.Arithmetic o w (places.Memory n) (operands.Memory m)) = omega arith
-longest (instrs.Test w at (operands.Register r)) = modrm_most w (opcodes.One (sized_opcode w 0x84)) (number r) at
-longest (instrs.Test w at (operands.Immediate v)) = immediate_more w (opcodes.One (sized_opcode w 0xF6)) 0 at w v
+longest (instrs.Test w at (operands.Register r)) = modrm_most w (opcodes.One (sized_opcode w 0x84))
+    (number r) at
+longest (instrs.Test w at (operands.Immediate v)) = immediate_more w
+    (opcodes.One (sized_opcode w 0xF6)) 0 at w v
 longest (instrs.Test w at (operands.Memory m)) = omega arith
 longest (instrs.Multiply w to from) = modrm_most w (opcodes.Two 0xAF) (number to) from
-longest (instrs.MultiplyBy w to from v) = shorter_by (is_signed W8 w v) _ _ 15 (modrm_more w (opcodes.One 0x6B) (number to) from 1 (low W8 v) (omega arith)) (immediate_more w (opcodes.One 0x69) (number to) from w v)
-longest (instrs.Unary o w at) = modrm_most w (opcodes.One (sized_opcode w 0xF6)) (unary_opcode_extension o) at
+longest (instrs.MultiplyBy w to from v) = shorter_by (is_signed W8 w v) _ _ 15
+    (modrm_more w (opcodes.One 0x6B) (number to) from 1 (low W8 v) (omega arith))
+    (immediate_more w (opcodes.One 0x69) (number to) from w v)
+longest (instrs.Unary o w at) = modrm_most w (opcodes.One (sized_opcode w 0xF6))
+    (unary_opcode_extension o) at
 longest (instrs.Divide d w at) = modrm_most w (opcodes.One 0xF7) (division_opcode_extension d) at
 longest (instrs.ExtendRax w) = plain_length w 0x99
 longest (instrs.Shift d w to by) = count_length w (direction_opcode_extension d) to by

@@ -30,7 +30,8 @@ low_negsuc W32 x y k e = omega arith
 low_negsuc W64 x y k e = omega arith
 
 -- less a multiple of the limit
-pub wrapped_from : (w : Width) (z : ℤ) (n k : ℕ) → z ≡ pos n -ℤ pos (limit w * k) → wrapped w z ≡ low w n
+pub wrapped_from : (w : Width) (z : ℤ) (n k : ℕ) → z ≡ pos n -ℤ pos (limit w * k)
+    → wrapped w z ≡ low w n
 wrapped_from w z n k e = elim (cases_lt n (limit w * k)) [
   | inl lt ↦
       let s : (limit w * k - n - 1) + 1 + n ≡ limit w * k = omega arith in
@@ -41,8 +42,10 @@ wrapped_from w z n k e = elim (cases_lt n (limit w * k)) [
 ]
 
 -- the negative of a number
-pub wrapped_neg : (w : Width) (x y k : ℕ) → x + y ≡ limit w * k → wrapped w (neg_ℤ (pos x)) ≡ low w y
-wrapped_neg w zero y k e = let s : 0 + limit w * k ≡ y + limit w * 0 = omega arith in low_same w 0 y k 0 s
+pub wrapped_neg : (w : Width) (x y k : ℕ) → x + y ≡ limit w * k
+    → wrapped w (neg_ℤ (pos x)) ≡ low w y
+wrapped_neg w zero y k e = let s : 0 + limit w * k ≡ y + limit w * 0 = omega arith in
+    low_same w 0 y k 0 s
 wrapped_neg w (suc x) y k e = let s : x + 1 + y ≡ limit w * k = omega arith in low_negsuc w x y k s
 
 -- a signed number of the width is what its low bits represent
@@ -79,14 +82,17 @@ half_at_most W64 W16 h = absurd (omega arith)
 half_at_most W64 W32 h = absurd (omega arith)
 half_at_most W64 W64 h = omega arith
 
-pub is_signed_wider : (n w : Width) (v : ℕ) → bytes_of n ≤ bytes_of w → is_signed w (signed n v) ≡ true
+pub is_signed_wider : (n w : Width) (v : ℕ) → bytes_of n ≤ bytes_of w
+    → is_signed w (signed n v) ≡ true
 is_signed_wider n w v h =
     let le = half_at_most n w h in
     let two = limits n in
     let below = low_below n v in
     elim (cases_lt (low n v) (half n)) [
-      | inl lt ↦ ap (is_signed w) (sym (signed_twice n v) ∙ signed_low n (low n v) lt) ∙ lt-ltb (low n v) (half w) (omega arith)
-      | inr ge ↦ ap (is_signed w) (sym (signed_twice n v) ∙ signed_high n (low n v) ge below) ∙ lt-ltb (limit n - 1 - low n v) (half w) (omega arith)
+      | inl lt ↦ ap (is_signed w) (sym (signed_twice n v) ∙ signed_low n (low n v) lt)
+      ∙ lt-ltb (low n v) (half w) (omega arith)
+      | inr ge ↦ ap (is_signed w) (sym (signed_twice n v) ∙ signed_high n (low n v) ge below)
+      ∙ lt-ltb (limit n - 1 - low n v) (half w) (omega arith)
     ]
 
 pub half_positive : (w : Width) → 0 < half w
@@ -104,5 +110,6 @@ wrapped_signed w a lt = elim (cases_lt a (half w)) [
   | inl l ↦ ap (wrapped w) (signed_low w a l) ∙ low_is w a lt
   | inr g ↦
       let s : limit w - 1 - (limit w - 1 - a) ≡ a = omega arith in
-      ap (wrapped w) (signed_high w a g lt) ∙ ap (λ (k : ℕ). limit w - 1 - k) (low_is w (limit w - 1 - a) (omega arith)) ∙ s
+      ap (wrapped w) (signed_high w a g lt) ∙ ap (λ (k : ℕ). limit w - 1 - k)
+        (low_is w (limit w - 1 - a) (omega arith)) ∙ s
 ]

@@ -4,12 +4,14 @@ use Rattle.std.proofs.Math.Nat.{pow-suc, pow-le-pow_right}
 use Rattle.flat_memory.specs.Memory.{Memory, next, executable, first_refused, number_at, may_read}
 use Rattle.x64_memory.specs.Pages.{readable_byte, or_number, number_or_refused}
 
-pub first_refused-more : (may : ℕ → Bool) (n m at : ℕ) → n ≡ m + 1 → may at ≡ true → first_refused may m (next at) ≡ first_refused may n at
+pub first_refused-more : (may : ℕ → Bool) (n m at : ℕ) → n ≡ m + 1 → may at ≡ true
+    → first_refused may m (next at) ≡ first_refused may n at
 unfolding first_refused
 first_refused-more may zero m at e t = absurd (omega arith)
 first_refused-more may (suc n) m at e t = let h : n ≡ m = omega arith in rw (t, h) refl
 
-pub first_refused-here : (may : ℕ → Bool) (n at : ℕ) → 0 < n → may at ≡ false → first_refused may n at ≡ Some at
+pub first_refused-here : (may : ℕ → Bool) (n at : ℕ) → 0 < n → may at ≡ false
+    → first_refused may n at ≡ Some at
 unfolding first_refused
 first_refused-here may zero at lt t = absurd (omega arith)
 first_refused-here may (suc n) at lt t = rw t refl
@@ -29,7 +31,8 @@ may_first may (suc n) at lt e = from (may at) e
     from true e = refl
     from false e = absurd cc
 
-pub number_at-more : (byte : ℕ → ℕ) (n at : ℕ) → 0 < n → number_at byte n at ≡ byte at + 256 * number_at byte (n - 1) (next at)
+pub number_at-more : (byte : ℕ → ℕ) (n at : ℕ) → 0 < n
+    → number_at byte n at ≡ byte at + 256 * number_at byte (n - 1) (next at)
 unfolding number_at
 number_at-more byte zero at lt = absurd (omega arith)
 number_at-more byte (suc n) at lt = let h : suc n - 1 ≡ n = omega arith in rw h refl
@@ -61,7 +64,8 @@ pub not_true : (b : Bool) → not b ≡ true → b ≡ false
 not_true true e = absurd cc
 not_true false e = refl
 
-pub executable-none : (m : Memory) (n at : ℕ) → (m.protection at).execute ≡ false → executable m n at ≡ []
+pub executable-none : (m : Memory) (n at : ℕ) → (m.protection at).execute ≡ false
+    → executable m n at ≡ []
 unfolding executable
 executable-none m zero at t = refl
 executable-none m (suc n) at t = rw t refl
@@ -78,35 +82,51 @@ unfolding first_refused number_at
 refused_number-zero m zero at e = refl
 refused_number-zero m (suc n) at e = absurd (omega arith)
 
-first_bad : (m : Memory) (n at : ℕ) (b : Bool) → may_read m at ≡ b → None ≡ cond b (Some (m.byte at)) None → may_read m at ≡ false
+first_bad : (m : Memory) (n at : ℕ) (b : Bool) → may_read m at ≡ b
+    → None ≡ cond b (Some (m.byte at)) None → may_read m at ≡ false
 first_bad m n at true e h = absurd cc
 first_bad m n at false e h = e
 
-pub refused_number-here : (m : Memory) (n at : ℕ) → 0 < n → None ≡ readable_byte m at → Err at ≡ number_or_refused m n at
-refused_number-here m n at lt h = sym (ap (λ o. or_number o (number_at m.byte n at)) (first_refused-here (may_read m) n at lt (first_bad m n at (may_read m at) refl h)))
+pub refused_number-here : (m : Memory) (n at : ℕ) → 0 < n → None ≡ readable_byte m at
+    → Err at ≡ number_or_refused m n at
+refused_number-here m n at lt h = sym (ap (λ o. or_number o (number_at m.byte n at))
+    (first_refused-here (may_read m) n at lt (first_bad m n at (may_read m at) refl h)))
 
-good : (m : Memory) (at low : ℕ) (b : Bool) → may_read m at ≡ b → Some low ≡ cond b (Some (m.byte at)) None → (may_read m at ≡ true) × (low ≡ m.byte at)
+good : (m : Memory) (at low : ℕ) (b : Bool) → may_read m at ≡ b
+    → Some low ≡ cond b (Some (m.byte at)) None → (may_read m at ≡ true) × (low ≡ m.byte at)
 good m at low true e h = (e, cc)
 good m at low false e h = absurd cc
 
-carried : (o : Option ℕ) (v low : ℕ) (r : Result ℕ ℕ) → r ≡ or_number o v → (a : ℕ) → r ≡ Err a → (w : ℕ) → Err a ≡ or_number o w
+carried : (o : Option ℕ) (v low : ℕ) (r : Result ℕ ℕ) → r ≡ or_number o v → (a : ℕ) → r ≡ Err a
+    → (w : ℕ) → Err a ≡ or_number o w
 carried None v low r e a f w = absurd cc
 carried (Some b) v low r e a f w = sym f ∙ e
 
-pub refused_number-later : (m : Memory) (n k at low a : ℕ) → n ≡ k + 1 → Some low ≡ readable_byte m at → Err a ≡ number_or_refused m k (next at) → Err a ≡ number_or_refused m n at
+pub refused_number-later : (m : Memory) (n k at low a : ℕ) → n ≡ k + 1
+    → Some low ≡ readable_byte m at → Err a ≡ number_or_refused m k (next at)
+    → Err a ≡ number_or_refused m n at
 refused_number-later m n k at low a e h f =
     let g = good m at low (may_read m at) refl h in
-    carried (first_refused (may_read m) k (next at)) (number_at m.byte k (next at)) low (Err a) f a refl (number_at m.byte n at) ∙ ap (λ o. or_number o (number_at m.byte n at)) (first_refused-more (may_read m) n k at e g.0)
+    carried (first_refused (may_read m) k (next at)) (number_at m.byte k (next at)) low (Err a) f a
+      refl (number_at m.byte n at) ∙ ap (λ o. or_number o (number_at m.byte n at))
+      (first_refused-more (may_read m) n k at e g.0)
 
 whole : (o : Option ℕ) (v high w : ℕ) → Ok high ≡ or_number o v → w ≡ w → (o ≡ None) × (high ≡ v)
 whole None v high w e r = (refl, cc)
 whole (Some b) v high w e r = absurd cc
 
-pub refused_number-more : (m : Memory) (n k at low high : ℕ) → n ≡ k + 1 → Some low ≡ readable_byte m at → Ok high ≡ number_or_refused m k (next at) → Ok (low + 256 * high) ≡ number_or_refused m n at
+pub refused_number-more : (m : Memory) (n k at low high : ℕ) → n ≡ k + 1
+    → Some low ≡ readable_byte m at → Ok high ≡ number_or_refused m k (next at)
+    → Ok (low + 256 * high) ≡ number_or_refused m n at
 refused_number-more m n k at low high e h f =
     let g = good m at low (may_read m at) refl h in
-    let w = whole (first_refused (may_read m) k (next at)) (number_at m.byte k (next at)) high 0 f refl in
-    let none : first_refused (may_read m) n at ≡ None = sym (first_refused-more (may_read m) n k at e g.0) ∙ w.0 in
+    let w = whole (first_refused (may_read m) k (next at)) (number_at m.byte k (next at)) high 0 f
+      refl in
+    let none : first_refused (may_read m) n at
+      ≡ None = sym (first_refused-more (may_read m) n k at e g.0) ∙ w.0 in
     let less : n - 1 ≡ k = omega arith in
-    let more : number_at m.byte n at ≡ m.byte at + 256 * number_at m.byte k (next at) = number_at-more m.byte n at (omega arith) ∙ ap (λ j. m.byte at + 256 * number_at m.byte j (next at)) less in
-    ap Ok (ap (λ b. b + 256 * high) g.1 ∙ ap (λ v. m.byte at + 256 * v) w.1 ∙ sym more) ∙ sym (ap (λ o. or_number o (number_at m.byte n at)) none)
+    let more : number_at m.byte n at ≡ m.byte at
+      + 256 * number_at m.byte k (next at) = number_at-more m.byte n at (omega arith)
+      ∙ ap (λ j. m.byte at + 256 * number_at m.byte j (next at)) less in
+    ap Ok (ap (λ b. b + 256 * high) g.1 ∙ ap (λ v. m.byte at + 256 * v) w.1 ∙ sym more)
+      ∙ sym (ap (λ o. or_number o (number_at m.byte n at)) none)

@@ -36,7 +36,8 @@ use Rattle.x64_templates.proofs.Cells.{reg}
 -- an instruction that has a spelling, is followed by the next, and begins no epilogue
 abbrev pub Fine : List Instr → Type 0
 Fine [] = Unit {0}
-Fine (i ∷ is) = (is_encodable i ≡ true) × (is_straight i ≡ true) × (begins_epilogue i ≡ false) × Fine is
+Fine (i ∷ is) = (is_encodable i ≡ true) × (is_straight i ≡ true) × (begins_epilogue i ≡ false)
+    × Fine is
 
 pub fine_both : (a b : List Instr) → Fine a → Fine b → Fine (a ++ b)
 fine_both [] b p q = q
@@ -56,7 +57,8 @@ both_or_neither true false c e = refl
 both_or_neither false b c e = refl
 
 not_taking : (i : Instr) → begins_epilogue i ≡ false → takes_frame i ≡ false
-not_taking (instrs.Arithmetic o w to from) e = both_or_neither (is_subtraction o) (is_number from) (is_rsp_place to) e
+not_taking (instrs.Arithmetic o w to from) e = both_or_neither (is_subtraction o) (is_number from)
+    (is_rsp_place to) e
 not_taking i e = refl
 
 pub none_taking : (is : List Instr) → Fine is → NoneTakesFrame is
@@ -73,24 +75,37 @@ fetched_fine false base d lt = (near d lt, refl, refl, tt)
 pub put_back_fine : (base : Reg) (d : ℕ) → d < 2 ^ 31 → Fine (put_back base d ∷ [])
 put_back_fine base d lt = (near d lt, refl, refl, tt)
 
-small_base : (y : Layout) (n : Counts) (sp base b : ℕ) → SlotsHaveRoom y n sp base → HasBase y (Some b) sp base → b < 2 ^ 31
+small_base : (y : Layout) (n : Counts) (sp base b : ℕ) → SlotsHaveRoom y n sp base
+    → HasBase y (Some b) sp base → b < 2 ^ 31
 small_base y n sp base b room has = let t = room.temporaries in let a = has.0 in omega arith
 
-fetch_local_fine : (y : Layout) (n : Counts) (sp base : ℕ) (r : Bool) (o : Option ℕ) (d : ℕ) → SlotsHaveRoom y n sp base → HasBase y o sp base → d < 2 ^ 31 → Fine (fetch_local o (reg r) d)
+fetch_local_fine : (y : Layout) (n : Counts) (sp base : ℕ) (r : Bool) (o : Option ℕ) (d : ℕ)
+    → SlotsHaveRoom y n sp base → HasBase y o sp base → d < 2 ^ 31 → Fine (fetch_local o (reg r) d)
 fetch_local_fine y n sp base r None d room has lt = fetched_fine r Rsp d lt
-fetch_local_fine y n sp base r (Some b) d room has lt = fine_both (fetched (reg r) Rsp b ∷ []) (fetched (reg r) (reg r) d ∷ []) (fetched_fine r Rsp b (small_base y n sp base b room has)) (fetched_fine r (reg r) d lt)
+fetch_local_fine y n sp base r (Some b) d room has lt = fine_both (fetched (reg r) Rsp b ∷ [])
+    (fetched (reg r) (reg r) d ∷ []) (fetched_fine r Rsp b (small_base y n sp base b room has))
+    (fetched_fine r (reg r) d lt)
 
-keep_local_fine : (y : Layout) (n : Counts) (sp base : ℕ) (o : Option ℕ) (d : ℕ) → SlotsHaveRoom y n sp base → HasBase y o sp base → d < 2 ^ 31 → Fine (keep_local o d)
+keep_local_fine : (y : Layout) (n : Counts) (sp base : ℕ) (o : Option ℕ) (d : ℕ)
+    → SlotsHaveRoom y n sp base → HasBase y o sp base → d < 2 ^ 31 → Fine (keep_local o d)
 keep_local_fine y n sp base None d room has lt = put_back_fine Rsp d lt
-keep_local_fine y n sp base (Some b) d room has lt = fine_both (fetched Rcx Rsp b ∷ []) (put_back Rcx d ∷ []) (fetched_fine false Rsp b (small_base y n sp base b room has)) (put_back_fine Rcx d lt)
+keep_local_fine y n sp base (Some b) d room has lt = fine_both (fetched Rcx Rsp b ∷ [])
+    (put_back Rcx d ∷ []) (fetched_fine false Rsp b (small_base y n sp base b room has))
+    (put_back_fine Rcx d lt)
 
-pub fetch_fine : (y : Layout) (n : Counts) (sp base : ℕ) (r : Bool) (x : Slot) → SlotsHaveRoom y n sp base → IsSlot n x → Fine (fetch y (reg r) x)
-fetch_fine y n sp base r (Temporary i) room is = let t = room.temporaries in fetched_fine r Rsp (temporary_at y i) (omega arith)
-fetch_fine y n sp base r (Local i) room is = let l = room.locals in fetch_local_fine y n sp base r y.base (local_at y i) room room.kept_base (omega arith)
+pub fetch_fine : (y : Layout) (n : Counts) (sp base : ℕ) (r : Bool) (x : Slot)
+    → SlotsHaveRoom y n sp base → IsSlot n x → Fine (fetch y (reg r) x)
+fetch_fine y n sp base r (Temporary i) room is = let t = room.temporaries in
+    fetched_fine r Rsp (temporary_at y i) (omega arith)
+fetch_fine y n sp base r (Local i) room is = let l = room.locals in
+    fetch_local_fine y n sp base r y.base (local_at y i) room room.kept_base (omega arith)
 
-pub keep_fine : (y : Layout) (n : Counts) (sp base : ℕ) (x : Slot) → SlotsHaveRoom y n sp base → IsSlot n x → Fine (keep y x)
-keep_fine y n sp base (Temporary i) room is = let t = room.temporaries in put_back_fine Rsp (temporary_at y i) (omega arith)
-keep_fine y n sp base (Local i) room is = let l = room.locals in keep_local_fine y n sp base y.base (local_at y i) room room.kept_base (omega arith)
+pub keep_fine : (y : Layout) (n : Counts) (sp base : ℕ) (x : Slot) → SlotsHaveRoom y n sp base
+    → IsSlot n x → Fine (keep y x)
+keep_fine y n sp base (Temporary i) room is = let t = room.temporaries in
+    put_back_fine Rsp (temporary_at y i) (omega arith)
+keep_fine y n sp base (Local i) room is = let l = room.locals in
+    keep_local_fine y n sp base y.base (local_at y i) room room.kept_base (omega arith)
 
 -- ---- operations
 
@@ -115,9 +130,11 @@ compare_fine : (r : Relation) (s : Signedness) (w : Width) → Fine (compare r s
 compare_fine relations.Equal s w = (refl, refl, refl, (refl, refl, refl, (refl, refl, refl, tt)))
 compare_fine relations.NotEqual s w = (refl, refl, refl, (refl, refl, refl, (refl, refl, refl, tt)))
 compare_fine relations.Less s w = (refl, refl, refl, (refl, refl, refl, (refl, refl, refl, tt)))
-compare_fine relations.LessOrEqual s w = (refl, refl, refl, (refl, refl, refl, (refl, refl, refl, tt)))
+compare_fine relations.LessOrEqual s w = (refl, refl, refl,
+    (refl, refl, refl, (refl, refl, refl, tt)))
 compare_fine relations.Greater s w = (refl, refl, refl, (refl, refl, refl, (refl, refl, refl, tt)))
-compare_fine relations.GreaterOrEqual s w = (refl, refl, refl, (refl, refl, refl, (refl, refl, refl, tt)))
+compare_fine relations.GreaterOrEqual s w = (refl, refl, refl,
+    (refl, refl, refl, (refl, refl, refl, tt)))
 
 pure_fine : (p : Pure) → Fine (pure_code p)
 pure_fine (pures.Constant v) = (number_fine v, refl, refl, tt)
@@ -162,8 +179,15 @@ work_fine (operations.Load W32) = (refl, refl, refl, tt)
 work_fine (operations.Load W64) = (refl, refl, refl, tt)
 work_fine (operations.Store w) = (refl, refl, refl, (refl, refl, refl, tt))
 
-pub operands_fine : (y : Layout) (n : Counts) (sp base : ℕ) (o : Operation) (first second : Slot) → SlotsHaveRoom y n sp base → IsSlot n first → IsSlot n second → Fine (operands_code y o first second)
-operands_fine y n sp base o first second room f s = fine_both (fetch y Rax first) (fetch y Rcx second ++ before o) (fetch_fine y n sp base true first room f) (fine_both (fetch y Rcx second) (before o) (fetch_fine y n sp base false second room s) (before_fine o))
+pub operands_fine : (y : Layout) (n : Counts) (sp base : ℕ) (o : Operation) (first second : Slot)
+    → SlotsHaveRoom y n sp base → IsSlot n first → IsSlot n second
+    → Fine (operands_code y o first second)
+operands_fine y n sp base o first second room f s = fine_both (fetch y Rax first)
+    (fetch y Rcx second ++ before o) (fetch_fine y n sp base true first room f)
+    (fine_both (fetch y Rcx second) (before o) (fetch_fine y n sp base false second room s)
+    (before_fine o))
 
-pub finish_fine : (y : Layout) (n : Counts) (sp base : ℕ) (o : Operation) (to : Slot) → SlotsHaveRoom y n sp base → IsSlot n to → Fine (finish_code y o to)
-finish_fine y n sp base o to room t = fine_both (work o) (keep y to) (work_fine o) (keep_fine y n sp base to room t)
+pub finish_fine : (y : Layout) (n : Counts) (sp base : ℕ) (o : Operation) (to : Slot)
+    → SlotsHaveRoom y n sp base → IsSlot n to → Fine (finish_code y o to)
+finish_fine y n sp base o to room t = fine_both (work o) (keep y to) (work_fine o)
+    (keep_fine y n sp base to room t)

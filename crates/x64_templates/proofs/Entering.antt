@@ -21,7 +21,9 @@ use Rattle.x64_templates.proofs.Returns.{sp_moved, enter_run}
 use Rattle.x64_templates.proofs.Entries.{holds_body_in_memory}
 use Rattle.x64_templates.proofs.Parameters.{parameters_do}
 
-parameter_fine : (p : FramePlace) (i count : ℕ) (arguments : ℕ → ℕ) (m : Memory) → Roomy p → i < count → i < p.counts.locals → OnStack p m count arguments → Fine (parameter_code p.layout i)
+parameter_fine : (p : FramePlace) (i count : ℕ) (arguments : ℕ → ℕ) (m : Memory) → Roomy p
+    → i < count → i < p.counts.locals → OnStack p m count arguments
+    → Fine (parameter_code p.layout i)
 parameter_fine p i count arguments m room lc ll stack =
     let y = p.layout in
     let l = room.locals in
@@ -29,33 +31,55 @@ parameter_fine p i count arguments m room lc ll stack =
     let on_stack = fetched Rax Rsp (stack_parameter y i) ∷ keep_register Rax (local_at y i) ∷ [] in
     let small : local_at y i < 2 ^ 31 = omega arith in
     elim (cases_lt i 4) [
-      | inl lt ↦ subst (λ c. Fine (cond c in_register on_stack)) (sym (lt-ltb i 4 lt)) (near (local_at y i) small, refl, refl, tt)
-      | inr ge ↦ subst (λ c. Fine (cond c in_register on_stack)) (sym (le-ltb i 4 ge)) (near (stack_parameter y i) (stack.near i lc), refl, refl, (near (local_at y i) small, refl, refl, tt))
+      | inl lt ↦ subst (λ c. Fine (cond c in_register on_stack)) (sym (lt-ltb i 4 lt))
+        (near (local_at y i) small, refl, refl, tt)
+      | inr ge ↦ subst (λ c. Fine (cond c in_register on_stack)) (sym (le-ltb i 4 ge))
+        (near (stack_parameter y i) (stack.near i lc), refl, refl,
+        (near (local_at y i) small, refl, refl, tt))
     ]
 
-pub parameters_fine : (p : FramePlace) (i n count : ℕ) (arguments : ℕ → ℕ) (m : Memory) → Roomy p → i + n ≤ count → i + n ≤ p.counts.locals → OnStack p m count arguments → Fine (parameters_code p.layout i n)
+pub parameters_fine : (p : FramePlace) (i n count : ℕ) (arguments : ℕ → ℕ) (m : Memory) → Roomy p
+    → i + n ≤ count → i + n ≤ p.counts.locals → OnStack p m count arguments
+    → Fine (parameters_code p.layout i n)
 parameters_fine p i zero count arguments m room lc ll stack = tt
-parameters_fine p i (suc n) count arguments m room lc ll stack = fine_both (parameter_code p.layout i) (parameters_code p.layout (i + 1) n) (parameter_fine p i count arguments m room (omega arith) (omega arith) stack) (parameters_fine p (i + 1) n count arguments m room (omega arith) (omega arith) stack)
+parameters_fine p i (suc n) count arguments m room lc ll stack = fine_both
+    (parameter_code p.layout i) (parameters_code p.layout (i + 1) n)
+    (parameter_fine p i count arguments m room (omega arith) (omega arith) stack)
+    (parameters_fine p (i + 1) n count arguments m room (omega arith) (omega arith) stack)
 
-pub fresh_holds : (p : FramePlace) (m source : Memory) → FreshFrame p m source → FrameHolds p m (body_in_memory p.layout p.sp p.base m source)
-fresh_holds p m source b = holds_body_in_memory p.layout p.counts p.reserved p.sp p.base m source b.bytes b.base b.writable b.own b.own_base b.agrees
+pub fresh_holds : (p : FramePlace) (m source : Memory) → FreshFrame p m source
+    → FrameHolds p m (body_in_memory p.layout p.sp p.base m source)
+fresh_holds p m source b = holds_body_in_memory p.layout p.counts p.reserved p.sp p.base m source
+    b.bytes b.base b.writable b.own b.own_base b.agrees
 
 not_sp : (i : ℕ) → i ≢ 1 → (rest : List ℕ) (x : ℕ) → get_or (set rest 1 x) i 0 ≡ get_or rest i 0
 not_sp i ne rest x = get_or-set_other rest 1 i x 0 ne
 
 -- ---- parameters, once RSP is the frame's
 
-pub parameters_run : (p : FramePlace) (count : ℕ) (arguments : ℕ → ℕ) (v : MachineView) (rip : ℕ) (f : Flags) (b : BodyState) → Roomy p → IsFunctionFrame p → count ≤ p.counts.locals → sp_of v ≡ p.sp → FrameHolds p v.memory b → InRegisters v arguments → OnStack p v.memory count arguments → HasCode v.memory rip (parameters_code p.layout 0 count) → ReachesBody p (length (parameters_code p.layout 0 count)) (machine v rip f) (rip + sizes (parameters_code p.layout 0 count)) v.rest (record { slots = with_arguments b.slots arguments 0 count; memory = b.memory })
+pub parameters_run : (p : FramePlace) (count : ℕ) (arguments : ℕ → ℕ) (v : MachineView) (rip : ℕ)
+    (f : Flags) (b : BodyState) → Roomy p → IsFunctionFrame p → count ≤ p.counts.locals
+    → sp_of v ≡ p.sp → FrameHolds p v.memory b → InRegisters v arguments
+    → OnStack p v.memory count arguments → HasCode v.memory rip (parameters_code p.layout 0 count)
+    → ReachesBody p (length (parameters_code p.layout 0 count)) (machine v rip f)
+      (rip + sizes (parameters_code p.layout 0 count)) v.rest
+      (record { slots = with_arguments b.slots arguments 0 count; memory = b.memory })
 parameters_run p count arguments v rip f b room fn le at h regs stack code =
     let params = parameters_code p.layout 0 count in
-    let k = parameters_do p 0 count count v b arguments room fn (omega arith) (omega arith) at h regs stack in
-    let last : MachineView = record { rax = k.rax; rcx = v.rcx; rdx = v.rdx; rest = v.rest; memory = k.memory } in
-    let r = runs_view params v last rip f (parameters_fine p 0 count count arguments v.memory room (omega arith) (omega arith) stack) code k.does in
-    record { after = last; flags = r.left; comes = r.comes; rest = refl; holds = k.holds; changes = k.changes }
+    let k = parameters_do p 0 count count v b arguments room fn (omega arith) (omega arith) at h
+      regs stack in
+    let last : MachineView = record { rax = k.rax; rcx = v.rcx; rdx = v.rdx; rest = v.rest;
+      memory = k.memory } in
+    let r = runs_view params v last rip f (parameters_fine p 0 count count arguments v.memory room
+      (omega arith) (omega arith) stack) code k.does in
+    record { after = last; flags = r.left; comes = r.comes; rest = refl; holds = k.holds;
+      changes = k.changes }
 
 -- a function begins
 -- a body is entered, and then reached
-pub entered_then : (p : FramePlace) (m n : ℕ) (s t : State) (to : ℕ) (others : List ℕ) (b : BodyState) → Enters m s t → ◌≡◌ {A = Memory} t.memory s.memory → ReachesBody p n t to others b → EntersBody p (m + n) s to others b
+pub entered_then : (p : FramePlace) (m n : ℕ) (s t : State) (to : ℕ) (others : List ℕ)
+    (b : BodyState) → Enters m s t → ◌≡◌ {A = Memory} t.memory s.memory
+    → ReachesBody p n t to others b → EntersBody p (m + n) s to others b
 entered_then p m n s t to others b e same r = record {
   after = r.after;
   flags = r.flags;
@@ -65,24 +89,42 @@ entered_then p m n s t to others b e same r = record {
   changes = subst (λ (m : Memory). ChangesOwn p m r.after.memory) same r.changes;
 }
 
-pub function_enters : (p : FramePlace) (count : ℕ) (arguments : ℕ → ℕ) (v : MachineView) (source : Memory) (rip : ℕ) (f : Flags) → Roomy p → IsFunctionFrame p → count ≤ p.counts.locals → length v.rest ≡ 13 → sp_of v ≡ p.sp + p.layout.frame → p.layout.frame < 2 ^ 31 → FreshFrame p v.memory source → InRegisters v arguments → OnStack p v.memory count arguments → HasCode v.memory rip (function_entry p.layout count) → EntersBody p (length (function_entry p.layout count)) (machine v rip f) (rip + sizes (function_entry p.layout count)) (with_sp v.rest p.sp) (record { slots = with_arguments (body_in_memory p.layout p.sp p.base v.memory source).slots arguments 0 count; memory = source })
+pub function_enters : (p : FramePlace) (count : ℕ) (arguments : ℕ → ℕ) (v : MachineView)
+    (source : Memory) (rip : ℕ) (f : Flags) → Roomy p → IsFunctionFrame p → count ≤ p.counts.locals
+    → length v.rest ≡ 13 → sp_of v ≡ p.sp + p.layout.frame → p.layout.frame < 2 ^ 31
+    → FreshFrame p v.memory source → InRegisters v arguments → OnStack p v.memory count arguments
+    → HasCode v.memory rip (function_entry p.layout count)
+    → EntersBody p (length (function_entry p.layout count)) (machine v rip f)
+      (rip + sizes (function_entry p.layout count)) (with_sp v.rest p.sp)
+      (record { slots = with_arguments (body_in_memory p.layout p.sp p.base v.memory source).slots
+      arguments 0 count; memory = source })
 function_enters p count arguments v source rip f room fn le n at small bare regs stack code =
     let y = p.layout in
     let enter = enter_code y.frame in
     let params = parameters_code y 0 count in
     let parts = code_split v.memory rip enter params code in
     let hi = room.high in
-    let e = enter_run v (p.sp + y.frame) y.frame rip f at (omega arith) (omega arith) small parts.0 in
+    let e = enter_run v (p.sp + y.frame) y.frame rip f at (omega arith) (omega arith) small
+      parts.0 in
     let back : p.sp + y.frame - y.frame ≡ p.sp = omega arith in
     let w = moved v p.sp in
     let there = rip + sizes enter in
-    let first = subst (λ s. Enters 1 (machine v rip f) (machine (moved v s) there e.flags)) back e.comes in
+    let first = subst (λ s. Enters 1 (machine v rip f) (machine (moved v s) there e.flags)) back
+      e.comes in
     let b = body_in_memory y p.sp p.base v.memory source in
-    let c : BodyState = record { slots = with_arguments b.slots arguments 0 count; memory = source } in
-    let regs' : InRegisters w arguments = record { first = regs.first; second = regs.second; third = not_sp 5 (λ h. absurd (omega arith)) v.rest p.sp ∙ regs.third; fourth = not_sp 6 (λ h. absurd (omega arith)) v.rest p.sp ∙ regs.fourth } in
-    let k = parameters_run p count arguments w there e.flags b room fn le (sp_moved v p.sp n) (fresh_holds p v.memory source bare) regs' stack parts.1 in
-    let place : there + sizes params ≡ rip + sizes (function_entry y count) = omega (arith, sizes_append enter params) in
-    let turns : 1 + length params ≡ length (function_entry y count) = sym (length-append enter params) in
-    subst (λ t. EntersBody p t (machine v rip f) (rip + sizes (function_entry y count)) (with_sp v.rest p.sp) c) turns
+    let c : BodyState = record { slots = with_arguments b.slots arguments 0 count;
+      memory = source } in
+    let regs' : InRegisters w arguments = record { first = regs.first; second = regs.second;
+      third = not_sp 5 (λ h. absurd (omega arith)) v.rest p.sp ∙ regs.third;
+      fourth = not_sp 6 (λ h. absurd (omega arith)) v.rest p.sp ∙ regs.fourth } in
+    let k = parameters_run p count arguments w there e.flags b room fn le (sp_moved v p.sp n)
+      (fresh_holds p v.memory source bare) regs' stack parts.1 in
+    let place : there + sizes params ≡ rip + sizes (function_entry y count) = omega
+      (arith, sizes_append enter params) in
+    let turns : 1 + length params ≡ length (function_entry y count) = sym
+      (length-append enter params) in
+    subst (λ t. EntersBody p t (machine v rip f) (rip + sizes (function_entry y count))
+      (with_sp v.rest p.sp) c) turns
     (subst (λ a. EntersBody p (1 + length params) (machine v rip f) a (with_sp v.rest p.sp) c) place
-    (entered_then p 1 (length params) (machine v rip f) (machine w there e.flags) (there + sizes params) (with_sp v.rest p.sp) c first refl k))
+    (entered_then p 1 (length params) (machine v rip f) (machine w there e.flags)
+      (there + sizes params) (with_sp v.rest p.sp) c first refl k))

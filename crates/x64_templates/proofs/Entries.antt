@@ -28,11 +28,18 @@ number_small m zero at h = omega arith
 number_small m (suc n) at h =
     let r = number_small m n (next at) h in
     let e : 256 ^ suc n ≡ 256 ^ n * 256 = pow-suc 256 n in
-    subst (λ p. m.byte at + 256 * number_at m.byte n (next at) < p) (sym e) (digit_more (m.byte at) (256 ^ n) (number_at m.byte n (next at)) (h at) r)
+    subst (λ p. m.byte at + 256 * number_at m.byte n (next at) < p) (sym e)
+      (digit_more (m.byte at) (256 ^ n) (number_at m.byte n (next at)) (h at) r)
 
 -- wherever a frame has its room, it holds a body
-pub holds_body_in_memory : (y : Layout) (n : Counts) (reserved : ℕ → Bool) (sp base : ℕ) (m source : Memory) → IsBytes m → MemoryKeepsBase y.base sp base m → ((a : ℕ) → InTemporaries y n sp a ⊎ InLocals y n base a → may_write m a ≡ true) → ((a : ℕ) → InTemporaries y n sp a ⊎ InLocals y n base a → reserved a ≡ true) → KeepsReserved y.base sp reserved → Agrees reserved m source → HoldsBody y n reserved sp base m (body_in_memory y sp base m source)
-holds_body_in_memory y n reserved sp base m source bytes base_kept writable own own_base agrees = record {
+pub holds_body_in_memory : (y : Layout) (n : Counts) (reserved : ℕ → Bool) (sp base : ℕ)
+    (m source : Memory) → IsBytes m → MemoryKeepsBase y.base sp base m
+    → ((a : ℕ) → InTemporaries y n sp a ⊎ InLocals y n base a → may_write m a ≡ true)
+    → ((a : ℕ) → InTemporaries y n sp a ⊎ InLocals y n base a → reserved a ≡ true)
+    → KeepsReserved y.base sp reserved → Agrees reserved m source
+    → HoldsBody y n reserved sp base m (body_in_memory y sp base m source)
+holds_body_in_memory y n reserved sp base m source bytes base_kept writable own own_base
+    agrees = record {
   slot = λ x is. refl;
   small = λ x is. number_small m 8 (slot_at y sp base x) bytes;
   kept_base = base_kept;
@@ -44,13 +51,18 @@ holds_body_in_memory y n reserved sp base m source bytes base_kept writable own 
 
 -- ---- the return address of a call
 
-pub beside : (m : Memory) (sp back a : ℕ) → 8 ≤ sp → sp < 2 ^ 63 → (a + 8 < sp) ⊎ (sp ≤ a) → with_number m.byte 8 (sp - 8) back a ≡ m.byte a
-beside m sp back a le high out = untouched m.byte 8 (sp - 8) back a (λ i lt e. absurd (elim out [ inl l ↦ omega arith | inr r ↦ omega arith ])) (omega arith)
+pub beside : (m : Memory) (sp back a : ℕ) → 8 ≤ sp → sp < 2 ^ 63 → (a + 8 < sp) ⊎ (sp ≤ a)
+    → with_number m.byte 8 (sp - 8) back a ≡ m.byte a
+beside m sp back a le high out = untouched m.byte 8 (sp - 8) back a
+    (λ i lt e. absurd (elim out [ inl l ↦ omega arith | inr r ↦ omega arith ])) (omega arith)
 
-pub pushed_outlasts : (reserved : ℕ → Bool) (v : MachineView) (sp back : ℕ) → HasBelow v.memory sp 8 → Outlasts reserved sp v.memory (pushed v sp back).memory
-pushed_outlasts reserved v sp back below = record { byte = λ a own up. beside v.memory sp back a below.enough below.high (inr up); protection = λ a own. refl }
+pub pushed_outlasts : (reserved : ℕ → Bool) (v : MachineView) (sp back : ℕ) → HasBelow v.memory sp 8
+    → Outlasts reserved sp v.memory (pushed v sp back).memory
+pushed_outlasts reserved v sp back below = record { byte = λ a own up. beside v.memory sp back a
+    below.enough below.high (inr up); protection = λ a own. refl }
 
-free_beside : (reserved : ℕ → Bool) (sp a : ℕ) → ((x : ℕ) → sp ≤ x + 8 → x < sp → reserved x ≡ true) → reserved a ≡ false → (a + 8 < sp) ⊎ (sp ≤ a)
+free_beside : (reserved : ℕ → Bool) (sp a : ℕ) → ((x : ℕ) → sp ≤ x + 8 → x < sp → reserved x ≡ true)
+    → reserved a ≡ false → (a + 8 < sp) ⊎ (sp ≤ a)
 free_beside reserved sp a own r = elim (cases_lt (a + 8) sp) [
   | inl lt ↦ inl lt
   | inr le ↦ elim (cases_lt a sp) [
@@ -59,9 +71,12 @@ free_beside reserved sp a own r = elim (cases_lt (a + 8) sp) [
   ]
 ]
 
-pub pushed_agrees : (reserved : ℕ → Bool) (v : MachineView) (source : Memory) (sp back : ℕ) → HasBelow v.memory sp 8 → ((a : ℕ) → sp ≤ a + 8 → a < sp → reserved a ≡ true) → Agrees reserved v.memory source → Agrees reserved (pushed v sp back).memory source
+pub pushed_agrees : (reserved : ℕ → Bool) (v : MachineView) (source : Memory) (sp back : ℕ)
+    → HasBelow v.memory sp 8 → ((a : ℕ) → sp ≤ a + 8 → a < sp → reserved a ≡ true)
+    → Agrees reserved v.memory source → Agrees reserved (pushed v sp back).memory source
 pushed_agrees reserved v source sp back below own agrees = record {
-  byte = λ a r. beside v.memory sp back a below.enough below.high (free_beside reserved sp a own r) ∙ agrees.byte a r;
+  byte = λ a r. beside v.memory sp back a below.enough below.high (free_beside reserved sp a own r)
+      ∙ agrees.byte a r;
   protection = agrees.protection;
   guard = agrees.guard;
 }
@@ -71,15 +86,19 @@ readable Nothing e = absurd cc
 readable Read e = absurd cc
 readable ReadWrite e = refl
 
-pub pushed_back : (v : MachineView) (sp back : ℕ) → HasBelow v.memory sp 8 → back < 2 ^ 64 → HasBack (pushed v sp back).memory (sp - 8) back
+pub pushed_back : (v : MachineView) (sp back : ℕ) → HasBelow v.memory sp 8 → back < 2 ^ 64
+    → HasBack (pushed v sp back).memory (sp - 8) back
 pushed_back v sp back below small =
     let le = below.enough in
     let high = below.high in
     record {
-      number = stored_is_loaded v.memory.byte 8 (sp - 8) back (omega arith) (omega arith) ∙ (let q : back % 256 ^ 8 ≡ back = omega arith in q);
-      readable = λ a p q. readable (v.memory.protection a).rights (below.writable a (omega arith) (omega arith));
+      number = stored_is_loaded v.memory.byte 8 (sp - 8) back (omega arith) (omega arith)
+        ∙ (let q : back % 256 ^ 8 ≡ back = omega arith in q);
+      readable = λ a p q. readable (v.memory.protection a).rights
+        (below.writable a (omega arith) (omega arith));
       small = small;
     }
 
-pub pushed_bytes : (v : MachineView) (sp back : ℕ) → IsBytes v.memory → IsBytes (pushed v sp back).memory
+pub pushed_bytes : (v : MachineView) (sp back : ℕ) → IsBytes v.memory
+    → IsBytes (pushed v sp back).memory
 pushed_bytes v sp back h a = digits v.memory.byte 8 (sp - 8) back a (h a)

@@ -16,7 +16,9 @@ use Rattle.x64_templates.proofs.Accesses.{load_implemented, store_implemented}
 
 -- ---- operations
 
-pure_works : (reserved : ℕ → Bool) (p : Pure) (v : MachineView) (source : Memory) → v.rax < 2 ^ 64 → Agrees reserved v.memory source → Implements reserved (work (operations.Pure p)) v (performed reserved (operations.Pure p) v.rax v.rcx source)
+pure_works : (reserved : ℕ → Bool) (p : Pure) (v : MachineView) (source : Memory) → v.rax < 2 ^ 64
+    → Agrees reserved v.memory source → Implements reserved (work (operations.Pure p)) v
+      (performed reserved (operations.Pure p) v.rax v.rcx source)
 pure_works reserved p v source lt agrees = record {
   after = v.memory;
   yields = pure_gives p v;
@@ -27,9 +29,16 @@ pure_works reserved p v source lt agrees = record {
   bytes = λ x. x;
 }
 
-pub works : (reserved : ℕ → Bool) (o : Operation) (v : MachineView) (source : Memory) → v.rax < 2 ^ 64 → v.rcx < 2 ^ 64 → IsReady o v → Agrees reserved v.memory source → Implements reserved (work o) v (performed reserved o v.rax v.rcx source)
-works reserved (operations.Pure p) v source la lb ready agrees = pure_works reserved p v source la agrees
-works reserved (operations.Divide s z) v source la lb ready agrees = quotient_implemented reserved s z v source ready agrees
-works reserved (operations.Remainder s z) v source la lb ready agrees = remainder_implemented reserved s z v source ready agrees
-works reserved (operations.Load w) v source la lb ready agrees = load_implemented reserved w v source la agrees
-works reserved (operations.Store w) v source la lb ready agrees = store_implemented reserved w v source la lb agrees
+pub works : (reserved : ℕ → Bool) (o : Operation) (v : MachineView) (source : Memory)
+    → v.rax < 2 ^ 64 → v.rcx < 2 ^ 64 → IsReady o v → Agrees reserved v.memory source
+    → Implements reserved (work o) v (performed reserved o v.rax v.rcx source)
+works reserved (operations.Pure p) v source la lb ready agrees = pure_works reserved p v source la
+    agrees
+works reserved (operations.Divide s z) v source la lb ready agrees = quotient_implemented reserved s
+    z v source ready agrees
+works reserved (operations.Remainder s z) v source la lb ready agrees = remainder_implemented
+    reserved s z v source ready agrees
+works reserved (operations.Load w) v source la lb ready agrees = load_implemented reserved w v
+    source la agrees
+works reserved (operations.Store w) v source la lb ready agrees = store_implemented reserved w v
+    source la lb agrees

@@ -33,7 +33,8 @@ use Rattle.x64_templates.proofs.Probing.{Touchable, with_eleventh, check_run}
 
 -- ---- code stays while a return address is put on the stack
 
-pub fixed_beside : (v : MachineView) (sp a : ℕ) → HasBelow v.memory sp 8 → may_write v.memory a ≡ false → (a + 8 < sp) ⊎ (sp ≤ a)
+pub fixed_beside : (v : MachineView) (sp a : ℕ) → HasBelow v.memory sp 8
+    → may_write v.memory a ≡ false → (a + 8 < sp) ⊎ (sp ≤ a)
 fixed_beside v sp a below fixed = elim (cases_lt (a + 8) sp) [
   | inl lt ↦ inl lt
   | inr le ↦ elim (cases_lt a sp) [
@@ -42,9 +43,12 @@ fixed_beside v sp a below fixed = elim (cases_lt (a + 8) sp) [
   ]
 ]
 
-pub pushed_keeps_code : (v : MachineView) (sp back at : ℕ) (code : List Instr) → HasBelow v.memory sp 8 → HasCode v.memory at code → HasCode (pushed v sp back).memory at code
+pub pushed_keeps_code : (v : MachineView) (sp back at : ℕ) (code : List Instr)
+    → HasBelow v.memory sp 8 → HasCode v.memory at code → HasCode (pushed v sp back).memory at code
 pushed_keeps_code v sp back at code below h = record {
-  is_there = bytes_kept v.memory (pushed v sp back).memory at (spelled code) (λ a fixed. beside v.memory sp back a below.enough below.high (fixed_beside v sp a below fixed)) refl h.is_there;
+  is_there = bytes_kept v.memory (pushed v sp back).memory at (spelled code)
+      (λ a fixed. beside v.memory sp back a below.enough below.high
+      (fixed_beside v sp a below fixed)) refl h.is_there;
   placed = h.placed;
 }
 
@@ -59,10 +63,14 @@ move_size n = refl
 pub record EnteredLarge (v : MachineView) (sp frame rip : ℕ) (f : Flags) : Type 0 where
   pub flags : Flags
   pub eleventh : ℕ
-  pub comes : Reaches 8 (machine v rip f) (machine (record { rax = frame; rcx = v.rcx; rdx = v.rdx; rest = with_sp (set v.rest 8 eleventh) (sp - frame); memory = (pushed v sp (rip + 10)).memory }) (rip + sizes (enter_large frame rip 0)) flags)
+  pub comes : Reaches 8 (machine v rip f) (machine
+      (record { rax = frame; rcx = v.rcx; rdx = v.rdx;
+      rest = with_sp (set v.rest 8 eleventh) (sp - frame);
+      memory = (pushed v sp (rip + 10)).memory }) (rip + sizes (enter_large frame rip 0)) flags)
 
 -- sets of two different registers, and of one of them again, are as one of each
-one_of_each : (r : List ℕ) (a b c d e : ℕ) → length r ≡ 13 → set (set (set (set (set r 1 a) 8 b) 8 c) 1 d) 1 e ≡ set (set r 8 c) 1 e
+one_of_each : (r : List ℕ) (a b c d e : ℕ) → length r ≡ 13
+    → set (set (set (set (set r 1 a) 8 b) 8 c) 1 d) 1 e ≡ set (set r 8 c) 1 e
 one_of_each [] a b c d e n = absurd (omega arith)
 one_of_each (x0 ∷ []) a b c d e n = absurd (omega arith)
 one_of_each (x0 ∷ x1 ∷ []) a b c d e n = absurd (omega arith)
@@ -74,12 +82,21 @@ one_of_each (x0 ∷ x1 ∷ x2 ∷ x3 ∷ x4 ∷ x5 ∷ x6 ∷ []) a b c d e n = 
 one_of_each (x0 ∷ x1 ∷ x2 ∷ x3 ∷ x4 ∷ x5 ∷ x6 ∷ x7 ∷ []) a b c d e n = absurd (omega arith)
 one_of_each (x0 ∷ x1 ∷ x2 ∷ x3 ∷ x4 ∷ x5 ∷ x6 ∷ x7 ∷ x8 ∷ r) a b c d e n = refl
 
-lower_by_rax : (v : MachineView) (n sp next : ℕ) (f : Flags) → sp_of v ≡ sp → v.rax ≡ n → n ≤ sp → sp < 2 ^ 64 → effect (machine v next f) (instrs.Arithmetic arithmetic.Sub W64 (places.Register Rsp) (operands.Register Rax)) ≡ Ok (machine (moved v (sp - n)) next (subtracted W64 (low W64 (sp_of v)) (low W64 v.rax)).1)
+lower_by_rax : (v : MachineView) (n sp next : ℕ) (f : Flags) → sp_of v ≡ sp → v.rax ≡ n → n ≤ sp
+    → sp < 2 ^ 64 → effect (machine v next f)
+      (instrs.Arithmetic arithmetic.Sub W64 (places.Register Rsp) (operands.Register Rax))
+    ≡ Ok (machine (moved v (sp - n)) next (subtracted W64 (low W64 (sp_of v)) (low W64 v.rax)).1)
 unfolding subtracted
 lower_by_rax v n sp next f e rax le high =
-    ap (λ (a : ℕ). Ok (machine (moved v a) next (subtracted W64 (low W64 (sp_of v)) (low W64 v.rax)).1)) (let q : low W64 (low W64 (low W64 (sp_of v) + (2 ^ 64 - low W64 v.rax))) ≡ sp - n = omega arith in q)
+    ap (λ (a : ℕ). Ok (machine (moved v a) next
+      (subtracted W64 (low W64 (sp_of v)) (low W64 v.rax)).1))
+      (let q : low W64 (low W64 (low W64 (sp_of v) + (2 ^ 64 - low W64 v.rax)))
+      ≡ sp - n = omega arith in q)
 
-pub enter_large_run : (v : MachineView) (sp frame rip check : ℕ) (f : Flags) → length v.rest ≡ 13 → sp_of v ≡ sp → HasBelow v.memory sp 8 → Touchable v.memory sp frame → frame < 2 ^ 31 → IsNear (rip + 10) check → rip + 10 < 2 ^ 48 → HasCode v.memory check check_stack → HasCode v.memory rip (enter_large frame rip check) → EnteredLarge v sp frame rip f
+pub enter_large_run : (v : MachineView) (sp frame rip check : ℕ) (f : Flags) → length v.rest ≡ 13
+    → sp_of v ≡ sp → HasBelow v.memory sp 8 → Touchable v.memory sp frame → frame < 2 ^ 31
+    → IsNear (rip + 10) check → rip + 10 < 2 ^ 48 → HasCode v.memory check check_stack
+    → HasCode v.memory rip (enter_large frame rip check) → EnteredLarge v sp frame rip f
 enter_large_run v sp frame rip check f len at below touch small near high leaf code =
     let e = touch.enough in let hi = touch.high in let mo = touch.more in
     let i = instrs.Move W32 (places.Register Rax) (operands.Immediate frame) in
@@ -89,7 +106,8 @@ enter_large_run v sp frame rip check f len at below touch small near high leaf c
     let sj = call_size (rip + 10) check in
     let p = code_split v.memory rip (i ∷ []) (j ∷ k ∷ []) code in
     let e1 : rip + sizes (i ∷ []) ≡ rip + 5 = omega arith in
-    let q = code_split v.memory (rip + 5) (j ∷ []) (k ∷ []) (subst (λ a. HasCode v.memory a (j ∷ k ∷ [])) e1 p.1) in
+    let q = code_split v.memory (rip + 5) (j ∷ []) (k ∷ [])
+      (subst (λ a. HasCode v.memory a (j ∷ k ∷ [])) e1 p.1) in
     let e2 : rip + 5 + sizes (j ∷ []) ≡ rip + 10 = omega arith in
     let tail = subst (λ a. HasCode v.memory a (k ∷ [])) e2 q.1 in
     let e3 : rip + 5 + 5 ≡ rip + 10 = omega arith in
@@ -98,24 +116,44 @@ enter_large_run v sp frame rip check f len at below touch small near high leaf c
     let word : low W32 (low W32 frame) ≡ frame = omega arith in
     let fits : ltb frame (2 ^ 32) ≡ true = lt-ltb frame (2 ^ 32) (omega arith) in
     let r1 : rip + size i ≡ rip + 5 = omega arith in
-    let first : Reaches 1 (machine v rip f) (machine v1 (rip + 5) f) = one_reaches i v v1 rip (rip + 5) f f fits refl p.0
-    (ap (λ (a : ℕ). Ok (machine (put true v a) (rip + size i) f)) word ∙ ap (λ (a : ℕ). Ok (machine v1 a f)) r1) in
-    let second = subst (λ a. Reaches 1 (machine v1 (rip + 5) f) (machine (pushed v1 sp a) check f)) e3 (call_reaches v1 sp (rip + 5) check f at below (subst (λ a. IsNear a check) (sym e3) near) (subst (λ a. HasCode v.memory (rip + 5) (call a check ∷ [])) (sym e3) q.0)) in
+    let first : Reaches 1 (machine v rip f) (machine v1 (rip + 5) f) = one_reaches i v v1 rip
+      (rip + 5) f f fits refl p.0
+    (ap (λ (a : ℕ). Ok (machine (put true v a) (rip + size i) f)) word
+      ∙ ap (λ (a : ℕ). Ok (machine v1 a f)) r1) in
+    let second = subst (λ a. Reaches 1 (machine v1 (rip + 5) f) (machine (pushed v1 sp a) check f))
+      e3 (call_reaches v1 sp (rip + 5) check f at below (subst (λ a. IsNear a check) (sym e3) near)
+      (subst (λ a. HasCode v.memory (rip + 5) (call a check ∷ [])) (sym e3) q.0)) in
     let sp2 : sp_of v2 ≡ sp - 8 = get_or-set_same v.rest 1 (sp - 8) 0 (omega arith) in
-    let third = check_run v2 sp frame (rip + 10) check f (length-set v.rest 1 (sp - 8) ∙ len) refl sp2 (record { enough = e; more = mo; high = hi; first = touch.first; last = touch.last }) (pushed_back v1 sp (rip + 10) below (omega arith)) (pushed_keeps_code v1 sp (rip + 10) check check_stack below leaf) in
+    let third = check_run v2 sp frame (rip + 10) check f (length-set v.rest 1 (sp - 8) ∙ len) refl
+      sp2 (record { enough = e; more = mo; high = hi; first = touch.first; last = touch.last })
+      (pushed_back v1 sp (rip + 10) below (omega arith))
+      (pushed_keeps_code v1 sp (rip + 10) check check_stack below leaf) in
     let v3 = moved (with_eleventh (with_eleventh v2 sp) (sp - frame)) sp in
-    let sp3 : sp_of v3 ≡ sp = get_or-set_same (set (set (set v.rest 1 (sp - 8)) 8 sp) 8 (sp - frame)) 1 sp 0 (let a = length-set v.rest 1 (sp - 8) in let b = length-set (set v.rest 1 (sp - 8)) 8 sp in let c = length-set (set (set v.rest 1 (sp - 8)) 8 sp) 8 (sp - frame) in omega arith) in
+    let sp3 : sp_of v3 ≡ sp = get_or-set_same
+      (set (set (set v.rest 1 (sp - 8)) 8 sp) 8 (sp - frame)) 1 sp 0
+      (let a = length-set v.rest 1 (sp - 8) in let b = length-set (set v.rest 1 (sp - 8)) 8 sp in
+      let c = length-set (set (set v.rest 1 (sp - 8)) 8 sp) 8 (sp - frame) in omega arith) in
     let g = (subtracted W64 (low W64 (sp_of v3)) (low W64 v3.rax)).1 in
     let v4 = moved v3 (sp - frame) in
-    let last = one_reaches k v3 v4 (rip + 10) (rip + 10 + size k) third.0 g refl refl (pushed_keeps_code v1 sp (rip + 10) (rip + 10) (k ∷ []) below tail) (lower_by_rax v3 frame sp (rip + 10 + size k) third.0 sp3 refl e (omega arith)) in
-    let end : rip + 10 + size k ≡ rip + sizes (enter_large frame rip 0) = let s0 = call_size (rip + 10) 0 in omega arith in
+    let last = one_reaches k v3 v4 (rip + 10) (rip + 10 + size k) third.0 g refl refl
+      (pushed_keeps_code v1 sp (rip + 10) (rip + 10) (k ∷ []) below tail)
+      (lower_by_rax v3 frame sp (rip + 10 + size k) third.0 sp3 refl e (omega arith)) in
+    let end : rip + 10 + size k ≡ rip + sizes (enter_large frame rip 0) = let s0 = call_size
+      (rip + 10) 0 in omega arith in
     let flat = one_of_each v.rest (sp - 8) sp (sp - frame) sp (sp - frame) len in
-    let all = reaches_then 1 7 (machine v rip f) (machine v1 (rip + 5) f) (machine v4 (rip + 10 + size k) g) first
-    (reaches_then 1 6 (machine v1 (rip + 5) f) (machine v2 check f) (machine v4 (rip + 10 + size k) g) second
-    (reaches_then 5 1 (machine v2 check f) (machine v3 (rip + 10) third.0) (machine v4 (rip + 10 + size k) g) third.1 last)) in
+    let all = reaches_then 1 7 (machine v rip f) (machine v1 (rip + 5) f)
+      (machine v4 (rip + 10 + size k) g) first
+    (reaches_then 1 6 (machine v1 (rip + 5) f) (machine v2 check f)
+      (machine v4 (rip + 10 + size k) g) second
+    (reaches_then 5 1 (machine v2 check f) (machine v3 (rip + 10) third.0)
+      (machine v4 (rip + 10 + size k) g) third.1 last)) in
     record {
       flags = g;
       eleventh = sp - frame;
-      comes = subst (λ a. Reaches 8 (machine v rip f) (machine (record { rax = frame; rcx = v.rcx; rdx = v.rdx; rest = with_sp (set v.rest 8 (sp - frame)) (sp - frame); memory = v2.memory }) a g)) end
-          (subst (λ (r : List ℕ). Reaches 8 (machine v rip f) (machine (record { rax = frame; rcx = v.rcx; rdx = v.rdx; rest = r; memory = v2.memory }) (rip + 10 + size k) g)) flat all);
+      comes = subst (λ a. Reaches 8 (machine v rip f)
+        (machine (record { rax = frame; rcx = v.rcx; rdx = v.rdx;
+        rest = with_sp (set v.rest 8 (sp - frame)) (sp - frame); memory = v2.memory }) a g)) end
+          (subst (λ (r : List ℕ). Reaches 8 (machine v rip f)
+            (machine (record { rax = frame; rcx = v.rcx; rdx = v.rdx; rest = r;
+            memory = v2.memory }) (rip + 10 + size k) g)) flat all);
     }

@@ -34,8 +34,11 @@ quiet_both : (a b : List Instr) → AllQuiet a → AllQuiet b → AllQuiet (a ++
 quiet_both [] b p q = q
 quiet_both (i ∷ a) b p q = (p.0, quiet_both a b p.1 q)
 
-call_quiet : (y : Layout) (n : Counts) (sp base : ℕ) (to : Slot) (first at target : ℕ) → SlotsHaveRoom y n sp base → IsSlot n to → AllQuiet (call_code y to first at target)
-call_quiet y n sp base to first at target room is = quiet_both (begin_call y first at target) (keep y to) (refl, (refl, (refl, (refl, (refl, tt))))) (quiet_of (keep y to) (keep_fine y n sp base to room is))
+call_quiet : (y : Layout) (n : Counts) (sp base : ℕ) (to : Slot) (first at target : ℕ)
+    → SlotsHaveRoom y n sp base → IsSlot n to → AllQuiet (call_code y to first at target)
+call_quiet y n sp base to first at target room is = quiet_both (begin_call y first at target)
+    (keep y to) (refl, (refl, (refl, (refl, (refl, tt)))))
+    (quiet_of (keep y to) (keep_fine y n sp base to room is))
 
 passing_quiet : (y : Layout) (first i n : ℕ) → AllQuiet (passing_code y first i n)
 passing_quiet y first i zero = tt
@@ -47,18 +50,37 @@ field_quiet ExceptionFlags = refl
 field_quiet NumberParameters = refl
 field_quiet (ExceptionInformation k) = refl
 
-pub template_quiet : (k : Links) (y : Layout) (n : Counts) (sp base : ℕ) (at : ℕ) (instruction : Instruction) → SlotsHaveRoom y n sp base → HasSlots n instruction → (IsReturn instruction → ⊥) → AllQuiet (template k y at instruction)
-template_quiet k y n sp base at (instructions.Compute to o first second) room has plain = quiet_of (operands_code y o first second ++ finish_code y o to) (fine_both (operands_code y o first second) (finish_code y o to) (operands_fine y n sp base o first second room has.1 has.2) (finish_fine y n sp base o to room has.0))
-template_quiet k y n sp base at (instructions.Information to field) room has plain = (refl, (refl, (field_quiet field, quiet_of (keep y to) (keep_fine y n sp base to room has))))
+pub template_quiet : (k : Links) (y : Layout) (n : Counts) (sp base : ℕ) (at : ℕ)
+    (instruction : Instruction) → SlotsHaveRoom y n sp base → HasSlots n instruction
+    → (IsReturn instruction → ⊥) → AllQuiet (template k y at instruction)
+template_quiet k y n sp base at (instructions.Compute to o first second) room has plain = quiet_of
+    (operands_code y o first second ++ finish_code y o to)
+    (fine_both (operands_code y o first second) (finish_code y o to)
+    (operands_fine y n sp base o first second room has.1 has.2)
+    (finish_fine y n sp base o to room has.0))
+template_quiet k y n sp base at (instructions.Information to field) room has
+    plain = (refl, (refl, (field_quiet field,
+    quiet_of (keep y to) (keep_fine y n sp base to room has))))
 template_quiet k y n sp base at (instructions.Jump label) room has plain = (refl, tt)
-template_quiet k y n sp base at (instructions.JumpIfZero slot label) room has plain = quiet_both (fetch y Rax slot) (compare_zero ∷ jump_equal (at + sizes (test_code y slot) + 6) (k.label label) ∷ []) (quiet_of (fetch y Rax slot) (fetch_fine y n sp base true slot room has)) (refl, (refl, tt))
-template_quiet k y n sp base at (instructions.Landing to) room has plain = quiet_of (keep y to) (keep_fine y n sp base to room has)
+template_quiet k y n sp base at (instructions.JumpIfZero slot label) room has plain = quiet_both
+    (fetch y Rax slot) (compare_zero ∷ jump_equal (at + sizes (test_code y slot) + 6)
+    (k.label label) ∷ []) (quiet_of (fetch y Rax slot) (fetch_fine y n sp base true slot room has))
+    (refl, (refl, tt))
+template_quiet k y n sp base at (instructions.Landing to) room has plain = quiet_of (keep y to)
+    (keep_fine y n sp base to room has)
 template_quiet k y n sp base at (instructions.Call function first count) room has plain =
     let passing = passing_code y first 4 (count - 4) in
-    quiet_both passing (call_code y (Temporary first) first (at + sizes passing) (k.function function)) (passing_quiet y first 4 (count - 4)) (call_quiet y n sp base (Temporary first) first (at + sizes passing) (k.function function) room (let few = has.0 in omega arith))
-template_quiet k y n sp base at (instructions.CallBuiltIn function first) room has plain = (refl, call_quiet y n sp base (Temporary first) first (at + 5) (k.known function) room (omega arith))
-template_quiet k y n sp base at (instructions.CallFinally funclet) room has plain = (refl, (refl, (refl, tt)))
-template_quiet k y n sp base at (instructions.LocalUnwind label) room has plain = (refl, (refl, (refl, tt)))
+    quiet_both passing (call_code y (Temporary first) first (at + sizes passing)
+      (k.function function)) (passing_quiet y first 4 (count - 4))
+      (call_quiet y n sp base (Temporary first) first (at + sizes passing) (k.function function)
+      room (let few = has.0 in omega arith))
+template_quiet k y n sp base at (instructions.CallBuiltIn function first) room has
+    plain = (refl, call_quiet y n sp base (Temporary first) first (at + 5) (k.known function) room
+    (omega arith))
+template_quiet k y n sp base at (instructions.CallFinally funclet) room has
+    plain = (refl, (refl, (refl, tt)))
+template_quiet k y n sp base at (instructions.LocalUnwind label) room has
+    plain = (refl, (refl, (refl, tt)))
 template_quiet k y n sp base at instructions.Separator room has plain = (refl, tt)
 template_quiet k y n sp base at (instructions.Return from) room has plain = absurd (plain tt)
 
@@ -69,7 +91,8 @@ far : (d : ℕ) → 128 ≤ d → d < 2 ^ 31 → is_signed W8 W64 d ≡ false
 far d le lt =
     let e : ltb d 128 ≡ false = le-ltb d 128 le in
     let f : leb (2 ^ 64 - 128) d ≡ false = lt-leb (2 ^ 64 - 128) d (omega arith) in
-    ap (λ (b : Bool). b || (leb (2 ^ 64 - 128) d && ltb d (2 ^ 64))) e ∙ ap (λ (b : Bool). b && ltb d (2 ^ 64)) f
+    ap (λ (b : Bool). b || (leb (2 ^ 64 - 128) d && ltb d (2 ^ 64))) e
+      ∙ ap (λ (b : Bool). b && ltb d (2 ^ 64)) f
 
 pub fetched_size : (d : ℕ) → 128 ≤ d → d < 2 ^ 31 → size (fetched Rax Rsp d) ≡ 8
 unfolding size modrm

@@ -68,33 +68,43 @@ pub record Sets (a b : List ℕ) : Type 0 where
 sets_none : (a : List ℕ) → Sets a a
 sets_none a = record { count = refl; small = λ h. h }
 
-sets_one : (w : Width) (c : Cpu) (r : Reg) (v : ℕ) → Sets c.registers (with_register w c r v).registers
+sets_one : (w : Width) (c : Cpu) (r : Reg) (v : ℕ)
+    → Sets c.registers (with_register w c r v).registers
 sets_one w c r v = record {
   count = set_count c.registers (number r) (merged w (register c r) v);
-  small = λ h. set_small c.registers (number r) (merged w (register c r) v) (merged_small w (register c r) v (index_small c.registers (number r) h)) h;
+  small = λ h. set_small c.registers (number r) (merged w (register c r) v)
+      (merged_small w (register c r) v (index_small c.registers (number r) h)) h;
 }
 
 sets_then : (a b c : List ℕ) → Sets a b → Sets b c → Sets a c
 sets_then a b c x y = record { count = y.count ∙ x.count; small = λ h. y.small (x.small h) }
 
-same : (s : State) (c : Cpu) (t : State) → Sets s.cpu.registers c.registers → ◌≡◌ {A = Answer State} (Ok (record { cpu = c; memory = s.memory })) (Ok t) → Registers s t
+same : (s : State) (c : Cpu) (t : State) → Sets s.cpu.registers c.registers
+    → ◌≡◌ {A = Answer State} (Ok (record { cpu = c; memory = s.memory })) (Ok t) → Registers s t
 same s c t r e =
     let u : State = record { cpu = c; memory = s.memory } in
     let at : u ≡ t = cc in
     subst (Registers s) at (record { count = r.count; small = r.small })
 
-stored_kept : (s : State) (at : ℕ) (w : Width) (v : ℕ) (t : State) → store s at w v ≡ Ok t → Registers s t
+stored_kept : (s : State) (at : ℕ) (w : Width) (v : ℕ) (t : State) → store s at w v ≡ Ok t
+    → Registers s t
 stored_kept s at w v t e = go (first_refused (may_write s.memory) (bytes_of w) at) e
   where
-    go : (o : Option ℕ) → (granted (access {A = Unit {0}} true o tt) >>= λ _. Ok (record s { memory = unless_refused o (with_bytes s.memory (with_number s.memory.byte (bytes_of w) at v)) s.memory })) ≡ Ok t → Registers s t
+    go : (o : Option ℕ) → (granted (access {A = Unit {0}} true o tt)
+      >>= λ _. Ok (record s { memory = unless_refused o
+        (with_bytes s.memory (with_number s.memory.byte (bytes_of w) at v)) s.memory })) ≡ Ok t
+      → Registers s t
     go None h =
-        let u : State = record { cpu = s.cpu; memory = with_bytes s.memory (with_number s.memory.byte (bytes_of w) at v) } in
+        let u : State = record { cpu = s.cpu;
+          memory = with_bytes s.memory (with_number s.memory.byte (bytes_of w) at v) } in
         let at' : u ≡ t = cc in
         subst (Registers s) at' (record { count = refl; small = λ h. h })
     go (Some b) h = absurd cc
 
-written : (s : State) (w : Width) (p : RegisterOrMemory) (v : ℕ) (t : State) → write s w p v ≡ Ok t → Registers s t
-written s w (places.Register r) v t e = same s (with_register w s.cpu r v) t (sets_one w s.cpu r v) e
+written : (s : State) (w : Width) (p : RegisterOrMemory) (v : ℕ) (t : State) → write s w p v ≡ Ok t
+    → Registers s t
+written s w (places.Register r) v t e = same s (with_register w s.cpu r v) t (sets_one w s.cpu r v)
+    e
 written s w (places.Memory a) v t e = stored_kept s (address_of s.cpu a) w v t e
 
 pushed : (s : State) (v : ℕ) (t : State) → push s v ≡ Ok t → Registers s t
@@ -107,35 +117,53 @@ pushed s v t e =
 
 popped : (s : State) (x : ℕ × State) → pop s ≡ Ok x → Registers s x.1
 popped s x e =
-    let b = bound (load s.memory (register s.cpu Rsp) W64) (λ v. Ok (v, record s { cpu = with_register W64 s.cpu Rsp ((register s.cpu Rsp + 8) % 2 ^ 64) })) x e in
-    let f : ◌≡◌ {A = Answer State} (Ok (record s { cpu = with_register W64 s.cpu Rsp ((register s.cpu Rsp + 8) % 2 ^ 64) })) (Ok x.1) = ap (λ (r : Answer (ℕ × State)). r >>= λ y. Ok y.1) b.2 in
-    same s (with_register W64 s.cpu Rsp ((register s.cpu Rsp + 8) % 2 ^ 64)) x.1 (sets_one W64 s.cpu Rsp ((register s.cpu Rsp + 8) % 2 ^ 64)) f
+    let b = bound (load s.memory (register s.cpu Rsp) W64)
+      (λ v. Ok (v, record s { cpu = with_register W64 s.cpu Rsp ((register s.cpu Rsp + 8) % 2 ^ 64)
+      })) x e in
+    let f : ◌≡◌ {A = Answer State} (Ok (record s
+      { cpu = with_register W64 s.cpu Rsp ((register s.cpu Rsp + 8) % 2 ^ 64) })) (Ok x.1) = ap
+      (λ (r : Answer (ℕ × State)). r >>= λ y. Ok y.1) b.2 in
+    same s (with_register W64 s.cpu Rsp ((register s.cpu Rsp + 8) % 2 ^ 64)) x.1
+      (sets_one W64 s.cpu Rsp ((register s.cpu Rsp + 8) % 2 ^ 64)) f
 
 -- ---- instructions
 
-compare_kept : (s : State) (o : Operation) (w : Width) (first : RegisterOrMemory) (second : Operand) (t : State) → compare s o w first second ≡ Ok t → Registers s t
+compare_kept : (s : State) (o : Operation) (w : Width) (first : RegisterOrMemory) (second : Operand)
+    (t : State) → compare s o w first second ≡ Ok t → Registers s t
 compare_kept s o w first second t e =
-    let b = bound (operand s w second) (λ b. read s w first >>= λ a. Ok (with_flags s (computed o w a b).1)) t e in
+    let b = bound (operand s w second) (λ b. read s w first
+      >>= λ a. Ok (with_flags s (computed o w a b).1)) t e in
     let a = bound (read s w first) (λ a. Ok (with_flags s (computed o w a b.0).1)) t b.2 in
     same s (record s.cpu { flags = (computed o w a.0 b.0).1 }) t (sets_none s.cpu.registers) a.2
 
-change_kept : (s : State) (o : Operation) (w : Width) (to : RegisterOrMemory) (from : Operand) (t : State) → change s o w to from ≡ Ok t → Registers s t
+change_kept : (s : State) (o : Operation) (w : Width) (to : RegisterOrMemory) (from : Operand)
+    (t : State) → change s o w to from ≡ Ok t → Registers s t
 change_kept s o w to from t e =
-    let b = bound (operand s w from) (λ b. may_change s w to >>= λ _. read s w to >>= λ a. write (with_flags s (computed o w a b).1) w to (computed o w a b).0) t e in
-    let m = bound (may_change s w to) (λ _. read s w to >>= λ a. write (with_flags s (computed o w a b.0).1) w to (computed o w a b.0).0) t b.2 in
-    let a = bound (read s w to) (λ a. write (with_flags s (computed o w a b.0).1) w to (computed o w a b.0).0) t m.2 in
-    let r = written (with_flags s (computed o w a.0 b.0).1) w to (computed o w a.0 b.0).0 t a.2 in record { count = r.count; small = r.small }
+    let b = bound (operand s w from) (λ b. may_change s w to >>= λ _. read s w to
+      >>= λ a. write (with_flags s (computed o w a b).1) w to (computed o w a b).0) t e in
+    let m = bound (may_change s w to) (λ _. read s w to
+      >>= λ a. write (with_flags s (computed o w a b.0).1) w to (computed o w a b.0).0) t b.2 in
+    let a = bound (read s w to) (λ a. write (with_flags s (computed o w a b.0).1) w to
+      (computed o w a b.0).0) t m.2 in
+    let r = written (with_flags s (computed o w a.0 b.0).1) w to (computed o w a.0 b.0).0 t a.2 in
+      record { count = r.count; small = r.small }
 
-either_kept : (c : Bool) (s : State) (x y : Answer State) (t : State) → (x ≡ Ok t → Registers s t) → (y ≡ Ok t → Registers s t) → cond c x y ≡ Ok t → Registers s t
+either_kept : (c : Bool) (s : State) (x y : Answer State) (t : State) → (x ≡ Ok t → Registers s t)
+    → (y ≡ Ok t → Registers s t) → cond c x y ≡ Ok t → Registers s t
 either_kept true s x y t p q e = p e
 either_kept false s x y t p q e = q e
 
-divided_kept : (s : State) (w : Width) (r : Result (ℕ × ℕ) DivFault) (t : State) → with_quotient s w r ≡ Ok t → Registers s t
-divided_kept s w (Ok x) t e = same s (with_register w (with_register w s.cpu Rax x.0) Rdx x.1) t (sets_then s.cpu.registers (with_register w s.cpu Rax x.0).registers (with_register w (with_register w s.cpu Rax x.0) Rdx x.1).registers (sets_one w s.cpu Rax x.0) (sets_one w (with_register w s.cpu Rax x.0) Rdx x.1)) e
+divided_kept : (s : State) (w : Width) (r : Result (ℕ × ℕ) DivFault) (t : State)
+    → with_quotient s w r ≡ Ok t → Registers s t
+divided_kept s w (Ok x) t e = same s (with_register w (with_register w s.cpu Rax x.0) Rdx x.1) t
+    (sets_then s.cpu.registers (with_register w s.cpu Rax x.0).registers
+    (with_register w (with_register w s.cpu Rax x.0) Rdx x.1).registers (sets_one w s.cpu Rax x.0)
+    (sets_one w (with_register w s.cpu Rax x.0) Rdx x.1)) e
 divided_kept s w (Err z) t e = absurd cc
 
 -- it goes elsewhere
-went : (s u : State) (a : ℕ) (t : State) → Registers s u → ◌≡◌ {A = Answer State} (Ok (with_rip u a)) (Ok t) → Registers s t
+went : (s u : State) (a : ℕ) (t : State) → Registers s u
+    → ◌≡◌ {A = Answer State} (Ok (with_rip u a)) (Ok t) → Registers s t
 went s u a t k e =
     let at : with_rip u a ≡ t = cc in
     subst (Registers s) at (record { count = k.count; small = k.small })
@@ -143,12 +171,17 @@ went s u a t k e =
 unchanged : (s : State) → Registers s s
 unchanged s = record { count = refl; small = λ h. h }
 
-jump_left : (s : State) (to : Target) (t : State) → (target_of s to >>= λ target. Ok (with_rip s target)) ≡ Ok t → Registers s t
-jump_left s to t e = let b = bound (target_of s to) (λ target. Ok (with_rip s target)) t e in went s s b.0 t (unchanged s) b.2
+jump_left : (s : State) (to : Target) (t : State)
+    → (target_of s to >>= λ target. Ok (with_rip s target)) ≡ Ok t → Registers s t
+jump_left s to t e = let b = bound (target_of s to) (λ target. Ok (with_rip s target)) t e in
+    went s s b.0 t (unchanged s) b.2
 
-call_left : (s : State) (to : Target) (t : State) → (target_of s to >>= λ target. push s s.cpu.rip >>= λ after. Ok (with_rip after target)) ≡ Ok t → Registers s t
+call_left : (s : State) (to : Target) (t : State)
+    → (target_of s to >>= λ target. push s s.cpu.rip >>= λ after. Ok (with_rip after target)) ≡ Ok t
+    → Registers s t
 call_left s to t e =
-    let b = bound (target_of s to) (λ target. push s s.cpu.rip >>= λ after. Ok (with_rip after target)) t e in
+    let b = bound (target_of s to) (λ target. push s s.cpu.rip
+      >>= λ after. Ok (with_rip after target)) t e in
     let p = bound (push s s.cpu.rip) (λ after. Ok (with_rip after b.0)) t b.2 in
     went s p.0 b.0 t (pushed s s.cpu.rip p.0 p.1) p.2
 
@@ -157,31 +190,49 @@ return_left s t e =
     let b = bound (pop s) (λ x. Ok (with_rip x.1 x.0)) t e in
     went s b.0.1 b.0.0 t (popped s b.0 b.1) b.2
 
-shift_kept : (s : State) (d : Direction) (w : Width) (to : RegisterOrMemory) (n : ℕ) (t : State) → shift_by s d w to n ≡ Ok t → Registers s t
+shift_kept : (s : State) (d : Direction) (w : Width) (to : RegisterOrMemory) (n : ℕ) (t : State)
+    → shift_by s d w to n ≡ Ok t → Registers s t
 shift_kept s d w to n t e =
-    let m = bound (may_change s w to) (λ _. read s w to >>= λ a. write (with_flags s (shift_flags d w a n s.cpu.flags)) w to (shifted d w a n)) t e in
-    let a = bound (read s w to) (λ a. write (with_flags s (shift_flags d w a n s.cpu.flags)) w to (shifted d w a n)) t m.2 in
-    let r = written (with_flags s (shift_flags d w a.0 n s.cpu.flags)) w to (shifted d w a.0 n) t a.2 in record { count = r.count; small = r.small }
+    let m = bound (may_change s w to) (λ _. read s w to
+      >>= λ a. write (with_flags s (shift_flags d w a n s.cpu.flags)) w to (shifted d w a n)) t e in
+    let a = bound (read s w to) (λ a. write (with_flags s (shift_flags d w a n s.cpu.flags)) w to
+      (shifted d w a n)) t m.2 in
+    let r = written (with_flags s (shift_flags d w a.0 n s.cpu.flags)) w to (shifted d w a.0 n) t
+      a.2 in record { count = r.count; small = r.small }
 
-unary_kept : (s : State) (o : Unary) (w : Width) (to : RegisterOrMemory) (t : State) → unary s o w to ≡ Ok t → Registers s t
+unary_kept : (s : State) (o : Unary) (w : Width) (to : RegisterOrMemory) (t : State)
+    → unary s o w to ≡ Ok t → Registers s t
 unary_kept s o w to t e =
-    let m = bound (may_change s w to) (λ _. read s w to >>= λ a. write (with_flags s (unary_of o w a s.cpu.flags).1) w to (unary_of o w a s.cpu.flags).0) t e in
-    let a = bound (read s w to) (λ a. write (with_flags s (unary_of o w a s.cpu.flags).1) w to (unary_of o w a s.cpu.flags).0) t m.2 in
-    let r = written (with_flags s (unary_of o w a.0 s.cpu.flags).1) w to (unary_of o w a.0 s.cpu.flags).0 t a.2 in record { count = r.count; small = r.small }
+    let m = bound (may_change s w to) (λ _. read s w to
+      >>= λ a. write (with_flags s (unary_of o w a s.cpu.flags).1) w to
+        (unary_of o w a s.cpu.flags).0) t e in
+    let a = bound (read s w to) (λ a. write (with_flags s (unary_of o w a s.cpu.flags).1) w to
+      (unary_of o w a s.cpu.flags).0) t m.2 in
+    let r = written (with_flags s (unary_of o w a.0 s.cpu.flags).1) w to
+      (unary_of o w a.0 s.cpu.flags).0 t a.2 in record { count = r.count; small = r.small }
 
-multiply_kept : (s : State) (w : Width) (to : Reg) (from : RegisterOrMemory) (t : State) → multiply s w to from ≡ Ok t → Registers s t
+multiply_kept : (s : State) (w : Width) (to : Reg) (from : RegisterOrMemory) (t : State)
+    → multiply s w to from ≡ Ok t → Registers s t
 multiply_kept s w to from t e =
-    let after = λ (b : ℕ). let p = multiplied w (low w (register s.cpu to)) b s.cpu.flags in record (with_register w s.cpu to p.0) { flags = p.1 } in
-    let b = bound (read s w from) (λ b. let u : State = record { cpu = after b; memory = s.memory } in Ok u) t e in
-    same s (after b.0) t (let q = multiplied w (low w (register s.cpu to)) b.0 s.cpu.flags in sets_one w s.cpu to q.0) b.2
+    let after = λ (b : ℕ). let p = multiplied w (low w (register s.cpu to)) b s.cpu.flags in
+      record (with_register w s.cpu to p.0) { flags = p.1 } in
+    let b = bound (read s w from) (λ b. let u : State =
+      record { cpu = after b; memory = s.memory } in Ok u) t e in
+    same s (after b.0) t (let q = multiplied w (low w (register s.cpu to)) b.0 s.cpu.flags in
+      sets_one w s.cpu to q.0) b.2
 
-multiply_by_kept : (s : State) (w : Width) (to : Reg) (from : RegisterOrMemory) (v : ℕ) (t : State) → multiply_by s w to from v ≡ Ok t → Registers s t
+multiply_by_kept : (s : State) (w : Width) (to : Reg) (from : RegisterOrMemory) (v : ℕ) (t : State)
+    → multiply_by s w to from v ≡ Ok t → Registers s t
 multiply_by_kept s w to from v t e =
-    let after = λ (a : ℕ). let p = multiplied w a (low w v) s.cpu.flags in record (with_register w s.cpu to p.0) { flags = p.1 } in
-    let b = bound (read s w from) (λ a. let u : State = record { cpu = after a; memory = s.memory } in Ok u) t e in
-    same s (after b.0) t (let q = multiplied w b.0 (low w v) s.cpu.flags in sets_one w s.cpu to q.0) b.2
+    let after = λ (a : ℕ). let p = multiplied w a (low w v) s.cpu.flags in
+      record (with_register w s.cpu to p.0) { flags = p.1 } in
+    let b = bound (read s w from) (λ a. let u : State =
+      record { cpu = after a; memory = s.memory } in Ok u) t e in
+    same s (after b.0) t (let q = multiplied w b.0 (low w v) s.cpu.flags in sets_one w s.cpu to q.0)
+      b.2
 
-jumped_registers : (b : Bool) (c : Cpu) (a : ℕ) → (cond b (record c { rip = a }) c).registers ≡ c.registers
+jumped_registers : (b : Bool) (c : Cpu) (a : ℕ)
+    → (cond b (record c { rip = a }) c).registers ≡ c.registers
 jumped_registers true c a = refl
 jumped_registers false c a = refl
 
@@ -192,18 +243,27 @@ registers_stay (instrs.Extend x w to narrow from) s t e =
     let after = λ (v : ℕ). with_register w s.cpu to (widened x w narrow v) in
     let b = bound (read s narrow from) (λ v. Ok (record s { cpu = after v })) t e in
     (same s (after b.0) t (sets_one w s.cpu to (widened x w narrow b.0)) b.2)
-registers_stay (instrs.LoadAddress w to m) s t e = (same s (with_register w s.cpu to (address_of s.cpu m)) t (sets_one w s.cpu to (address_of s.cpu m)) e)
-registers_stay (instrs.Arithmetic o w to from) s t e = (either_kept (is_compare o) s (compare s o w to from) (change s o w to from) t (compare_kept s o w to from t) (change_kept s o w to from t) e)
-registers_stay (instrs.Test w first second) s t e = (compare_kept s operations.And w first second t e)
+registers_stay (instrs.LoadAddress w to m) s t
+    e = (same s (with_register w s.cpu to (address_of s.cpu m)) t
+    (sets_one w s.cpu to (address_of s.cpu m)) e)
+registers_stay (instrs.Arithmetic o w to from) s t
+    e = (either_kept (is_compare o) s (compare s o w to from) (change s o w to from) t
+    (compare_kept s o w to from t) (change_kept s o w to from t) e)
+registers_stay (instrs.Test w first second) s t
+    e = (compare_kept s operations.And w first second t e)
 registers_stay (instrs.Multiply w to from) s t e = (multiply_kept s w to from t e)
 registers_stay (instrs.MultiplyBy w to from v) s t e = (multiply_by_kept s w to from v t e)
 registers_stay (instrs.Unary o w to) s t e = (unary_kept s o w to t e)
 registers_stay (instrs.Divide d w by) s t e =
     let high = low w (register s.cpu Rdx) in
-    let b = bound (read s w by) (λ v. with_quotient s w (divided d w (joined w high (low w (register s.cpu Rax))) v)) t e in
+    let b = bound (read s w by) (λ v. with_quotient s w
+      (divided d w (joined w high (low w (register s.cpu Rax))) v)) t e in
     (divided_kept s w (divided d w (joined w high (low w (register s.cpu Rax))) b.0) t b.2)
-registers_stay (instrs.ExtendRax w) s t e = (same s (with_register w s.cpu Rdx (sign_of_rax w s.cpu)) t (sets_one w s.cpu Rdx (sign_of_rax w s.cpu)) e)
-registers_stay (instrs.Shift d w to by) s t e = (shift_kept s d w to (count_of w (amount s.cpu by)) t e)
+registers_stay (instrs.ExtendRax w) s t e = (same s
+    (with_register w s.cpu Rdx (sign_of_rax w s.cpu)) t (sets_one w s.cpu Rdx (sign_of_rax w s.cpu))
+    e)
+registers_stay (instrs.Shift d w to by) s t e =
+    (shift_kept s d w to (count_of w (amount s.cpu by)) t e)
 registers_stay (instrs.Set c to) s t e = (written s W8 to (condition_byte s.cpu.flags c) t e)
 registers_stay (instrs.JumpIf c d) s t e =
     let u : State = record s { cpu = jumped s.cpu c d } in
@@ -216,7 +276,8 @@ registers_stay (instrs.Push r) s t e = (pushed s (register s.cpu r) t e)
 registers_stay (instrs.Pop r) s t e =
     let b = bound (pop s) (λ x. Ok (record x.1 { cpu = with_register W64 x.1.cpu r x.0 })) t e in
     let k = popped s b.0 b.1 in
-    let l = same b.0.1 (with_register W64 b.0.1.cpu r b.0.0) t (sets_one W64 b.0.1.cpu r b.0.0) b.2 in
+    let l = same b.0.1 (with_register W64 b.0.1.cpu r b.0.0) t (sets_one W64 b.0.1.cpu r b.0.0)
+      b.2 in
     record { count = l.count ∙ k.count; small = λ h. l.small (k.small h) }
 registers_stay instrs.Return s t e = return_left s t e
 registers_stay instrs.NoOperation s t e = (same s s.cpu t (sets_none s.cpu.registers) e)

@@ -21,21 +21,29 @@ function_layout : Layout
 function_layout = record { base = None; pointers = 0; locals = 256; temporaries = 128; frame = 312 }
 
 block_layout : Layout
-block_layout = record { base = Some 32; pointers = 40; locals = 256; temporaries = 128; frame = 152 }
+block_layout = record { base = Some 32; pointers = 40; locals = 256; temporaries = 128;
+    frame = 152 }
 
 -- mov rax,[rsp+256] ; mov rcx,[rsp+128] ; add eax,ecx ; mov [rsp+264],rax
-sum_of_slots : spelled (compute_code function_layout (Local 1) (operations.Pure (pures.Add Int)) (Local 0) (Temporary 0)) ≡ 0x48 ∷ 0x8B ∷ 0x84 ∷ 0x24 ∷ 0x00 ∷ 0x01 ∷ 0x00 ∷ 0x00 ∷ 0x48 ∷ 0x8B ∷ 0x8C ∷ 0x24 ∷ 0x80 ∷ 0x00 ∷ 0x00 ∷ 0x00 ∷ 0x01 ∷ 0xC8 ∷ 0x48 ∷ 0x89 ∷ 0x84 ∷ 0x24 ∷ 0x08 ∷ 0x01 ∷ 0x00 ∷ 0x00 ∷ []
+sum_of_slots : spelled (compute_code function_layout (Local 1) (operations.Pure (pures.Add Int))
+    (Local 0) (Temporary 0)) ≡ 0x48 ∷ 0x8B ∷ 0x84 ∷ 0x24 ∷ 0x00 ∷ 0x01 ∷ 0x00 ∷ 0x00 ∷ 0x48 ∷ 0x8B
+    ∷ 0x8C ∷ 0x24 ∷ 0x80 ∷ 0x00 ∷ 0x00 ∷ 0x00 ∷ 0x01 ∷ 0xC8 ∷ 0x48 ∷ 0x89 ∷ 0x84 ∷ 0x24 ∷ 0x08
+    ∷ 0x01 ∷ 0x00 ∷ 0x00 ∷ []
 unfolding function_layout modrm
 sum_of_slots = refl
 
 -- mov rax,[rsp+128] twice ; cdq ; idiv ecx ; mov [rsp+128],rax
-quotient_of_slots : spelled (compute_code block_layout (Temporary 0) (operations.Divide Signed Int) (Temporary 0) (Temporary 1)) ≡ 0x48 ∷ 0x8B ∷ 0x84 ∷ 0x24 ∷ 0x80 ∷ 0x00 ∷ 0x00 ∷ 0x00 ∷ 0x48 ∷ 0x8B ∷ 0x8C ∷ 0x24 ∷ 0x88 ∷ 0x00 ∷ 0x00 ∷ 0x00 ∷ 0x99 ∷ 0xF7 ∷ 0xF9 ∷ 0x48 ∷ 0x89 ∷ 0x84 ∷ 0x24 ∷ 0x80 ∷ 0x00 ∷ 0x00 ∷ 0x00 ∷ []
+quotient_of_slots : spelled (compute_code block_layout (Temporary 0) (operations.Divide Signed Int)
+    (Temporary 0) (Temporary 1)) ≡ 0x48 ∷ 0x8B ∷ 0x84 ∷ 0x24 ∷ 0x80 ∷ 0x00 ∷ 0x00 ∷ 0x00 ∷ 0x48
+    ∷ 0x8B ∷ 0x8C ∷ 0x24 ∷ 0x88 ∷ 0x00 ∷ 0x00 ∷ 0x00 ∷ 0x99 ∷ 0xF7 ∷ 0xF9 ∷ 0x48 ∷ 0x89 ∷ 0x84
+    ∷ 0x24 ∷ 0x80 ∷ 0x00 ∷ 0x00 ∷ 0x00 ∷ []
 unfolding block_layout modrm
 quotient_of_slots = refl
 
 -- in a block a local is reached through the base: mov rax,[rsp+32] ; mov rax,[rax+256], and so for
 -- each slot
-local_of_a_block : length (compute_code block_layout (Local 0) (operations.Pure pures.First) (Local 0) (Local 1)) ≡ 6
+local_of_a_block : length (compute_code block_layout (Local 0) (operations.Pure pures.First)
+    (Local 0) (Local 1)) ≡ 6
 unfolding block_layout
 local_of_a_block = refl
 

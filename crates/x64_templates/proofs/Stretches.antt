@@ -29,10 +29,14 @@ use Rattle.x64_templates.proofs.InstructionRuns.{body_instruction_run}
 
 -- ---- code stays where it is
 
-bytes_stay : (p : FramePlace) (m m' : Memory) (b : BodyState) (at : ℕ) (bytes : List ℕ) → ChangesOwn p m m' → FrameHolds p m b → ((a : ℕ) → at ≤ a → a < at + length bytes → p.reserved a ≡ true) → IsCodeAt m at bytes → IsCodeAt m' at bytes
+bytes_stay : (p : FramePlace) (m m' : Memory) (b : BodyState) (at : ℕ) (bytes : List ℕ)
+    → ChangesOwn p m m' → FrameHolds p m b → ((a : ℕ) → at ≤ a → a < at + length bytes
+    → p.reserved a ≡ true) → IsCodeAt m at bytes → IsCodeAt m' at bytes
 bytes_stay p m m' b at [] c h own s = tt
 bytes_stay p m m' b at (x ∷ bytes) c h own s =
-    let off = λ (is : InTemporaries p.layout p.counts p.sp at ⊎ InLocals p.layout p.counts p.base at). let q : true ≡ false = sym (h.writable at is) ∙ s.0.fixed in let z : ⊥ = absurd cc in z in (
+    let off = λ (is : InTemporaries p.layout p.counts p.sp at
+      ⊎ InLocals p.layout p.counts p.base at). let q : true ≡ false = sym (h.writable at is)
+      ∙ s.0.fixed in let z : ⊥ = absurd cc in z in (
       record {
         byte = c.byte at (own at (omega arith) (omega arith)) off ∙ s.0.byte;
         executes = ap (λ (f : ℕ → Protection). (f at).execute) c.protection ∙ s.0.executes;
@@ -41,16 +45,22 @@ bytes_stay p m m' b at (x ∷ bytes) c h own s =
       bytes_stay p m m' b (at + 1) bytes c h (λ a l u. own a (omega arith) (omega arith)) s.1,
     )
 
-pub code_stays : (p : FramePlace) (m m' : Memory) (b : BodyState) (at : ℕ) (code : List Instr) → ChangesOwn p m m' → FrameHolds p m b → ((a : ℕ) → at ≤ a → a < at + sizes code → p.reserved a ≡ true) → HasCode m at code → HasCode m' at code
+pub code_stays : (p : FramePlace) (m m' : Memory) (b : BodyState) (at : ℕ) (code : List Instr)
+    → ChangesOwn p m m' → FrameHolds p m b → ((a : ℕ) → at ≤ a → a < at + sizes code
+    → p.reserved a ≡ true) → HasCode m at code → HasCode m' at code
 code_stays p m m' b at code c h own s =
     let e = sizes_spelled code in
-    record { is_there = bytes_stay p m m' b at (spelled code) c h (λ a l u. own a l (omega arith)) s.is_there; placed = s.placed }
+    record { is_there = bytes_stay p m m' b at (spelled code) c h (λ a l u. own a l (omega arith))
+      s.is_there; placed = s.placed }
 
-pub linked_stays : (p : FramePlace) (k : Links) (m m' : Memory) (start : ℕ) (body : List Instruction) (b : BodyState) → ChangesOwn p m m' → FrameHolds p m b → IsLinked p k m start body → IsLinked p k m' start body
+pub linked_stays : (p : FramePlace) (k : Links) (m m' : Memory) (start : ℕ)
+    (body : List Instruction) (b : BodyState) → ChangesOwn p m m' → FrameHolds p m b
+    → IsLinked p k m start body → IsLinked p k m' start body
 linked_stays p k m m' start body b c h l =
     let e = body_sizes k p.layout start body in
     record {
-      code = code_stays p m m' b start (code_from k p.layout start body) c h (λ a lo hi. l.own a lo (omega arith)) l.code;
+      code = code_stays p m m' b start (code_from k p.layout start body) c h
+        (λ a lo hi. l.own a lo (omega arith)) l.code;
       labels = l.labels;
       small = l.small;
       high = l.high;
@@ -60,17 +70,23 @@ linked_stays p k m m' start body b c h l =
 
 -- ---- one stretch after another
 
-pub follows_then : (p : FramePlace) (m n : ℕ) (s : State) (mid to : ℕ) (others : List ℕ) (b c : BodyState) → (g : ReachesBody p m s mid others b) → ReachesBody p n (machine g.after mid g.flags) to others c → ReachesBody p (m + n) s to others c
+pub follows_then : (p : FramePlace) (m n : ℕ) (s : State) (mid to : ℕ) (others : List ℕ)
+    (b c : BodyState) → (g : ReachesBody p m s mid others b)
+    → ReachesBody p n (machine g.after mid g.flags) to others c
+    → ReachesBody p (m + n) s to others c
 follows_then p m n s mid to others b c g r = record {
   after = r.after;
   flags = r.flags;
-  comes = reaches_then m n s (machine g.after mid g.flags) (machine r.after to r.flags) g.comes r.comes;
+  comes = reaches_then m n s (machine g.after mid g.flags) (machine r.after to r.flags) g.comes
+      r.comes;
   rest = r.rest;
   holds = r.holds;
-  changes = changes_then p.layout p.counts p.reserved p.sp p.base s.memory g.after.memory r.after.memory g.changes r.changes;
+  changes = changes_then p.layout p.counts p.reserved p.sp p.base s.memory g.after.memory
+      r.after.memory g.changes r.changes;
 }
 
-nothing_made : (p : FramePlace) (v : MachineView) (at : ℕ) (f : Flags) (b : BodyState) → FrameHolds p v.memory b → RunsAllTo p 0 (machine v at f) at v.rest b
+nothing_made : (p : FramePlace) (v : MachineView) (at : ℕ) (f : Flags) (b : BodyState)
+    → FrameHolds p v.memory b → RunsAllTo p 0 (machine v at f) at v.rest b
 nothing_made p v at f b h = record {
   turns = 0;
   least = omega arith;
@@ -85,17 +101,26 @@ nothing_made p v at f b h = record {
   };
 }
 
-made_then : (p : FramePlace) (m n : ℕ) (v : MachineView) (at : ℕ) (f : Flags) (mid to : ℕ) (b c : BodyState) → (g : RunsTo p m (machine v at f) mid v.rest b) → RunsAllTo p n (machine g.follows.after mid g.follows.flags) to v.rest c → RunsAllTo p (suc n) (machine v at f) to v.rest c
+made_then : (p : FramePlace) (m n : ℕ) (v : MachineView) (at : ℕ) (f : Flags) (mid to : ℕ)
+    (b c : BodyState) → (g : RunsTo p m (machine v at f) mid v.rest b)
+    → RunsAllTo p n (machine g.follows.after mid g.follows.flags) to v.rest c
+    → RunsAllTo p (suc n) (machine v at f) to v.rest c
 made_then p m n v at f mid to b c g r =
     let l1 = g.least in let m1 = g.most in let l2 = r.least in let m2 = r.most in
-    record { turns = m + r.turns; least = omega arith; most = omega arith; follows = follows_then p m r.turns (machine v at f) mid to v.rest b c g.follows r.follows }
+    record { turns = m + r.turns; least = omega arith; most = omega arith;
+      follows = follows_then p m r.turns (machine v at f) mid to v.rest b c g.follows r.follows }
 
 -- ---- the body
 
 abbrev Runs : FramePlace → Links → ℕ → List Instruction → ℕ → Type 0
-Runs p k start body n = (number : ℕ) (v : MachineView) (f : Flags) (b : BodyState) (last : ℕ) (c : BodyState) → IsLinked p k v.memory start body → sp_of v ≡ p.sp → FrameHolds p v.memory b → run p.reserved body n number b ≡ Some (last, c) → RunsAllTo p n (machine v (start + offset_of p.layout body number) f) (start + offset_of p.layout body last) v.rest c
+Runs p k start body n = (number : ℕ) (v : MachineView) (f : Flags) (b : BodyState) (last : ℕ)
+    (c : BodyState) → IsLinked p k v.memory start body → sp_of v ≡ p.sp → FrameHolds p v.memory b
+    → run p.reserved body n number b ≡ Some (last, c)
+    → RunsAllTo p n (machine v (start + offset_of p.layout body number) f)
+      (start + offset_of p.layout body last) v.rest c
 
-same_point : (x y : ℕ) (b c : BodyState) → ◌≡◌ {A = Option BodyPoint} (Some (x, b)) (Some (y, c)) → (x ≡ y) × (b ≡ c)
+same_point : (x y : ℕ) (b c : BodyState) → ◌≡◌ {A = Option BodyPoint} (Some (x, b)) (Some (y, c))
+    → (x ≡ y) × (b ≡ c)
 same_point x y b c e = (ap (number_of x) e, ap (body_of b) e)
   where
     number_of : ℕ → Option BodyPoint → ℕ
@@ -106,55 +131,105 @@ same_point x y b c e = (ap (number_of x) e, ap (body_of b) e)
     body_of d None = d
     body_of d (Some q) = q.1
 
-after_line : (p : FramePlace) (k : Links) (start : ℕ) (body : List Instruction) (n number : ℕ) (v : MachineView) (f : Flags) (b : BodyState) (last : ℕ) (c : BodyState) (instruction : Instruction) (s : InstructionEffect) → Runs p k start body n → IsLinked p k v.memory start body → sp_of v ≡ p.sp → FrameHolds p v.memory b → number < length body → instruction ≡ get_or body number instructions.Separator → InstructionDone p k v (start + offset_of p.layout body number) f b instruction s → continued (run p.reserved body n) number s ≡ Some (last, c) → RunsAllTo p (suc n) (machine v (start + offset_of p.layout body number) f) (start + offset_of p.layout body last) v.rest c
+after_line : (p : FramePlace) (k : Links) (start : ℕ) (body : List Instruction) (n number : ℕ)
+    (v : MachineView) (f : Flags) (b : BodyState) (last : ℕ) (c : BodyState)
+    (instruction : Instruction) (s : InstructionEffect) → Runs p k start body n
+    → IsLinked p k v.memory start body → sp_of v ≡ p.sp → FrameHolds p v.memory b
+    → number < length body → instruction ≡ get_or body number instructions.Separator
+    → InstructionDone p k v (start + offset_of p.layout body number) f b instruction s
+    → continued (run p.reserved body n) number s ≡ Some (last, c)
+    → RunsAllTo p (suc n) (machine v (start + offset_of p.layout body number) f)
+      (start + offset_of p.layout body last) v.rest c
 after_line p k start body n number v f b last c instruction (Next d) rec l at h lt is done e =
     let y = p.layout in
     let here = start + offset_of y body number in
-    let next : here + template_size y instruction ≡ start + offset_of y body (number + 1) = step_to (number + 1) (omega arith) in
+    let next : here + template_size y instruction
+      ≡ start + offset_of y body (number + 1) = step_to (number + 1) (omega arith) in
     let turns = length (template k y here instruction) in
-    let g : RunsTo p turns (machine v here f) (start + offset_of y body (number + 1)) v.rest d = subst (λ a. RunsTo p turns (machine v here f) a v.rest d) next done in
+    let g : RunsTo p turns (machine v here f) (start + offset_of y body (number + 1)) v.rest
+      d = subst (λ a. RunsTo p turns (machine v here f) a v.rest d) next done in
     go turns g e
   where
-    step_to : (j : ℕ) → j ≡ suc number → start + offset_of p.layout body number + template_size p.layout instruction ≡ start + offset_of p.layout body j
+    step_to : (j : ℕ) → j ≡ suc number → start + offset_of p.layout body number
+      + template_size p.layout instruction ≡ start + offset_of p.layout body j
     step_to j q =
         let o = offset_next p.layout body number instructions.Separator lt in
-        let t : template_size p.layout instruction ≡ template_size p.layout (get_or body number instructions.Separator) = ap (template_size p.layout) is in
-        let z : offset_of p.layout body j ≡ offset_of p.layout body (suc number) = ap (offset_of p.layout body) q in
+        let t : template_size p.layout instruction
+          ≡ template_size p.layout (get_or body number instructions.Separator) = ap
+            (template_size p.layout) is in
+        let z : offset_of p.layout body j ≡ offset_of p.layout body (suc number) = ap
+          (offset_of p.layout body) q in
         omega arith
 
-    go : (m : ℕ) → (g : RunsTo p m (machine v (start + offset_of p.layout body number) f) (start + offset_of p.layout body (number + 1)) v.rest d) → run p.reserved body n (number + 1) d ≡ Some (last, c) → RunsAllTo p (suc n) (machine v (start + offset_of p.layout body number) f) (start + offset_of p.layout body last) v.rest c
-    go m g e = made_then p m n v (start + offset_of p.layout body number) f (start + offset_of p.layout body (number + 1)) (start + offset_of p.layout body last) d c g
-        (subst (λ r. RunsAllTo p n (machine g.follows.after (start + offset_of p.layout body (number + 1)) g.follows.flags) (start + offset_of p.layout body last) r c) g.follows.rest
-        (rec (number + 1) g.follows.after g.follows.flags d last c (linked_stays p k v.memory g.follows.after.memory start body b g.follows.changes h l) (ap (λ (r : List ℕ). get_or r 1 0) g.follows.rest ∙ at) g.follows.holds e))
-after_line p k start body n number v f b last c instruction (JumpsTo d label) rec l at h lt is done e =
+    go : (m : ℕ) → (g : RunsTo p m (machine v (start + offset_of p.layout body number) f)
+      (start + offset_of p.layout body (number + 1)) v.rest d)
+      → run p.reserved body n (number + 1) d ≡ Some (last, c)
+      → RunsAllTo p (suc n) (machine v (start + offset_of p.layout body number) f)
+        (start + offset_of p.layout body last) v.rest c
+    go m g e = made_then p m n v (start + offset_of p.layout body number) f
+      (start + offset_of p.layout body (number + 1)) (start + offset_of p.layout body last) d c g
+        (subst (λ r. RunsAllTo p n (machine g.follows.after
+          (start + offset_of p.layout body (number + 1)) g.follows.flags)
+          (start + offset_of p.layout body last) r c) g.follows.rest
+        (rec (number + 1) g.follows.after g.follows.flags d last c
+          (linked_stays p k v.memory g.follows.after.memory start body b g.follows.changes h l)
+          (ap (λ (r : List ℕ). get_or r 1 0) g.follows.rest ∙ at) g.follows.holds e))
+after_line p k start body n number v f b last c instruction (JumpsTo d label) rec l at h lt is done
+    e =
     let turns = length (template k p.layout (start + offset_of p.layout body number) instruction) in
-    go turns (subst (λ a. RunsTo p turns (machine v (start + offset_of p.layout body number) f) a v.rest d) (l.labels label) done) e
+    go turns (subst (λ a. RunsTo p turns (machine v (start + offset_of p.layout body number) f) a
+      v.rest d) (l.labels label) done) e
   where
-    go : (m : ℕ) → (g : RunsTo p m (machine v (start + offset_of p.layout body number) f) (start + offset_of p.layout body label) v.rest d) → run p.reserved body n label d ≡ Some (last, c) → RunsAllTo p (suc n) (machine v (start + offset_of p.layout body number) f) (start + offset_of p.layout body last) v.rest c
-    go m g e = made_then p m n v (start + offset_of p.layout body number) f (start + offset_of p.layout body label) (start + offset_of p.layout body last) d c g
-        (subst (λ r. RunsAllTo p n (machine g.follows.after (start + offset_of p.layout body label) g.follows.flags) (start + offset_of p.layout body last) r c) g.follows.rest
-        (rec label g.follows.after g.follows.flags d last c (linked_stays p k v.memory g.follows.after.memory start body b g.follows.changes h l) (ap (λ (r : List ℕ). get_or r 1 0) g.follows.rest ∙ at) g.follows.holds e))
-after_line p k start body n number v f b last c instruction (Faults code access) rec l at h lt is done e = absurd cc
-after_line p k start body n number v f b last c instruction (ReservedAccess a) rec l at h lt is done e = absurd cc
-after_line p k start body n number v f b last c instruction NeedsDispatcher rec l at h lt is done e = absurd cc
+    go : (m : ℕ) → (g : RunsTo p m (machine v (start + offset_of p.layout body number) f)
+      (start + offset_of p.layout body label) v.rest d)
+      → run p.reserved body n label d ≡ Some (last, c)
+      → RunsAllTo p (suc n) (machine v (start + offset_of p.layout body number) f)
+        (start + offset_of p.layout body last) v.rest c
+    go m g e = made_then p m n v (start + offset_of p.layout body number) f
+      (start + offset_of p.layout body label) (start + offset_of p.layout body last) d c g
+        (subst (λ r. RunsAllTo p n (machine g.follows.after (start + offset_of p.layout body label)
+          g.follows.flags) (start + offset_of p.layout body last) r c) g.follows.rest
+        (rec label g.follows.after g.follows.flags d last c
+          (linked_stays p k v.memory g.follows.after.memory start body b g.follows.changes h l)
+          (ap (λ (r : List ℕ). get_or r 1 0) g.follows.rest ∙ at) g.follows.holds e))
+after_line p k start body n number v f b last c instruction (Faults code access) rec l at h lt is
+    done e = absurd cc
+after_line p k start body n number v f b last c instruction (ReservedAccess a) rec l at h lt is done
+    e = absurd cc
+after_line p k start body n number v f b last c instruction NeedsDispatcher rec l at h lt is done
+    e = absurd cc
 
 -- n instructions of a body take n to 16 n turns, and lead where they lead
-pub body_runs : (p : FramePlace) (k : Links) (start : ℕ) (body : List Instruction) (n : ℕ) → Roomy p → (number : ℕ) (v : MachineView) (f : Flags) (b : BodyState) (last : ℕ) (c : BodyState) → IsLinked p k v.memory start body → sp_of v ≡ p.sp → FrameHolds p v.memory b → run p.reserved body n number b ≡ Some (last, c) → RunsAllTo p n (machine v (start + offset_of p.layout body number) f) (start + offset_of p.layout body last) v.rest c
+pub body_runs : (p : FramePlace) (k : Links) (start : ℕ) (body : List Instruction) (n : ℕ) → Roomy p
+    → (number : ℕ) (v : MachineView) (f : Flags) (b : BodyState) (last : ℕ) (c : BodyState)
+    → IsLinked p k v.memory start body → sp_of v ≡ p.sp → FrameHolds p v.memory b
+    → run p.reserved body n number b ≡ Some (last, c)
+    → RunsAllTo p n (machine v (start + offset_of p.layout body number) f)
+      (start + offset_of p.layout body last) v.rest c
 unfolding run
 body_runs p k start body zero room number v f b last c l at h e =
     let q = same_point number last b c e in
-    subst (λ x. RunsAllTo p 0 (machine v (start + offset_of p.layout body number) f) (start + offset_of p.layout body x) v.rest c) q.0
-    (subst (λ d. RunsAllTo p 0 (machine v (start + offset_of p.layout body number) f) (start + offset_of p.layout body number) v.rest d) q.1
+    subst (λ x. RunsAllTo p 0 (machine v (start + offset_of p.layout body number) f)
+      (start + offset_of p.layout body x) v.rest c) q.0
+    (subst (λ d. RunsAllTo p 0 (machine v (start + offset_of p.layout body number) f)
+      (start + offset_of p.layout body number) v.rest d) q.1
     (nothing_made p v (start + offset_of p.layout body number) f b h))
 body_runs p k start body (suc n) room number v f b last c l at h e =
     let instruction = get_or body number instructions.Separator in
     let s = step p.reserved instruction b in
     elim (cases_lt number (length body)) [
       | inl lt ↦
-          let there : continued (run p.reserved body n) number s ≡ Some (last, c) = sym (ap (λ (t : Bool). cond t (continued (run p.reserved body n) number s) None) (lt-ltb number (length body) lt)) ∙ e in
-          after_line p k start body n number v f b last c instruction s (body_runs p k start body n room) l at h lt refl
-          (body_instruction_run p k start body number v f b room l.labels l.small l.high lt (l.slots number lt) at h l.code) there
+          let there : continued (run p.reserved body n) number s
+            ≡ Some (last, c) = sym (ap (λ (t : Bool). cond t
+              (continued (run p.reserved body n) number s) None) (lt-ltb number (length body) lt))
+            ∙ e in
+          after_line p k start body n number v f b last c instruction s
+            (body_runs p k start body n room) l at h lt refl
+          (body_instruction_run p k start body number v f b room l.labels l.small l.high lt
+            (l.slots number lt) at h l.code) there
       | inr ge ↦
-          let never : ◌≡◌ {A = Option BodyPoint} None (Some (last, c)) = sym (ap (λ (t : Bool). cond t (continued (run p.reserved body n) number s) None) (le-ltb number (length body) ge)) ∙ e in
+          let never : ◌≡◌ {A = Option BodyPoint} None (Some (last, c)) = sym
+            (ap (λ (t : Bool). cond t (continued (run p.reserved body n) number s) None)
+            (le-ltb number (length body) ge)) ∙ e in
           absurd cc
     ]

@@ -5,4 +5,5 @@ use Rattle.c_resolved.specs.Program.{file_of, empty_file}
 use Rattle.c_syntax.specs.Program.{external_declaration}
 
 abbrev pub invariant-loop-x : goal.invariant-loop-x
-invariant-loop-x l = StillFile l.text l.xs l.x-index (file_of l.text (map external_declaration l.xs) empty_file) l.file
+invariant-loop-x l = StillFile l.text l.xs l.x-index
+    (file_of l.text (map external_declaration l.xs) empty_file) l.file

@@ -4,4 +4,6 @@ use Rattle.c_expressions.specs.Kept.{least_of}
 use Rattle.c_expressions.specs.Views.{block_of}
 
 pub loop-x-preserved : goal.loop-x-preserved
-loop-x-preserved c = functions_on c.args.text.now (block_of c.args.file.now.entries) c.args.xs.now c.loop-x.x-index c.x-item.result (least_of c.args.worst) c.loop-x.progress c.one.new.progress c.loop-x-test.true c.x-item.is c.in_ok-one.ensures c.loop-x.invariant
+loop-x-preserved c = functions_on c.args.text.now (block_of c.args.file.now.entries) c.args.xs.now
+    c.loop-x.x-index c.x-item.result (least_of c.args.worst) c.loop-x.progress c.one.new.progress
+    c.loop-x-test.true c.x-item.is c.in_ok-one.ensures c.loop-x.invariant

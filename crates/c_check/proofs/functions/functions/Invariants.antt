@@ -4,4 +4,5 @@ use Rattle.c_expressions.specs.Kept.{least_of}
 use Rattle.c_expressions.specs.Views.{block_of}
 
 abbrev pub invariant-loop-x : goal.invariant-loop-x
-invariant-loop-x l = StillFunctions l.text (block_of l.file.entries) l.xs l.x-index (least_of l.fn.worst) l.progress
+invariant-loop-x l = StillFunctions l.text (block_of l.file.entries) l.xs l.x-index
+    (least_of l.fn.worst) l.progress

@@ -4,4 +4,5 @@ use Rattle.c_expressions.specs.Kept.{least_of}
 use Rattle.c_expressions.specs.Views.{block_of}
 
 abbrev pub invariant-loop-i : goal.invariant-loop-i
-invariant-loop-i l = StillParameters l.text l.list l.i (block_of l.block.entries) (least_of l.initial.worst) (least_of l.worst)
+invariant-loop-i l = StillParameters l.text l.list l.i (block_of l.block.entries)
+    (least_of l.initial.worst) (least_of l.worst)

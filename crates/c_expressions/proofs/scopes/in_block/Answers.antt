@@ -5,7 +5,9 @@ use Rattle.c_expressions.proofs.scopes.in_block.Goals as goal
 use Rattle.c_expressions.specs.Views.{entity}
 
 pub returns-in-Some : goal.returns-in-Some
-returns-in-Some c = ap (option_map entity) c.in-Some.ensures.value ∙ sym (block_is c.args.block.now.entries c.args.name.now c.requires)
+returns-in-Some c = ap (option_map entity) c.in-Some.ensures.value
+    ∙ sym (block_is c.args.block.now.entries c.args.name.now c.requires)
 
 pub returns-in-None : goal.returns-in-None
-returns-in-None c = ap (option_map entity) c.in-None.ensures.value ∙ sym (block_is c.args.block.now.entries c.args.name.now c.requires)
+returns-in-None c = ap (option_map entity) c.in-None.ensures.value
+    ∙ sym (block_is c.args.block.now.entries c.args.name.now c.requires)

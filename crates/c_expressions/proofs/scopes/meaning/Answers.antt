@@ -7,4 +7,5 @@ pub returns-in-Some : goal.returns-in-Some
 returns-in-Some c = known_first c.args.name.now _ (scopes_of c.args.scopes.now) c.in-Some.ensures
 
 pub returns-in-None : goal.returns-in-None
-returns-in-None c = c.declared.ensures ∙ sym (unknown_next c.args.name.now (scopes_of c.args.scopes.now) c.in-None.ensures)
+returns-in-None c = c.declared.ensures ∙ sym (unknown_next c.args.name.now
+    (scopes_of c.args.scopes.now) c.in-None.ensures)

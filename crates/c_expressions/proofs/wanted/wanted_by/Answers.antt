@@ -6,4 +6,5 @@ use Rattle.c_expressions.proofs.wanted.wanted_by.Goals as goal
 use Rattle.c_expressions.specs.Views.{wanted}
 
 pub returns : goal.returns
-returns c = IfOk-weaker c.types_of.result _ _ (λ v h. ap (map wanted) h ∙ wants_are c.args.parameters.now) c.types_of.ensures
+returns c = IfOk-weaker c.types_of.result _ _
+    (λ v h. ap (map wanted) h ∙ wants_are c.args.parameters.now) c.types_of.ensures

@@ -6,4 +6,7 @@ use Rattle.c_resolved.specs.Statements as definitions
 use Rattle.c_syntax.specs.Expression.{expression}
 
 pub returns : goal.returns
-returns c = ruled c.args.worst.now _ _ _ (resolved_at (environment c.args.env.now) (block_of c.args.block.now.entries) (expression c.args.e.now)) c.condition.result (definitions.condition c.args.at) c.in_ok-found.ensures.found c.in_ok-found.ensures.faults c.condition.ensures
+returns c = ruled c.args.worst.now _ _ _ (resolved_at (environment c.args.env.now)
+    (block_of c.args.block.now.entries) (expression c.args.e.now)) c.condition.result
+    (definitions.condition c.args.at) c.in_ok-found.ensures.found c.in_ok-found.ensures.faults
+    c.condition.ensures

@@ -8,4 +8,7 @@ use Rattle.c_resolved.specs.Expressions.{fault_at}
 use Rattle.c_syntax.specs.Expression.{expression}
 
 pub returns : goal.returns
-returns c = kept_more (least_of c.args.worst.now) _ _ (resolved_at (environment c.args.env.now) (block_of c.args.block.now.entries) (expression c.args.e.now)).faults (fault_at c.args.at TypeClash) c.in_ok-resolved_at.ensures.faults c.add.ensures
+returns c = kept_more (least_of c.args.worst.now) _ _
+    (resolved_at (environment c.args.env.now) (block_of c.args.block.now.entries)
+    (expression c.args.e.now)).faults (fault_at c.args.at TypeClash)
+    c.in_ok-resolved_at.ensures.faults c.add.ensures

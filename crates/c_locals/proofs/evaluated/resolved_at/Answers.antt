@@ -7,7 +7,12 @@ use Rattle.c_syntax.specs.Expression.{expression}
 use Rattle.c_types.specs.Views.{typed_node}
 
 pub returns-clause-found : goal.returns-clause-found
-returns-clause-found c = subst (λ s. IfOk c.resolve.result (λ r. option_map typed_node r ≡ (resolve_expression s (expression c.args.e.now)).found)) c.context.ensures c.resolve.ensures.found
+returns-clause-found c = subst (λ s. IfOk c.resolve.result
+    (λ r. option_map typed_node r ≡ (resolve_expression s (expression c.args.e.now)).found))
+    c.context.ensures c.resolve.ensures.found
 
 pub returns-clause-faults : goal.returns-clause-faults
-returns-clause-faults c = subst (λ s. OnOk c.resolve.result (least_of c.resolve.new.worst ≡ kept (least_of c.args.worst.now) (resolve_expression s (expression c.args.e.now)).faults)) c.context.ensures c.resolve.ensures.faults
+returns-clause-faults c = subst (λ s. OnOk c.resolve.result
+    (least_of c.resolve.new.worst ≡ kept (least_of c.args.worst.now)
+    (resolve_expression s (expression c.args.e.now)).faults)) c.context.ensures
+    c.resolve.ensures.faults

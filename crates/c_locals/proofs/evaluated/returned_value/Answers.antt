@@ -6,7 +6,11 @@ use Rattle.c_locals.specs.Views.{environment}
 use Rattle.c_syntax.specs.Expression.{expression}
 
 pub returns-then-is_void : goal.returns-then-is_void
-returns-then-is_void c = nothing_returned (environment c.args.env.now) (block_of c.args.block.now.entries) c.args.at (expression c.args.e.now) c.args.worst.now _ (sym c.is_void.ensures ∙ c.if-is_void.true) c.in_ok-refused_value.ensures
+returns-then-is_void c = nothing_returned (environment c.args.env.now)
+    (block_of c.args.block.now.entries) c.args.at (expression c.args.e.now) c.args.worst.now _
+    (sym c.is_void.ensures ∙ c.if-is_void.true) c.in_ok-refused_value.ensures
 
 pub returns : goal.returns
-returns c = value_returned (environment c.args.env.now) (block_of c.args.block.now.entries) c.args.at (expression c.args.e.now) c.args.worst.now _ _ (sym c.is_void.ensures ∙ c.if-is_void.false) c.in_ok-to_type.ensures
+returns c = value_returned (environment c.args.env.now) (block_of c.args.block.now.entries)
+    c.args.at (expression c.args.e.now) c.args.worst.now _ _
+    (sym c.is_void.ensures ∙ c.if-is_void.false) c.in_ok-to_type.ensures

@@ -6,7 +6,10 @@ use Rattle.c_locals.specs.Views.{environment}
 use Rattle.c_syntax.specs.Expression.{expression}
 
 pub returns-then-always : goal.returns-then-always
-returns-then-always c = always_same (environment c.args.env.now) (block_of c.args.block.now.entries) (expression c.args.e.now) c.args.worst.now (sym c.always.ensures ∙ c.if-always.true)
+returns-then-always c = always_same (environment c.args.env.now) (block_of c.args.block.now.entries)
+    (expression c.args.e.now) c.args.worst.now (sym c.always.ensures ∙ c.if-always.true)
 
 pub returns : goal.returns
-returns c = answered (environment c.args.env.now) (block_of c.args.block.now.entries) (expression c.args.e.now) c.args.worst.now _ _ (sym c.always.ensures ∙ c.if-always.false) c.in_ok-answer.ensures
+returns c = answered (environment c.args.env.now) (block_of c.args.block.now.entries)
+    (expression c.args.e.now) c.args.worst.now _ _ (sym c.always.ensures ∙ c.if-always.false)
+    c.in_ok-answer.ensures

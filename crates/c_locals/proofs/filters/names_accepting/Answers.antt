@@ -4,4 +4,5 @@ use Rattle.c_resolved.specs.Expressions.{Names}
 use Rattle.c_resolved.specs.Statements.{is_accepting}
 
 pub returns : goal.returns
-returns c = c.is_accepting.ensures ∙ ap is_accepting (c.named.ensures ∙ ap (λ (s : Names). s.entity c.args.name) c.context.ensures)
+returns c = c.is_accepting.ensures ∙ ap is_accepting
+    (c.named.ensures ∙ ap (λ (s : Names). s.entity c.args.name) c.context.ensures)

@@ -46,7 +46,9 @@ abbrev pub decreases-arguments-loop-following : goal.decreases-arguments-loop-fo
 decreases-arguments-loop-following l = length l.rest
 
 abbrev pub invariant-expression-loop-alloc : goal.invariant-expression-loop-alloc
-invariant-expression-loop-alloc l = (l.left.over ≤ l.room) × Derives l.text l.level (expression l.left.expr) l.tokens l.left.rest.now × Closes (expression l.left.expr) l.left.rest.now
+invariant-expression-loop-alloc l = (l.left.over ≤ l.room)
+    × Derives l.text l.level (expression l.left.expr) l.tokens l.left.rest.now
+    × Closes (expression l.left.expr) l.left.rest.now
 
 abbrev pub decreases-expression-loop-alloc : goal.decreases-expression-loop-alloc
 decreases-expression-loop-alloc l = l.room - l.left.over

@@ -6,6 +6,7 @@ abbrev pub invariant-loop-scope : goal.invariant-loop-scope
 invariant-loop-scope l = record {
   can : (goal.iterator-loop-scope).can_next l.scope-iterator;
   ends : (goal.iterator-loop-scope).is_finite l.scope-iterator;
-  same : checked l.index l.size l.row l.scope-iterator ≡ checked l.index l.size 0 (scope_records_in l.rows);
+  same : checked l.index l.size l.row l.scope-iterator
+      ≡ checked l.index l.size 0 (scope_records_in l.rows);
   room : l.row + length l.scope-iterator ≡ length l.rows / 16;
 }

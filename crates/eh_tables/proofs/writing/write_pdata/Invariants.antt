@@ -5,7 +5,8 @@ use Rattle.eh_tables.proofs.writing.write_pdata.Given as goal
 
 abbrev pub invariant-loop-range : goal.invariant-loop-range
 invariant-loop-range l = record {
-  same : l.to.items ++ flat_map range_bytes (drop l.range-index l.ranges) ≡ l.fn.to.items ++ flat_map range_bytes l.ranges;
+  same : l.to.items ++ flat_map range_bytes (drop l.range-index l.ranges)
+      ≡ l.fn.to.items ++ flat_map range_bytes l.ranges;
   front : take (length l.fn.to.items) l.to.items ≡ l.fn.to.items;
   before : l.before ≡ length l.fn.to.items;
   within : length l.fn.to.items ≤ length l.to.items;

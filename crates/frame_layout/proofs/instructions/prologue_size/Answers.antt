@@ -9,4 +9,5 @@ pub returns-then-size-lt128 : goal.returns-then-size-lt128
 returns-then-size-lt128 c = sym (takes_four c.args.size c.requires c.if-size-lt128.true)
 
 pub returns-else-size-lt128 : goal.returns-else-size-lt128
-returns-else-size-lt128 c = sym (takes_seven c.args.size c.if-size-lt128.false c.if-size-gt-PROBE_FREE.false)
+returns-else-size-lt128 c = sym (takes_seven c.args.size c.if-size-lt128.false
+    c.if-size-gt-PROBE_FREE.false)

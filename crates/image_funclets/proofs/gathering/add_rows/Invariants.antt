@@ -8,5 +8,6 @@ invariant-loop-row l = record {
   can : (goal.iterator-loop-row).can_next l.row-iterator;
   ends : (goal.iterator-loop-row).is_finite l.row-iterator;
   ascending : AreAscending 0 (funclets_of l.gathered.entries);
-  same : of_rows l.row-iterator (funclets_of l.gathered.entries) ≡ of_rows l.fn.rows (funclets_of l.fn.gathered.entries);
+  same : of_rows l.row-iterator (funclets_of l.gathered.entries)
+      ≡ of_rows l.fn.rows (funclets_of l.fn.gathered.entries);
 }

@@ -7,5 +7,6 @@ use Rattle.image_funclets.proofs.gathering.gather.Given as goal
 abbrev pub invariant-loop-index : goal.invariant-loop-index
 invariant-loop-index l = record {
   ascending : AreAscending 0 (funclets_of l.gathered.entries);
-  same : of_entries (drop l.index (entries_of l.tables)) (funclets_of l.gathered.entries) ≡ of_entries (entries_of l.tables) [];
+  same : of_entries (drop l.index (entries_of l.tables)) (funclets_of l.gathered.entries)
+      ≡ of_entries (entries_of l.tables) [];
 }

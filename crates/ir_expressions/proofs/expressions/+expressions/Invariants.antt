@@ -6,4 +6,6 @@ use Rattle.ir_expressions.proofs.expressions.+expressions.Given as goal
 abbrev pub invariant-arguments-loop-arg : goal.invariant-arguments-loop-arg
 invariant-arguments-loop-arg l =
     (l.next ≡ l.d + l.arg-index)
-    × (l.code.items ≡ l.initial.code.items ++ spec.arguments_code l.names (tree.arguments (map tree.expression (take l.arg-index l.args))) l.d (length l.initial.code.items))
+    × (l.code.items ≡ l.initial.code.items ++ spec.arguments_code l.names
+      (tree.arguments (map tree.expression (take l.arg-index l.args))) l.d
+      (length l.initial.code.items))

@@ -4,4 +4,5 @@ use Rattle.ir_sizes.specs.Sizes as spec
 use Rattle.ir_sizes.proofs.statement_sizes.+notes.Given as goal
 
 abbrev pub invariant-statements_notes-loop-stmt : goal.invariant-statements_notes-loop-stmt
-invariant-statements_notes-loop-stmt l = l.most ≡ spec.statements_notes (tree.statements (map tree.statement (take l.stmt-index l.stmts)))
+invariant-statements_notes-loop-stmt l = l.most
+    ≡ spec.statements_notes (tree.statements (map tree.statement (take l.stmt-index l.stmts)))

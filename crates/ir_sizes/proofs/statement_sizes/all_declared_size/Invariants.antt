@@ -4,4 +4,5 @@ use Rattle.ir_sizes.specs.Sizes as spec
 use Rattle.ir_sizes.proofs.statement_sizes.all_declared_size.Given as goal
 
 abbrev pub invariant-loop-one : goal.invariant-loop-one
-invariant-loop-one l = l.total ≡ spec.all_declared_size (map tree.declared (take l.one-index l.declared))
+invariant-loop-one l = l.total ≡ spec.all_declared_size
+    (map tree.declared (take l.one-index l.declared))

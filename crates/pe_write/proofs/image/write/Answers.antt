@@ -5,21 +5,27 @@ use Rattle.pe_write.proofs.Programs.{rdata_fits, read_again, small_file, with_im
 use Rattle.pe_write.proofs.image.write.Goals as goal
 
 pub overflow_cast-rdata_at : goal.overflow_cast-rdata_at
-overflow_cast-rdata_at c = let fits = rdata_fits c.args.image.now c.sizes.result c.rdata_at.result c.sizes.ensures.program c.sizes.ensures.value c.rdata_at.ensures in omega arith
+overflow_cast-rdata_at c = let fits = rdata_fits c.args.image.now c.sizes.result c.rdata_at.result
+    c.sizes.ensures.program c.sizes.ensures.value c.rdata_at.ensures in omega arith
 
 pub import_tables-requires : goal.import_tables-requires
-import_tables-requires c = rdata_fits c.args.image.now c.sizes.result c.rdata_at.result c.sizes.ensures.program c.sizes.ensures.value c.rdata_at.ensures
+import_tables-requires c = rdata_fits c.args.image.now c.sizes.result c.rdata_at.result
+    c.sizes.ensures.program c.sizes.ensures.value c.rdata_at.ensures
 
 pub returns-clause-read_again : goal.returns-clause-read_again
 returns-clause-read_again c =
     read_again c.args.image.now c.write_sections-2.result c.sizes.ensures.program
-    (subst (λ i. OnOk c.write_sections-2.result (CanBeWritten i)) c.with_sections.ensures c.write_sections-2.ensures.fits)
-    (subst (λ i. IfOk c.write_sections-2.result (λ bytes. bytes.items ≡ written i)) c.with_sections.ensures c.write_sections-2.ensures.written)
+    (subst (λ i. OnOk c.write_sections-2.result (CanBeWritten i)) c.with_sections.ensures
+      c.write_sections-2.ensures.fits)
+    (subst (λ i. IfOk c.write_sections-2.result (λ bytes. bytes.items ≡ written i))
+      c.with_sections.ensures c.write_sections-2.ensures.written)
 
 pub returns-clause-imported : goal.returns-clause-imported
-returns-clause-imported c = with_imports c.args.image.now c.write_sections-2.result c.sizes.ensures.program
+returns-clause-imported c = with_imports c.args.image.now c.write_sections-2.result
+    c.sizes.ensures.program
 
 pub returns-clause-small : goal.returns-clause-small
 returns-clause-small c =
     small_file c.args.image.now c.write_sections-2.result c.sizes.ensures.program
-    (subst (λ i. IfOk c.write_sections-2.result (λ bytes. bytes.items ≡ written i)) c.with_sections.ensures c.write_sections-2.ensures.written)
+    (subst (λ i. IfOk c.write_sections-2.result (λ bytes. bytes.items ≡ written i))
+      c.with_sections.ensures c.write_sections-2.ensures.written)

@@ -4,4 +4,5 @@ use Rattle.pe_write.specs.Written.{raw_data}
 use Rattle.pe_write.proofs.layout.put_data.Given as goal
 
 abbrev pub invariant-loop-section : goal.invariant-loop-section
-invariant-loop-section l = l.out.items ++ flat_map raw_data (drop l.section-index l.sections) ≡ l.initial.out.items ++ flat_map raw_data l.sections
+invariant-loop-section l = l.out.items ++ flat_map raw_data (drop l.section-index l.sections)
+    ≡ l.initial.out.items ++ flat_map raw_data l.sections

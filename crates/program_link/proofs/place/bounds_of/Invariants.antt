@@ -5,6 +5,7 @@ use Rattle.x64_code.specs.Near.{IsNear}
 
 abbrev pub invariant-loop-routine : goal.invariant-loop-routine
 invariant-loop-routine l = record {
-  done : l.bounds.items ++ spec.bounds l.at (drop l.routine-index l.routines) ≡ spec.bounds l.fn.start l.routines;
+  done : l.bounds.items ++ spec.bounds l.at (drop l.routine-index l.routines)
+      ≡ spec.bounds l.fn.start l.routines;
   room : IsNear (l.at + spec.room (drop l.routine-index l.routines));
 }

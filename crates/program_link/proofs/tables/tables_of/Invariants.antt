@@ -6,8 +6,11 @@ use Rattle.x64_code.specs.Near.{IsNear}
 
 abbrev pub invariant-loop-routine : goal.invariant-loop-routine
 invariant-loop-routine l = record {
-  infos : l.xdata.items ++ spec.infos l.site l.at (drop l.routine-index l.routines) ≡ spec.infos l.site l.first l.routines;
-  entries : l.ranges.items ++ spec.ranges l.site (l.xdata_at + length l.xdata.items) l.at (drop l.routine-index l.routines) ≡ spec.ranges l.site l.xdata_at l.first l.routines;
+  infos : l.xdata.items ++ spec.infos l.site l.at (drop l.routine-index l.routines)
+      ≡ spec.infos l.site l.first l.routines;
+  entries : l.ranges.items ++ spec.ranges l.site (l.xdata_at + length l.xdata.items) l.at
+      (drop l.routine-index l.routines) ≡ spec.ranges l.site l.xdata_at l.first l.routines;
   room : IsNear (l.at + texts.room (drop l.routine-index l.routines));
-  tables : l.xdata_at + length l.xdata.items + spec.infos_room (drop l.routine-index l.routines) < 2 ^ 31;
+  tables : l.xdata_at + length l.xdata.items + spec.infos_room (drop l.routine-index l.routines)
+      < 2 ^ 31;
 }

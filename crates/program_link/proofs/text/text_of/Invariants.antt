@@ -5,6 +5,7 @@ use Rattle.x64_code.specs.Near.{IsNear}
 
 abbrev pub invariant-loop-routine : goal.invariant-loop-routine
 invariant-loop-routine l = record {
-  done : l.code.items ++ spec.routines_bytes l.site l.at (drop l.routine-index l.routines) ≡ spec.text_bytes l.site l.routines;
+  done : l.code.items ++ spec.routines_bytes l.site l.at (drop l.routine-index l.routines)
+      ≡ spec.text_bytes l.site l.routines;
   room : IsNear (l.at + spec.room (drop l.routine-index l.routines));
 }

@@ -8,7 +8,8 @@ pub returns-in-Ok-put_all : goal.returns-in-Ok-put_all
 returns-in-Ok-put_all g c = (
   c.in-Ok.image.items,
   c.in-Ok.ensures.found,
-  subst (λ t. Grew (g.O.Sink.taken c.args.out.now) t (g.O.Sink.taken c.put_all.new.sink)) c.deref.ensures.value c.in-Ok-put_all.ensures.ok,
+  subst (λ t. Grew (g.O.Sink.taken c.args.out.now) t (g.O.Sink.taken c.put_all.new.sink))
+      c.deref.ensures.value c.in-Ok-put_all.ensures.ok,
 )
 
 pub returns : goal.returns
@@ -19,8 +20,11 @@ returns g c = (
     c.in-Err-put_all.ensures.cause,
     (
       c.in-Err-put_all.field-0.taken,
-      subst (λ t. TookPart (g.O.Sink.taken c.args.out.now) t (g.O.Sink.taken c.put_all.new.sink) c.in-Err-put_all.field-0.taken) c.deref.ensures.value
-          (took_front (g.O.Sink.taken c.args.out.now) c.deref.result.now (g.O.Sink.taken c.put_all.new.sink) c.in-Err-put_all.field-0.taken c.in-Err-put_all.ensures.short c.in-Err-put_all.ensures.part),
+      subst (λ t. TookPart (g.O.Sink.taken c.args.out.now) t (g.O.Sink.taken c.put_all.new.sink)
+        c.in-Err-put_all.field-0.taken) c.deref.ensures.value
+          (took_front (g.O.Sink.taken c.args.out.now) c.deref.result.now
+            (g.O.Sink.taken c.put_all.new.sink) c.in-Err-put_all.field-0.taken
+            c.in-Err-put_all.ensures.short c.in-Err-put_all.ensures.part),
     ),
   ),
 )

@@ -16,7 +16,9 @@ returns-in-Err g c =
       c.in-Err.ensures.cause,
       (
         count,
-        subst (λ (t : List ℕ). TookPart (taken c.args.err.now) t (taken c.put_all.new.sink) count) line
-            (took_front (taken c.args.err.now) c.as_bytes.result.now (taken c.put_all.new.sink) count c.in-Err.ensures.short c.in-Err.ensures.part),
+        subst (λ (t : List ℕ). TookPart (taken c.args.err.now) t (taken c.put_all.new.sink) count)
+          line
+            (took_front (taken c.args.err.now) c.as_bytes.result.now (taken c.put_all.new.sink)
+              count c.in-Err.ensures.short c.in-Err.ensures.part),
       ),
     )

@@ -4,7 +4,9 @@ use Rattle.seh.proofs.Images.{of_image, of_refusal}
 use Rattle.seh.proofs.run.run_text.Goals as goal
 
 pub returns-in-Ok : goal.returns-in-Ok
-returns-in-Ok g c = of_image _ _ _ _ _ c.run_image.result (subst (λ (bytes : List ℕ). IsCompiled c.args.text.now bytes) (sym c.deref.ensures.value) c.in-Ok.ensures.found) c.run_image.ensures
+returns-in-Ok g c = of_image _ _ _ _ _ c.run_image.result
+    (subst (λ (bytes : List ℕ). IsCompiled c.args.text.now bytes) (sym c.deref.ensures.value)
+    c.in-Ok.ensures.found) c.run_image.ensures
 
 pub returns-in-Err : goal.returns-in-Err
 returns-in-Err g c = of_refusal _ _ _ c.in-Err.refusal c.in-Err.ensures.refused

@@ -7,15 +7,20 @@ use Rattle.seh_dispatch.proofs.Rows.{row_zero, row_some, row_none}
 use Rattle.seh_dispatch.proofs.answering.asked_row.Goals as goal
 
 pub returns-then-dispatch-eq0 : goal.returns-then-dispatch-eq0
-returns-then-dispatch-eq0 c = sym (row_zero (rows_of (entry_of (functions_of c.args.tables.now) c.args.dispatch.now.walk.rip)) c.args.dispatch.now.row c.if-dispatch-eq0.true)
+returns-then-dispatch-eq0 c = sym (row_zero (rows_of
+    (entry_of (functions_of c.args.tables.now) c.args.dispatch.now.walk.rip))
+    c.args.dispatch.now.row c.if-dispatch-eq0.true)
 
 pub returns-in-None-next : goal.returns-in-None-next
 returns-in-None-next c =
     let d = c.args.dispatch.now in
     let h : c.skipped-left.result ≡ [] = search rules in
     let scopes = c.scopes.ensures.value ∙ ap (λ (i : Info). i.scopes) c.info.ensures in
-    let found = c.in-Some.ensures ∙ ap (λ b. holding (distance b d.walk.rip) (entries_of c.args.tables.now)) c.base.ensures in
-    sym (row_none c.in-Some.entry.info.scopes d.row (d.row - 1) (let z = c.if-dispatch-eq0.false in omega arith) (ap (drop (d.row - 1)) (sym scopes) ∙ sym c.skipped-left.ensures.value ∙ h))
+    let found = c.in-Some.ensures ∙ ap (λ b. holding (distance b d.walk.rip)
+      (entries_of c.args.tables.now)) c.base.ensures in
+    sym (row_none c.in-Some.entry.info.scopes d.row (d.row - 1)
+      (let z = c.if-dispatch-eq0.false in omega arith)
+      (ap (drop (d.row - 1)) (sym scopes) ∙ sym c.skipped-left.ensures.value ∙ h))
     ∙ ap (λ (o : Option Entry). row_before (rows_of o) d.row) found
 
 pub returns-in-Some-next : goal.returns-in-Some-next
@@ -23,6 +28,9 @@ returns-in-Some-next c =
     let d = c.args.dispatch.now in
     let h : c.skipped-left.result ≡ c.in-Some-next.row ∷ c.next.new.self = search rules in
     let scopes = c.scopes.ensures.value ∙ ap (λ (i : Info). i.scopes) c.info.ensures in
-    let found = c.in-Some.ensures ∙ ap (λ b. holding (distance b d.walk.rip) (entries_of c.args.tables.now)) c.base.ensures in
-    sym (row_some c.in-Some.entry.info.scopes d.row (d.row - 1) c.in-Some-next.row c.next.new.self (let z = c.if-dispatch-eq0.false in omega arith) (ap (drop (d.row - 1)) (sym scopes) ∙ sym c.skipped-left.ensures.value ∙ h))
+    let found = c.in-Some.ensures ∙ ap (λ b. holding (distance b d.walk.rip)
+      (entries_of c.args.tables.now)) c.base.ensures in
+    sym (row_some c.in-Some.entry.info.scopes d.row (d.row - 1) c.in-Some-next.row c.next.new.self
+      (let z = c.if-dispatch-eq0.false in omega arith)
+      (ap (drop (d.row - 1)) (sym scopes) ∙ sym c.skipped-left.ensures.value ∙ h))
     ∙ ap (λ (o : Option Entry). row_before (rows_of o) d.row) found

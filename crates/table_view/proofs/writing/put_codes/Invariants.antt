@@ -9,5 +9,7 @@ invariant-loop-code g l = record {
   can : (goal.iterator-loop-code g).can_next l.code-iterator;
   ends : (goal.iterator-loop-code g).is_finite l.code-iterator;
   same : l.out.sink.ghost_name ≡ l.fn.out.sink.ghost_name;
-  rest : (z : Writer) → Wrote (writer_of g.O.Sink.taken g.O.Sink.faults l.out) (flat_map code_line l.code-iterator) z → Wrote (writer_of g.O.Sink.taken g.O.Sink.faults l.fn.out) (flat_map code_line l.info.codes) z;
+  rest : (z : Writer) → Wrote (writer_of g.O.Sink.taken g.O.Sink.faults l.out)
+      (flat_map code_line l.code-iterator) z → Wrote
+      (writer_of g.O.Sink.taken g.O.Sink.faults l.fn.out) (flat_map code_line l.info.codes) z;
 }

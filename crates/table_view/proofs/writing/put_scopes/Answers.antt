@@ -10,6 +10,9 @@ loop-row-preserved g c = record {
   ends = tt;
   same = c.put_joined.ensures.same_reference ∙ c.loop-row.invariant.same;
   room = let e = ap length c.in-Some.ensures.steps in omega (arith, c.loop-row.invariant.room);
-  rest = λ z p. c.loop-row.invariant.rest z (then_rest _ _ z (scope_line c.loop-row.number c.in-Some.row) _ _ (ap (λ (t : List ScopeRecord). scope_lines c.loop-row.number t) c.in-Some.ensures.steps)
-      (same _ _ _ _ c.put_joined.ensures.wrote (joined _ _ _ _ c.scope_begin.ensures c.kind_line.ensures)) p);
+  rest = λ z p. c.loop-row.invariant.rest z (then_rest _ _ z
+      (scope_line c.loop-row.number c.in-Some.row) _ _
+      (ap (λ (t : List ScopeRecord). scope_lines c.loop-row.number t) c.in-Some.ensures.steps)
+      (same _ _ _ _ c.put_joined.ensures.wrote
+        (joined _ _ _ _ c.scope_begin.ensures c.kind_line.ensures)) p);
 }

@@ -9,5 +9,7 @@ invariant-loop-row g l = record {
   ends : (goal.iterator-loop-row g).is_finite l.row-iterator;
   same : l.out.sink.ghost_name ≡ l.fn.out.sink.ghost_name;
   room : l.number + length l.row-iterator ≡ length l.info.scopes;
-  rest : (z : Writer) → Wrote (writer_of g.O.Sink.taken g.O.Sink.faults l.out) (scope_lines l.number l.row-iterator) z → Wrote (writer_of g.O.Sink.taken g.O.Sink.faults l.fn.out) (scope_lines 0 l.info.scopes) z;
+  rest : (z : Writer) → Wrote (writer_of g.O.Sink.taken g.O.Sink.faults l.out)
+      (scope_lines l.number l.row-iterator) z
+      → Wrote (writer_of g.O.Sink.taken g.O.Sink.faults l.fn.out) (scope_lines 0 l.info.scopes) z;
 }

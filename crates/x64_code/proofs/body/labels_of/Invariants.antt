@@ -7,7 +7,9 @@ use Rattle.x64_code.specs.Near.{IsNear}
 
 abbrev pub invariant-loop-instruction : goal.invariant-loop-instruction
 invariant-loop-instruction l = record {
-  starts : l.starts.items ++ label_list l.layout (l.start + length l.scratch.items) (drop l.instruction-index l.body) ≡ label_list l.layout l.start l.body;
-  end : length l.scratch.items + body_size l.layout (drop l.instruction-index l.body) ≡ body_size l.layout l.body;
+  starts : l.starts.items ++ label_list l.layout (l.start + length l.scratch.items)
+      (drop l.instruction-index l.body) ≡ label_list l.layout l.start l.body;
+  end : length l.scratch.items + body_size l.layout (drop l.instruction-index l.body)
+      ≡ body_size l.layout l.body;
   room : IsNear (l.start + length l.scratch.items + code_room (drop l.instruction-index l.body));
 }

@@ -8,6 +8,8 @@ use Rattle.x64_code.specs.Near.{IsNear}
 
 abbrev pub invariant-loop-instruction : goal.invariant-loop-instruction
 invariant-loop-instruction l = record {
-  code : l.code.items ++ spelled (code_from (links_of l.links) l.layout l.at (drop l.instruction-index l.body)) ≡ l.fn.code.items ++ spelled (code_from (links_of l.links) l.layout l.fn.start l.body);
+  code : l.code.items ++ spelled (code_from (links_of l.links) l.layout l.at
+      (drop l.instruction-index l.body)) ≡ l.fn.code.items
+      ++ spelled (code_from (links_of l.links) l.layout l.fn.start l.body);
   room : IsNear (l.at + code_room (drop l.instruction-index l.body));
 }

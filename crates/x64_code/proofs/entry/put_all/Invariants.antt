@@ -3,4 +3,5 @@ use Rattle.template_code.specs.Bytes.{spelled}
 use Rattle.x64_code.proofs.entry.put_all.Given as goal
 
 abbrev pub invariant-loop-instr : goal.invariant-loop-instr
-invariant-loop-instr l = l.code.items ≡ l.initial.code.items ++ spelled (take l.instr-index l.instrs)
+invariant-loop-instr l = l.code.items ≡ l.initial.code.items
+    ++ spelled (take l.instr-index l.instrs)

@@ -9,5 +9,6 @@ invariant-loop-i g l =
     record {
       modes : m.protection ≡ old.protection;
       may : first_refused (may_write m) (l.count - l._i) l.here ≡ None;
-      bytes : with_number m.byte (l.count - l._i) l.here l.rest ≡ with_number old.byte l.count l.at l.value;
+      bytes : with_number m.byte (l.count - l._i) l.here l.rest
+        ≡ with_number old.byte l.count l.at l.value;
     }

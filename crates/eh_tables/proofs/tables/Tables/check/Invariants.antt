@@ -3,4 +3,5 @@ use Rattle.eh_tables.specs.Tables.{entries, end_before, passed, checked}
 use Rattle.eh_tables.proofs.tables.Tables.check.Given as goal
 
 abbrev pub invariant-loop-index : goal.invariant-loop-index
-invariant-loop-index l = passed (entries l.self.image l.index (end_before l.self.ranges l.index) (drop l.index l.self.ranges)) ≡ checked l.self
+invariant-loop-index l = passed (entries l.self.image l.index (end_before l.self.ranges l.index)
+    (drop l.index l.self.ranges)) ≡ checked l.self

@@ -22,5 +22,6 @@ returns c =
     let e = ap (λ (t : Tables). length t.ranges) c.self.view_is in
     let lt = c.requires in
     c.read_range.ensures
-    ∙ range_is (length bytes / 12) c.args.index bytes (omega (arith, range_count (length bytes / 12) bytes))
+    ∙ range_is (length bytes / 12) c.args.index bytes
+      (omega (arith, range_count (length bytes / 12) bytes))
     ∙ ap (λ (t : Tables). get_or t.ranges c.args.index no_range) c.self.view_is

@@ -3,4 +3,5 @@ use Rattle.seh_io.specs.Text.{hexadecimal}
 use Rattle.seh_io.proofs.line.Line.hexadecimal.Given as goal
 
 abbrev pub invariant-loop-place : goal.invariant-loop-place
-invariant-loop-place l = l.self ≡ l.initial.self ++ hexadecimal (l.digits - l.place) (l.n / 2 ^ (4 * l.place))
+invariant-loop-place l = l.self ≡ l.initial.self
+    ++ hexadecimal (l.digits - l.place) (l.n / 2 ^ (4 * l.place))

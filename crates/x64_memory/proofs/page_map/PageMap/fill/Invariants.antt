@@ -5,7 +5,8 @@ use Rattle.x64_memory.proofs.page_map.PageMap.fill.Given as goal
 
 abbrev pub invariant-loop-rest : goal.invariant-loop-rest
 invariant-loop-rest l = record {
-  memory : filled (memory_of l.self) l.here l.rest ≡ filled (memory_of l.fn.self) l.fn.at l.fn.piece;
+  memory : filled (memory_of l.self) l.here l.rest
+      ≡ filled (memory_of l.fn.self) l.fn.at l.fn.piece;
   holds : (a : ℕ) → holds l.self a ≡ holds l.fn.self a;
   start : l.fn.at ≤ l.here;
   end : l.here + length l.rest ≡ l.fn.at + length l.fn.piece;
