@@ -5,7 +5,7 @@ use Rattle.std.proofs.lemmas.Bool.{cases_eq}
 use Rattle.linked_stack.specs.Linked.{Activation, locals_of}
 use Rattle.body_steps.specs.Stores.{with_values}
 use Rattle.body_steps.proofs.Activations.{locals_count}
-use Rattle.body_steps.proofs.Stored.{first_changes, later_changes}
+use Rattle.body_steps.proofs.ActivationsStored.{first_changes, later_changes}
 
 set_before : {A : Type 0} → (xs ys : List A) (k : ℕ) (x : A) → k < length xs
     → slice_set (xs ++ ys) k x ≡ slice_set xs k x ++ ys

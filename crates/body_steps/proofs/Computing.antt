@@ -41,7 +41,7 @@ use Rattle.body_states.specs.Programs.{IsProgramImage}
 use Rattle.body_states.specs.Bodies.{turns_left, Begins}
 use Rattle.body_steps.specs.Views.{counts_of}
 use Rattle.body_steps.proofs.Viewed.{IsCounted, count, room_here, holds_here, slots_here, locals_here}
-use Rattle.body_steps.proofs.Next.{Leaves}
+use Rattle.body_steps.proofs.SlotsLeft.{Leaves}
 use Rattle.body_steps.proofs.Running.{code, frame, slots, v, sp_is, has_slots, template_here, next_address, Surroundings}
 use Rattle.body_steps.proofs.Written.{locals_after, temporaries_after, FitsAfter, local_after, temporary_after, locals_count_after, one_more}
 use Rattle.body_steps.proofs.Whole.{compute_keeps}

@@ -1,4 +1,5 @@
 pub mod Activations
+pub mod ActivationsStored
 pub mod Stored
 pub mod Words
 pub mod Views
@@ -9,6 +10,7 @@ pub mod Reaching
 pub mod Becoming
 pub mod Outgoing
 pub mod Homes
+pub mod SlotsLeft
 pub mod Next
 pub mod Shadowed
 pub mod Activated

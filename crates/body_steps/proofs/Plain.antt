@@ -36,7 +36,7 @@ use Rattle.body_steps.specs.Stores.{with_values}
 use Rattle.body_steps.proofs.Activations.{locals_count}
 use Rattle.body_steps.proofs.Activated.{activated, same_activations}
 use Rattle.body_steps.proofs.Viewed.{IsCounted, placed, count, slots_here, locals_here}
-use Rattle.body_steps.proofs.Next.{Leaves}
+use Rattle.body_steps.proofs.SlotsLeft.{Leaves}
 use Rattle.body_steps.proofs.Running.{code, frame, slots, v, same_state, done, has_slots, next_address, Surroundings, to_label}
 use Rattle.body_steps.proofs.Shadowed.{RunsKeep}
 use Rattle.body_steps.proofs.Whole.{separator_keeps, jump_keeps, jump_if_zero_keeps}

@@ -38,7 +38,8 @@ use Rattle.body_steps.proofs.Homes.{CallerHasFrame}
 use Rattle.body_steps.proofs.Shadowed.{kept_by_rest, is_after, ends_at, RunsKeep}
 use Rattle.body_steps.proofs.Viewed.{IsCounted, is_machine, room_here, holds_here, placed}
 use Rattle.body_steps.proofs.Reaching.{reaches_keeps, stays_sane}
-use Rattle.body_steps.proofs.Next.{Leaves, further, Ran, begins_next}
+use Rattle.body_steps.proofs.SlotsLeft.{Leaves}
+use Rattle.body_steps.proofs.Next.{further, Ran, begins_next}
 
 -- ---- registers
 

@@ -21,7 +21,7 @@ use Rattle.c_syntax.proofs.MovesPrograms as programs
 use Rattle.c_syntax.proofs.Firsts as firsts
 use Rattle.c_syntax.proofs.Fronts.{keyword_same, base_front}
 use Rattle.c_syntax.proofs.Once.{has_front}
-use Rattle.c_syntax.proofs.Blocks.{name_star, name_type}
+use Rattle.c_syntax.proofs.Declarations.{name_star, name_type}
 use Rattle.c_syntax.proofs.Files.{other_punctuator, parameter_once, parameter_front, void_not}
 use Rattle.c_parse_type.specs.Bases.{NoBase, EndsType}
 use Rattle.c_parse_stmt.specs.Parts.{NoPunctuator, APunctuator}

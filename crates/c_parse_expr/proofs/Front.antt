@@ -5,7 +5,7 @@ use Rattle.c_lex.specs.declared.punctuator.Punctuator.{Punctuator}
 use Rattle.c_lex.specs.declared.token.Token.{Token}
 use Rattle.c_syntax.specs.Tokens.{IsPunctuator}
 use Rattle.c_parse_type.specs.Fronts.{after_punctuator}
-use Rattle.c_parse_type.proofs.Types.{punctuator_at, punctuator_is}
+use Rattle.c_parse_type.proofs.TypesAreRead.{punctuator_at, punctuator_is}
 
 pub front_found : {A : Type 0} (r : Option A) (f : A → Punctuator × ℕ × List Token)
     (ts : List Token) → option_map f r ≡ after_punctuator ts

@@ -13,7 +13,7 @@ use Rattle.c_syntax.specs.Operators.{assignment}
 use Rattle.c_syntax.specs.Statement.{Local, local}
 use Rattle.c_syntax.specs.Statements.{IsLocal, AreMoreLocals, AreLocals}
 use Rattle.c_syntax.specs.Tokens.{token, HasPunctuator}
-use Rattle.c_syntax.proofs.Blocks.{local as one_local, locals_stop}
+use Rattle.c_syntax.proofs.Declarations.{local as one_local, locals_stop}
 use Rattle.c_syntax.proofs.Failing.{alike_inner, alike_same}
 use Rattle.c_syntax.proofs.Fronts.{punctuator_same, has_same}
 use Rattle.c_syntax.proofs.Moves.{both, has_punctuator}

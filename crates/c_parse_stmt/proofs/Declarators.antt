@@ -13,7 +13,7 @@ use Rattle.c_syntax.specs.Statement.{Local}
 use Rattle.c_syntax.specs.Statements.{IsInitialiser, IsLocal}
 use Rattle.c_syntax.specs.Tokens.{token, IsIdentifier, HasPunctuator}
 use Rattle.c_syntax.specs.Types.{AreStars}
-use Rattle.c_syntax.proofs.Blocks.{name_star}
+use Rattle.c_syntax.proofs.Declarations.{name_star}
 use Rattle.c_syntax.proofs.Failing.{first_keeps}
 use Rattle.c_syntax.proofs.Fronts.{has_same, name_same, stars_once}
 use Rattle.c_syntax.proofs.Moves.{Moves, both, has_punctuator, derives, stars, name}

@@ -5,7 +5,7 @@ use Rattle.c_syntax.specs.Expression.{Expression, height}
 use Rattle.c_syntax.specs.Faults.{Alike, SameFirst, Speaks, Able, Failed, Wraps}
 use Rattle.c_syntax.specs.Limits.{Number, order, accepts}
 use Rattle.c_syntax.specs.Statements.{IsCondition}
-use Rattle.c_syntax.proofs.Blocks.{condition}
+use Rattle.c_syntax.proofs.Declarations.{condition}
 use Rattle.c_syntax.proofs.Failing.{alike_same, first_same}
 use Rattle.c_syntax.specs.declared.limit.Count.{Count}
 use Rattle.c_syntax.specs.declared.limit.Count.TheVariants.{Locals}

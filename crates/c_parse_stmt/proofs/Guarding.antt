@@ -4,7 +4,7 @@ use Rattle.c_lex.specs.declared.keyword.Keyword.TheVariants as keywords
 use Rattle.c_lex.specs.declared.punctuator.Punctuator.TheVariants as punctuators
 use Rattle.c_lex.specs.declared.token.Kind.TheVariants as kinds
 use Rattle.c_lex.specs.declared.token.Token.{Token}
-use Rattle.c_syntax.specs.Expression.{Expression, expression, height}
+use Rattle.c_syntax.specs.Expression.{Expression, height}
 use Rattle.c_syntax.specs.Faults.{Alike, place, Able, Failed, Wraps}
 use Rattle.c_syntax.specs.Limits.{statements_over_all, accepts, numbered, funclets_of_all}
 use Rattle.c_syntax.specs.Statement.{Statement, Declare, TryExcept, TryFinally, Statements, Empty, Then}
@@ -12,29 +12,28 @@ use Rattle.c_syntax.specs.Statements.{IsCondition, IsBlockItem, AreBlockItems}
 use Rattle.c_syntax.specs.Tokens.{token, IsKeyword, HasPunctuator, HasKeyword}
 use Rattle.c_syntax.proofs.Failing.{alike_inner}
 use Rattle.c_syntax.proofs.Firsts.{no_keyword}
-use Rattle.c_syntax.proofs.Moves.{Moves, has_punctuator}
+use Rattle.c_syntax.proofs.Moves.{Moves}
 use Rattle.c_syntax.proofs.MovesStatements.{condition, items, filter, funclets_of_all as same_funclets}
-use Rattle.c_parse_stmt.specs.declared.endings.Clause.{Clause}
-use Rattle.c_parse_stmt.specs.declared.endings.Clause.TheVariants as clauses
 use Rattle.c_parse_stmt.specs.declared.left.Left.{Left}
-use Rattle.c_parse_stmt.specs.Endings.{IsClause, ClauseIsTaken, with_clause}
 use Rattle.c_parse_stmt.specs.Filters.{numbers_of, NoFilter, HasFilter}
 use Rattle.c_parse_stmt.specs.Openings.{IsTry, Guards}
 use Rattle.c_parse_stmt.specs.Parts.{NoPunctuator, APunctuator}
-use Rattle.c_parse_stmt.specs.Within.{AllWithin, AllTaken, NoBlockItems, HasBlockItems, IsStatementWithin, NoStatement, HasStatement}
+use Rattle.c_parse_stmt.specs.Within.{AllWithin, AllTaken, NoBlockItems, HasBlockItems, NoStatement, HasStatement}
 use Rattle.c_parse_stmt.proofs.Heading.{Key, Sig, Condition, key_moves, key_wraps, unit, braces, finally}
-use Rattle.c_parse_stmt.proofs.Sequences.{able_more, Both, Fixed, both_fixed, both_moves, moves_so, able_now, wraps, failed, first_kind, kind_place}
+use Rattle.c_parse_stmt.proofs.Sequences.{able_more, Both, Fixed, both_fixed, both_moves, wraps, failed, first_kind, kind_place}
 use Rattle.c_parse_stmt.proofs.Tails.{IsBraced}
-use Rattle.c_parse_stmt.proofs.Tries.{NoneBraced, number_length, no_braced, no_try_body, no_except_room, no_filter, no_handler, except_found, unguarded, no_finally_left, no_last, finally_found}
+use Rattle.c_parse_stmt.proofs.Tries.{NoneBraced, number_length, no_braced, no_try_body, no_except_room, no_filter, no_handler, unguarded, no_finally_left, no_last}
 use Rattle.c_parse_stmt.proofs.Clauses.{Tries, Items, Guard, Except, Finally, excepted, finished, try_moves, Braces, is_braces, unit_braces, except, is_except, is_finally, brace, is_brace}
 
 -- ---- where no statement may be there is no number
 
-bare_item : (text : List ℕ) (s : Statement) → statements_over_all (Then s Empty) ≤ 0 → length (numbered text s) ≡ 0
+bare_item : (text : List ℕ) (s : Statement) → statements_over_all (Then s Empty) ≤ 0
+    → length (numbered text s) ≡ 0
 bare_item text (Declare b ls) h = refl
 bare_item text s h = absurd (omega arith)
 
-pub bare : (text : List ℕ) (ss : Statements) → statements_over_all ss ≤ 0 → length (funclets_of_all text ss) ≡ 0
+pub bare : (text : List ℕ) (ss : Statements) → statements_over_all ss ≤ 0
+    → length (funclets_of_all text ss) ≡ 0
 bare text Empty h = refl
 bare text (Then s ss) h =
     let a = bare_item text s (omega arith) in
@@ -42,22 +41,28 @@ bare text (Then s ss) h =
     omega (arith, length-append {A = ℕ})
 
 -- after the block of a `__try` that can continue, a statement may be or a number is left
-pub still : (text : List ℕ) (room : ℕ) (left after : Left) (body : Statements) → 1 ≤ room + left.funclets → AllTaken text room left after body → 1 ≤ room + after.funclets
-still text zero left after body h t = let b = bare text body t.statements in let f = t.funclets in omega arith
+pub still : (text : List ℕ) (room : ℕ) (left after : Left) (body : Statements)
+    → 1 ≤ room + left.funclets → AllTaken text room left after body → 1 ≤ room + after.funclets
+still text zero left after body h t = let b = bare text body t.statements in let f = t.funclets in
+    omega arith
 still text (suc room) left after body h t = omega arith
 
-pub guard_able : (room : ℕ) (left : Left) (n : ℕ) (text : List ℕ) (body : Statements) (front : List Token) → 1 ≤ room + left.funclets → AllWithin n text room left body → Fixed (Guard body) text front → Able (HasStatement room left) n text front
+pub guard_able : (room : ℕ) (left : Left) (n : ℕ) (text : List ℕ) (body : Statements)
+    (front : List Token) → 1 ≤ room + left.funclets → AllWithin n text room left body
+    → Fixed (Guard body) text front → Able (HasStatement room left) n text front
 guard_able zero left n text body front h w r = record {
   more = finally;
   has = record {
     tree = TryFinally body 0 Empty;
-    is = λ other. finished body Empty 0 text ((front ++ finally) ++ other) other (both_fixed (Guard body) (Finally 0 Empty) text front finally r (is_finally text 0 0) other);
+    is = λ other. finished body Empty 0 text ((front ++ finally) ++ other) other
+      (both_fixed (Guard body) (Finally 0 Empty) text front finally r (is_finally text 0 0) other);
     statement = refl;
     within = record {
       statements = λ i. let a = w.statements i in omega arith;
       expressions = λ i. let a = w.expressions i in omega arith;
       locals = λ i. let a = w.locals i in omega arith;
-      funclets = λ i. let b = bare text body (w.statements (omega arith)) in omega (arith, length-append {A = ℕ});
+      funclets = λ i. let b = bare text body (w.statements (omega arith)) in
+        omega (arith, length-append {A = ℕ});
     };
   };
 }
@@ -65,7 +70,9 @@ guard_able (suc room) left n text body front h w r = record {
   more = except;
   has = record {
     tree = TryExcept body 0 unit Empty;
-    is = λ other. excepted body Empty 0 unit text ((front ++ except) ++ other) other (both_fixed (Guard body) (Except 0 unit Empty) text front except r (is_except text 0 0) other);
+    is = λ other. excepted body Empty 0 unit text ((front ++ except) ++ other) other
+      (both_fixed (Guard body) (Except 0 unit Empty) text front except r (is_except text 0 0)
+      other);
     statement = refl;
     within = record {
       statements = λ i. let a = w.statements i in omega arith;
@@ -78,61 +85,104 @@ guard_able (suc room) left n text body front h w r = record {
 
 -- ---- the first block
 
-no_open : (room : ℕ) (left : Left) (n : ℕ) (text : List ℕ) (ts : List Token) → NoPunctuator punctuators.OpenBrace n text ts → NoneBraced room left n text ts
+no_open : (room : ℕ) (left : Left) (n : ℕ) (text : List ℕ) (ts : List Token)
+    → NoPunctuator punctuators.OpenBrace n text ts → NoneBraced room left n text ts
 no_open room left n text ts none ss end h w = none h.after_brace h.brace
 
-pub try_open : (room at : ℕ) (left : Left) (text : List ℕ) (ts a : List Token) → 1 ≤ room + left.funclets → IsKeyword keywords.Try at ts a → Wraps (NoPunctuator punctuators.OpenBrace) (APunctuator punctuators.OpenBrace) (NoStatement room left) (HasStatement room left) text a ts
+pub try_open : (room at : ℕ) (left : Left) (text : List ℕ) (ts a : List Token)
+    → 1 ≤ room + left.funclets → IsKeyword keywords.Try at ts a
+    → Wraps (NoPunctuator punctuators.OpenBrace) (APunctuator punctuators.OpenBrace)
+      (NoStatement room left) (HasStatement room left) text a ts
 try_open room at left text ts a o k =
-    key_wraps keywords.Try at room left (NoPunctuator punctuators.OpenBrace) (APunctuator punctuators.OpenBrace) text ts a k (λ n text' other none. no_try_body n text' room at left other (no_open room left n text' other none))
+    key_wraps keywords.Try at room left (NoPunctuator punctuators.OpenBrace)
+      (APunctuator punctuators.OpenBrace) text ts a k
+      (λ n text' other none. no_try_body n text' room at left other
+      (no_open room left n text' other none))
     (λ n text' inner end has.
     let front = token (kinds.Keyword keywords.Try) at end ∷ inner in
     able_more (HasStatement room left) n text' front brace
-    (guard_able room left n text' Empty (front ++ brace) o (record { statements = λ i. omega arith; expressions = λ i. omega arith; locals = λ i. omega arith; funclets = λ i. omega arith })
-    (both_fixed Tries (Items Empty) text' front brace (λ other. (inner ++ other, (at, (end, refl)), has other)) (is_brace text'))))
+    (guard_able room left n text' Empty (front ++ brace) o
+      (record { statements = λ i. omega arith; expressions = λ i. omega arith;
+      locals = λ i. omega arith; funclets = λ i. omega arith })
+    (both_fixed Tries (Items Empty) text' front brace
+      (λ other. (inner ++ other, (at, (end, refl)), has other)) (is_brace text'))))
 
-pub try_body : (room : ℕ) (left : Left) (text : List ℕ) (ts rest : List Token) → 1 ≤ room + left.funclets → IsTry ts rest → Wraps (NoBlockItems room left) (HasBlockItems room left) (NoStatement room left) (HasStatement room left) text rest ts
+pub try_body : (room : ℕ) (left : Left) (text : List ℕ) (ts rest : List Token)
+    → 1 ≤ room + left.funclets → IsTry ts rest
+    → Wraps (NoBlockItems room left) (HasBlockItems room left) (NoStatement room left)
+      (HasStatement room left) text rest ts
 try_body room left text ts rest o t =
-    wraps Tries (NoBlockItems room left) (HasBlockItems room left) (NoStatement room left) (HasStatement room left) text ts rest (try_moves text ts rest t)
-    (λ n text' all other h e r none. no_try_body n text' room r.1.0 left r.0 (no_braced n text' room left r.0 other r.2 none) all r.1.1)
-    (λ n text' front inner h r has. guard_able room left n text' has.trees (front ++ inner) o has.within (both_fixed Tries (Items has.trees) text' front inner r has.are))
+    wraps Tries (NoBlockItems room left) (HasBlockItems room left) (NoStatement room left)
+      (HasStatement room left) text ts rest (try_moves text ts rest t)
+    (λ n text' all other h e r none. no_try_body n text' room r.1.0 left r.0
+      (no_braced n text' room left r.0 other r.2 none) all r.1.1)
+    (λ n text' front inner h r has. guard_able room left n text' has.trees (front ++ inner) o
+      has.within (both_fixed Tries (Items has.trees) text' front inner r has.are))
 
 -- ---- after the first block
 
-guard_moves : (room : ℕ) (whole left : Left) (body : Statements) (text : List ℕ) (ts rest : List Token) → Guards text room whole left body ts rest → Moves (Guard body) text ts rest
-guard_moves room whole left body text ts rest g = both_moves Tries (Items body) text ts g.mid rest (try_moves text ts g.mid g.is) (items body text g.mid rest g.are)
+pub guard_moves : (room : ℕ) (whole left : Left) (body : Statements) (text : List ℕ)
+    (ts rest : List Token) → Guards text room whole left body ts rest
+    → Moves (Guard body) text ts rest
+guard_moves room whole left body text ts rest g = both_moves Tries (Items body) text ts g.mid rest
+    (try_moves text ts g.mid g.is) (items body text g.mid rest g.are)
 
 -- as many numbers are taken in a text that spells it alike
-taken_moved : (room : ℕ) (whole left : Left) (body : Statements) (text text' : List ℕ) (ts rest : List Token) → Alike text text' ts → Guards text room whole left body ts rest → AllTaken text' room whole left body
+pub taken_moved : (room : ℕ) (whole left : Left) (body : Statements) (text text' : List ℕ)
+    (ts rest : List Token) → Alike text text' ts → Guards text room whole left body ts rest
+    → AllTaken text' room whole left body
 taken_moved room whole left body text text' ts rest h g =
     let m = try_moves text ts g.mid g.is in
-    let e = ap (λ (x : List ℕ). length x) (same_funclets body text text' g.mid rest g.are (alike_inner text text' m.front g.mid ts m.split h)) in
+    let e = ap (λ (x : List ℕ). length x) (same_funclets body text text' g.mid rest g.are
+      (alike_inner text text' m.front g.mid ts m.split h)) in
     let t = g.taken in let f = t.funclets in
-    record { statements = t.statements; expressions = t.expressions; locals = t.locals; funclets = omega arith }
+    record { statements = t.statements; expressions = t.expressions; locals = t.locals;
+      funclets = omega arith }
 
-pub all_within : (n room : ℕ) (whole left : Left) (body : Statements) (text : List ℕ) → AllTaken text room whole left body → AllWithin n text room whole body
+pub all_within : (n room : ℕ) (whole left : Left) (body : Statements) (text : List ℕ)
+    → AllTaken text room whole left body → AllWithin n text room whole body
 all_within n room whole left body text t =
     let l = t.locals in let f = t.funclets in
-    record { statements = λ i. t.statements; expressions = λ i. t.expressions; locals = λ i. omega arith; funclets = λ i. omega arith }
+    record { statements = λ i. t.statements; expressions = λ i. t.expressions;
+      locals = λ i. omega arith; funclets = λ i. omega arith }
 
-braced : (body : Statements) (text : List ℕ) (ts rest : List Token) (r : Guard body text ts rest) → IsBraced text body r.first.0 rest
+pub braced : (body : Statements) (text : List ℕ) (ts rest : List Token)
+    (r : Guard body text ts rest) → IsBraced text body r.first.0 rest
 braced body text ts rest r = record { after_brace = r.mid; brace = r.first.2; items = r.second }
 
-guard_stays : (n room : ℕ) (whole left : Left) (body : Statements) (text text' : List ℕ) (ts rest front : List Token) → Alike text text' ts → Guards text room whole left body ts rest → Fixed (Guard body) text' front → Able (HasStatement room whole) n text' front
-guard_stays n room whole left body text text' ts rest front h g r = guard_able room whole n text' body front g.some (all_within n room whole left body text' (taken_moved room whole left body text text' ts rest h g)) r
+guard_stays : (n room : ℕ) (whole left : Left) (body : Statements) (text text' : List ℕ)
+    (ts rest front : List Token) → Alike text text' ts → Guards text room whole left body ts rest
+    → Fixed (Guard body) text' front → Able (HasStatement room whole) n text' front
+guard_stays n room whole left body text text' ts rest front h g r = guard_able room whole n text'
+    body front g.some (all_within n room whole left body text'
+    (taken_moved room whole left body text text' ts rest h g)) r
 
-pub unguarded_fails : (room : ℕ) (whole left : Left) (body : Statements) (text : List ℕ) (ts rest : List Token) → Guards text room whole left body ts rest → ((z : List Token) → HasKeyword keywords.Except rest z → ⊥) → ((z : List Token) → HasKeyword keywords.Finally rest z → ⊥) →
+pub unguarded_fails : (room : ℕ) (whole left : Left) (body : Statements) (text : List ℕ)
+    (ts rest : List Token) → Guards text room whole left body ts rest
+    → ((z : List Token) → HasKeyword keywords.Except rest z → ⊥)
+    → ((z : List Token) → HasKeyword keywords.Finally rest z → ⊥) →
     Failed 0 (place text rest) (NoStatement room whole) (HasStatement room whole) text ts
 unguarded_fails room whole left body text ts rest g x y =
-    failed (Guard body) 0 (NoStatement room whole) (HasStatement room whole) text ts rest (guard_moves room whole left body text ts rest g)
-    (λ text' all other h e r. unguarded 0 text' room r.first.1.0 whole body r.first.0 other (braced body text' all other r) (no_keyword keywords.Except rest other e x) (no_keyword keywords.Finally rest other e y) all r.first.1.1)
+    failed (Guard body) 0 (NoStatement room whole) (HasStatement room whole) text ts rest
+      (guard_moves room whole left body text ts rest g)
+    (λ text' all other h e r. unguarded 0 text' room r.first.1.0 whole body r.first.0 other
+      (braced body text' all other r) (no_keyword keywords.Except rest other e x)
+      (no_keyword keywords.Finally rest other e y) all r.first.1.1)
     (λ text' front h r. guard_stays 6 room whole left body text text' ts rest front h g r)
     (λ text' k front h r e. absurd (omega arith))
 
-pub except_too_deep : (room at : ℕ) (whole left : Left) (body : Statements) (text : List ℕ) (ts rest j : List Token) → room ≡ 0 → Guards text room whole left body ts rest → IsKeyword keywords.Except at rest j → Failed 1 at (NoStatement room whole) (HasStatement room whole) text ts
+pub except_too_deep : (room at : ℕ) (whole left : Left) (body : Statements) (text : List ℕ)
+    (ts rest j : List Token) → room ≡ 0 → Guards text room whole left body ts rest
+    → IsKeyword keywords.Except at rest j → Failed 1 at (NoStatement room whole)
+      (HasStatement room whole) text ts
 except_too_deep room at whole left body text ts rest j z g key =
-    subst (λ (x : ℕ). Failed 1 x (NoStatement room whole) (HasStatement room whole) text ts) (sym (kind_place (kinds.Keyword keywords.Except) at text rest j key))
-    (failed (Guard body) 1 (NoStatement room whole) (HasStatement room whole) text ts rest (guard_moves room whole left body text ts rest g)
-    (λ text' all other h e r. let q = first_kind (kinds.Keyword keywords.Except) at rest other j e key in no_except_room 1 text' room r.first.1.0 at whole body r.first.0 other q.0 (omega arith) z (braced body text' all other r) q.1 all r.first.1.1)
+    subst (λ (x : ℕ). Failed 1 x (NoStatement room whole) (HasStatement room whole) text ts)
+      (sym (kind_place (kinds.Keyword keywords.Except) at text rest j key))
+    (failed (Guard body) 1 (NoStatement room whole) (HasStatement room whole) text ts rest
+      (guard_moves room whole left body text ts rest g)
+    (λ text' all other h e r. let q = first_kind (kinds.Keyword keywords.Except) at rest other j e
+      key in no_except_room 1 text' room r.first.1.0 at whole body r.first.0 other q.0 (omega arith)
+      z (braced body text' all other r) q.1 all r.first.1.1)
     (λ text' front h r. guard_stays 6 room whole left body text text' ts rest front h g r)
     (λ text' k front h r e. record {
       token = token (kinds.Keyword keywords.Except) at key.0;
@@ -141,19 +191,33 @@ except_too_deep room at whole left body text ts rest j z g key =
       is = key.1;
       has = record {
         tree = TryExcept body at unit Empty;
-        is = λ other. excepted body Empty at unit text' ((front ++ token (kinds.Keyword keywords.Except) at key.0 ∷ unit_braces) ++ other) other (both_fixed (Guard body) (Except at unit Empty) text' front (token (kinds.Keyword keywords.Except) at key.0 ∷ unit_braces) r (is_except text' at key.0) other);
+        is = λ other. excepted body Empty at unit text'
+          ((front ++ token (kinds.Keyword keywords.Except) at key.0 ∷ unit_braces) ++ other) other
+          (both_fixed (Guard body) (Except at unit Empty) text' front
+          (token (kinds.Keyword keywords.Except) at key.0 ∷ unit_braces) r
+          (is_except text' at key.0) other);
         statement = refl;
-        within = record { statements = λ i. omega arith; expressions = λ i. omega arith; locals = λ i. omega arith; funclets = λ i. omega arith };
+        within = record { statements = λ i. omega arith; expressions = λ i. omega arith;
+          locals = λ i. omega arith; funclets = λ i. omega arith };
       };
     }))
 
-pub finally_too_many : (room at : ℕ) (whole left : Left) (body : Statements) (text : List ℕ) (ts rest j : List Token) → left.funclets ≡ 0 → Guards text room whole left body ts rest → IsKeyword keywords.Finally at rest j → Failed 6 at (NoStatement room whole) (HasStatement room whole) text ts
+pub finally_too_many : (room at : ℕ) (whole left : Left) (body : Statements) (text : List ℕ)
+    (ts rest j : List Token) → left.funclets ≡ 0 → Guards text room whole left body ts rest
+    → IsKeyword keywords.Finally at rest j → Failed 6 at (NoStatement room whole)
+      (HasStatement room whole) text ts
 finally_too_many room at whole left body text ts rest j z g key =
-    subst (λ (x : ℕ). Failed 6 x (NoStatement room whole) (HasStatement room whole) text ts) (sym (kind_place (kinds.Keyword keywords.Finally) at text rest j key))
-    (failed (Guard body) 6 (NoStatement room whole) (HasStatement room whole) text ts rest (guard_moves room whole left body text ts rest g)
-    (λ text' all other h e r. let q = first_kind (kinds.Keyword keywords.Finally) at rest other j e key in no_finally_left 6 text' room r.first.1.0 at whole left body r.first.0 other q.0 (braced body text' all other r) (taken_moved room whole left body text text' ts rest h g) q.1 (omega arith) z all r.first.1.1)
+    subst (λ (x : ℕ). Failed 6 x (NoStatement room whole) (HasStatement room whole) text ts)
+      (sym (kind_place (kinds.Keyword keywords.Finally) at text rest j key))
+    (failed (Guard body) 6 (NoStatement room whole) (HasStatement room whole) text ts rest
+      (guard_moves room whole left body text ts rest g)
+    (λ text' all other h e r. let q = first_kind (kinds.Keyword keywords.Finally) at rest other j e
+      key in no_finally_left 6 text' room r.first.1.0 at whole left body r.first.0 other q.0
+      (braced body text' all other r) (taken_moved room whole left body text text' ts rest h g) q.1
+      (omega arith) z all r.first.1.1)
     (λ text' front h r. guard_stays 6 room whole left body text text' ts rest front h g r)
-    (λ text' k front h r e. let w = all_within k room whole left body text' (taken_moved room whole left body text text' ts rest h g) in
+    (λ text' k front h r e. let w = all_within k room whole left body text'
+      (taken_moved room whole left body text text' ts rest h g) in
     record {
       token = token (kinds.Keyword keywords.Finally) at key.0;
       rest = j;
@@ -161,9 +225,15 @@ finally_too_many room at whole left body text ts rest j z g key =
       is = key.1;
       has = record {
         tree = TryFinally body at Empty;
-        is = λ other. finished body Empty at text' ((front ++ token (kinds.Keyword keywords.Finally) at key.0 ∷ braces) ++ other) other (both_fixed (Guard body) (Finally at Empty) text' front (token (kinds.Keyword keywords.Finally) at key.0 ∷ braces) r (is_finally text' at key.0) other);
+        is = λ other. finished body Empty at text'
+          ((front ++ token (kinds.Keyword keywords.Finally) at key.0 ∷ braces) ++ other) other
+          (both_fixed (Guard body) (Finally at Empty) text' front
+          (token (kinds.Keyword keywords.Finally) at key.0 ∷ braces) r (is_finally text' at key.0)
+          other);
         statement = refl;
-        within = record { statements = λ i. let a = w.statements i in omega arith; expressions = λ i. let a = w.expressions i in omega arith; locals = λ i. let a = w.locals i in omega arith; funclets = λ i. omega arith };
+        within = record { statements = λ i. let a = w.statements i in omega arith;
+          expressions = λ i. let a = w.expressions i in omega arith;
+          locals = λ i. let a = w.locals i in omega arith; funclets = λ i. omega arith };
       };
     }))
 
@@ -175,20 +245,36 @@ Excepting body at = Both (Guard body) (Key keywords.Except at)
 abbrev pub Filtering : Statements → ℕ → Expression → List ℕ → List Token → List Token → Type 0
 Filtering body at f = Both (Excepting body at) (Condition f)
 
-excepting_moves : (room at : ℕ) (whole left : Left) (body : Statements) (text : List ℕ) (ts rest j : List Token) → Guards text room whole left body ts rest → IsKeyword keywords.Except at rest j → Moves (Excepting body at) text ts j
-excepting_moves room at whole left body text ts rest j g k = both_moves (Guard body) (Key keywords.Except at) text ts rest j (guard_moves room whole left body text ts rest g) (key_moves keywords.Except at text rest j k)
+excepting_moves : (room at : ℕ) (whole left : Left) (body : Statements) (text : List ℕ)
+    (ts rest j : List Token) → Guards text room whole left body ts rest
+    → IsKeyword keywords.Except at rest j → Moves (Excepting body at) text ts j
+excepting_moves room at whole left body text ts rest j g k = both_moves (Guard body)
+    (Key keywords.Except at) text ts rest j (guard_moves room whole left body text ts rest g)
+    (key_moves keywords.Except at text rest j k)
 
-filtering_moves : (room at : ℕ) (whole left : Left) (body : Statements) (f : Expression) (text : List ℕ) (ts rest j c : List Token) → Guards text room whole left body ts rest → IsKeyword keywords.Except at rest j → IsCondition text f j c → Moves (Filtering body at f) text ts c
-filtering_moves room at whole left body f text ts rest j c g k is = both_moves (Excepting body at) (Condition f) text ts j c (excepting_moves room at whole left body text ts rest j g k) (condition f text j c is)
+filtering_moves : (room at : ℕ) (whole left : Left) (body : Statements) (f : Expression)
+    (text : List ℕ) (ts rest j c : List Token) → Guards text room whole left body ts rest
+    → IsKeyword keywords.Except at rest j → IsCondition text f j c
+    → Moves (Filtering body at f) text ts c
+filtering_moves room at whole left body f text ts rest j c g k is = both_moves (Excepting body at)
+    (Condition f) text ts j c (excepting_moves room at whole left body text ts rest j g k)
+    (condition f text j c is)
 
-filter_moved : (room at : ℕ) (whole left next : Left) (body : Statements) (f : Expression) (text text' : List ℕ) (ts rest j c : List Token) → Alike text text' ts → Guards text room whole left body ts rest → IsKeyword keywords.Except at rest j → IsCondition text f j c → next.funclets + numbers_of (accepts text f) ≡ left.funclets → next.funclets + numbers_of (accepts text' f) ≡ left.funclets
+pub filter_moved : (room at : ℕ) (whole left next : Left) (body : Statements) (f : Expression)
+    (text text' : List ℕ) (ts rest j c : List Token) → Alike text text' ts
+    → Guards text room whole left body ts rest → IsKeyword keywords.Except at rest j
+    → IsCondition text f j c → next.funclets + numbers_of (accepts text f) ≡ left.funclets
+    → next.funclets + numbers_of (accepts text' f) ≡ left.funclets
 filter_moved room at whole left next body f text text' ts rest j c h g k is fu =
     let m = excepting_moves room at whole left body text ts rest j g k in
     let a = alike_inner text text' m.front j ts m.split h in
     let e = filter f text text' j c is a in
     subst (λ (x : Bool). next.funclets + numbers_of x ≡ left.funclets) (sym e) fu
 
-filtered : (body : Statements) (at : ℕ) (f : Expression) (last : Statements) (text : List ℕ) (ts rest c : List Token) (w : Filtering body at f text ts rest) (end : List Token) → HasPunctuator punctuators.OpenBrace rest c → AreBlockItems text last c end → IsBlockItem text (TryExcept body at f last) ts end
+filtered : (body : Statements) (at : ℕ) (f : Expression) (last : Statements) (text : List ℕ)
+    (ts rest c : List Token) (w : Filtering body at f text ts rest) (end : List Token)
+    → HasPunctuator punctuators.OpenBrace rest c → AreBlockItems text last c end
+    → IsBlockItem text (TryExcept body at f last) ts end
 filtered body at f last text ts rest c w end o i = excepted body last at f text ts end (record {
   mid = w.first.mid;
   first = w.first.first;
@@ -201,10 +287,17 @@ filtered body at f last text ts rest c w end o i = excepted body last at f text 
   };
 })
 
-pub filter_fails : (room at : ℕ) (whole left : Left) (body : Statements) (text : List ℕ) (ts rest j : List Token) → 1 ≤ room → Guards text room whole left body ts rest → IsKeyword keywords.Except at rest j → Wraps (NoFilter left.funclets) (HasFilter left.funclets) (NoStatement room whole) (HasStatement room whole) text j ts
+pub filter_fails : (room at : ℕ) (whole left : Left) (body : Statements) (text : List ℕ)
+    (ts rest j : List Token) → 1 ≤ room → Guards text room whole left body ts rest
+    → IsKeyword keywords.Except at rest j → Wraps (NoFilter left.funclets) (HasFilter left.funclets)
+      (NoStatement room whole) (HasStatement room whole) text j ts
 filter_fails room at whole left body text ts rest j o g k =
-    wraps (Excepting body at) (NoFilter left.funclets) (HasFilter left.funclets) (NoStatement room whole) (HasStatement room whole) text ts j (excepting_moves room at whole left body text ts rest j g k)
-    (λ n text' all other h e r none. no_filter n text' room r.first.first.1.0 at whole left body r.first.first.0 r.mid other (braced body text' all r.mid r.first) (taken_moved room whole left body text text' ts rest h g) r.second none all r.first.first.1.1)
+    wraps (Excepting body at) (NoFilter left.funclets) (HasFilter left.funclets)
+      (NoStatement room whole) (HasStatement room whole) text ts j
+      (excepting_moves room at whole left body text ts rest j g k)
+    (λ n text' all other h e r none. no_filter n text' room r.first.first.1.0 at whole left body
+      r.first.first.0 r.mid other (braced body text' all r.mid r.first)
+      (taken_moved room whole left body text text' ts rest h g) r.second none all r.first.first.1.1)
     (λ n text' front inner h r has. record {
       more = braces;
       has =
@@ -213,7 +306,9 @@ filter_fails room at whole left body text ts rest j o g k =
           record {
             tree = TryExcept body at has.tree Empty;
             is = λ other.
-                let x = both_fixed (Filtering body at has.tree) Braces text' (front ++ inner) braces (both_fixed (Excepting body at) (Condition has.tree) text' front inner r has.is) (is_braces text') other in
+                let x = both_fixed (Filtering body at has.tree) Braces text' (front ++ inner) braces
+                  (both_fixed (Excepting body at) (Condition has.tree) text' front inner r has.is)
+                  (is_braces text') other in
                 filtered body at has.tree Empty text'
                 (((front ++ inner) ++ braces) ++ other) x.mid x.second.after_brace x.first other
                 x.second.brace x.second.items;
@@ -222,19 +317,30 @@ filter_fails room at whole left body text ts rest j o g k =
               statements = λ i. let a = w.statements i in omega arith;
               expressions = λ i. let a = w.expressions i in let b = has.low i in omega arith;
               locals = λ i. let a = w.locals i in omega arith;
-              funclets = λ i. let a = t.funclets in let b = has.count i in let c = number_length (accepts text' has.tree) at in omega (arith, length-append {A = ℕ});
+              funclets = λ i. let a = t.funclets in let b = has.count i in
+                let c = number_length (accepts text' has.tree) at in
+                omega (arith, length-append {A = ℕ});
             };
           };
     })
 
-pub except_open : (room at : ℕ) (whole left next : Left) (body : Statements) (f : Expression) (text : List ℕ) (ts rest j c : List Token) → 1 ≤ room → Guards text room whole left body ts rest → IsKeyword keywords.Except at rest j → IsCondition text f j c → height f ≤ 64 → next.funclets + numbers_of (accepts text f) ≡ left.funclets → next.locals ≡ left.locals →
-    Wraps (NoPunctuator punctuators.OpenBrace) (APunctuator punctuators.OpenBrace) (NoStatement room whole) (HasStatement room whole) text c ts
+pub except_open : (room at : ℕ) (whole left next : Left) (body : Statements) (f : Expression)
+    (text : List ℕ) (ts rest j c : List Token) → 1 ≤ room → Guards text room whole left body ts rest
+    → IsKeyword keywords.Except at rest j → IsCondition text f j c → height f ≤ 64
+    → next.funclets + numbers_of (accepts text f) ≡ left.funclets → next.locals ≡ left.locals →
+    Wraps (NoPunctuator punctuators.OpenBrace) (APunctuator punctuators.OpenBrace)
+      (NoStatement room whole) (HasStatement room whole) text c ts
 except_open room at whole left next body f text ts rest j c o g k is low fu lo =
-    wraps (Filtering body at f) (NoPunctuator punctuators.OpenBrace) (APunctuator punctuators.OpenBrace) (NoStatement room whole) (HasStatement room whole) text ts c (filtering_moves room at whole left body f text ts rest j c g k is)
+    wraps (Filtering body at f) (NoPunctuator punctuators.OpenBrace)
+      (APunctuator punctuators.OpenBrace) (NoStatement room whole) (HasStatement room whole) text ts
+      c (filtering_moves room at whole left body f text ts rest j c g k is)
     (λ n text' all other h e r none.
     let x = r.first.first in
-    no_handler n text' room x.first.1.0 at whole left next body f x.first.0 r.first.mid r.mid other (braced body text' all r.first.mid x) (taken_moved room whole left body text text' ts rest h g) r.first.second r.second
-    (filter_moved room at whole left next body f text text' ts rest j c h g k is fu) lo (no_open room next n text' other none) all x.first.1.1)
+    no_handler n text' room x.first.1.0 at whole left next body f x.first.0 r.first.mid r.mid other
+      (braced body text' all r.first.mid x) (taken_moved room whole left body text text' ts rest h
+      g) r.first.second r.second
+    (filter_moved room at whole left next body f text text' ts rest j c h g k is fu) lo
+      (no_open room next n text' other none) all x.first.1.1)
     (λ n text' front inner h r has. record {
       more = brace;
       has =
@@ -244,14 +350,19 @@ except_open room at whole left next body f text ts rest j c o g k is low fu lo =
           record {
             tree = TryExcept body at f Empty;
             is = λ other.
-                let x = both_fixed (Both (Filtering body at f) (Sig punctuators.OpenBrace)) (Items Empty) text' (front ++ inner) brace (both_fixed (Filtering body at f) (Sig punctuators.OpenBrace) text' front inner r has) (is_brace text') other in
-                filtered body at f Empty text' (((front ++ inner) ++ brace) ++ other) x.first.mid x.mid x.first.first other x.first.second x.second;
+                let x = both_fixed (Both (Filtering body at f) (Sig punctuators.OpenBrace))
+                  (Items Empty) text' (front ++ inner) brace
+                  (both_fixed (Filtering body at f) (Sig punctuators.OpenBrace) text' front inner r
+                  has) (is_brace text') other in
+                filtered body at f Empty text' (((front ++ inner) ++ brace) ++ other) x.first.mid
+                  x.mid x.first.first other x.first.second x.second;
             statement = refl;
             within = record {
               statements = λ i. let a = w.statements i in omega arith;
               expressions = λ i. let a = w.expressions i in omega arith;
               locals = λ i. let a = w.locals i in omega arith;
-              funclets = λ i. let a = t.funclets in let d = number_length (accepts text' f) at in omega (arith, length-append {A = ℕ});
+              funclets = λ i. let a = t.funclets in let d = number_length (accepts text' f) at in
+                omega (arith, length-append {A = ℕ});
             };
           };
     })
@@ -261,18 +372,32 @@ except_open room at whole left next body f text ts rest j c o g k is low fu lo =
 abbrev pub Finishing : Statements → ℕ → List ℕ → List Token → List Token → Type 0
 Finishing body at = Both (Guard body) (Key keywords.Finally at)
 
-finished_so : (body : Statements) (at : ℕ) (last : Statements) (text : List ℕ) (ts rest c : List Token) (w : Finishing body at text ts rest) (end : List Token) → HasPunctuator punctuators.OpenBrace rest c → AreBlockItems text last c end → IsBlockItem text (TryFinally body at last) ts end
+finished_so : (body : Statements) (at : ℕ) (last : Statements) (text : List ℕ)
+    (ts rest c : List Token) (w : Finishing body at text ts rest) (end : List Token)
+    → HasPunctuator punctuators.OpenBrace rest c → AreBlockItems text last c end
+    → IsBlockItem text (TryFinally body at last) ts end
 finished_so body at last text ts rest c w end o i = finished body last at text ts end (record {
   mid = w.mid;
   first = w.first;
   second = (rest, w.second, record { after_brace = c; brace = o; items = i });
 })
 
-pub finally_open : (room at : ℕ) (whole left next : Left) (body : Statements) (text : List ℕ) (ts rest j : List Token) → Guards text room whole left body ts rest → IsKeyword keywords.Finally at rest j → next.funclets + 1 ≡ left.funclets → next.locals ≡ left.locals →
-    Wraps (NoPunctuator punctuators.OpenBrace) (APunctuator punctuators.OpenBrace) (NoStatement room whole) (HasStatement room whole) text j ts
+pub finally_open : (room at : ℕ) (whole left next : Left) (body : Statements) (text : List ℕ)
+    (ts rest j : List Token) → Guards text room whole left body ts rest
+    → IsKeyword keywords.Finally at rest j → next.funclets + 1 ≡ left.funclets
+    → next.locals ≡ left.locals →
+    Wraps (NoPunctuator punctuators.OpenBrace) (APunctuator punctuators.OpenBrace)
+      (NoStatement room whole) (HasStatement room whole) text j ts
 finally_open room at whole left next body text ts rest j g k fu lo =
-    wraps (Finishing body at) (NoPunctuator punctuators.OpenBrace) (APunctuator punctuators.OpenBrace) (NoStatement room whole) (HasStatement room whole) text ts j (both_moves (Guard body) (Key keywords.Finally at) text ts rest j (guard_moves room whole left body text ts rest g) (key_moves keywords.Finally at text rest j k))
-    (λ n text' all other h e r none. no_last n text' room r.first.first.1.0 at whole left next body r.first.first.0 r.mid other (braced body text' all r.mid r.first) (taken_moved room whole left body text text' ts rest h g) r.second fu lo (no_open room next n text' other none) all r.first.first.1.1)
+    wraps (Finishing body at) (NoPunctuator punctuators.OpenBrace)
+      (APunctuator punctuators.OpenBrace) (NoStatement room whole) (HasStatement room whole) text ts
+      j (both_moves (Guard body) (Key keywords.Finally at) text ts rest j
+      (guard_moves room whole left body text ts rest g)
+      (key_moves keywords.Finally at text rest j k))
+    (λ n text' all other h e r none. no_last n text' room r.first.first.1.0 at whole left next body
+      r.first.first.0 r.mid other (braced body text' all r.mid r.first)
+      (taken_moved room whole left body text text' ts rest h g) r.second fu lo
+      (no_open room next n text' other none) all r.first.first.1.1)
     (λ n text' front inner h r has. record {
       more = brace;
       has =
@@ -281,8 +406,12 @@ finally_open room at whole left next body text ts rest j g k fu lo =
           record {
             tree = TryFinally body at Empty;
             is = λ other.
-                let x = both_fixed (Both (Finishing body at) (Sig punctuators.OpenBrace)) (Items Empty) text' (front ++ inner) brace (both_fixed (Finishing body at) (Sig punctuators.OpenBrace) text' front inner r has) (is_brace text') other in
-                finished_so body at Empty text' (((front ++ inner) ++ brace) ++ other) x.first.mid x.mid x.first.first other x.first.second x.second;
+                let x = both_fixed (Both (Finishing body at) (Sig punctuators.OpenBrace))
+                  (Items Empty) text' (front ++ inner) brace
+                  (both_fixed (Finishing body at) (Sig punctuators.OpenBrace) text' front inner r
+                  has) (is_brace text') other in
+                finished_so body at Empty text' (((front ++ inner) ++ brace) ++ other) x.first.mid
+                  x.mid x.first.first other x.first.second x.second;
             statement = refl;
             within = record {
               statements = λ i. let a = w.statements i in omega arith;
@@ -292,124 +421,3 @@ finally_open room at whole left next body text ts rest j g k fu lo =
             };
           };
     })
-
--- ---- the second block
-
-clause_moves : (c : Clause) (text : List ℕ) (ts rest : List Token) → IsClause text c ts rest → Moves (λ t. IsClause t c) text ts rest
-clause_moves (clauses.Except at f) text ts rest h =
-    moves_so (Both (Both (Key keywords.Except at) (Condition (expression f)))
-    (Sig punctuators.OpenBrace)) (λ t. IsClause t (clauses.Except at f)) text ts rest
-    (λ t us end x. record {
-      after_keyword = x.first.mid;
-      after_filter = x.mid;
-      keyword = x.first.first;
-      filter = x.first.second;
-      brace = x.second;
-    })
-    (both_moves (Both (Key keywords.Except at) (Condition (expression f)))
-    (Sig punctuators.OpenBrace) text ts h.after_filter rest
-    (both_moves (Key keywords.Except at)
-    (Condition (expression f)) text ts h.after_keyword h.after_filter
-    (key_moves keywords.Except at text ts h.after_keyword h.keyword)
-    (condition (expression f) text h.after_keyword h.after_filter h.filter))
-    (has_punctuator punctuators.OpenBrace text h.after_filter rest h.brace))
-clause_moves (clauses.Finally at) text ts rest h =
-    moves_so (Both (Key keywords.Finally at) (Sig punctuators.OpenBrace)) (λ t. IsClause t (clauses.Finally at)) text ts rest (λ t us end x. (x.mid, x.first, x.second))
-    (both_moves (Key keywords.Finally at) (Sig punctuators.OpenBrace) text ts h.0 rest (key_moves keywords.Finally at text ts h.0 h.1) (has_punctuator punctuators.OpenBrace text h.0 rest h.2))
-
-abbrev pub Clausing : Statements → Clause → List ℕ → List Token → List Token → Type 0
-Clausing body c = Both (Guard body) (λ t. IsClause t c)
-
-clausing_moves : (room : ℕ) (whole left : Left) (body : Statements) (c : Clause) (text : List ℕ) (ts rest j : List Token) → Guards text room whole left body ts rest → IsClause text c rest j → Moves (Clausing body c) text ts j
-clausing_moves room whole left body c text ts rest j g is = both_moves (Guard body) (λ t. IsClause t c) text ts rest j (guard_moves room whole left body text ts rest g) (clause_moves c text rest j is)
-
-pub last_block : (room : ℕ) (whole left next : Left) (body : Statements) (c : Clause) (text : List ℕ) (ts rest j : List Token) → Guards text room whole left body ts rest → ClauseIsTaken text room left next c rest j → Wraps (NoBlockItems room next) (HasBlockItems room next) (NoStatement room whole) (HasStatement room whole) text j ts
-last_block room whole left next body (clauses.Except at f) text ts rest j g c =
-    wraps (Clausing body (clauses.Except at f)) (NoBlockItems room next) (HasBlockItems room next) (NoStatement room whole) (HasStatement room whole) text ts j (clausing_moves room whole left body (clauses.Except at f) text ts rest j g c.is)
-    (λ n text' all other h e r none.
-    let x = r.first in
-    no_handler n text' room x.first.1.0 at whole left next body
-    (expression f) x.first.0 r.mid r.second.after_keyword r.second.after_filter
-    (braced body text' all r.mid x)
-    (taken_moved room whole left body text text' ts rest h g) r.second.keyword r.second.filter
-    (filter_moved room at whole left next body
-    (expression f) text text' ts rest c.is.after_keyword c.is.after_filter h g c.is.keyword
-    c.is.filter c.funclets) c.locals
-    (no_braced n text' room next r.second.after_filter other r.second.brace none) all x.first.1.1)
-    (λ n text' front inner h r has. able_now (HasStatement room whole) n text' (front ++ inner) (
-    let t = taken_moved room whole left body text text' ts rest h g in
-    let q = filter_moved room at whole left next body
-    (expression f) text text' ts rest c.is.after_keyword c.is.after_filter h g c.is.keyword
-    c.is.filter c.funclets in
-    let l = c.locals in let s = c.statements in let y = c.low in
-    record {
-      tree = TryExcept body at (expression f) has.trees;
-      is = λ other.
-          let x = both_fixed (Clausing body (clauses.Except at f)) (Items has.trees) text' front inner r has.are other in let z = x.first.second in
-          excepted body has.trees at (expression f) text' ((front ++ inner) ++ other) other
-          (record {
-            mid = x.first.mid;
-            first = x.first.first;
-            second = record {
-              after_keyword = z.after_keyword;
-              after_filter = z.after_filter;
-              keyword = z.keyword;
-              filter = z.filter;
-              handler = record { after_brace = x.mid; brace = z.brace; items = x.second };
-            };
-          });
-      statement = refl;
-      within = record {
-        statements = λ i. let a = t.statements in let b = has.within.statements i in omega arith;
-        expressions = λ i. let a = t.expressions in let b = has.within.expressions i in omega arith;
-        locals = λ i. let a = t.locals in let b = has.within.locals i in omega arith;
-        funclets = λ i. let a = t.funclets in let b = has.within.funclets i in let d = number_length (accepts text' (expression f)) at in omega (arith, length-append {A = ℕ});
-      };
-    }))
-last_block room whole left next body (clauses.Finally at) text ts rest j g c =
-    wraps (Clausing body (clauses.Finally at)) (NoBlockItems room next) (HasBlockItems room next) (NoStatement room whole) (HasStatement room whole) text ts j (clausing_moves room whole left body (clauses.Finally at) text ts rest j g c.is)
-    (λ n text' all other h e r none.
-    let x = r.first in
-    no_last n text' room x.first.1.0 at whole left next body x.first.0 r.mid r.second.0 (braced body text' all r.mid x) (taken_moved room whole left body text text' ts rest h g) r.second.1 c.funclets c.locals (no_braced n text' room next r.second.0 other r.second.2 none) all x.first.1.1)
-    (λ n text' front inner h r has. able_now (HasStatement room whole) n text' (front ++ inner) (
-    let t = taken_moved room whole left body text text' ts rest h g in
-    let l = c.locals in let q = c.funclets in
-    record {
-      tree = TryFinally body at has.trees;
-      is = λ other.
-          let x = both_fixed (Clausing body (clauses.Finally at)) (Items has.trees) text' front inner r has.are other in let z = x.first.second in
-          finished body has.trees at text' ((front ++ inner) ++ other) other (record {
-            mid = x.first.mid;
-            first = x.first.first;
-            second = (z.0, z.1, record { after_brace = x.mid; brace = z.2; items = x.second });
-          });
-      statement = refl;
-      within = record {
-        statements = λ i. let a = t.statements in let b = has.within.statements i in omega arith;
-        expressions = λ i. let a = t.expressions in let b = has.within.expressions i in omega arith;
-        locals = λ i. let a = t.locals in let b = has.within.locals i in omega arith;
-        funclets = λ i. let a = t.funclets in let b = has.within.funclets i in omega (arith, length-append {A = ℕ});
-      };
-    }))
-
-pub guarded_found : (room : ℕ) (whole left next after : Left) (body last : Statements) (c : Clause) (text : List ℕ) (ts rest j end : List Token) → Guards text room whole left body ts rest → ClauseIsTaken text room left next c rest j → AreBlockItems text last j end → AllTaken text room next after last → IsStatementWithin text room whole after (with_clause body c last) ts end
-guarded_found room whole left next after body last (clauses.Except at f) text ts rest j end g c are t =
-    except_found text room g.is.1.0 at whole left next after body last
-    (expression f) g.is.0 rest c.is.after_keyword c.is.after_filter end c.statements
-    (record {
-      after_brace = g.mid;
-      brace = g.is.2;
-      items = g.are;
-    }) g.taken c.is.keyword c.is.filter c.low c.funclets c.locals
-    (record { after_brace = j; brace = c.is.brace; items = are }) t ts g.is.1.1
-guarded_found room whole left next after body last (clauses.Finally at) text ts rest j end g c are t =
-    finally_found text room g.is.1.0 at whole left next after body last g.is.0 rest c.is.0 end
-    (record {
-      after_brace = g.mid;
-      brace = g.is.2;
-      items = g.are;
-    }) g.taken c.is.1 c.funclets c.locals
-    (record { after_brace = j; brace = c.is.2; items = are }) t ts g.is.1.1
-
-abbrev pub guards : (text : List ℕ) (room : ℕ) (left after : Left) (body : Statements) (ts mid rest : List Token) → 1 ≤ room + left.funclets → IsTry ts mid → AreBlockItems text body mid rest → AllTaken text room left after body → Guards text room left after body ts rest
-guards text room left after body ts mid rest o t i k = record { some = o; mid = mid; is = t; are = i; taken = k }

@@ -1,5 +1,5 @@
 -- Failures in what a statement begins with.
-use Rattle.std.proofs.Common.{◌≡◌, ◌≤◌, IsFalse, ◌+◌, ◌++◌, ℕ, suc, List, [], ◌∷◌, Option, None, refl, sym, subst, arith}
+use Rattle.std.proofs.Common.{◌≡◌, ◌≤◌, IsFalse, ◌+◌, ◌++◌, ℕ, suc, List, [], ◌∷◌, Option, None, refl, arith}
 use Rattle.c_lex.specs.declared.keyword.Keyword.{Keyword}
 use Rattle.c_lex.specs.declared.keyword.Keyword.TheVariants as keywords
 use Rattle.c_lex.specs.declared.punctuator.Punctuator.{Punctuator}
@@ -10,21 +10,18 @@ use Rattle.c_lex.specs.declared.token.Token.{Token}
 use Rattle.c_syntax.specs.declared.expression.Literal.TheVariants as literals
 use Rattle.c_syntax.specs.Expression.{Expression, Constant}
 use Rattle.c_syntax.specs.Faults.{Family, Able, Failed, Wraps}
-use Rattle.c_syntax.specs.Limits.{height_of, height_of_for_initialiser, locals_of_for_initialiser}
 use Rattle.c_syntax.specs.Statement.{ForInitialiser, Evaluating, Statement, Evaluate, If, While, DoWhile, For, Return, Break, Continue, Leave, TryFinally, Empty}
 use Rattle.c_syntax.specs.Statements.{IsUpTo, IsCondition, IsForInitialiser, is_declaration, IsBlockItem}
-use Rattle.c_syntax.specs.Tokens.{token, IsKeyword, HasPunctuator, HasKeyword}
-use Rattle.c_syntax.proofs.Firsts.{first_back, no_punctuator}
-use Rattle.c_syntax.proofs.Fronts.{kind_same, keyword_same}
-use Rattle.c_syntax.proofs.Moves.{Moves, kind, has_punctuator}
-use Rattle.c_syntax.proofs.MovesStatements.{first, up_to as up_to_moves}
+use Rattle.c_syntax.specs.Tokens.{token, IsKeyword, HasPunctuator}
+use Rattle.c_syntax.proofs.Moves.{Moves, kind}
+use Rattle.c_syntax.proofs.MovesStatements.{first}
 use Rattle.c_parse_stmt.specs.declared.left.Left.{Left}
-use Rattle.c_parse_stmt.specs.Parts.{NoPunctuator, APunctuator, NoCondition, HasCondition, NoneUpTo, HasUpTo, NoForInitialiser, HasForInitialiser}
-use Rattle.c_parse_stmt.specs.Within.{NoStatement, HasStatement, NoEvaluation, HasEvaluation, AfterKeyword}
-use Rattle.c_parse_stmt.proofs.Sequences.{Both, Fixed, both_fixed, both_moves, able_now, wraps, punctuator, word, a_punctuator, a_word, first_kind, kind_place}
+use Rattle.c_parse_stmt.specs.Parts.{NoPunctuator, APunctuator, NoCondition, HasCondition, NoneUpTo, HasUpTo}
+use Rattle.c_parse_stmt.specs.Within.{NoStatement, HasStatement, AfterKeyword}
+use Rattle.c_parse_stmt.proofs.Sequences.{Both, Fixed, both_fixed, able_now, punctuator, word, a_punctuator, a_word, first_kind, kind_place}
 use Rattle.c_parse_stmt.proofs.Tries.{no_try}
-use Rattle.c_parse_stmt.proofs.Loops.{no_while_room, no_while_condition, no_do_room, no_for_room, no_for_open, no_for_initialiser, Started, no_for_condition, no_for_next}
-use Rattle.c_parse_stmt.proofs.Wholes.{no_if_room, no_if_condition, no_return, no_break, no_continue, no_leave, no_evaluation, Lacks, Plain, only_evaluations}
+use Rattle.c_parse_stmt.proofs.Loops.{no_while_room, no_while_condition, no_do_room, no_for_room}
+use Rattle.c_parse_stmt.proofs.Wholes.{no_if_room, no_if_condition, no_return, no_break, no_continue, no_leave}
 
 -- ---- relations
 
@@ -40,7 +37,8 @@ Condition e text = IsCondition text e
 abbrev pub UpTo : Punctuator → Option Expression → List ℕ → List Token → List Token → Type 0
 UpTo s e text = IsUpTo text s e
 
-abbrev pub key_moves : (k : Keyword) (at : ℕ) (text : List ℕ) (ts rest : List Token) → IsKeyword k at ts rest → Moves (Key k at) text ts rest
+abbrev pub key_moves : (k : Keyword) (at : ℕ) (text : List ℕ) (ts rest : List Token)
+    → IsKeyword k at ts rest → Moves (Key k at) text ts rest
 key_moves k at text ts rest h = kind (kinds.Keyword k) at text ts rest h
 
 -- ---- the least statement
@@ -53,12 +51,17 @@ abbrev pub Empties : List ℕ → List Token → List Token → Type 0
 Empties text = IsBlockItem text (Evaluate None)
 
 pub is_empty : (text : List ℕ) → Fixed Empties text semicolon
-is_empty text other = (punctuator punctuators.Semicolon ∷ other, refl, a_punctuator punctuators.Semicolon other)
+is_empty text other = (punctuator punctuators.Semicolon ∷ other, refl,
+    a_punctuator punctuators.Semicolon other)
 
-pub least : (room : ℕ) (left : Left) (n : ℕ) (text : List ℕ) → HasStatement room left n text semicolon
-least room left n text = record { tree = Evaluate None; is = is_empty text; statement = refl; within = record { statements = λ i. omega arith; expressions = λ i. omega arith; locals = λ i. omega arith; funclets = λ i. omega arith } }
+pub least : (room : ℕ) (left : Left) (n : ℕ) (text : List ℕ)
+    → HasStatement room left n text semicolon
+least room left n text = record { tree = Evaluate None; is = is_empty text; statement = refl;
+    within = record { statements = λ i. omega arith; expressions = λ i. omega arith;
+    locals = λ i. omega arith; funclets = λ i. omega arith } }
 
-pub any_able : (room : ℕ) (left : Left) (n : ℕ) (text : List ℕ) → Able (HasStatement room left) n text []
+pub any_able : (room : ℕ) (left : Left) (n : ℕ) (text : List ℕ)
+    → Able (HasStatement room left) n text []
 any_able room left n text = record { more = semicolon; has = least room left n text }
 
 -- ---- `(1)`
@@ -67,7 +70,8 @@ abbrev pub unit : Expression
 unit = Constant 0 (literals.Integer 1 types.Int)
 
 abbrev pub in_parentheses : List Token
-in_parentheses = punctuator punctuators.OpenParenthesis ∷ token (kinds.Integer 1 types.Int) 0 0 ∷ punctuator punctuators.CloseParenthesis ∷ []
+in_parentheses = punctuator punctuators.OpenParenthesis ∷ token (kinds.Integer 1 types.Int) 0 0
+    ∷ punctuator punctuators.CloseParenthesis ∷ []
 
 pub is_unit : (text : List ℕ) → Fixed (Condition unit) text in_parentheses
 is_unit text other = record {
@@ -84,23 +88,33 @@ is_unit text other = record {
 -- ---- at the keyword itself
 
 -- a limit excludes what the keyword begins
-pub at_keyword : (k : Keyword) (at kind room : ℕ) (left : Left) (text : List ℕ) (ts a : List Token) → IsKeyword k at ts a →
-    ((text' : List ℕ) → (all more : List Token) → IsKeyword k at all more → NoStatement room left kind text' all) →
-    ((text' : List ℕ) (n end : ℕ) → kind ≡ suc n → (more : List Token) × HasStatement room left n text' (token (kinds.Keyword k) at end ∷ more)) →
+pub at_keyword : (k : Keyword) (at kind room : ℕ) (left : Left) (text : List ℕ) (ts a : List Token)
+    → IsKeyword k at ts a →
+    ((text' : List ℕ) → (all more : List Token) → IsKeyword k at all more
+      → NoStatement room left kind text' all) →
+    ((text' : List ℕ) (n end : ℕ) → kind ≡ suc n
+      → (more : List Token) × HasStatement room left n text'
+        (token (kinds.Keyword k) at end ∷ more)) →
     Failed kind at (NoStatement room left) (HasStatement room left) text ts
 at_keyword k at kind room left text ts a key excludes go = record {
   front = [];
   fault = ts;
   split = refl;
   located = kind_place (kinds.Keyword k) at text ts a key;
-  against = λ text' other h s. let q = first_kind (kinds.Keyword k) at ts other a s key in excludes text' other q.0 q.1;
+  against = λ text' other h s. let q = first_kind (kinds.Keyword k) at ts other a s key in
+      excludes text' other q.0 q.1;
   able = λ text' h s. any_able room left 6 text';
-  further = λ text' n h s e. let m = go text' n key.0 e in record { token = token (kinds.Keyword k) at key.0; rest = a; more = m.0; is = key.1; has = m.1 };
+  further = λ text' n h s e. let m = go text' n key.0 e in
+      record { token = token (kinds.Keyword k) at key.0; rest = a; more = m.0; is = key.1;
+      has = m.1 };
 }
 
-pub if_too_deep : (room at : ℕ) (left : Left) (text : List ℕ) (ts a : List Token) → room ≡ 0 → IsKeyword keywords.If at ts a → Failed 1 at (NoStatement room left) (HasStatement room left) text ts
+pub if_too_deep : (room at : ℕ) (left : Left) (text : List ℕ) (ts a : List Token) → room ≡ 0
+    → IsKeyword keywords.If at ts a → Failed 1 at (NoStatement room left) (HasStatement room left)
+      text ts
 if_too_deep room at left text ts a z k =
-    at_keyword keywords.If at 1 room left text ts a k (λ text' all more key. no_if_room 1 text' room at left more (omega arith) z all key)
+    at_keyword keywords.If at 1 room left text ts a k
+      (λ text' all more key. no_if_room 1 text' room at left more (omega arith) z all key)
     (λ text' n end e. (
       in_parentheses ++ semicolon,
       record {
@@ -113,13 +127,17 @@ if_too_deep room at left text ts a z k =
           body = record { no_declaration = refl; item = is_empty text' other };
         };
         statement = refl;
-        within = record { statements = λ i. omega arith; expressions = λ i. omega arith; locals = λ i. omega arith; funclets = λ i. omega arith };
+        within = record { statements = λ i. omega arith; expressions = λ i. omega arith;
+          locals = λ i. omega arith; funclets = λ i. omega arith };
       },
     ))
 
-pub while_too_deep : (room at : ℕ) (left : Left) (text : List ℕ) (ts a : List Token) → room ≡ 0 → IsKeyword keywords.While at ts a → Failed 1 at (NoStatement room left) (HasStatement room left) text ts
+pub while_too_deep : (room at : ℕ) (left : Left) (text : List ℕ) (ts a : List Token) → room ≡ 0
+    → IsKeyword keywords.While at ts a → Failed 1 at (NoStatement room left)
+      (HasStatement room left) text ts
 while_too_deep room at left text ts a z k =
-    at_keyword keywords.While at 1 room left text ts a k (λ text' all more key. no_while_room 1 text' room at left more (omega arith) z all key)
+    at_keyword keywords.While at 1 room left text ts a k
+      (λ text' all more key. no_while_room 1 text' room at left more (omega arith) z all key)
     (λ text' n end e. (
       in_parentheses ++ semicolon,
       record {
@@ -132,7 +150,8 @@ while_too_deep room at left text ts a z k =
           body = record { no_declaration = refl; item = is_empty text' other };
         };
         statement = refl;
-        within = record { statements = λ i. omega arith; expressions = λ i. omega arith; locals = λ i. omega arith; funclets = λ i. omega arith };
+        within = record { statements = λ i. omega arith; expressions = λ i. omega arith;
+          locals = λ i. omega arith; funclets = λ i. omega arith };
       },
     ))
 
@@ -140,9 +159,12 @@ while_too_deep room at left text ts a z k =
 abbrev pub while_end : List Token
 while_end = word keywords.While ∷ in_parentheses ++ semicolon
 
-pub do_too_deep : (room at : ℕ) (left : Left) (text : List ℕ) (ts a : List Token) → room ≡ 0 → IsKeyword keywords.Do at ts a → Failed 1 at (NoStatement room left) (HasStatement room left) text ts
+pub do_too_deep : (room at : ℕ) (left : Left) (text : List ℕ) (ts a : List Token) → room ≡ 0
+    → IsKeyword keywords.Do at ts a → Failed 1 at (NoStatement room left) (HasStatement room left)
+      text ts
 do_too_deep room at left text ts a z k =
-    at_keyword keywords.Do at 1 room left text ts a k (λ text' all more key. no_do_room 1 text' room at left more (omega arith) z all key)
+    at_keyword keywords.Do at 1 room left text ts a k
+      (λ text' all more key. no_do_room 1 text' room at left more (omega arith) z all key)
     (λ text' n end e. (
       semicolon ++ while_end,
       record {
@@ -159,11 +181,17 @@ do_too_deep room at left text ts a z k =
           semicolon = a_punctuator punctuators.Semicolon other;
         };
         statement = refl;
-        within = record { statements = λ i. omega arith; expressions = λ i. omega arith; locals = λ i. omega arith; funclets = λ i. omega arith };
+        within = record { statements = λ i. omega arith; expressions = λ i. omega arith;
+          locals = λ i. omega arith; funclets = λ i. omega arith };
       },
     ))
 
-pub for_item : (text : List ℕ) (at : ℕ) (f : ForInitialiser) (c n : Option Expression) (s : Statement) (ts a b d g i rest : List Token) → IsKeyword keywords.For at ts a → HasPunctuator punctuators.OpenParenthesis a b → IsForInitialiser text f b d → IsUpTo text punctuators.Semicolon c d g → IsUpTo text punctuators.CloseParenthesis n g i → IsFalse (is_declaration s) → IsBlockItem text s i rest → IsBlockItem text (For at f c n s) ts rest
+pub for_item : (text : List ℕ) (at : ℕ) (f : ForInitialiser) (c n : Option Expression)
+    (s : Statement) (ts a b d g i rest : List Token) → IsKeyword keywords.For at ts a
+    → HasPunctuator punctuators.OpenParenthesis a b → IsForInitialiser text f b d
+    → IsUpTo text punctuators.Semicolon c d g → IsUpTo text punctuators.CloseParenthesis n g i
+    → IsFalse (is_declaration s) → IsBlockItem text s i rest
+    → IsBlockItem text (For at f c n s) ts rest
 for_item text at f c n s ts a b d g i rest k o h u v z t = record {
   after_head = i;
   head = record {
@@ -203,24 +231,39 @@ abbrev pub for1 : List Token
 for1 = punctuator punctuators.Semicolon ∷ for2
 
 pub is_for3 : (text : List ℕ) → Fixed For3 text for3
-is_for3 text other = record { mid = semicolon ++ other; first = (for3 ++ other, refl, a_punctuator punctuators.CloseParenthesis (semicolon ++ other)); second = is_empty text other }
+is_for3 text other = record { mid = semicolon ++ other;
+    first = (for3 ++ other, refl, a_punctuator punctuators.CloseParenthesis (semicolon ++ other));
+    second = is_empty text other }
 
 pub is_for2 : (text : List ℕ) → Fixed For2 text for2
-is_for2 text other = record { mid = for3 ++ other; first = (for2 ++ other, refl, a_punctuator punctuators.Semicolon (for3 ++ other)); second = is_for3 text other }
+is_for2 text other = record { mid = for3 ++ other;
+    first = (for2 ++ other, refl, a_punctuator punctuators.Semicolon (for3 ++ other));
+    second = is_for3 text other }
 
 pub is_for1 : (text : List ℕ) → Fixed For1 text for1
-is_for1 text other = record { mid = for2 ++ other; first = (for1 ++ other, refl, a_punctuator punctuators.Semicolon (for2 ++ other)); second = is_for2 text other }
+is_for1 text other = record { mid = for2 ++ other;
+    first = (for1 ++ other, refl, a_punctuator punctuators.Semicolon (for2 ++ other));
+    second = is_for2 text other }
 
-pub for_too_deep : (room at : ℕ) (left : Left) (text : List ℕ) (ts a : List Token) → room ≡ 0 → IsKeyword keywords.For at ts a → Failed 1 at (NoStatement room left) (HasStatement room left) text ts
+pub for_too_deep : (room at : ℕ) (left : Left) (text : List ℕ) (ts a : List Token) → room ≡ 0
+    → IsKeyword keywords.For at ts a → Failed 1 at (NoStatement room left) (HasStatement room left)
+      text ts
 for_too_deep room at left text ts a z k =
-    at_keyword keywords.For at 1 room left text ts a k (λ text' all more key. no_for_room 1 text' room at left more (omega arith) z all key)
+    at_keyword keywords.For at 1 room left text ts a k
+      (λ text' all more key. no_for_room 1 text' room at left more (omega arith) z all key)
     (λ text' n end e. (
       punctuator punctuators.OpenParenthesis ∷ for1,
       record {
         tree = For at (Evaluating None) None None (Evaluate None);
-        is = λ other. let x = is_for1 text' other in for_item text' at (Evaluating None) None None (Evaluate None) _ (punctuator punctuators.OpenParenthesis ∷ for1 ++ other) (for1 ++ other) x.mid x.second.mid x.second.second.mid other (end, refl) (a_punctuator punctuators.OpenParenthesis (for1 ++ other)) x.first x.second.first x.second.second.first refl x.second.second.second;
+        is = λ other. let x = is_for1 text' other in
+          for_item text' at (Evaluating None) None None (Evaluate None) _
+          (punctuator punctuators.OpenParenthesis ∷ for1 ++ other) (for1 ++ other) x.mid
+          x.second.mid x.second.second.mid other (end, refl)
+          (a_punctuator punctuators.OpenParenthesis (for1 ++ other)) x.first x.second.first
+          x.second.second.first refl x.second.second.second;
         statement = refl;
-        within = record { statements = λ i. omega arith; expressions = λ i. omega arith; locals = λ i. omega arith; funclets = λ i. omega arith };
+        within = record { statements = λ i. omega arith; expressions = λ i. omega arith;
+          locals = λ i. omega arith; funclets = λ i. omega arith };
       },
     ))
 
@@ -232,9 +275,12 @@ braces = punctuator punctuators.OpenBrace ∷ punctuator punctuators.CloseBrace 
 abbrev pub finally : List Token
 finally = word keywords.Finally ∷ braces
 
-pub try_too_many : (room at : ℕ) (left : Left) (text : List ℕ) (ts a : List Token) → room ≡ 0 → left.funclets ≡ 0 → IsKeyword keywords.Try at ts a → Failed 6 at (NoStatement room left) (HasStatement room left) text ts
+pub try_too_many : (room at : ℕ) (left : Left) (text : List ℕ) (ts a : List Token) → room ≡ 0
+    → left.funclets ≡ 0 → IsKeyword keywords.Try at ts a
+    → Failed 6 at (NoStatement room left) (HasStatement room left) text ts
 try_too_many room at left text ts a z y k =
-    at_keyword keywords.Try at 6 room left text ts a k (λ text' all more key. no_try 6 text' room at left more (omega arith) z y all key)
+    at_keyword keywords.Try at 6 room left text ts a k
+      (λ text' all more key. no_try 6 text' room at left more (omega arith) z y all key)
     (λ text' n end e. (
       braces ++ finally,
       record {
@@ -259,26 +305,34 @@ try_too_many room at left text ts a z y k =
           };
         };
         statement = refl;
-        within = record { statements = λ i. omega arith; expressions = λ i. omega arith; locals = λ i. omega arith; funclets = λ i. omega arith };
+        within = record { statements = λ i. omega arith; expressions = λ i. omega arith;
+          locals = λ i. omega arith; funclets = λ i. omega arith };
       },
     ))
 
 -- ---- after the keyword
 
-pub key_wraps : (k : Keyword) (at room : ℕ) (left : Left) (No Has : Family) (text : List ℕ) (ts a : List Token) → IsKeyword k at ts a →
-    ((n : ℕ) (text' : List ℕ) (other : List Token) → No n text' other → AfterKeyword k at other (NoStatement room left n text')) →
-    ((n : ℕ) (text' : List ℕ) (inner : List Token) (end : ℕ) → Has n text' inner → Able (HasStatement room left) n text' (token (kinds.Keyword k) at end ∷ inner)) →
+pub key_wraps : (k : Keyword) (at room : ℕ) (left : Left) (No Has : Family) (text : List ℕ)
+    (ts a : List Token) → IsKeyword k at ts a →
+    ((n : ℕ) (text' : List ℕ) (other : List Token) → No n text' other
+      → AfterKeyword k at other (NoStatement room left n text')) →
+    ((n : ℕ) (text' : List ℕ) (inner : List Token) (end : ℕ) → Has n text' inner
+      → Able (HasStatement room left) n text' (token (kinds.Keyword k) at end ∷ inner)) →
     Wraps No Has (NoStatement room left) (HasStatement room left) text a ts
 key_wraps k at room left No Has text ts a key f g = record {
   before = token (kinds.Keyword k) at key.0 ∷ [];
   split = key.1;
-  no = λ n text' other h s none. f n text' other none (token (kinds.Keyword k) at key.0 ∷ other) (key.0, refl);
+  no = λ n text' other h s none. f n text' other none (token (kinds.Keyword k) at key.0 ∷ other)
+      (key.0, refl);
   has = λ n text' inner h s has. g n text' inner key.0 has;
 }
 
-pub while_condition : (room at : ℕ) (left : Left) (text : List ℕ) (ts a : List Token) → 1 ≤ room → IsKeyword keywords.While at ts a → Wraps NoCondition HasCondition (NoStatement room left) (HasStatement room left) text a ts
+pub while_condition : (room at : ℕ) (left : Left) (text : List ℕ) (ts a : List Token) → 1 ≤ room
+    → IsKeyword keywords.While at ts a → Wraps NoCondition HasCondition (NoStatement room left)
+      (HasStatement room left) text a ts
 while_condition room at left text ts a o k =
-    key_wraps keywords.While at room left NoCondition HasCondition text ts a k (λ n text' other none. no_while_condition n text' room at left other none)
+    key_wraps keywords.While at room left NoCondition HasCondition text ts a k
+      (λ n text' other none. no_while_condition n text' room at left other none)
     (λ n text' inner end has. record {
       more = semicolon;
       has = record {
@@ -294,13 +348,17 @@ while_condition room at left text ts a o k =
               body = record { no_declaration = refl; item = x.second };
             };
         statement = refl;
-        within = record { statements = λ i. omega arith; expressions = λ i. let b = has.low i in omega arith; locals = λ i. omega arith; funclets = λ i. omega arith };
+        within = record { statements = λ i. omega arith; expressions = λ i. let b = has.low i in
+          omega arith; locals = λ i. omega arith; funclets = λ i. omega arith };
       };
     })
 
-pub if_condition : (room at : ℕ) (left : Left) (text : List ℕ) (ts a : List Token) → 1 ≤ room → IsKeyword keywords.If at ts a → Wraps NoCondition HasCondition (NoStatement room left) (HasStatement room left) text a ts
+pub if_condition : (room at : ℕ) (left : Left) (text : List ℕ) (ts a : List Token) → 1 ≤ room
+    → IsKeyword keywords.If at ts a → Wraps NoCondition HasCondition (NoStatement room left)
+      (HasStatement room left) text a ts
 if_condition room at left text ts a o k =
-    key_wraps keywords.If at room left NoCondition HasCondition text ts a k (λ n text' other none. no_if_condition n text' room at left other none)
+    key_wraps keywords.If at room left NoCondition HasCondition text ts a k
+      (λ n text' other none. no_if_condition n text' room at left other none)
     (λ n text' inner end has. record {
       more = semicolon;
       has = record {
@@ -316,170 +374,72 @@ if_condition room at left text ts a o k =
               body = record { no_declaration = refl; item = x.second };
             };
         statement = refl;
-        within = record { statements = λ i. omega arith; expressions = λ i. let b = has.low i in omega arith; locals = λ i. omega arith; funclets = λ i. omega arith };
+        within = record { statements = λ i. omega arith; expressions = λ i. let b = has.low i in
+          omega arith; locals = λ i. omega arith; funclets = λ i. omega arith };
       };
     })
 
-pub return_value : (room at : ℕ) (left : Left) (text : List ℕ) (ts a : List Token) → IsKeyword keywords.Return at ts a → Wraps (NoneUpTo punctuators.Semicolon room) (HasUpTo punctuators.Semicolon room) (NoStatement room left) (HasStatement room left) text a ts
+pub return_value : (room at : ℕ) (left : Left) (text : List ℕ) (ts a : List Token)
+    → IsKeyword keywords.Return at ts a → Wraps (NoneUpTo punctuators.Semicolon room)
+      (HasUpTo punctuators.Semicolon room) (NoStatement room left) (HasStatement room left) text a
+      ts
 return_value room at left text ts a k =
-    key_wraps keywords.Return at room left (NoneUpTo punctuators.Semicolon room) (HasUpTo punctuators.Semicolon room) text ts a k (λ n text' other none. no_return n text' room at left other none)
-    (λ n text' inner end has. able_now (HasStatement room left) n text' (token (kinds.Keyword keywords.Return) at end ∷ inner) (record {
+    key_wraps keywords.Return at room left (NoneUpTo punctuators.Semicolon room)
+      (HasUpTo punctuators.Semicolon room) text ts a k
+      (λ n text' other none. no_return n text' room at left other none)
+    (λ n text' inner end has. able_now (HasStatement room left) n text'
+      (token (kinds.Keyword keywords.Return) at end ∷ inner) (record {
       tree = Return at has.tree;
       is = λ other. (inner ++ other, (end, refl), has.is other);
       statement = refl;
-      within = record { statements = has.over; expressions = has.low; locals = λ i. omega arith; funclets = λ i. omega arith };
+      within = record { statements = has.over; expressions = has.low; locals = λ i. omega arith;
+        funclets = λ i. omega arith };
     }))
 
-pub break_end : (room at : ℕ) (left : Left) (text : List ℕ) (ts a : List Token) → IsKeyword keywords.Break at ts a → Wraps (NoPunctuator punctuators.Semicolon) (APunctuator punctuators.Semicolon) (NoStatement room left) (HasStatement room left) text a ts
+pub break_end : (room at : ℕ) (left : Left) (text : List ℕ) (ts a : List Token)
+    → IsKeyword keywords.Break at ts a → Wraps (NoPunctuator punctuators.Semicolon)
+      (APunctuator punctuators.Semicolon) (NoStatement room left) (HasStatement room left) text a ts
 break_end room at left text ts a k =
-    key_wraps keywords.Break at room left (NoPunctuator punctuators.Semicolon) (APunctuator punctuators.Semicolon) text ts a k (λ n text' other none all key. no_break n text' room at left all other key none)
-    (λ n text' inner end has. able_now (HasStatement room left) n text' (token (kinds.Keyword keywords.Break) at end ∷ inner) (record {
+    key_wraps keywords.Break at room left (NoPunctuator punctuators.Semicolon)
+      (APunctuator punctuators.Semicolon) text ts a k
+      (λ n text' other none all key. no_break n text' room at left all other key none)
+    (λ n text' inner end has. able_now (HasStatement room left) n text'
+      (token (kinds.Keyword keywords.Break) at end ∷ inner) (record {
       tree = Break at;
       is = λ other. (inner ++ other, (end, refl), has other);
       statement = refl;
-      within = record { statements = λ i. omega arith; expressions = λ i. omega arith; locals = λ i. omega arith; funclets = λ i. omega arith };
+      within = record { statements = λ i. omega arith; expressions = λ i. omega arith;
+        locals = λ i. omega arith; funclets = λ i. omega arith };
     }))
 
-pub continue_end : (room at : ℕ) (left : Left) (text : List ℕ) (ts a : List Token) → IsKeyword keywords.Continue at ts a → Wraps (NoPunctuator punctuators.Semicolon) (APunctuator punctuators.Semicolon) (NoStatement room left) (HasStatement room left) text a ts
+pub continue_end : (room at : ℕ) (left : Left) (text : List ℕ) (ts a : List Token)
+    → IsKeyword keywords.Continue at ts a → Wraps (NoPunctuator punctuators.Semicolon)
+      (APunctuator punctuators.Semicolon) (NoStatement room left) (HasStatement room left) text a ts
 continue_end room at left text ts a k =
-    key_wraps keywords.Continue at room left (NoPunctuator punctuators.Semicolon) (APunctuator punctuators.Semicolon) text ts a k (λ n text' other none all key. no_continue n text' room at left all other key none)
-    (λ n text' inner end has. able_now (HasStatement room left) n text' (token (kinds.Keyword keywords.Continue) at end ∷ inner) (record {
+    key_wraps keywords.Continue at room left (NoPunctuator punctuators.Semicolon)
+      (APunctuator punctuators.Semicolon) text ts a k
+      (λ n text' other none all key. no_continue n text' room at left all other key none)
+    (λ n text' inner end has. able_now (HasStatement room left) n text'
+      (token (kinds.Keyword keywords.Continue) at end ∷ inner) (record {
       tree = Continue at;
       is = λ other. (inner ++ other, (end, refl), has other);
       statement = refl;
-      within = record { statements = λ i. omega arith; expressions = λ i. omega arith; locals = λ i. omega arith; funclets = λ i. omega arith };
+      within = record { statements = λ i. omega arith; expressions = λ i. omega arith;
+        locals = λ i. omega arith; funclets = λ i. omega arith };
     }))
 
-pub leave_end : (room at : ℕ) (left : Left) (text : List ℕ) (ts a : List Token) → IsKeyword keywords.Leave at ts a → Wraps (NoPunctuator punctuators.Semicolon) (APunctuator punctuators.Semicolon) (NoStatement room left) (HasStatement room left) text a ts
+pub leave_end : (room at : ℕ) (left : Left) (text : List ℕ) (ts a : List Token)
+    → IsKeyword keywords.Leave at ts a → Wraps (NoPunctuator punctuators.Semicolon)
+      (APunctuator punctuators.Semicolon) (NoStatement room left) (HasStatement room left) text a ts
 leave_end room at left text ts a k =
-    key_wraps keywords.Leave at room left (NoPunctuator punctuators.Semicolon) (APunctuator punctuators.Semicolon) text ts a k (λ n text' other none all key. no_leave n text' room at left all other key none)
-    (λ n text' inner end has. able_now (HasStatement room left) n text' (token (kinds.Keyword keywords.Leave) at end ∷ inner) (record {
+    key_wraps keywords.Leave at room left (NoPunctuator punctuators.Semicolon)
+      (APunctuator punctuators.Semicolon) text ts a k
+      (λ n text' other none all key. no_leave n text' room at left all other key none)
+    (λ n text' inner end has. able_now (HasStatement room left) n text'
+      (token (kinds.Keyword keywords.Leave) at end ∷ inner) (record {
       tree = Leave at;
       is = λ other. (inner ++ other, (end, refl), has other);
       statement = refl;
-      within = record { statements = λ i. omega arith; expressions = λ i. omega arith; locals = λ i. omega arith; funclets = λ i. omega arith };
+      within = record { statements = λ i. omega arith; expressions = λ i. omega arith;
+        locals = λ i. omega arith; funclets = λ i. omega arith };
     }))
-
--- ---- in the parentheses of a `for`
-
-pub for_open : (room at : ℕ) (left : Left) (text : List ℕ) (ts a : List Token) → 1 ≤ room → IsKeyword keywords.For at ts a → Wraps (NoPunctuator punctuators.OpenParenthesis) (APunctuator punctuators.OpenParenthesis) (NoStatement room left) (HasStatement room left) text a ts
-for_open room at left text ts a o k =
-    key_wraps keywords.For at room left (NoPunctuator punctuators.OpenParenthesis) (APunctuator punctuators.OpenParenthesis) text ts a k (λ n text' other none. no_for_open n text' room at left other none)
-    (λ n text' inner end has. record {
-      more = for1;
-      has = record {
-        tree = For at (Evaluating None) None None (Evaluate None);
-        is = λ other.
-            let y = both_fixed (Sig punctuators.OpenParenthesis) For1 text' inner for1 has (is_for1 text') other in let x = y.second in
-            for_item text' at (Evaluating None) None None (Evaluate None) (token (kinds.Keyword keywords.For) at end ∷ (inner ++ for1) ++ other) ((inner ++ for1) ++ other) y.mid x.mid x.second.mid x.second.second.mid other (end, refl) y.first x.first x.second.first x.second.second.first refl x.second.second.second;
-        statement = refl;
-        within = record { statements = λ i. omega arith; expressions = λ i. omega arith; locals = λ i. omega arith; funclets = λ i. omega arith };
-      };
-    })
-
-abbrev pub ForOpen : ℕ → List ℕ → List Token → List Token → Type 0
-ForOpen at = Both (Key keywords.For at) (Sig punctuators.OpenParenthesis)
-
-abbrev pub ForFirst : ℕ → ForInitialiser → List ℕ → List Token → List Token → Type 0
-ForFirst at f = Both (ForOpen at) (λ t. IsForInitialiser t f)
-
-abbrev pub ForCondition : ℕ → ForInitialiser → Option Expression → List ℕ → List Token → List Token → Type 0
-ForCondition at f c = Both (ForFirst at f) (UpTo punctuators.Semicolon c)
-
-abbrev pub ForHead : ℕ → ForInitialiser → Option Expression → Option Expression → List ℕ → List Token → List Token → Type 0
-ForHead at f c n = Both (ForCondition at f c) (UpTo punctuators.CloseParenthesis n)
-
-pub for_open_moves : (at : ℕ) (text : List ℕ) (ts a b : List Token) → IsKeyword keywords.For at ts a → HasPunctuator punctuators.OpenParenthesis a b → Moves (ForOpen at) text ts b
-for_open_moves at text ts a b k o = both_moves (Key keywords.For at) (Sig punctuators.OpenParenthesis) text ts a b (key_moves keywords.For at text ts a k) (has_punctuator punctuators.OpenParenthesis text a b o)
-
-pub for_first_moves : (at : ℕ) (f : ForInitialiser) (text : List ℕ) (ts a b d : List Token) → IsKeyword keywords.For at ts a → HasPunctuator punctuators.OpenParenthesis a b → IsForInitialiser text f b d → Moves (ForFirst at f) text ts d
-for_first_moves at f text ts a b d k o h = both_moves (ForOpen at) (λ t. IsForInitialiser t f) text ts b d (for_open_moves at text ts a b k o) (first f text b d h)
-
-pub for_condition_moves : (at : ℕ) (f : ForInitialiser) (c : Option Expression) (text : List ℕ) (ts a b d g : List Token) → IsKeyword keywords.For at ts a → HasPunctuator punctuators.OpenParenthesis a b → IsForInitialiser text f b d → IsUpTo text punctuators.Semicolon c d g → Moves (ForCondition at f c) text ts g
-for_condition_moves at f c text ts a b d g k o h u = both_moves (ForFirst at f) (UpTo punctuators.Semicolon c) text ts d g (for_first_moves at f text ts a b d k o h) (up_to_moves punctuators.Semicolon c text d g u)
-
-pub for_initialiser : (room at : ℕ) (left : Left) (text : List ℕ) (ts a b : List Token) → 1 ≤ room → IsKeyword keywords.For at ts a → HasPunctuator punctuators.OpenParenthesis a b → Wraps (NoForInitialiser left.locals) (HasForInitialiser left.locals) (NoStatement room left) (HasStatement room left) text b ts
-for_initialiser room at left text ts a b o k s =
-    wraps (ForOpen at) (NoForInitialiser left.locals) (HasForInitialiser left.locals) (NoStatement room left) (HasStatement room left) text ts b (for_open_moves at text ts a b k s)
-    (λ n text' all other h e r none. no_for_initialiser n text' room at left r.mid other r.second none all r.first)
-    (λ n text' front inner h r has. record {
-      more = for2;
-      has = record {
-        tree = For at has.tree None None (Evaluate None);
-        is = λ other.
-            let w = both_fixed (ForFirst at has.tree) For2 text' (front ++ inner) for2 (both_fixed (ForOpen at) (λ t. IsForInitialiser t has.tree) text' front inner r has.is) (is_for2 text') other in
-            let x = w.first in let y = w.second in
-            for_item text' at has.tree None None (Evaluate None) (((front ++ inner) ++ for2) ++ other) x.first.mid x.mid w.mid y.mid y.second.mid other x.first.first x.first.second x.second y.first y.second.first refl y.second.second;
-        statement = refl;
-        within = record { statements = λ i. omega arith; expressions = λ i. let b = has.low i in omega arith; locals = λ i. let b = has.count i in omega arith; funclets = λ i. omega arith };
-      };
-    })
-
-started : (at : ℕ) (text : List ℕ) (left mid : Left) (f : ForInitialiser) (ts rest : List Token) (r : ForFirst at f text ts rest) → height_of_for_initialiser f ≤ 64 → mid.locals + locals_of_for_initialiser f ≡ left.locals → mid.funclets ≡ left.funclets → Started text left mid f r.first.mid r.mid rest
-started at text left mid f ts rest r low l m = record { opens = r.first.second; is = r.second; low = low; locals = l; funclets = m }
-
-pub for_condition : (room at : ℕ) (left mid : Left) (f : ForInitialiser) (text : List ℕ) (ts a b d : List Token) → 1 ≤ room → IsKeyword keywords.For at ts a → HasPunctuator punctuators.OpenParenthesis a b → IsForInitialiser text f b d → height_of_for_initialiser f ≤ 64 → mid.locals + locals_of_for_initialiser f ≡ left.locals → mid.funclets ≡ left.funclets →
-    Wraps (NoneUpTo punctuators.Semicolon 1) (HasUpTo punctuators.Semicolon 1) (NoStatement room left) (HasStatement room left) text d ts
-for_condition room at left mid f text ts a b d o k s u low l m =
-    wraps (ForFirst at f) (NoneUpTo punctuators.Semicolon 1) (HasUpTo punctuators.Semicolon 1) (NoStatement room left) (HasStatement room left) text ts d (for_first_moves at f text ts a b d k s u)
-    (λ n text' all other h e r none. no_for_condition n text' room at left mid f r.first.mid r.mid other (started at text' left mid f all other r low l m) none all r.first.first)
-    (λ n text' front inner h r has. record {
-      more = for3;
-      has = record {
-        tree = For at f has.tree None (Evaluate None);
-        is = λ other.
-            let w = both_fixed (ForCondition at f has.tree) For3 text' (front ++ inner) for3 (both_fixed (ForFirst at f) (UpTo punctuators.Semicolon has.tree) text' front inner r has.is) (is_for3 text') other in
-            let x = w.first in let y = w.second in
-            for_item text' at f has.tree None (Evaluate None) (((front ++ inner) ++ for3) ++ other) x.first.first.mid x.first.mid x.mid w.mid y.mid other x.first.first.first x.first.first.second x.first.second x.second y.first refl y.second;
-        statement = refl;
-        within = record { statements = λ i. omega arith; expressions = λ i. let b = has.low i in omega arith; locals = λ i. omega arith; funclets = λ i. omega arith };
-      };
-    })
-
-pub for_next : (room at : ℕ) (left mid : Left) (f : ForInitialiser) (c : Option Expression) (text : List ℕ) (ts a b d g : List Token) → 1 ≤ room → IsKeyword keywords.For at ts a → HasPunctuator punctuators.OpenParenthesis a b → IsForInitialiser text f b d → height_of_for_initialiser f ≤ 64 → mid.locals + locals_of_for_initialiser f ≡ left.locals → mid.funclets ≡ left.funclets → IsUpTo text punctuators.Semicolon c d g → height_of c ≤ 64 →
-    Wraps (NoneUpTo punctuators.CloseParenthesis 1) (HasUpTo punctuators.CloseParenthesis 1) (NoStatement room left) (HasStatement room left) text g ts
-for_next room at left mid f c text ts a b d g o k s u low l m v low' =
-    wraps (ForCondition at f c) (NoneUpTo punctuators.CloseParenthesis 1) (HasUpTo punctuators.CloseParenthesis 1) (NoStatement room left) (HasStatement room left) text ts g (for_condition_moves at f c text ts a b d g k s u v)
-    (λ n text' all other h e r none. no_for_next n text' room at left mid f c r.first.first.mid r.first.mid r.mid other (started at text' left mid f all r.mid r.first low l m) r.second none all r.first.first.first)
-    (λ n text' front inner h r has. record {
-      more = semicolon;
-      has = record {
-        tree = For at f c has.tree (Evaluate None);
-        is = λ other.
-            let w = both_fixed (ForHead at f c has.tree) Empties text' (front ++ inner) semicolon (both_fixed (ForCondition at f c) (UpTo punctuators.CloseParenthesis has.tree) text' front inner r has.is) (is_empty text') other in
-            let x = w.first in
-            for_item text' at f c has.tree (Evaluate None) (((front ++ inner) ++ semicolon) ++ other) x.first.first.first.mid x.first.first.mid x.first.mid x.mid w.mid other x.first.first.first.first x.first.first.first.second x.first.first.second x.first.second x.second refl w.second;
-        statement = refl;
-        within = record { statements = λ i. omega arith; expressions = λ i. let b = has.low i in omega arith; locals = λ i. omega arith; funclets = λ i. omega arith };
-      };
-    })
-
--- ---- expression statements
-
-pub evaluation : (room : ℕ) (left : Left) (text : List ℕ) (ts : List Token) → Wraps (NoneUpTo punctuators.Semicolon room) (HasUpTo punctuators.Semicolon room) (NoEvaluation room left) (HasEvaluation room left) text ts ts
-evaluation room left text ts = record {
-  before = [];
-  split = refl;
-  no = λ n text' other h e none. no_evaluation n text' room left other none;
-  has = λ n text' inner h k has. able_now (HasEvaluation room left) n text' inner (record { tree = has.tree; is = has.is; within = record { statements = has.over; expressions = has.low; locals = λ i. omega arith; funclets = λ i. omega arith } });
-}
-
-evaluation_wraps : (room : ℕ) (left : Left) (text : List ℕ) (ts : List Token) → Lacks punctuators.OpenBrace ts → ((k : Keyword) (rest : List Token) → HasKeyword k ts rest → Plain k) → Wraps (NoEvaluation room left) (HasEvaluation room left) (NoStatement room left) (HasStatement room left) text ts ts
-evaluation_wraps room left text ts o p = record {
-  before = [];
-  split = refl;
-  no = λ n text' other h e none.
-      only_evaluations n text' room left other (no_punctuator punctuators.OpenBrace ts other e o)
-      (λ k rest i. let q = first_kind (kinds.Keyword k) i.0 other ts rest (first_back ts other e) i.1 in p k q.0 (i.0, q.1)) none;
-  has = λ n text' inner h k has. able_now (HasStatement room left) n text' inner (record { tree = Evaluate has.tree; is = has.is; statement = refl; within = has.within });
-}
-
--- no statement but one of an expression begins with the keyword
-pub evaluation_after : (room at : ℕ) (left : Left) (k : Keyword) (text : List ℕ) (ts a : List Token) → IsKeyword k at ts a → Plain k → Wraps (NoEvaluation room left) (HasEvaluation room left) (NoStatement room left) (HasStatement room left) text ts ts
-evaluation_after room at left k text ts a is p =
-    evaluation_wraps room left text ts
-    (λ rest h. let q = kind_same (kinds.Punctuator punctuators.OpenBrace) (kinds.Keyword k) h.0 at ts ts rest a refl h.1 is in let e : kinds.Punctuator punctuators.OpenBrace ≡ kinds.Keyword k = q.0 in cc)
-    (λ j rest h. subst Plain (sym (keyword_same j k ts ts rest a refl h (at, is)).0) p)
-
-pub evaluation_alone : (room : ℕ) (left : Left) (text : List ℕ) (ts : List Token) → Lacks punctuators.OpenBrace ts → ((k : Keyword) (rest : List Token) → HasKeyword k ts rest → ⊥) → Wraps (NoEvaluation room left) (HasEvaluation room left) (NoStatement room left) (HasStatement room left) text ts ts
-evaluation_alone room left text ts o none = evaluation_wraps room left text ts o (λ k rest h. absurd (none k rest h))

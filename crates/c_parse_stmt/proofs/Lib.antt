@@ -18,7 +18,10 @@ pub mod Wholes
 pub mod Loops
 pub mod Tries
 pub mod Heading
+pub mod ForHeads
 pub mod Clauses
 pub mod Guarding
+pub mod SecondBlocks
 pub mod Inside
+pub mod InsideDo
 pub mod NoStatements

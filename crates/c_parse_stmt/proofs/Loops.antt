@@ -9,7 +9,8 @@ use Rattle.c_syntax.specs.Statement.{ForInitialiser, Statement, While, DoWhile, 
 use Rattle.c_syntax.specs.Statements.{IsUpTo, IsCondition, IsForInitialiser, IsBlockItem}
 use Rattle.c_syntax.specs.Tokens.{IsKeyword, HasPunctuator, HasKeyword}
 use Rattle.c_syntax.proofs.Fronts.{has_same}
-use Rattle.c_syntax.proofs.Blocks.{condition, first, place, while_else, one_statement}
+use Rattle.c_syntax.proofs.Declarations.{condition, first}
+use Rattle.c_syntax.proofs.Blocks.{place, while_else, one_statement}
 use Rattle.c_parse_stmt.specs.declared.left.Left.{Left}
 use Rattle.c_parse_stmt.specs.Parts.{NoCondition, NoneUpTo, NoForInitialiser}
 use Rattle.c_parse_stmt.specs.Within.{IsStatementWithin, NoStatement, AfterKeyword}

@@ -11,7 +11,7 @@ use Rattle.c_syntax.specs.Limits.{one_over, one_over_locals}
 use Rattle.c_syntax.specs.Statement.{Local, Declaring, Evaluating}
 use Rattle.c_syntax.specs.Statements.{AreLocals, IsDeclaration, IsForInitialiser}
 use Rattle.c_syntax.specs.Types.{IsBase}
-use Rattle.c_syntax.proofs.Blocks.{locals_type, optional_front}
+use Rattle.c_syntax.proofs.Declarations.{locals_type, optional_front}
 use Rattle.c_syntax.proofs.Fronts.{base_front}
 use Rattle.c_syntax.proofs.Moves.{Moves, base}
 use Rattle.c_parse_type.specs.Bases.{NoBase, EndsBase}

@@ -11,7 +11,8 @@ use Rattle.c_syntax.specs.Statement.{Statement, TryExcept, TryFinally, Statement
 use Rattle.c_syntax.specs.Statements.{IsCondition, AreBlockItems}
 use Rattle.c_syntax.specs.Tokens.{IsKeyword, HasPunctuator, HasKeyword}
 use Rattle.c_syntax.proofs.Fronts.{keyword_same, has_same}
-use Rattle.c_syntax.proofs.Blocks.{condition, place, same_items}
+use Rattle.c_syntax.proofs.Declarations.{condition}
+use Rattle.c_syntax.proofs.Blocks.{place, same_items}
 use Rattle.c_parse_stmt.specs.declared.left.Left.{Left}
 use Rattle.c_parse_stmt.specs.Filters.{numbers_of, NoFilter}
 use Rattle.c_parse_stmt.specs.Within.{AllWithin, AllTaken, NoBlockItems, IsStatementWithin, NoStatement, AfterKeyword}

@@ -15,7 +15,8 @@ use Rattle.c_syntax.specs.Statement.{Statement, Declare, Block, Evaluate, If, If
 use Rattle.c_syntax.specs.Statements.{IsUpTo, IsCondition, dangles, IsBlockItem, AreBlockItems}
 use Rattle.c_syntax.specs.Tokens.{IsKeyword, HasPunctuator, HasKeyword}
 use Rattle.c_syntax.proofs.Fronts.{punctuator_class}
-use Rattle.c_syntax.proofs.Blocks.{condition, optional, word, absent, one_statement}
+use Rattle.c_syntax.proofs.Declarations.{condition, optional}
+use Rattle.c_syntax.proofs.Blocks.{word, absent, one_statement}
 use Rattle.c_parse_stmt.specs.declared.left.Left.{Left}
 use Rattle.c_parse_stmt.specs.Parts.{NoCondition, NoneUpTo}
 use Rattle.c_parse_stmt.specs.Within.{AllTaken, NoBlockItems, Within, IsStatementWithin, NoStatement, NoEvaluation, AfterKeyword}

@@ -1,2 +1,3 @@
+pub mod TypesAreRead
 pub mod Types
 pub mod Ends

@@ -21,7 +21,7 @@ use Rattle.c_resolved.specs.Scopes.{spelled}
 use Rattle.c_resolved.specs.Statements.{unless_holds, is_taken}
 use Rattle.c_resolved.specs.Program.{first_data, constant_value, bytes_of_number, bytes_of_all, filled, initial_value, length_faults, global_entity, File, padded, with_global, with_globals, parameter_types, with_external_declaration, file_of}
 use Rattle.c_resolved.proofs.ResolvedExpressions.{EntityFits, FunctionFits}
-use Rattle.c_resolved.proofs.SoundStatements.{none_in_both, holds, ScopeFits, with_name_fits}
+use Rattle.c_resolved.proofs.SoundDeclarations.{none_in_both, holds, ScopeFits, with_name_fits}
 
 -- ---- lengths
 

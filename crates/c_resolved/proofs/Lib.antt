@@ -3,8 +3,10 @@ pub mod Conversions
 pub mod TypeFacts
 pub mod Operands
 pub mod Results
+pub mod ConditionalResults
 pub mod ResolvedExpressions
 pub mod Numbers
+pub mod SoundDeclarations
 pub mod SoundStatements
 pub mod Globals
 pub mod Sound

@@ -41,7 +41,8 @@ use Rattle.c_resolved.specs.Expressions.{Entity, LocalVariable, GlobalVariable, 
 use Rattle.c_resolved.specs.Program.{result_size}
 use Rattle.c_resolved.proofs.TypeFacts.{pointer_scalar, size_in_memory_is, pointer_to_pointer, can_become_scalar}
 use Rattle.c_resolved.proofs.Operands.{IsGood, GoodIf, HasSize, and_true, typed_good, as_type_has, has_size}
-use Rattle.c_resolved.proofs.Results.{IsInMemory, IsAddressable, unary_good, binary_good, cast_good, element_good, assigned_good, compound_assigned_good, incremented_good, conditional_good, comma_good}
+use Rattle.c_resolved.proofs.ConditionalResults.{conditional_good, comma_good}
+use Rattle.c_resolved.proofs.Results.{IsInMemory, IsAddressable, unary_good, binary_good, cast_good, element_good, assigned_good, compound_assigned_good, incremented_good}
 
 -- ---- faults
 

@@ -29,7 +29,8 @@ use Rattle.c_resolved.proofs.Conversions.{same_base_is}
 use Rattle.c_resolved.proofs.Operands.{and_true}
 use Rattle.c_resolved.proofs.ResolvedExpressions.{MeaningFits}
 use Rattle.c_resolved.proofs.Numbers.{IsFront, front_itself, front_get, Counted, count_up_append, statements_counted}
-use Rattle.c_resolved.proofs.SoundStatements.{none_in_both, holds, ScopeFits, meaning_fits, with_name_fits, statements_resolve}
+use Rattle.c_resolved.proofs.SoundDeclarations.{none_in_both, holds, ScopeFits, meaning_fits, with_name_fits}
+use Rattle.c_resolved.proofs.SoundStatements.{statements_resolve}
 use Rattle.c_resolved.proofs.Globals.{file_length, FunctionsFrom, file_fits}
 
 -- ---- parameters

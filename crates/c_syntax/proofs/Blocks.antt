@@ -1,6 +1,6 @@
 -- There is one tree at most for a declaration, for a statement that no `else` follows, and for what
 -- a block holds.
-use Rattle.std.proofs.Common.{◌≡◌, ◌≤◌, ◌<◌, ℕ, Bool, true, false, IsTrue, IsFalse, List, [], ◌∷◌}
+use Rattle.std.proofs.Common.{◌≡◌, ◌≤◌, ℕ, Bool, true, false, IsTrue, IsFalse, List, [], ◌∷◌}
 use Rattle.std.proofs.Common.{Option, Some, None, refl, sym, ap, ◌∙◌, subst, arith}
 use Rattle.c_lex.specs.declared.keyword.Keyword.{Keyword}
 use Rattle.c_lex.specs.declared.keyword.Keyword.TheVariants as keywords
@@ -12,23 +12,18 @@ use Rattle.c_lex.specs.declared.token.Token.{Token}
 use Rattle.c_syntax.specs.declared.expression.Base.{Base}
 use Rattle.c_syntax.specs.declared.expression.Identifier.{Identifier}
 use Rattle.c_syntax.specs.Expression.{Expression}
-use Rattle.c_syntax.specs.Expressions.{Derives}
-use Rattle.c_syntax.specs.Follow.{punctuator_follows, follows, Stops, NoElse, Closed, OneStatement}
-use Rattle.c_syntax.specs.Operators.{assignment, comma}
-use Rattle.c_syntax.specs.Statement.{Local, ForInitialiser, Declaring, Evaluating, Statement}
+use Rattle.c_syntax.specs.Follow.{NoElse, Closed, OneStatement}
+use Rattle.c_syntax.specs.Statement.{Local, ForInitialiser, Statement}
 use Rattle.c_syntax.specs.Statement.{Declare, Block, Evaluate, If, IfElse, While, DoWhile, For}
 use Rattle.c_syntax.specs.Statement.{Return, Break, Continue, Leave, TryExcept, TryFinally}
 use Rattle.c_syntax.specs.Statement.{Statements, Empty, Then}
-use Rattle.c_syntax.specs.Statements.{IsInitialiser, IsLocal, AreMoreLocals, AreLocals}
-use Rattle.c_syntax.specs.Statements.{IsDeclaration, IsOptional, IsCondition, IsForInitialiser}
+use Rattle.c_syntax.specs.Statements.{IsOptional}
 use Rattle.c_syntax.specs.Statements.{dangles, IsBlockItem, AreBlockItems}
-use Rattle.c_syntax.specs.Tokens.{IsKeyword, IsIdentifier, HasPunctuator, HasKeyword}
-use Rattle.c_syntax.proofs.Fronts.{kind_same, has_same, keyword_same, name_same, punctuator_class}
-use Rattle.c_syntax.proofs.Fronts.{kind_class, front, base_front, base_once, NoType, NoStar}
-use Rattle.c_syntax.proofs.Fronts.{stars_once, stars_front}
-use Rattle.c_syntax.proofs.Spine.{follows_punctuator}
-use Rattle.c_syntax.proofs.Once.{one_expression, has_stops, expression_front, has_front}
-use Rattle.c_syntax.proofs.Separated.{more_stop, separated_once}
+use Rattle.c_syntax.specs.Tokens.{IsKeyword, HasPunctuator, HasKeyword}
+use Rattle.c_syntax.proofs.Fronts.{kind_same, has_same, keyword_same, punctuator_class}
+use Rattle.c_syntax.proofs.Fronts.{kind_class, front, base_front}
+use Rattle.c_syntax.proofs.Once.{expression_front}
+use Rattle.c_syntax.proofs.Declarations.{optional, condition, declaration, first}
 
 -- ---- what the first token begins
 
@@ -135,154 +130,6 @@ low_begins (t ∷ ts) h = kind_low t.kind h
 pub typed_begins : (ts : List Token) → front ts ≡ 7 → begins ts ≡ 1
 typed_begins [] h = absurd (omega arith)
 typed_begins (t ∷ ts) h = kind_typed t.kind h
-
--- ---- expressions between punctuators
-
--- an expression up to a punctuator that ends it
-pub up_to : (text : List ℕ) (s : Punctuator) (e f : Expression) (ts us rest end r q : List Token)
-    → ts ≡ us → comma < punctuator_follows s → Derives text comma e ts rest
-    → Derives text comma f us end → HasPunctuator s rest r → HasPunctuator s end q
-    → (e ≡ f) × (r ≡ q)
-up_to text s e f ts us rest end r q p l h g x y =
-    let k : Derives text comma f ts end = subst (λ (z : List Token). Derives text comma f z end)
-    (sym p) g in
-    let a = one_expression text comma e f ts rest end h k (has_stops s rest r comma x l)
-    (has_stops s end q comma y l) in
-    (a.0, has_same s rest end r q a.1 x y)
-
-pub optional : (text : List ℕ) (s : Punctuator) (e f : Option Expression)
-    (ts us rest end r q : List Token) → ts ≡ us → comma < punctuator_follows s
-    → punctuator_class s ≡ 6 → IsOptional text e ts rest → IsOptional text f us end
-    → HasPunctuator s rest r → HasPunctuator s end q → (e ≡ f) × (r ≡ q)
-optional text s None None ts us rest end r q p l c h g x y =
-    (refl, has_same s rest end r q (sym h ∙ p ∙ g) x y)
-optional text s None (Some f) ts us rest end r q p l c h g x y =
-    let a = has_front s rest r x in let b = expression_front text f us end g.spells in let d =
-    ap front h in let m = ap front p in absurd (omega arith)
-optional text s (Some e) None ts us rest end r q p l c h g x y =
-    let a = has_front s end q y in let b = expression_front text e ts rest h.spells in let d =
-    ap front g in let m = ap front p in absurd (omega arith)
-optional text s (Some e) (Some f) ts us rest end r q p l c h g x y = let a =
-    up_to text s e f ts us rest end r q p l h g x y in (ap (λ (z : Expression). some z) a.0, a.1)
-  where
-    some : Expression → Option Expression
-    some z = Some z
-
-pub condition : (text : List ℕ) (e f : Expression) (ts us rest end : List Token) → ts ≡ us
-    → IsCondition text e ts rest → IsCondition text f us end → (e ≡ f) × (rest ≡ end)
-condition text e f ts us rest end p h g =
-    let a = has_same punctuators.OpenParenthesis ts us h.after_opening g.after_opening p h.opening
-    g.opening in
-    up_to text punctuators.CloseParenthesis e f h.after_opening g.after_opening h.after_inner
-    g.after_inner rest end a (omega arith) h.inner g.inner h.closing g.closing
-
--- ---- declarations
-
-abbrev present : Expression → Option Expression
-present e = Some e
-
-pub initialiser : (text : List ℕ) (e f : Option Expression) (ts us rest end : List Token) → ts ≡ us
-    → Stops assignment rest → Stops assignment end → IsInitialiser text e ts rest
-    → IsInitialiser text f us end → (e ≡ f) × (rest ≡ end)
-initialiser text None None ts us rest end p s z h g = (refl, sym h ∙ p ∙ g)
-initialiser text None (Some f) ts us rest end p s z h (mid, (at, sign), value) = let a =
-    follows_punctuator punctuators.Assign at us mid assignment sign refl in let b = ap follows h in
-    let c = ap follows p in absurd (omega arith)
-initialiser text (Some e) None ts us rest end p s z (mid, (at, sign), value) g = let a =
-    follows_punctuator punctuators.Assign at ts mid assignment sign refl in let b = ap follows g in
-    let c = ap follows p in absurd (omega arith)
-initialiser text (Some e) (Some f) ts us rest end p s z h g =
-    let a = has_same punctuators.Assign ts us h.0 g.0 p h.1 g.1 in
-    let k : Derives text assignment f h.0 end =
-    subst (λ (x : List Token). Derives text assignment f x end) (sym a) g.2 in
-    let b = one_expression text assignment e f h.0 rest end h.2 k s z in
-    (ap present b.0, b.1)
-
-pub name_star : (name : Identifier) (ts rest : List Token) → IsIdentifier name ts rest → NoStar ts
-name_star name ts rest h = λ end g.
-    let q = kind_same kinds.Identifier (kinds.Punctuator punctuators.Star) name.start g.0 ts ts rest
-    end refl (name.end, h) g.1 in
-    let e : kinds.Identifier ≡ kinds.Punctuator punctuators.Star = q.0 in cc
-
-pub name_type : (name : Identifier) (ts rest : List Token) → IsIdentifier name ts rest → NoType ts
-name_type name ts rest h = λ e. let q : front ts ≡ 0 = ap front h in absurd (omega (arith, e))
-
-abbrev make : ℕ → Identifier → Option Expression → Local
-make n name e = record { pointers = n; name = name; initialiser = e }
-
-pub local : (text : List ℕ) (l m : Local) (ts us rest end : List Token) → ts ≡ us
-    → Stops assignment rest → Stops assignment end → IsLocal text l ts rest → IsLocal text m us end
-    → (l ≡ m) × (rest ≡ end)
-local text l m ts us rest end p s z h g =
-    let a = stars_once l.pointers m.pointers ts us h.after_stars g.after_stars p
-    (name_star l.name h.after_stars h.after_name h.name)
-    (name_star m.name g.after_stars g.after_name g.name) h.stars g.stars in
-    let b = name_same l.name m.name h.after_stars g.after_stars h.after_name g.after_name a.1 h.name
-    g.name in
-    let c = initialiser text l.initialiser m.initialiser h.after_name g.after_name rest end b.1 s z
-    h.initialiser g.initialiser in (
-      ap (λ (n : ℕ). make n l.name l.initialiser) a.0
-          ∙ ap (λ (n : Identifier). make m.pointers n l.initialiser) b.0
-          ∙ ap (λ (e : Option Expression). make m.pointers m.name e) c.0,
-      c.1,
-    )
-
-pub locals_stop : (text : List ℕ) (ls : List Local) (ts rest : List Token)
-    → AreMoreLocals text ls ts rest → Stops assignment ts
-locals_stop text ls ts rest h = more_stop (IsLocal text) punctuators.Semicolon ls ts rest
-    (omega arith) h
-
-pub locals : (text : List ℕ) (ls ms : List Local) (ts us rest end : List Token) → ts ≡ us
-    → AreLocals text ls ts rest → AreLocals text ms us end → (ls ≡ ms) × (rest ≡ end)
-locals text ls ms ts us rest end p h g =
-    separated_once (IsLocal text) punctuators.Semicolon ls ms ts us rest end (local text)
-    (omega arith) (λ e. cc) p h g
-
-pub local_type : (text : List ℕ) (l : Local) (ts rest : List Token) → IsLocal text l ts rest
-    → NoType ts
-local_type text l ts rest h =
-    stars_front l.pointers ts h.after_stars (name_type l.name h.after_stars h.after_name h.name)
-    h.stars
-
-pub locals_type : (text : List ℕ) (ls : List Local) (ts rest : List Token)
-    → AreLocals text ls ts rest → NoType ts
-locals_type text [] ts rest h = absurd h
-locals_type text (l ∷ ls) ts rest h = local_type text l ts h.0 h.1
-
-pub declaration : (text : List ℕ) (b d : Base) (ls ms : List Local) (ts us rest end : List Token)
-    → ts ≡ us → IsDeclaration text b ls ts rest → IsDeclaration text d ms us end
-    → (b ≡ d) × (ls ≡ ms) × (rest ≡ end)
-declaration text b d ls ms ts us rest end p h g =
-    let x = base_once b d ts us h.0 g.0 p (locals_type text ls h.0 rest h.2)
-    (locals_type text ms g.0 end g.2) h.1 g.1 in
-    let y = locals text ls ms h.0 g.0 rest end x.1 h.2 g.2 in
-    (x.0, y.0, y.1)
-
-pub optional_front : (text : List ℕ) (s : Punctuator) (e : Option Expression)
-    (ts rest r : List Token) → punctuator_class s ≡ 6 → IsOptional text e ts rest
-    → HasPunctuator s rest r → front ts ≤ 6
-optional_front text s None ts rest r c h x = let a = has_front s rest r x in let b = ap front h in
-    omega arith
-optional_front text s (Some e) ts rest r c h x = let a = expression_front text e ts rest h.spells in
-    omega arith
-
-pub first : (text : List ℕ) (f g : ForInitialiser) (ts us rest end : List Token) → ts ≡ us
-    → IsForInitialiser text f ts rest → IsForInitialiser text g us end → (f ≡ g) × (rest ≡ end)
-first text (Declaring b ls) (Declaring d ms) ts us rest end p h g =
-    let a = declaration text b d ls ms ts us rest end p h g in
-    (ap (λ (x : Base). Declaring x ls) a.0 ∙ ap (λ (x : List Local). Declaring d x) a.1, a.2)
-first text (Declaring b ls) (Evaluating f) ts us rest end p h g =
-    let a = base_front b ts h.0 h.1 in let c =
-    optional_front text punctuators.Semicolon f us g.0 end refl g.1 g.2 in let d = ap front p in
-    absurd (omega arith)
-first text (Evaluating e) (Declaring d ms) ts us rest end p h g =
-    let a = base_front d us g.0 g.1 in let c =
-    optional_front text punctuators.Semicolon e ts h.0 rest refl h.1 h.2 in let b =
-    ap front p in absurd (omega arith)
-first text (Evaluating e) (Evaluating f) ts us rest end p h g =
-    let a = optional text punctuators.Semicolon e f ts us h.0 g.0 rest end p (omega arith) refl h.1
-    g.1 h.2 g.2 in
-    (ap (λ (x : Option Expression). Evaluating x) a.0, a.1)
 
 -- ---- first tokens of statements
 

@@ -33,7 +33,8 @@ use Rattle.c_syntax.proofs.Spine.{follows_punctuator}
 use Rattle.c_syntax.proofs.Once.{has_stops, has_front, literal_same, integer_same}
 use Rattle.c_syntax.proofs.Separated.{more_stop, separated_once}
 pub use Rattle.c_syntax.proofs.Separated.{other_punctuator}
-use Rattle.c_syntax.proofs.Blocks.{name_star, name_type, same_items}
+use Rattle.c_syntax.proofs.Declarations.{name_star, name_type}
+use Rattle.c_syntax.proofs.Blocks.{same_items}
 
 -- ---- constants
 

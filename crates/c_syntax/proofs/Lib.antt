@@ -5,10 +5,12 @@ pub mod Once
 pub mod Starts
 pub mod Rows
 pub mod Separated
+pub mod Declarations
 pub mod Blocks
 pub mod Files
 pub mod Passing
 pub mod Nodes
+pub mod NodesOfPrograms
 pub mod Shorter
 pub mod Failing
 pub mod Moves

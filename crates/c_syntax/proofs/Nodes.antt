@@ -10,7 +10,6 @@ use Rattle.c_lex.specs.declared.token.Kind.TheVariants as kinds
 use Rattle.c_lex.specs.declared.token.Token.{Token}
 use Rattle.c_syntax.specs.declared.declaration.Constant.{Constant as Constant'}
 use Rattle.c_syntax.specs.declared.declaration.Length.{Length}
-use Rattle.c_syntax.specs.declared.declaration.Parameter.{Parameter}
 use Rattle.c_syntax.specs.declared.expression.Base.{Base}
 use Rattle.c_syntax.specs.declared.expression.CType.{CType}
 use Rattle.c_syntax.specs.declared.expression.Field.{Field}
@@ -25,17 +24,13 @@ use Rattle.c_syntax.specs.Expressions.{IsField, IsInformation, SpellsExpression,
 use Rattle.c_syntax.specs.Expressions.{SpellsMoreArguments}
 use Rattle.c_syntax.specs.Nodes.{nodes, nodes_of_arguments, nodes_of_optional, nodes_of_locals}
 use Rattle.c_syntax.specs.Nodes.{nodes_of_for_initialiser, nodes_of_statement, nodes_of_statements}
-use Rattle.c_syntax.specs.Nodes.{nodes_of_initialiser, nodes_of_globals}
-use Rattle.c_syntax.specs.Nodes.{nodes_of_external_declaration, nodes_of}
+use Rattle.c_syntax.specs.Nodes.{nodes_of_initialiser}
 use Rattle.c_syntax.specs.Operators.{binary_punctuator, unary_punctuator, increment_punctuator}
 use Rattle.c_syntax.specs.Operators.{assignment_punctuator}
 use Rattle.c_syntax.specs.Phrases.{InTurn, IsEnclosed, IsAnother, AreMore, AreSeparated}
-use Rattle.c_syntax.specs.Program.{Initialiser, Single, Several, Global, ExternalDeclaration}
-use Rattle.c_syntax.specs.Program.{Globals, Function}
+use Rattle.c_syntax.specs.Program.{Initialiser, Single, Several}
 use Rattle.c_syntax.specs.Programs as programs
-use Rattle.c_syntax.specs.Programs.{IsLiteral, IsConstant, AreConstants, IsLength, IsGlobal}
-use Rattle.c_syntax.specs.Programs.{AreGlobals, IsParameter, AreParameters, IsExternalDeclaration}
-use Rattle.c_syntax.specs.Programs.{IsProgram}
+use Rattle.c_syntax.specs.Programs.{IsLiteral, IsConstant, AreConstants, IsLength}
 use Rattle.c_syntax.specs.Statement.{Local, ForInitialiser, Declaring, Evaluating, Statement}
 use Rattle.c_syntax.specs.Statement.{Declare, Block, Evaluate, If, IfElse, While, DoWhile, For}
 use Rattle.c_syntax.specs.Statement.{Return, Break, Continue, Leave, TryExcept, TryFinally}
@@ -53,7 +48,7 @@ pub record Takes (n : ℕ) (R : Phrase) : Type 0 where
 
 -- ---- tokens
 
-fewer : {m n : ℕ} {R : Phrase} → m ≤ n → Takes n R → Takes m R
+pub fewer : {m n : ℕ} {R : Phrase} → m ≤ n → Takes n R → Takes m R
 fewer l t = record { takes = λ ts rest h. let a = t.takes ts rest h in omega arith }
 
 kind : (k : Kind) (at : ℕ) → Takes 1 (IsKind k at)
@@ -65,13 +60,13 @@ punctuator s at = kind (kinds.Punctuator s) at
 keyword : (k : Keyword) (at : ℕ) → Takes 1 (IsKeyword k at)
 keyword k at = kind (kinds.Keyword k) at
 
-has_punctuator : (s : Punctuator) → Takes 1 (HasPunctuator s)
+pub has_punctuator : (s : Punctuator) → Takes 1 (HasPunctuator s)
 has_punctuator s = record { takes = λ ts rest h. (punctuator s h.0).takes ts rest h.1 }
 
-has_keyword : (k : Keyword) → Takes 1 (HasKeyword k)
+pub has_keyword : (k : Keyword) → Takes 1 (HasKeyword k)
 has_keyword k = record { takes = λ ts rest h. (keyword k h.0).takes ts rest h.1 }
 
-identifier : (name : Identifier) → Takes 1 (IsIdentifier name)
+pub identifier : (name : Identifier) → Takes 1 (IsIdentifier name)
 identifier name = record { takes = λ ts rest h. let a = ap length h in omega arith }
 
 has_word : (text word : List ℕ) → Takes 1 (HasWord text word)
@@ -82,7 +77,7 @@ nothing = record { takes = λ ts rest h. let a = ap length h in omega arith }
 
 -- ---- phrases of phrases
 
-in_turn : {m n : ℕ} {R S : Phrase} → Takes m R → Takes n S → Takes (m + n) (InTurn R S)
+pub in_turn : {m n : ℕ} {R S : Phrase} → Takes m R → Takes n S → Takes (m + n) (InTurn R S)
 in_turn r s = record {
   takes = λ ts rest h. let a = r.takes ts h.0 h.1 in
       let b = s.takes h.0 rest h.2 in omega arith;
@@ -141,7 +136,7 @@ are_more end [] c = let e = c.none in fewer (omega arith) (has_punctuator end)
 are_more end (x ∷ xs) c = let e = c.more x xs in
     fewer (omega arith) (another (c.element x) (are_more end xs c))
 
-are_separated : {A : Type 0} {Element : A → Phrase} {each : A → ℕ} {all : List A
+pub are_separated : {A : Type 0} {Element : A → Phrase} {each : A → ℕ} {all : List A
     → ℕ} (end : Punctuator) (xs : List A) → Counts Element each all
     → Takes (all xs + 1) (AreSeparated Element end xs)
 are_separated end [] c = record { takes = λ ts rest h. absurd h }
@@ -161,14 +156,14 @@ one_of (ks ∷ kss) = record {
       [ inl a ↦ (keywords_of ks).takes ts rest a | inr b ↦ (one_of kss).takes ts rest b ];
 }
 
-base : (b : Base) → Takes 0 (IsBase b)
+pub base : (b : Base) → Takes 0 (IsBase b)
 base b = one_of (spellings b)
 
-stars : (n : ℕ) → Takes 0 (AreStars n)
+pub stars : (n : ℕ) → Takes 0 (AreStars n)
 stars zero = nothing
 stars (suc n) = fewer (omega arith) (in_turn (has_punctuator punctuators.Star) (stars n))
 
-type : (c : CType) → Takes 0 (IsType c)
+pub type : (c : CType) → Takes 0 (IsType c)
 type c = in_turn (base c.base) (stars c.pointers)
 
 -- ---- expressions
@@ -290,7 +285,7 @@ condition text e =
 
 -- ---- declarations
 
-initialiser : (text : List ℕ) (e : Option Expression)
+pub initialiser : (text : List ℕ) (e : Option Expression)
     → Takes (nodes_of_optional e) (IsInitialiser text e)
 initialiser text None = nothing
 initialiser text (Some e) =
@@ -325,7 +320,7 @@ first text (Evaluating e) = fewer (omega arith) (up_to text punctuators.Semicolo
 jump : (k : Keyword) (at : ℕ) → Takes 1 (IsJump k at)
 jump k at = fewer (omega arith) (in_turn (keyword k at) (has_punctuator punctuators.Semicolon))
 
-block : {n : ℕ} {Items : Phrase} → Takes n Items → Takes (1 + n) (IsBlock Items)
+pub block : {n : ℕ} {Items : Phrase} → Takes n Items → Takes (1 + n) (IsBlock Items)
 block items = record {
   takes = λ ts rest h.
       let a = (has_punctuator punctuators.OpenBrace).takes ts h.after_brace h.brace in
@@ -434,7 +429,7 @@ constants cs =
     are_separated {all = λ xs. length xs} punctuators.CloseBrace cs
     (record { element = constant; none = refl; more = λ x xs. omega arith })
 
-given : (i : Option Initialiser) → Takes (nodes_of_initialiser i) (programs.IsInitialiser i)
+pub given : (i : Option Initialiser) → Takes (nodes_of_initialiser i) (programs.IsInitialiser i)
 given None = nothing
 given (Some (Single c)) =
     fewer (omega arith) (in_turn (has_punctuator punctuators.Assign) (constant c))
@@ -446,7 +441,7 @@ given (Some (Several at cs)) = record {
       omega arith;
 }
 
-array_length : (n : Option Length) → Takes 0 (IsLength n)
+pub array_length : (n : Option Length) → Takes 0 (IsLength n)
 array_length None = nothing
 array_length (Some n) = record {
   takes = λ ts rest h.
@@ -455,62 +450,3 @@ array_length (Some n) = record {
       let c = (has_punctuator punctuators.CloseBracket).takes h.after_inner rest h.closing in
       omega arith;
 }
-
-pub global : (g : Global) → Takes (1 + nodes_of_initialiser g.initialiser) (IsGlobal g)
-global g = record {
-  takes = λ ts rest h.
-      let a = (stars g.pointers).takes ts h.after_stars h.stars in
-      let b = (identifier g.name).takes h.after_stars h.after_name h.name in
-      let c = (array_length g.length).takes h.after_name h.after_length h.length in
-      let d = (given g.initialiser).takes h.after_length rest h.initialiser in
-      omega arith;
-}
-
-globals : (gs : List Global) → Takes (nodes_of_globals gs + 1) (AreGlobals gs)
-globals gs =
-    are_separated {all = nodes_of_globals} punctuators.Semicolon gs
-    (record { element = global; none = refl; more = λ x xs. omega arith })
-
--- ---- functions
-
-parameter : (p : Parameter) → Takes 1 (IsParameter p)
-parameter p = in_turn (type p.«of») (identifier p.name)
-
-parameters : (ps : List Parameter) → Takes (length ps) (AreParameters ps)
-parameters [] = record { takes = no_parameters }
-  where
-    no_parameters : (ts rest : List Token) → AreParameters [] ts rest → 0 + length rest ≤ length ts
-    no_parameters ts rest (inl h) = let a =
-        (has_punctuator punctuators.CloseParenthesis).takes ts rest h in omega arith
-    no_parameters ts rest (inr h) =
-        let a = (in_turn (has_keyword keywords.Void)
-        (has_punctuator punctuators.CloseParenthesis)).takes ts rest h in
-        omega arith
-parameters (p ∷ ps) =
-    fewer (omega arith)
-    (are_separated {all = λ xs. length xs} punctuators.CloseParenthesis (p ∷ ps)
-    (record { element = parameter; none = refl; more = λ x xs. omega arith }))
-
--- ---- programs
-
-pub external_declaration : (text : List ℕ) (x : ExternalDeclaration)
-    → Takes (1 + nodes_of_external_declaration x) (IsExternalDeclaration text x)
-external_declaration text (Globals b gs) = fewer (omega arith) (in_turn (base b) (globals gs))
-external_declaration text (Function t name ps body) = record {
-  takes = λ ts rest h.
-      let a = (type t).takes ts h.after_type h.returns in
-      let b = (identifier name).takes h.after_type h.after_name h.name in
-      let c = (has_punctuator punctuators.OpenParenthesis).takes h.after_name h.after_parenthesis
-      h.parenthesis in
-      let d = (parameters ps).takes h.after_parenthesis h.after_parameters h.parameters in
-      let e = (block (items text body)).takes h.after_parameters rest h.body in
-      omega arith;
-}
-
--- A program has no more nodes than tokens.
-pub program : (text : List ℕ) (xs : List ExternalDeclaration) (ts : List Token)
-    → IsProgram text xs ts → nodes_of xs ≤ length ts
-program text [] ts h = omega arith
-program text (x ∷ xs) ts h =
-    let a = (external_declaration text x).takes ts h.0 h.1 in let b = program text xs h.0 h.2 in
-    omega arith

@@ -10,6 +10,7 @@ use Rattle.c_syntax.specs.Programs.{IsConstant, IsGlobal, IsExternalDeclaration}
 use Rattle.c_syntax.specs.Statement.{Statement, Declare}
 use Rattle.c_syntax.specs.Statements.{IsBlockItem}
 use Rattle.c_syntax.proofs.Nodes as counted
+use Rattle.c_syntax.proofs.NodesOfPrograms as counted_programs
 
 some_nodes : (e : Expression) → 1 ≤ nodes e
 some_nodes (Constant at literal) = omega arith
@@ -35,9 +36,9 @@ pub constant : (c : Constant') (ts rest : List Token) → IsConstant c ts rest
 constant c ts rest h = let a = (counted.constant c).takes ts rest h in omega arith
 
 pub global : (g : Global) (ts rest : List Token) → IsGlobal g ts rest → length rest < length ts
-global g ts rest h = let a = (counted.global g).takes ts rest h in omega arith
+global g ts rest h = let a = (counted_programs.global g).takes ts rest h in omega arith
 
 pub external_declaration : (text : List ℕ) (x : ExternalDeclaration) (ts rest : List Token)
     → IsExternalDeclaration text x ts rest → length rest < length ts
 external_declaration text x ts rest h =
-    let a = (counted.external_declaration text x).takes ts rest h in omega arith
+    let a = (counted_programs.external_declaration text x).takes ts rest h in omega arith

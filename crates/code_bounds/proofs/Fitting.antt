@@ -9,7 +9,7 @@ use Rattle.c_checked.specs.Sound as sound
 use Rattle.c_checked.specs.Sound.{IsSound}
 use Rattle.c_checked.specs.Statement.{Filter, Always, Funclet, Statement, Declare, Block, Evaluate, If, IfElse, For, DoWhile, Return, Break, Continue, Leave, TryExcept, TryFinally, Statements, Empty, Then}
 use Rattle.c_lex.proofs.Covering.{few_tokens}
-use Rattle.c_syntax.proofs.Nodes.{program as program_nodes}
+use Rattle.c_syntax.proofs.NodesOfPrograms.{program as program_nodes}
 use Rattle.c_resolved.specs.Program.{resolve}
 use Rattle.c_resolved.proofs.Sound.{accepted_is_sound}
 use Rattle.linear_code.specs.declared.slot.Slot.{Slot}

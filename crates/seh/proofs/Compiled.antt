@@ -7,7 +7,7 @@ use Rattle.image_runs.proofs.Shadows.{accepted_walk_the_shadow}
 use Rattle.c_checked.specs.Program.{Program}
 use Rattle.c_syntax.specs.Nodes.{nodes_of}
 use Rattle.c_lex.proofs.Covering.{few_tokens}
-use Rattle.c_syntax.proofs.Nodes as nodes
+use Rattle.c_syntax.proofs.NodesOfPrograms as nodes
 use Rattle.c_resolved.specs.Program.{resolve}
 use Rattle.c_resolved.proofs.Sound.{accepted_is_sound}
 use Rattle.c_syntax.specs.Program.{ExternalDeclaration}

@@ -108,7 +108,10 @@ module _ (linear : LinearProgram) (lists : BodyName → List SeenNames) (funclet
   locals_are name owner scope before seen p = ap (owner_locals linear) p.owned ∙ p.room
 
   -- after a declaration
-  pub more_place : (name : BodyName) (owner : Owner) (scope : LoweringContext) (before seen before' seen' : SeenNames) → IsPart seen seen' → IsAround owner.locals scope.names before' seen' → IsPlace name owner scope before seen → IsPlace name owner scope before' seen'
+  pub more_place : (name : BodyName) (owner : Owner) (scope : LoweringContext)
+      (before seen before' seen' : SeenNames) → IsPart seen seen'
+      → IsAround owner.locals scope.names before' seen' → IsPlace name owner scope before seen
+      → IsPlace name owner scope before' seen'
   more_place name owner scope before seen before' seen' g a p = record {
     owned = p.owned;
     room = p.room;
@@ -119,7 +122,10 @@ module _ (linear : LinearProgram) (lists : BodyName → List SeenNames) (funclet
     leave = label_more linear lists name seen seen' scope.leave g p.leave;
   }
 
-  pub loop_place : (name : BodyName) (owner : Owner) (scope : LoweringContext) (before seen : SeenNames) (end next : ℕ) → IsRecordedAt name end seen → IsRecordedAt name next seen → IsPlace name owner scope before seen → IsPlace name owner (in_loop end next scope) before seen
+  pub loop_place : (name : BodyName) (owner : Owner) (scope : LoweringContext)
+      (before seen : SeenNames) (end next : ℕ) → IsRecordedAt name end seen
+      → IsRecordedAt name next seen → IsPlace name owner scope before seen
+      → IsPlace name owner (in_loop end next scope) before seen
   loop_place name owner scope before seen end next e n p = record { owned = p.owned; room = p.room; around = p.around; exit = p.exit; loop_end = e; loop_next = n; leave = p.leave }
 
   pub try_place : (name : BodyName) (owner : Owner) (scope : LoweringContext) (before seen : SeenNames) (end : ℕ) → IsRecordedAt name end seen → IsPlace name owner scope before seen → IsPlace name owner (in_try end scope) before seen
@@ -331,7 +337,10 @@ module _ (linear : LinearProgram) (lists : BodyName → List SeenNames) (funclet
   two_ranges : (j : ℕ) (ns os : List ℕ) → Range IsFine j (j + length ns) → Range IsFine (j + length ns) (j + length ns + length os) → Range IsFine j (j + length (ns ++ os))
   two_ranges j ns os x y = let l = length-append ns os in part_of IsFine j (j + length ns + length os) j (j + length (ns ++ os)) (omega arith) (omega arith) (both_parts IsFine j (j + length ns) (j + length ns + length os) x y)
 
-  three_ranges : (j : ℕ) (ns os ps : List ℕ) → Range IsFine j (j + length ns) → Range IsFine (j + length ns) (j + length ns + length os) → Range IsFine (j + length ns + length os) (j + length ns + length os + length ps) → Range IsFine j (j + length ((ns ++ os) ++ ps))
+  three_ranges : (j : ℕ) (ns os ps : List ℕ) → Range IsFine j (j + length ns)
+      → Range IsFine (j + length ns) (j + length ns + length os)
+      → Range IsFine (j + length ns + length os) (j + length ns + length os + length ps)
+      → Range IsFine j (j + length ((ns ++ os) ++ ps))
   three_ranges j ns os ps x y z =
       let mid = j + length ns + length os in
       let last = mid + length ps in
@@ -352,7 +361,8 @@ module _ (linear : LinearProgram) (lists : BodyName → List SeenNames) (funclet
         → HasFunclets j (statement_funclets owner scope.names s) (statement_funclet_sets scope.names.free seen s) (funclets_in s) → IsSetAt name at (statement_code scope s at) (statement_regions s at) j (j + length (funclets_in s))
     statement_is_set (Declare d) name owner i scope before seen at j p fits notes ok w h end f =
         plain name at _ j (declared_leads linear lists name owner.locals (locals_are name owner scope before seen p) scope.names i.scope fits d before seen at p.around ok w h end)
-    statement_is_set (Block ss) name owner i scope before seen at j p fits notes ok w h end f = statements_are_set ss name owner i scope before seen at j p fits notes ok w h end f
+    statement_is_set (Block ss) name owner i scope before seen at j p fits notes ok w h end
+      f = statements_are_set ss name owner i scope before seen at j p fits notes ok w h end f
     statement_is_set (Evaluate e) name owner i scope before seen at j p fits notes ok w h end f =
         let n = discarded_size e in
         plain name at _ j (discarded_leads linear lists name owner.locals (locals_are name owner scope before seen p) scope.names before seen p.around e at w (even_list (lists name) seen n at (at + n) refl h end))
@@ -425,7 +435,10 @@ module _ (linear : LinearProgram) (lists : BodyName → List SeenNames) (funclet
         let x = statements_are_set body name owner (record i { body = true }) (in_try out scope) before seen at j (try_place name owner scope before seen out q.leaves p) fits notes_body (both_left _ _ (both_left _ _ ok)) (both_left _ _ (both_left _ _ w))
         q.is_there (is_same (sets name skip) seen q.end) fs.of_body in
         let y = filter_is_set name owner scope before seen p filter (j + nb) at target (both_right _ _ (both_left _ _ w)) fs.of_filter (λ label a b. above_body linear lists name body free seen at label q.is_there q.end a b) q.target in
-        let z = statements_are_set block name owner (record i { scope = record i.scope { code = true } }) (in_except scope) before more (target + 1) (j + nb + nf) (except_place name owner scope before seen room p) fits notes_block (both_right _ _ ok) (both_right _ _ w)
+        let z = statements_are_set block name owner
+          (record i { scope = record i.scope { code = true } }) (in_except scope) before more
+          (target + 1) (j + nb + nf) (except_place name owner scope before seen room p) fits
+          notes_block (both_right _ _ ok) (both_right _ _ w)
         q.block_is_at (within (sets name out) seen more q.leaves (sees_before seen free)) fs.of_block in
         record {
           leads = q.leads x.leads z.leads;

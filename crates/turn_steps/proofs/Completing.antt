@@ -45,7 +45,8 @@ use Rattle.body_steps.proofs.Activations.{locals_count}
 use Rattle.body_steps.proofs.Activated.{activated}
 use Rattle.body_steps.proofs.Viewed.{IsCounted, is_machine, placed}
 use Rattle.body_steps.proofs.Reaching.{Keeps, reaches_keeps, stays_sane}
-use Rattle.body_steps.proofs.Next.{Leaves, further, Ran, begins_next}
+use Rattle.body_steps.proofs.SlotsLeft.{Leaves}
+use Rattle.body_steps.proofs.Next.{further, Ran, begins_next}
 use Rattle.body_steps.proofs.Shadowed.{kept_by_rest, is_here, is_after, ends_at, RunsKeep}
 use Rattle.body_steps.proofs.Whole.{finish_keeps}
 use Rattle.body_steps.proofs.Running.{Surroundings, dropped, has_slots, next_address, quiet_at}

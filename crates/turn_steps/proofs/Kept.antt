@@ -50,7 +50,8 @@ use Rattle.body_steps.proofs.Activated.{same_activations}
 use Rattle.body_steps.proofs.Homes.{CallerHasFrame}
 use Rattle.body_steps.proofs.Reaching.{Keeps, reaches_keeps, stays_sane}
 use Rattle.body_steps.proofs.Viewed.{IsCounted, is_machine, placed, count, room_here, holds_here, slots_here, locals_here}
-use Rattle.body_steps.proofs.Next.{Leaves, Ran, begins_next}
+use Rattle.body_steps.proofs.SlotsLeft.{Leaves}
+use Rattle.body_steps.proofs.Next.{Ran, begins_next}
 use Rattle.body_steps.proofs.Shadowed.{kept_by_rest, is_here, is_after, ends_at, RunsKeep, one_piece}
 use Rattle.body_steps.proofs.Running.{code, y, v, frame, slots, template_here, next_address, sp_is, quiet_at, dropped, Surroundings}
 

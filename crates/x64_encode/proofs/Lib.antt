@@ -1,4 +1,5 @@
 pub mod Operands
 pub mod OpcodesAgain
+pub mod ArithmeticWritten
 pub mod Written
 pub mod Lengths

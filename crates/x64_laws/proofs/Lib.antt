@@ -4,4 +4,5 @@ pub mod AfterCompare
 pub mod Floors
 pub mod Effects
 pub mod Giving
+pub mod SpelledOperands
 pub mod Spelled

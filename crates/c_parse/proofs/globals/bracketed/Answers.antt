@@ -5,7 +5,7 @@ use Rattle.c_parse_stmt.specs.Parts.{NoPunctuator, APunctuator}
 use Rattle.c_parse.specs.Parts.{end_of, NoneBracketed, HasBracketed}
 use Rattle.c_parse.proofs.Refusing.{placed_in}
 use Rattle.c_parse.proofs.Placing.{room, no_room}
-use Rattle.c_parse.proofs.Declarators.{no_integer, too_long, in_close, goes_further}
+use Rattle.c_parse.proofs.Lengths.{no_integer, too_long, in_close, goes_further}
 use Rattle.c_parse.proofs.globals.bracketed.Goals as goal
 
 pub returns-in_err-rest-in-Some-end_of-clause-refused :

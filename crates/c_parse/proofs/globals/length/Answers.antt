@@ -2,7 +2,8 @@ use Rattle.std.proofs.lemmas.Result.{err_from_is_err_and}
 use Rattle.c_parse.specs.Parts.{NoneBracketed, HasBracketed, NoLength, HasLength}
 use Rattle.c_parse.proofs.Refusing.{placed_in}
 use Rattle.c_parse.proofs.Placing.{no_room}
-use Rattle.c_parse.proofs.Declarators.{in_bracketed, not_scalar, scalar}
+use Rattle.c_parse.proofs.Lengths.{in_bracketed}
+use Rattle.c_parse.proofs.Declarators.{not_scalar, scalar}
 use Rattle.c_parse.proofs.globals.length.Goals as goal
 
 pub returns-in_err-stop-in-None-clause-refused : goal.returns-in_err-stop-in-None-clause-refused

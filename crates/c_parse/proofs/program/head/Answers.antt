@@ -1,4 +1,4 @@
-use Rattle.c_parse.proofs.ExternalDeclarations.{no_base, no_name}
+use Rattle.c_parse.proofs.HeadsOfDeclarations.{no_base, no_name}
 use Rattle.c_parse.proofs.program.head.Goals as goal
 
 pub returns-in-None-name-clause-refused : goal.returns-in-None-name-clause-refused

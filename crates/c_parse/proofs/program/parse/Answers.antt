@@ -3,7 +3,7 @@ use Rattle.c_syntax.specs.Program.{external_declaration}
 use Rattle.c_syntax.proofs.Files.{program_once}
 use Rattle.std.proofs.Common.{length, map, refl, arith}
 use Rattle.c_syntax.proofs.Shorter as shorter
-use Rattle.c_syntax.proofs.Nodes.{program}
+use Rattle.c_syntax.proofs.NodesOfPrograms.{program}
 use Rattle.c_parse.specs.Bounds.{IsBounded}
 use Rattle.c_lex.proofs.Covering.{few_tokens}
 use Rattle.c_parse.proofs.Programs.{begins, continues, ends, within, refuses, memory, some_left}

@@ -1,4 +1,4 @@
-use Rattle.c_parse_stmt.proofs.Heading.{evaluation_after}
+use Rattle.c_parse_stmt.proofs.ForHeads.{evaluation_after}
 use Rattle.c_parse_stmt.proofs.Sequences.{placed_so}
 use Rattle.c_parse_stmt.proofs.Wholes.{plain_by}
 use Rattle.c_parse_stmt.proofs.openings.by_keyword.Goals as goal

@@ -1,4 +1,4 @@
-use Rattle.c_parse_stmt.proofs.Heading.{evaluation_alone}
+use Rattle.c_parse_stmt.proofs.ForHeads.{evaluation_alone}
 use Rattle.c_parse_stmt.proofs.Sequences.{placed_so}
 use Rattle.c_parse_stmt.proofs.openings.read_opening.Goals as goal
 

@@ -1,7 +1,7 @@
 use Rattle.std.proofs.Common.{◌≡◌, sym, subst, rules}
 use Rattle.c_lex.specs.declared.punctuator.Punctuator.{Punctuator}
 use Rattle.c_syntax.specs.Tokens.{HasPunctuator}
-use Rattle.c_parse_type.proofs.Types.{punctuator_is}
+use Rattle.c_parse_type.proofs.TypesAreRead.{punctuator_is}
 use Rattle.c_parse_type.proofs.front.after.Goals as goal
 
 pub returns-then-eq-clause-found : goal.returns-then-eq-clause-found

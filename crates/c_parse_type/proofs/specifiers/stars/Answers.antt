@@ -1,5 +1,5 @@
 use Rattle.std.proofs.Common.{arith}
-use Rattle.c_parse_type.proofs.Types.{one_star, star_shorter}
+use Rattle.c_parse_type.proofs.TypesAreRead.{one_star, star_shorter}
 use Rattle.c_parse_type.proofs.specifiers.stars.Goals as goal
 
 pub loop-following-preserved : goal.loop-following-preserved
