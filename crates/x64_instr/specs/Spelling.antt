@@ -210,7 +210,6 @@ plain_row p op bytes =
     -- PUSH r64
     if op / 8 == 0x50 / 8 then Some (instrs.Push (register_of_low_bits p op), bytes)
     -- POP r64
-
     else (if op / 8 == 0x58 / 8 then Some (instrs.Pop (register_of_low_bits p op), bytes)
     -- MOVSXD r64, r/m32
     else (if op == 0x63 then sign_extend p bytes
@@ -227,14 +226,12 @@ plain_row p op bytes =
     -- CDQ, CQO
     else (if op == 0x99 then Some (instrs.ExtendRax (width_of p), bytes)
     -- SHL /4, SHR /5, SAR /7 r/m, imm8
-
     else (if op == 0xC1 then rm_extension p (width_of p) (group_2_immediate (width_of p)) bytes
     -- RET
     else (if op == 0xC3 then Some (instrs.Return, bytes)
     -- INT3
     else (if op == 0xCC then Some (instrs.Breakpoint, bytes)
     -- SHL /4, SHR /5, SAR /7 r/m, CL
-
     else (if op == 0xD3 then rm_extension p (width_of p) (group_2_cl (width_of p)) bytes
     -- CALL rel32
     else (if op == 0xE8 then call bytes
@@ -252,28 +249,21 @@ row p op bytes =
     -- ADD, OR, AND, SUB, XOR, CMP r/m, r and r, r/m
     if op / 64 == 0 then arithmetic_row p op bytes
     -- ADD /0, OR /1, AND /4, SUB /5, XOR /6, CMP /7 r/m, imm
-
     else (if op / 2 == 0x80 / 2 then rm_extension p (sized p op)
       (group_1 (immediate_of (sized p op)) (sized p op)) bytes
     -- the same with imm8
-
     else (if op == 0x83 then rm_extension p (width_of p) (group_1 W8 (width_of p)) bytes
     -- TEST r/m, r
-
     else (if op / 2 == 0x84 / 2 then rm_r p (sized p op) (instrs.Test (sized p op)) bytes
     -- MOV r/m, r
-
     else (if op / 2 == 0x88 / 2 then rm_r p (sized p op) (instrs.Move (sized p op)) bytes
     -- MOV r, r/m
-
     else (if op / 2 == 0x8A / 2 then r_rm p (sized p op) (sized p op) (load (sized p op)) bytes
     -- MOV r, imm
     else (if op / 8 == 0xB8 / 8 then move_immediate p op bytes
     -- MOV /0 r/m, imm
-
     else (if op / 2 == 0xC6 / 2 then rm_extension p (sized p op) (group_11 (sized p op)) bytes
     -- TEST /0, NOT /2, NEG /3, DIV /6, IDIV /7
-
     else (if op / 2 == 0xF6 / 2 then rm_extension p (sized p op)
       (group_3 ((op == 0xF7) && not p.operand_size) (sized p op)) bytes
     else (if p.operand_size then None
@@ -298,7 +288,6 @@ two_byte_row p op bytes =
     -- SETcc r/m8
     else (if op / 16 == 0x90 / 16 then set_if p op bytes
     -- IMUL r, r/m
-
     else (if op == 0xAF then r_rm p (width_of p) (width_of p) (instrs.Multiply (width_of p)) bytes
     else extend_row p op bytes))))
 
