@@ -31,7 +31,7 @@ use Rattle.c_parse.proofs.HeadsOfDeclarations.{declarators_type, Headed, headed,
 
 -- ---- functions
 
-abbrev typed : Base → ℕ → CType
+abbrev pub typed : Base → ℕ → CType
 typed b n = record { base = b; pointers = n }
 
 -- no globals are where a parenthesis is after the head

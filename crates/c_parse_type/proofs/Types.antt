@@ -235,7 +235,7 @@ stars_none : (n : ℕ) (ts rest : List Token) → AreStars n ts rest → base re
 stars_none zero ts rest h e = ap base h ∙ e
 stars_none (suc n) ts rest h e = ap base h.1.1.1
 
-abbrev typed : Base → ℕ → List Token → Option (CType × List Token)
+abbrev pub typed : Base → ℕ → List Token → Option (CType × List Token)
 typed b n rest = Some (record { base = b; pointers = n }, rest)
 
 none_read : (ts : List Token) (o : Option (Base × List Token)) → base ts ≡ o → NoBase ts → o ≡ None

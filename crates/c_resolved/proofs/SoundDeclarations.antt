@@ -103,7 +103,7 @@ filter_names_fit fs zs a block h k = record { entities = (names_fit fs zs a bloc
 
 -- ---- values
 
-abbrev expression_of : Option TypedNode → List FaultAt → ResolvedExpression
+abbrev pub expression_of : Option TypedNode → List FaultAt → ResolvedExpression
 expression_of o fs = record { found = o; faults = fs }
 
 any_sound : (S : sound.TypingContext) (o : Option TypedNode) (fs : List FaultAt) → FoundOr S o fs
@@ -245,7 +245,7 @@ names_only_sound i (checked.Declare d ∷ ss) h =
 names_only_sound i (s ∷ ss) h = names_only_sound i ss
     (and_parts (statement_sound i s) (statements_sound i (checked.statements ss)) h).1
 
-record ForInitialiserResolves (fs : List Function) (zs : List Size) (a : Environment)
+pub record ForInitialiserResolves (fs : List Function) (zs : List Size) (a : Environment)
     (b : ResolvedForInitialiser) : Type 0 where
   declared : all_declared_sound (scope_of fs zs a) b.declared ≡ true
   first : optional_sound (scope_of fs zs a) b.first.value ≡ true

@@ -125,7 +125,7 @@ another r s = record {
 }
 
 -- How many tokens elements take, by how many each takes.
-record Counts {A : Type 0} (Element : A → Phrase) (each : A → ℕ) (all : List A → ℕ) : Type 0 where
+pub record Counts {A : Type 0} (Element : A → Phrase) (each : A → ℕ) (all : List A → ℕ) : Type 0 where
   element : (x : A) → Takes (each x) (Element x)
   none : all [] ≡ 0
   more : (x : A) (xs : List A) → all (x ∷ xs) ≡ each x + all xs
@@ -406,7 +406,7 @@ mutual
         omega arith;
   }
 
-  items : (text : List ℕ) (ss : Statements) → Takes (nodes_of_statements ss) (AreBlockItems text ss)
+  pub items : (text : List ℕ) (ss : Statements) → Takes (nodes_of_statements ss) (AreBlockItems text ss)
   items text Empty = fewer (omega arith) (has_punctuator punctuators.CloseBrace)
   items text (Then s ss) = in_turn (item text s) (items text ss)
 

@@ -12,7 +12,7 @@ use Rattle.c_syntax.specs.Program.{Globals, Function}
 use Rattle.c_syntax.specs.Programs.{IsGlobal}
 use Rattle.c_syntax.specs.Programs.{AreGlobals, IsParameter, AreParameters, IsExternalDeclaration}
 use Rattle.c_syntax.specs.Programs.{IsProgram}
-use Rattle.c_syntax.proofs.Nodes.{Takes, fewer, has_punctuator, has_keyword, identifier, in_turn, are_separated, base, stars, type, initialiser, block, given, array_length}
+use Rattle.c_syntax.proofs.Nodes.{Takes, fewer, has_punctuator, has_keyword, identifier, in_turn, are_separated, base, stars, type, initialiser, block, given, array_length, items}
 
 pub global : (g : Global) → Takes (1 + nodes_of_initialiser g.initialiser) (IsGlobal g)
 global g = record {
