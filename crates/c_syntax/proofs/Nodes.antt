@@ -126,9 +126,9 @@ another r s = record {
 
 -- How many tokens elements take, by how many each takes.
 pub record Counts {A : Type 0} (Element : A → Phrase) (each : A → ℕ) (all : List A → ℕ) : Type 0 where
-  element : (x : A) → Takes (each x) (Element x)
-  none : all [] ≡ 0
-  more : (x : A) (xs : List A) → all (x ∷ xs) ≡ each x + all xs
+  pub element : (x : A) → Takes (each x) (Element x)
+  pub none : all [] ≡ 0
+  pub more : (x : A) (xs : List A) → all (x ∷ xs) ≡ each x + all xs
 
 are_more : {A : Type 0} {Element : A → Phrase} {each : A → ℕ} {all : List A → ℕ} (end : Punctuator)
     (xs : List A) → Counts Element each all → Takes (all xs + 1) (AreMore Element end xs)
