@@ -247,9 +247,9 @@ names_only_sound i (s ∷ ss) h = names_only_sound i ss
 
 pub record ForInitialiserResolves (fs : List Function) (zs : List Size) (a : Environment)
     (b : ResolvedForInitialiser) : Type 0 where
-  declared : all_declared_sound (scope_of fs zs a) b.declared ≡ true
-  first : optional_sound (scope_of fs zs a) b.first.value ≡ true
-  block : ScopeFits fs zs b.resolved.block
+  pub declared : all_declared_sound (scope_of fs zs a) b.declared ≡ true
+  pub first : optional_sound (scope_of fs zs a) b.first.value ≡ true
+  pub block : ScopeFits fs zs b.resolved.block
 
 pub for_initialiser_resolves : (fs : List Function) (zs : List Size) (a : Environment)
     (f : ForInitialiser) (n : Numbering) → ScopeFits fs zs a.outer

@@ -10,7 +10,7 @@ use Rattle.eh_tables.specs.declared.range.RuntimeFunction.{RuntimeFunction}
 use Rattle.eh_tables.specs.declared.scope.ScopeRecord.{ScopeRecord}
 use Rattle.eh_tables.specs.declared.refusal.TableErr.{TableErr}
 use Rattle.eh_tables.specs.declared.refusal.TableErr.TheVariants as refusals
-use Rattle.seh_num.specs.Answers.{unless, or_refused}
+use Rattle.seh_num.specs.Answers.{unless, or_refused, ◌>>=◌}
 use Rattle.eh_tables.specs.Answer.{Table}
 use Rattle.eh_tables.specs.Codes as slots
 use Rattle.eh_tables.specs.Handler.{is_c_handler}

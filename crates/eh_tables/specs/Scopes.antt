@@ -4,7 +4,7 @@ use Rattle.pe_image.specs.Field.{field}
 use Rattle.eh_tables.specs.declared.layout.TheConstants.{SCOPE_RECORD_SIZE}
 use Rattle.eh_tables.specs.declared.scope.ScopeRecord.{ScopeRecord}
 use Rattle.eh_tables.specs.declared.refusal.TableErr.TheVariants as refusals
-use Rattle.seh_num.specs.Answers.{unless}
+use Rattle.seh_num.specs.Answers.{unless, ◌>>=◌}
 use Rattle.eh_tables.specs.Answer.{Table}
 
 abbrev pub scope_record : List ℕ → ScopeRecord

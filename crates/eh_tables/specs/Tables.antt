@@ -8,7 +8,7 @@ use Rattle.eh_tables.specs.declared.layout.TheConstants.{MOST_PARENTS, RUNTIME_F
 use Rattle.eh_tables.specs.declared.range.RuntimeFunction.{RuntimeFunction}
 use Rattle.eh_tables.specs.declared.refusal.TableErr.{TableErr}
 use Rattle.eh_tables.specs.declared.refusal.TableErr.TheVariants as refusals
-use Rattle.seh_num.specs.Answers.{unless, or_refused, prepend}
+use Rattle.seh_num.specs.Answers.{unless, or_refused, prepend, ◌>>=◌}
 use Rattle.eh_tables.specs.Answer.{Table}
 use Rattle.eh_tables.specs.Infos.{Info, info, range_at}
 

@@ -7,7 +7,7 @@ use Rattle.pe_image.specs.declared.layout.TheConstants.{DESCRIPTOR_SIZE, IMPORT_
 use Rattle.pe_image.specs.declared.directory.DataDirectory.{DataDirectory}
 use Rattle.pe_image.specs.declared.refusal.ImageErr.{ImageErr}
 use Rattle.pe_image.specs.declared.refusal.ImageErr.TheVariants as refusals
-use Rattle.seh_num.specs.Answers.{or_refused, prepend, onto}
+use Rattle.seh_num.specs.Answers.{or_refused, prepend, onto, ◌>>=◌}
 use Rattle.pe_image.specs.Field.{field}
 use Rattle.pe_image.specs.Image.{Section, Image, section_at, stored_in, stored}
 

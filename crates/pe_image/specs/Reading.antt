@@ -7,7 +7,7 @@ use Rattle.pe_image.specs.declared.layout.TheConstants.{DOS_HEADER_SIZE, IMAGE_D
 use Rattle.pe_image.specs.declared.refusal.ImageErr.{ImageErr}
 use Rattle.pe_image.specs.declared.refusal.ImageErr.TheVariants as refusals
 use Rattle.pe_image.specs.declared.table.SectionHeader.{SectionHeader}
-use Rattle.seh_num.specs.Answers.{unless}
+use Rattle.seh_num.specs.Answers.{unless, ◌>>=◌}
 use Rattle.pe_image.specs.Field.{field, is_there}
 use Rattle.pe_image.specs.Image.{Section, Image}
 use Rattle.pe_image.specs.Imports.{imports}
