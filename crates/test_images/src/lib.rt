@@ -1,8 +1,8 @@
 //! Images for tests, made by hand: code with functions, scope records and funclets ([`code`]),
 //! whole images of functions that call each other ([`calls`]), code that harms the dispatcher's
 //! records ([`forged`]), and the images of such code ([`built`], [`handled`]), as the product's own
-//! writers write them; images of given unwind infos and entries ([`tables`]); images of one section
-//! ([`one_section`]); and the words of which tables of tests are made ([`words`]).
+//! writers write them; images of given unwind infos and entries ([`tables`]); and images of one
+//! section ([`one_section`]).
 #![tactic(auto)]
 
 mod building;
@@ -12,6 +12,5 @@ pub mod forged;
 pub mod handled;
 pub mod one_section;
 pub mod tables;
-pub mod words;
 
 pub use building::{Function, Parts, Prologue, built, fixed, framed, scope};

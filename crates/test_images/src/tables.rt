@@ -1,6 +1,6 @@
 //! Images of two sections, unwind infos and a function table, whose bytes are given.
 
-use crate::words::number_of;
+use test_rows::words::number_of;
 use std::alloc::{AllocError, Global};
 
 /// Overwrites bytes from a place on.

@@ -27,7 +27,7 @@ use std::alloc::{AllocError, Global};
 use std::process::Abort;
 use std::test::Fail;
 use test_images::tables::table_image;
-use test_images::words::number_of;
+use test_rows::words::number_of;
 use virtual_unwind::UnwindErr;
 use virtual_unwind::frame::Caller;
 use virtual_unwind::unwinding::caller;

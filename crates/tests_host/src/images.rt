@@ -16,8 +16,8 @@ use test_images::forged::{
     record_in_code, record_into_code, service_in_the_guard, unwinding,
 };
 use test_images::handled::{continued_access, filter_and_finally, raise_in_finally};
-use test_images::words::{bytes_of, number_of};
 use test_images::{Parts, built, fixed, scope};
+use test_rows::words::{bytes_of, number_of};
 
 /// A `main` that raises E0000001.
 const RAISES: &[u8] = &[

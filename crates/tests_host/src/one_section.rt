@@ -15,7 +15,7 @@ use std::alloc::{AllocError, Global};
 use std::process::Abort;
 use std::test::Fail;
 use test_images::one_section::{FOURTEEN, Fields, PLAIN, image};
-use test_images::words::{bytes_of, number_of};
+use test_rows::words::{bytes_of, number_of};
 use x64_memory::region::Region;
 
 /// A run without an argument, of a hundred turns, with its trace.

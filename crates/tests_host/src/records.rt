@@ -9,7 +9,7 @@ use seh_records::{BadRecord, DispatchRecord, Guard, Kind, fetch, place};
 use std::alloc::{AllocError, Global};
 use std::process::Abort;
 use std::test::Fail;
-use test_images::words::number_of;
+use test_rows::words::number_of;
 use x64_machine::context::Context;
 use x64_machine::cpu::{Cpu, Flags};
 use x64_memory::page_map::PageMap;

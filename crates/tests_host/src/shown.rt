@@ -11,7 +11,7 @@ use seh_num::event::Code;
 use std::alloc::{AllocError, Global};
 use std::process::Abort;
 use std::test::Fail;
-use test_images::words::number_of;
+use test_rows::words::number_of;
 
 /// A run of an image: its argument, how many turns it has, and whether its trace is shown.
 #[derive(Clone, Copy, Debug)]

@@ -1,21 +1,9 @@
 //! Bytes as words of hexadecimal digits, as the tables have them.
 
+use test_rows::words::number_of;
+
 /// How many bytes a row has at most, with one after them.
 const ROOM: usize = 16;
-
-/// The number that a word spells, modulo 2^64; of a word with anything but digits, nothing.
-fn number_of(word: &str) -> Option<u64> {
-    let mut value = 0u64;
-    for byte in word.bytes() {
-        let digit = match byte {
-            b'0'..=b'9' => byte - b'0',
-            b'A'..=b'F' => byte - b'A' + 10,
-            _ => return None,
-        };
-        value = value.wrapping_mul(16).wrapping_add(digit as u64);
-    }
-    Some(value)
-}
 
 /// The bytes of a row.
 #[derive(Clone, Copy)]

@@ -1,9 +1,7 @@
-//! Tests of the crates of numbers, streams, memory and the processor: what no clause of theirs
-//! says. Expected values are from the Intel manual and from GNU as.
+//! Tests of the crates of numbers, memory and the processor: what no clause of theirs says.
+//! Expected values are from the Intel manual and from GNU as.
 #![tactic(auto)]
 
-#[cfg(test)]
-mod lines;
 #[cfg(test)]
 mod machine;
 #[cfg(test)]
@@ -12,5 +10,3 @@ mod memory;
 mod numbers;
 #[cfg(test)]
 mod rows;
-#[cfg(test)]
-mod streams;

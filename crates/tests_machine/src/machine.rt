@@ -1,4 +1,4 @@
-use crate::rows::{column, number, number_at, put_bytes, same, shows, width_of, word, word_if};
+use crate::rows::{number, number_at, same, shows, width_of};
 use host_layout::service::Service;
 use seh_num::event::Code;
 use seh_num::size::LONGEST_INSTRUCTION;
@@ -6,6 +6,8 @@ use seh_num::width::Width;
 use std::alloc::{AllocError, Global};
 use std::process::Abort;
 use std::test::Fail;
+use test_rows::rows::{column, word, word_if};
+use test_rows::words::put_bytes;
 use x64_instr::decoding::decode;
 use x64_instr::register::Reg;
 use x64_machine::context::Context;
@@ -82,9 +84,9 @@ fn code_of(number: u64) -> Code {
 /// Puts the code of rows `PLACE | CODE` into the pages from 40000000h on.
 fn put_code(rt: &impl Abort, table: &str, pages: &mut [u8]) {
     for row in table.lines().skip(1) {
-        let from = number(rt, column(rt, row, 0)) % 0x2000;
+        let from = number(rt, column(row, 0)) % 0x2000;
         if let Some(room) = pages.get_mut(from as usize..) {
-            let _ = put_bytes(rt, column(rt, row, 1), room);
+            let _ = put_bytes(column(row, 1), room);
         }
     }
 }
@@ -133,8 +135,8 @@ fn merges_to(rt: &impl Abort, row: &str, width: Width, want: u64) {
 #[test]
 fn merges(rt: HostRuntime) {
     for row in MERGES.lines().skip(1) {
-        let width = width_of(&rt, column(&rt, row, 0));
-        merges_to(&rt, row, width, number(&rt, column(&rt, row, 1)));
+        let width = width_of(&rt, column(row, 0));
+        merges_to(&rt, row, width, number(&rt, column(row, 1)));
     }
 }
 
@@ -147,7 +149,7 @@ fn effect_of<S: AddressSpace>(
     words: &str,
 ) -> Option<Result<Cpu, Stop>> {
     let mut code = [0; LONGEST_INSTRUCTION];
-    let count = put_bytes(rt, words, &mut code);
+    let count = put_bytes(words, &mut code);
     let (instr, len) = decode(&code)?;
     if len != count {
         return None;
@@ -165,6 +167,6 @@ fn has_effect<S: AddressSpace>(
     before: Cpu,
     want: Result<Cpu, Stop>,
 ) {
-    let found = effect_of(rt, before, space, column(rt, row, 0));
+    let found = effect_of(rt, before, space, column(row, 0));
     same(rt, found, Some(want), row);
 }

@@ -4,12 +4,14 @@ ghost use Rattle.flat_memory.specs.Memory.{loaded, after_store};
 ghost use Rattle.x64_memory.specs.PageMaps.{holds};
 ghost use Rattle.x64_memory.specs.Regions.{AreAscending, IsWholeRegion, HoldsArena, in_regions, mapped};
 
-use crate::rows::{are_spelled, column, number, number_at, same, width_of, word, word_if};
+use crate::rows::{number, number_at, same, width_of};
 use flat_memory::access::RefusedAccess;
 use seh_num::width::Width;
 use std::alloc::{AllocError, Global};
 use std::process::Abort;
 use std::test::Fail;
+use test_rows::rows::{column, word, word_if};
+use test_rows::words::are_spelled;
 use x64_memory::page_map::PageMap;
 use x64_memory::region::Region;
 use x64_memory::space::AddressSpace;
@@ -118,7 +120,7 @@ fn mode_of(rt: &impl Abort, word: &str) -> i32 {
 
 /// The access that the words of a row say.
 fn access_of(rt: &impl Abort, words: &str) -> Access {
-    let first = word(rt, words, 1);
+    let first = word(words, 1);
     match word_if(words, 2) {
         None => Access::Load(width_of(rt, first)),
         Some(mode) if first == "mode" => Access::Protect(mode_of(rt, mode)),
@@ -128,7 +130,7 @@ fn access_of(rt: &impl Abort, words: &str) -> Access {
 
 /// The answer that words say: one, or for a refusal one and the address after it.
 fn answer_in(rt: &impl Abort, words: &str, write: bool) -> Answer {
-    let first = word(rt, words, 0);
+    let first = word(words, 0);
     if first == "guard" {
         let address = number_at(rt, words, 1);
         return Err(RefusedAccess::Guard { address });
@@ -146,13 +148,13 @@ fn answer_in(rt: &impl Abort, words: &str, write: bool) -> Answer {
 
 /// What a row has.
 fn row_of(rt: &impl Abort, row: &str) -> Row {
-    let words = column(rt, row, 0);
+    let words = column(row, 0);
     let access = access_of(rt, words);
     let write = matches!(access, Access::Store(..));
     Row {
         at: number_at(rt, words, 0),
         access,
-        want: answer_in(rt, column(rt, row, 1), write),
+        want: answer_in(rt, column(row, 1), write),
     }
 }
 
@@ -300,11 +302,11 @@ FFFFFFFFFFFFFFFF |
 
 /// Compares what is fetched at a row's address with its bytes.
 fn fetches<S: AddressSpace>(rt: &impl Abort, space: &S, row: &str) {
-    let words = column(rt, row, 1);
+    let words = column(row, 1);
     let mut into = [255; 15];
-    let count = space.fetch(number(rt, column(rt, row, 0)), &mut into);
+    let count = space.fetch(number(rt, column(row, 0)), &mut into);
     assert!(rt;
-        are_spelled(rt, &into[..count], words),
+        are_spelled(&into[..count], words),
         "{row}: {count} of {into:?}"
     );
 }

@@ -1,12 +1,13 @@
 ghost use Rattle.std.specs.Prelude.{◌≡◌, ◌<◌};
 
-use crate::rows::{column, shows, width_of, word, word_if};
+use crate::rows::{shows, width_of};
 use seh_num::division::{div_signed, div_unsigned};
 use seh_num::steps::Steps;
 use seh_num::width::Width;
 use std::marker::Brand;
 use std::sync::ledger::{Blank, Ledger};
 use std::test::Fail;
+use test_rows::rows::{column, word, word_if};
 
 /// Quotients, each `WIDTH DIVIDEND DIVISOR | ANSWER`. Signs as C has them (C reference,
 /// "Multiplicative operators": towards zero, and the remainder makes up the dividend); limits as
@@ -63,13 +64,13 @@ fn signed_of(words: &str) -> Option<(i128, i64)> {
 #[test]
 fn signed_quotients(rt: HostRuntime) -> Result<(), Fail> {
     for row in SIGNED.lines().skip(1) {
-        let words = column(&rt, row, 0);
+        let words = column(row, 0);
         match signed_of(words) {
             None => panic!(rt; "no row: {row}"),
             Some((dividend, divisor)) => {
-                let width = width_of(&rt, word(&rt, words, 0));
+                let width = width_of(&rt, word(words, 0));
                 let answer = div_signed(width, dividend, divisor);
-                shows(&rt, rt.alloc(), &answer, column(&rt, row, 1), row)?;
+                shows(&rt, rt.alloc(), &answer, column(row, 1), row)?;
             }
         }
     }
@@ -86,13 +87,13 @@ fn unsigned_of(words: &str) -> Option<(u128, u64)> {
 #[test]
 fn unsigned_quotients(rt: HostRuntime) -> Result<(), Fail> {
     for row in UNSIGNED.lines().skip(1) {
-        let words = column(&rt, row, 0);
+        let words = column(row, 0);
         match unsigned_of(words) {
             None => panic!(rt; "no row: {row}"),
             Some((dividend, divisor)) => {
-                let width = width_of(&rt, word(&rt, words, 0));
+                let width = width_of(&rt, word(words, 0));
                 let answer = div_unsigned(width, dividend, divisor);
-                shows(&rt, rt.alloc(), &answer, column(&rt, row, 1), row)?;
+                shows(&rt, rt.alloc(), &answer, column(row, 1), row)?;
             }
         }
     }

@@ -1,11 +1,12 @@
 //! Checkers, each of which compares what is found with the text of a row. An assertion that prints
 //! what it compares is proved anew wherever it stands, so that each kind stands once here.
 
-use crate::rows::{bytes_of, columns_of, number};
+use crate::rows::{bytes_of, number};
 use pe_image::Import;
 use std::alloc::Global;
 use std::fmt::Debug;
 use std::process::Abort;
+use test_rows::rows::columns_of;
 
 /// Compares texts.
 pub fn is_text(rt: &impl Abort, found: &str, wanted: &str, row: &str) {

@@ -1,8 +1,9 @@
 use crate::checks::{are, are_bytes, are_imports, is_refused};
-use crate::rows::{columns_of, number, place_of, put_at, put_fields};
+use crate::rows::{number, place_of, put_at, put_fields};
 use pe_image::{ImageView, SectionView};
 use std::alloc::Global;
 use std::process::Abort;
+use test_rows::rows::columns_of;
 
 /// An image of two sections, field by field: `.data` of one page with nothing stored, and `.text`
 /// with six bytes in 512 of raw data, whose others are `int3`.

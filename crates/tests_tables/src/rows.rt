@@ -7,6 +7,8 @@
 use std::alloc::Global;
 use std::process::Abort;
 use test_images::tables::put;
+use test_rows::rows::columns_of;
+use test_rows::words::number_of;
 
 fn digit(rt: &impl Abort, byte: u8) -> u8 {
     match byte {
@@ -18,22 +20,10 @@ fn digit(rt: &impl Abort, byte: u8) -> u8 {
 
 /// A number in hexadecimal.
 pub fn number(rt: &impl Abort, word: &str) -> u64 {
-    let mut value = 0u64;
-    for byte in word.bytes() {
-        value = value.wrapping_mul(16).wrapping_add(digit(rt, byte) as u64);
+    match number_of(word) {
+        Some(value) => value,
+        None => panic!(rt; "no number: {word}"),
     }
-    value
-}
-
-/// The columns of a row, "" for those that it doesn't have.
-pub fn columns_of(row: &str) -> [&str; 5] {
-    let mut columns = [""; 5];
-    for (i, column) in row.split('|').enumerate() {
-        if let Some(place) = columns.get_mut(i) {
-            *place = column.trim();
-        }
-    }
-    columns
 }
 
 /// Appends the bytes that pairs of digits spell.

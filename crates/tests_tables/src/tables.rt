@@ -3,7 +3,7 @@ ghost use Rattle.eh_tables.specs.Tables.{TablesAreWhole};
 
 use crate::checks::{are, is_refused, shows};
 use crate::entries::reads;
-use crate::rows::{bytes_of, columns_of, number, put_at};
+use crate::rows::{bytes_of, number, put_at};
 use eh_tables::{RuntimeFunction, Tables, read_again, write_pdata};
 use pe_image::ImageView;
 use seh_num::steps::Steps;
@@ -12,6 +12,7 @@ use std::marker::Brand;
 use std::process::Abort;
 use std::sync::ledger::{Blank, Ledger};
 use test_images::tables::{ENTRY, table_image};
+use test_rows::rows::columns_of;
 
 /// An info as LLVM writes it.
 const WRITTEN_BY_LLVM: &str = "01190985 19680800 15341300 11030901 16000260 01500000";

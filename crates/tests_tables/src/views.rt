@@ -1,5 +1,5 @@
 use crate::checks::{are, are_same};
-use crate::rows::{columns_of, number, place_of, push_bytes};
+use crate::rows::{number, place_of, push_bytes};
 use pe_image::ImageView;
 use seh_io::plain::VecSink;
 use seh_io::planned::{MemSink, Plan};
@@ -7,6 +7,7 @@ use std::alloc::Global;
 use std::process::Abort;
 use table_view::view;
 use test_images::tables::{ENTRY, table_image};
+use test_rows::rows::columns_of;
 
 /// The info of a function that begins with `push rbx; sub rsp, 32`.
 const INFO: [u8; 8] = [1, 5, 2, 0, 5, 0x32, 1, 0x30];

@@ -1,10 +1,11 @@
 use crate::checks::{are, are_bytes, are_imports, are_same};
-use crate::rows::{bytes_of, columns_of, number, put_fields};
+use crate::rows::{bytes_of, number, put_fields};
 use host_layout::imported::IMPORTED;
 use pe_image::ImageView;
 use pe_write::{Image, Sizes, slot_of, write};
 use std::alloc::Global;
 use std::process::Abort;
+use test_rows::rows::columns_of;
 
 /// All bytes that aren't 0 in the headers and `.data` of the image of [`writes_five_sections`].
 const HEADERS: &str = r"

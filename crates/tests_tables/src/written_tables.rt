@@ -4,13 +4,14 @@ ghost use Rattle.eh_tables.specs.Written.{CanBeWritten};
 
 use crate::checks::are_bytes;
 use crate::entries::reads;
-use crate::rows::{columns_of, number};
+use crate::rows::number;
 use arrayvec::ArrayVec;
 use eh_tables::{
     ScopeRecord, Trailer, UnwindCode, UnwindInfo, UnwindOperation, write_scopes, write_unwind,
 };
 use std::alloc::Global;
 use std::process::Abort;
+use test_rows::rows::columns_of;
 
 /// The bytes of an info as it is written.
 fn written(rt: &impl Abort, alloc: Global, info: &UnwindInfo) -> Vec<u8>

@@ -98,15 +98,15 @@ fn flags_named(letters: &str) -> Flags {
 
 /// The states before and after that a row has.
 fn states_of(rt: &impl Abort, row: &str) -> (Cpu, Cpu) {
-    let words = column(rt, row, 2);
-    let answer = column(rt, row, 3);
+    let words = column(row, 2);
+    let answer = column(row, 3);
     let mut before = cpu();
     before.registers[0] = number_at(rt, words, 0);
     before.registers[1] = number_at(rt, words, 1);
-    before.flags = flags_named(word(rt, words, 2));
+    before.flags = flags_named(word(words, 2));
     let mut after = before;
     after.registers[0] = number_at(rt, answer, 0);
-    after.flags = flags_named(word(rt, answer, 1));
+    after.flags = flags_named(word(answer, 1));
     (before, after)
 }
 
@@ -165,8 +165,8 @@ fn other_registers(rt: HostRuntime) -> Result<(), Fail> {
 fn divisions(rt: HostRuntime) -> Result<(), Fail> {
     let mut space = space(&rt, rt.alloc())?;
     for row in DIVISIONS.lines().skip(1) {
-        let before = dividend_of(&rt, column(&rt, row, 2));
-        let want = quotient_of(&rt, before, column(&rt, row, 3));
+        let before = dividend_of(&rt, column(row, 2));
+        let want = quotient_of(&rt, before, column(row, 3));
         has_effect(&rt, &mut space, row, before, want);
     }
     Ok(())

@@ -17,11 +17,11 @@ FF 22            | - | 0
 /// The states before and after a row's jump.
 fn jump_of(rt: &impl Abort, row: &str) -> (Cpu, Cpu) {
     let mut before = cpu();
-    before.flags.zero = column(rt, row, 1) == "Z";
+    before.flags.zero = column(row, 1) == "Z";
     before.registers[1] = 0x1234;
     before.registers[2] = 0x4000_1000;
     let mut after = before;
-    after.rip = number(rt, column(rt, row, 2));
+    after.rip = number(rt, column(row, 2));
     (before, after)
 }
 
@@ -57,8 +57,8 @@ fn stack_of(rt: &impl Abort, words: &str) -> Cpu {
 
 /// Compares what a row's instruction does to the stack.
 fn pushes<S: AddressSpace>(rt: &impl Abort, space: &mut S, row: &str) {
-    let words = column(rt, row, 2);
-    let answer = column(rt, row, 3);
+    let words = column(row, 2);
+    let answer = column(row, 3);
     let stored = space.store(STACKED, Width::W64, number_at(rt, words, 2));
     same(rt, stored, Ok(()), row);
     has_effect(
@@ -155,9 +155,9 @@ const SERVICES: &str = r"
 #[test]
 fn services(rt: HostRuntime) -> Result<(), Fail> {
     for row in SERVICES.lines().skip(1) {
-        let address = number(&rt, column(&rt, row, 0));
+        let address = number(&rt, column(row, 0));
         let service = Service::at(address);
-        shows(&rt, rt.alloc(), &service, column(&rt, row, 1), row)?;
+        shows(&rt, rt.alloc(), &service, column(row, 1), row)?;
         if let Some(service) = service {
             same(&rt, service.address(), address, row);
         }
@@ -221,15 +221,15 @@ fn register_of(rt: &impl Abort, name: &str) -> Reg {
 fn steps_to<S: AddressSpace>(rt: &impl Abort, cpu: &mut Cpu, space: &mut S, row: &str) {
     same(rt, step(cpu, space), StepOutcome::Next, row);
     same(rt, cpu.rip, number_at(rt, row, 0), row);
-    let found = cpu.register(register_of(rt, word(rt, row, 1)));
+    let found = cpu.register(register_of(rt, word(row, 1)));
     same(rt, found, number_at(rt, row, 2), row);
 }
 
 /// Compares the numbers of 64 bits at the addresses of a table.
 fn all_hold<S: AddressSpace>(rt: &impl Abort, space: &S, table: &str) {
     for row in table.lines().skip(1) {
-        let found = space.load(number(rt, column(rt, row, 0)), Width::W64);
-        let want = number(rt, column(rt, row, 1));
+        let found = space.load(number(rt, column(row, 0)), Width::W64);
+        let want = number(rt, column(row, 1));
         same(rt, found, Ok(want), row);
     }
 }
@@ -366,10 +366,10 @@ const KEPT: &str = r"
 fn refused_steps_change_nothing(rt: HostRuntime) -> Result<(), Fail> {
     let mut space = with_code(&rt, rt.alloc(), PIECES)?;
     for row in REFUSED.lines().skip(1) {
-        let before = refused_at(&rt, column(&rt, row, 0));
-        let words = column(&rt, row, 1);
+        let before = refused_at(&rt, column(row, 0));
+        let words = column(row, 1);
         let address = number_at(&rt, words, 1);
-        let want = refusal_of(&rt, before.rip, word(&rt, words, 0), address);
+        let want = refusal_of(&rt, before.rip, word(words, 0), address);
         is_refused(&rt, &mut space, before, want, row);
     }
     all_hold(&rt, &space, KEPT);

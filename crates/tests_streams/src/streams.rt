@@ -1,6 +1,7 @@
+//! Lines of events and of ends, and sources and sinks of which calls fail.
+
 ghost use Rattle.std.specs.Prelude.{◌<◌};
 
-use crate::rows::{column, number, same, same_bytes, word};
 use seh_io::plain::{SliceSource, VecSink};
 use seh_io::planned::{MemSink, MemSource, Plan};
 use seh_io::reading::{ReadErr, read_all};
@@ -11,8 +12,11 @@ use seh_io::writing::{WriteFault, put_all};
 use seh_num::end::{Reason, RunEnd};
 use seh_num::event::{Code, Event};
 use std::alloc::{AllocError, Global};
+use std::fmt::Debug;
 use std::process::Abort;
 use std::test::Fail;
+use test_rows::rows::{column, word};
+use test_rows::words::number_of;
 
 const VIOLATION: Code = Code(0xC000_0005);
 
@@ -42,6 +46,16 @@ const EVENTS: [Event; 9] = [
     Event::Except(VIOLATION),
     Event::Put(14),
 ];
+
+/// Compares two values, and says of what they are.
+fn same<T: Copy + PartialEq + Debug>(rt: &impl Abort, found: T, want: T, note: &str) {
+    assert_eq!(rt; found, want, "{note}");
+}
+
+/// Compares bytes.
+fn same_bytes(rt: &impl Abort, found: &[u8], want: &[u8]) {
+    assert_eq!(rt; found, want);
+}
 
 /// Compares the text of a run.
 fn is_written(
@@ -111,11 +125,11 @@ fn end_of(rt: &impl Abort, what: &str, value: &str) -> Option<RunEnd> {
             turns: value.parse().ok()?,
         }),
         "limit" => Some(RunEnd::StackLimit {
-            address: number(rt, value),
+            address: number_of(value)?,
         }),
         _ => Some(RunEnd::Stopped {
             why: reason_of(rt, what),
-            address: number(rt, value),
+            address: number_of(value)?,
         }),
     }
 }
@@ -131,10 +145,10 @@ fn ends_with(rt: &impl Abort, alloc: Global, end: &RunEnd, want: &str) {
 #[test]
 fn lines_of_ends(rt: HostRuntime) {
     for row in ENDS.lines().skip(1) {
-        let words = column(&rt, row, 0);
-        match end_of(&rt, word(&rt, words, 0), word(&rt, words, 1)) {
+        let words = column(row, 0);
+        match end_of(&rt, word(words, 0), word(words, 1)) {
             None => panic!(rt; "no end: {row}"),
-            Some(end) => ends_with(&rt, rt.alloc(), &end, column(&rt, row, 1)),
+            Some(end) => ends_with(&rt, rt.alloc(), &end, column(row, 1)),
         }
     }
 }

@@ -29,3 +29,29 @@ pub fn bytes_of(alloc: Global, words: &str) -> Result<Vec<u8>, AllocError> {
     }
     Ok(bytes)
 }
+
+/// Puts the bytes that words spell where there is room for them, up to the first word that spells
+/// none, and counts them.
+pub fn put_bytes(words: &str, room: &mut [u8]) -> usize {
+    let mut count = 0usize;
+    for (place, word) in room.iter_mut().zip(words.split_ascii_whitespace()) {
+        match number_of(word) {
+            Some(value) if value < 256 => *place = value as u8,
+            _ => return count,
+        }
+        count = count.saturating_add(1);
+    }
+    count
+}
+
+/// Whether bytes are those that words spell.
+pub fn are_spelled(bytes: &[u8], words: &str) -> bool {
+    let mut words = words.split_ascii_whitespace();
+    for byte in bytes {
+        match words.next() {
+            Some(word) if number_of(word) == Some(u64::from(*byte)) => (),
+            _ => return false,
+        }
+    }
+    words.next().is_none()
+}

@@ -1,4 +1,5 @@
-use crate::rows::shows;
+//! Lines of words, and the commands that they are.
+
 use command_line::command::Command;
 use command_line::reading::{WordsErr, command_of};
 use std::alloc::{AllocError, Global};
@@ -34,7 +35,8 @@ fn lines(rt: HostRuntime) -> Result<(), Fail> {
     for row in LINES.lines().skip(1) {
         let (line, want) = row.split_once(" | ").unwrap_or((row, "no row"));
         let command = command_in(rt.alloc(), line)?;
-        shows(&rt, rt.alloc(), &command, want, line)?;
+        let found = format!(in rt.alloc(); "{command:?}")?;
+        assert_eq!(rt; found.as_str(), want, "{line}");
     }
     Ok(())
 }
