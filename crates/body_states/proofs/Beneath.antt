@@ -47,8 +47,8 @@ module _ (s u : State) (i : Instr) (more : List Instr) (enc : is_encodable i ≡
       let l = code.placed.low in
       let h = code.placed.high in
       reads s i (chosen i) (spells i enc) (longest i)
-        (bytes_split s.memory s.cpu.rip (chosen i) (spelled more) code.is_there).0
-        (record { low = l; high = omega arith })
+      (bytes_split s.memory s.cpu.rip (chosen i) (spelled more) code.is_there).0
+      (record { low = l; high = omega arith })
 
   pub effect_here : step s ≡ Ok u → effect (with_rip s (s.cpu.rip + size i)) i ≡ Ok u
   unfolding step size
@@ -56,9 +56,9 @@ module _ (s u : State) (i : Instr) (more : List Instr) (enc : is_encodable i ≡
       let l = code.placed.low in
       let h = code.placed.high in
       let next : (s.cpu.rip + length (chosen i)) % 2 ^ 64
-        ≡ s.cpu.rip + length (chosen i) = omega arith in
+      ≡ s.cpu.rip + length (chosen i) = omega arith in
       let stepped : step s ≡ effect (with_rip s (s.cpu.rip + length (chosen i))) i = rw
-        (outside_page s.cpu.rip l, read_here, next) refl in
+      (outside_page s.cpu.rip l, read_here, next) refl in
       sym stepped ∙ e
 
   -- what follows it is still there
@@ -69,9 +69,11 @@ module _ (s u : State) (i : Instr) (more : List Instr) (enc : is_encodable i ≡
       let h = code.placed.high in
       let next = s.cpu.rip + length (chosen i) in
       subst (λ a. HasCode u.memory a more) (sym at)
-      (record { is_there = bytes_kept s.memory u.memory next (spelled more) st.fixed st.protection
-        (bytes_split s.memory s.cpu.rip (chosen i) (spelled more) code.is_there).1;
-        placed = record { low = omega arith; high = omega arith } })
+      (record {
+        is_there = bytes_kept s.memory u.memory next (spelled more) st.fixed st.protection
+            (bytes_split s.memory s.cpu.rip (chosen i) (spelled more) code.is_there).1;
+        placed = record { low = omega arith; high = omega arith };
+      })
 
 -- ---- steps one after another
 
@@ -90,8 +92,12 @@ enters_steps (suc n) s w r = (r.0, r.1, reaches_steps n r.0 w r.2)
 -- where the first of them lead
 pub steps_split : (m n : ℕ) (s w : State) → StepsTo (m + n) s w
     → (u : State) × StepsTo m s u × StepsTo n u w
-steps_split zero n s w r = (s, refl, subst (λ k. StepsTo k s w)
-    (let z : 0 + n ≡ n = omega arith in z) r)
+steps_split zero n s w r = (
+  s,
+  refl,
+  subst (λ k. StepsTo k s w)
+      (let z : 0 + n ≡ n = omega arith in z) r,
+)
 steps_split (suc m) n s w r =
     let z : suc m + n ≡ suc (m + n) = omega arith in
     let r' = subst (λ k. StepsTo k s w) z r in
@@ -106,7 +112,7 @@ keeps_split t fs (suc m) n s u r before after =
     let e : suc (m + n) ≡ suc m + n = omega arith in
     let first = before r.0 r.1.steps in
     subst (λ k. AllKeep t fs k s) e (keep_first t fs (m + n) s r.0 r.1.steps first.0
-      (keeps_split t fs m n r.0 u r.2 first.1 after))
+    (keeps_split t fs m n r.0 u r.2 first.1 after))
 
 -- ---- words
 
@@ -115,7 +121,7 @@ pub word_number : (m : Memory) (at v : ℕ) → word m at ≡ Ok v → number_at
 word_number m at v e = by (first_refused (may_read m) 8 at) e
   where
     by : (o : Option ℕ) → readable at (access false o (number_at m.byte 8 at)) ≡ Ok v
-      → number_at m.byte 8 at ≡ v
+        → number_at m.byte 8 at ≡ v
     by None is = cc
     by (Some a) is = absurd cc
 
@@ -124,9 +130,9 @@ pub word_stays : (m m' : Memory) (at v : ℕ) → at + 8 < 2 ^ 64 → m'.protect
     → ((a : ℕ) → at ≤ a → a < at + 8 → m'.byte a ≡ m.byte a) → word m at ≡ Ok v → word m' at ≡ Ok v
 word_stays m m' at v lt same bytes e =
     let n : number_at m'.byte 8 at ≡ number_at m.byte 8 at = same_number m'.byte m.byte 8 at lt
-      bytes in
+    bytes in
     ap (λ (f : ℕ → Protection). readable at (access false
-      (first_refused (λ a. is_readable (f a).rights) 8 at) (number_at m'.byte 8 at))) same
+    (first_refused (λ a. is_readable (f a).rights) 8 at) (number_at m'.byte 8 at))) same
     ∙ ap (λ x. readable at (access false (first_refused (may_read m) 8 at) x)) n
     ∙ e
 
@@ -165,10 +171,10 @@ module _ (t : Functions) where
       let high = b.high in
       let m : Memory = with_bytes s.memory u.memory.byte in
       let is_m : m ≡ u.memory = ap (λ (f : ℕ → Protection).
-        let x : Memory = record { protection = f; byte = u.memory.byte } in x)
-        (sym st.protection) in
+      let x : Memory = record { protection = f; byte = u.memory.byte } in x)
+      (sym st.protection) in
       let agree : Agree s.memory u.memory.byte
-        (Owned (context_below back (top + 8) others) is) = record {
+      (Owned (context_below back (top + 8) others) is) = record {
         code = λ a e. st.fixed a (fixed_code s.memory a (may_write s.memory a) refl b.no_code e);
         owned = λ a o. stays a (inr (b.owned a o));
       } in
@@ -176,17 +182,17 @@ module _ (t : Functions) where
         others_are = same ∙ b.others_are;
         count = st.count ∙ b.count;
         returns = word_stays s.memory u.memory top back (omega arith) st.protection
-          (λ a l h. stays a (inl (l, h))) b.returns;
+            (λ a l h. stays a (inl (l, h))) b.returns;
         list = subst (λ (x : Memory). IsStack t x (context_below back (top + 8) others) is) is_m
-          (kept_by_other_stores t s.memory u.memory.byte (context_below back (top + 8) others) is
-          agree b.list);
+            (kept_by_other_stores t s.memory u.memory.byte (context_below back (top + 8) others) is
+            agree b.list);
         owned = b.owned;
         past = b.past;
         high = b.high;
         limit = b.limit;
         no_code = λ a w. ap (λ (f : ℕ → Protection). (f a).execute) st.protection
-          ∙ b.no_code a (ap (λ (f : ℕ → Protection). is_writable (f a).rights) (sym st.protection)
-          ∙ w);
+            ∙ b.no_code a (ap (λ (f : ℕ → Protection). is_writable (f a).rights) (sym st.protection)
+            ∙ w);
       }
 
   -- the callers there
@@ -203,13 +209,13 @@ module _ (t : Functions) where
       let c = context_of s.cpu in
       let above = context_below back (top + 8) others in
       let h = finds c back refl refl (let z : rsp c + d + 8 < 2 ^ 64 = omega arith in z)
-        (ap (word s.memory) at ∙ b.returns) in
+      (ap (word s.memory) at ∙ b.returns) in
       let same : caller_above c d back ≡ above = λ i. context_below back (at i + 8)
-        (b.others_are i) in
+      (b.others_are i) in
       let k = subst (HasCaller t s.memory c) same h in
       subst (λ x. GivesCallers t s.memory (state c 0) (x ∷ callers above is)) k.context
       (past_frame t s.memory (state c 0) k.frame (state above 0) (callers above is) k.visits
-        (on_stack t s.memory above 0 is b.list))
+      (on_stack t s.memory above 0 is b.list))
 
 -- ---- straight code
 
@@ -234,104 +240,118 @@ plain_calls_nothing d e i (inl q) = idle_calls_nothing i q
 plain_calls_nothing d e i (inr k) = ap calls k.is
 
 module _ (t : Functions) (fs : List Funclet) (program : LinearProgram) (p : ImagePlan) (q : Sites)
-    where
-  module _ (top from back : ℕ) (others : List ℕ) (is : List StackItem) where
-    -- after an instruction that isn't a jump
-    pub record Moved (s u : State) (i : Instr) : Type 0 where
-      pub beneath : Beneath t u top from back others is
-      pub rip : u.cpu.rip ≡ s.cpu.rip + size i
-      pub stack : register u.cpu Rsp ≡ register s.cpu Rsp
+  where
+    module _ (top from back : ℕ) (others : List ℕ) (is : List StackItem) where
+      -- after an instruction that isn't a jump
+      pub record Moved (s u : State) (i : Instr) : Type 0 where
+        pub beneath : Beneath t u top from back others is
+        pub rip : u.cpu.rip ≡ s.cpu.rip + size i
+        pub stack : register u.cpu Rsp ≡ register s.cpu Rsp
 
-    pub plain_step : (s u : State) (d e : ℕ) (i : Instr) (more : List Instr) → IsPlain d e i
-      → HasCode s.memory s.cpu.rip (i ∷ more) → Steps s u → Beneath t s top from back others is
-      → register s.cpu Rsp + d ≡ top → from ≡ top + e → Moved s u i
-    plain_step s u d e i more plain code st b at up =
-        let high = b.limit in
-        let effect' = effect_here s u i more plain.0 code st.steps in
-        by plain.1 effect'
-      where
-        a : State
-        a = with_rip s (s.cpu.rip + size i)
+      pub plain_step : (s u : State) (d e : ℕ) (i : Instr) (more : List Instr) → IsPlain d e i
+          → HasCode s.memory s.cpu.rip (i ∷ more) → Steps s u → Beneath t s top from back others is
+          → register s.cpu Rsp + d ≡ top → from ≡ top + e → Moved s u i
+      plain_step s u d e i more plain code st b at up =
+          let high = b.limit in
+          let effect' = effect_here s u i more plain.0 code st.steps in
+          by plain.1 effect'
+        where
+          a : State
+          a = with_rip s (s.cpu.rip + size i)
 
-        by : (is_idle i ≡ true) ⊎ IsKept d e i → effect a i ≡ Ok u → Moved s u i
-        by (inl idle) ef =
-            let l = idle_leaves a u i idle ef in
-            record { beneath = beneath_stays t s u top from back others is st l.others
-              (λ x o. ap (λ (m : Memory). m.byte x) l.memory) b; rip = l.rip; stack = l.stack }
-        by (inr k) ef =
-            let sp = register s.cpu Rsp in
-            let inside = k.inside in
-            let l = store_leaves a u k.offset k.kept
+          by : (is_idle i ≡ true) ⊎ IsKept d e i → effect a i ≡ Ok u → Moved s u i
+          by (inl idle) ef =
+              let l = idle_leaves a u i idle ef in
+              record {
+                beneath = beneath_stays t s u top from back others is st l.others
+                    (λ x o. ap (λ (m : Memory). m.byte x) l.memory) b;
+                rip = l.rip;
+                stack = l.stack;
+              }
+          by (inr k) ef =
+              let sp = register s.cpu Rsp in
+              let inside = k.inside in
+              let l = store_leaves a u k.offset k.kept
               (elim inside [ inl x ↦ omega arith | inr x ↦ (let z = x.1 in omega arith) ])
               (subst (λ j. effect a j ≡ Ok u) k.is ef) in
-            record {
-              beneath = beneath_stays t s u top from back others is st (ap others_of l.registers)
-                  (λ x o. l.beside x (elim inside [
-                    | inl z ↦ inr (elim o [ inl w ↦ (let w0 = w.0 in omega arith) | inr w ↦ omega
-                      arith ])
-                    | inr z ↦ (let z0 = z.0 in let z1 = z.1 in
-                      elim o [ inl w ↦ (let w1 = w.1 in inl (omega arith)) | inr w ↦ inr
-                      (omega arith) ])
-                  ]))
-                  b;
-              rip = l.rip;
-              stack = ap (λ (r : List ℕ). slice_index r 4) l.registers;
-            }
+              record {
+                beneath = beneath_stays t s u top from back others is st (ap others_of l.registers)
+                    (λ x o. l.beside x (elim inside [
+                      | inl z ↦ inr (elim o [
+                        | inl w ↦ (let w0 = w.0 in omega arith)
+                        | inr w ↦ omega
+                            arith
+                      ])
+                      | inr z ↦ (let z0 = z.0 in let z1 = z.1 in
+                          elim o [
+                            | inl w ↦ (let w1 = w.1 in inl (omega arith))
+                            | inr w ↦ inr
+                                (omega arith)
+                          ])
+                    ]))
+                    b;
+                rip = l.rip;
+                stack = ap (λ (r : List ℕ). slice_index r 4) l.registers;
+              }
 
-    -- where straight code comes to
-    pub record Ran (s w : State) (code : List Instr) : Type 0 where
-      pub keeps : AllKeep t fs (length code) s
-      pub beneath : Beneath t w top from back others is
-      pub has : HasProgram t fs program p q w.memory
-      pub rip : w.cpu.rip ≡ s.cpu.rip + sizes code
-      pub stack : register w.cpu Rsp ≡ register s.cpu Rsp
+      -- where straight code comes to
+      pub record Ran (s w : State) (code : List Instr) : Type 0 where
+        pub keeps : AllKeep t fs (length code) s
+        pub beneath : Beneath t w top from back others is
+        pub has : HasProgram t fs program p q w.memory
+        pub rip : w.cpu.rip ≡ s.cpu.rip + sizes code
+        pub stack : register w.cpu Rsp ≡ register s.cpu Rsp
 
-    -- a walk finds the return address at each of its instructions
-    abbrev pub Finds : ℕ → List Instr → ℕ → Type 0
-    Finds rip code d = (done left : List Instr) → code ≡ done ++ left → (m : Memory)
-      → HasProgram t fs program p q m → FindsReturn t m (rip + sizes done) d
+      -- a walk finds the return address at each of its instructions
+      abbrev pub Finds : ℕ → List Instr → ℕ → Type 0
+      Finds rip code d = (done left : List Instr) → code ≡ done ++ left → (m : Memory)
+          → HasProgram t fs program p q m → FindsReturn t m (rip + sizes done) d
 
-    pub ran : (code : List Instr) (s w : State) (d e : ℕ) → StepsTo (length code) s w
-      → AllPlain d e code → HasCode s.memory s.cpu.rip code → HasProgram t fs program p q s.memory
-      → Beneath t s top from back others is
-        → register s.cpu Rsp + d ≡ top → from ≡ top + e → Finds s.cpu.rip code d → Ran s w code
-    ran [] s w d e r plain code has b at up finds =
-        subst (λ (x : State). Ran s x []) r (record
-          { keeps = tt; beneath = b; has = has;
-          rip = (let z : s.cpu.rip ≡ s.cpu.rip + 0 = omega arith in z); stack = refl })
-    ran (i ∷ code) s w d e r plain code' has b at up finds =
-        let u = r.0 in
-        let st = r.1 in
-        let first = plain_step s u d e i code plain.0 code' st b at up in
-        let has' = program_kept t fs program p q s.memory u.memory
+      pub ran : (code : List Instr) (s w : State) (d e : ℕ) → StepsTo (length code) s w
+          → AllPlain d e code → HasCode s.memory s.cpu.rip code → HasProgram t fs program p q s.memory
+          → Beneath t s top from back others is
+          → register s.cpu Rsp + d ≡ top → from ≡ top + e → Finds s.cpu.rip code d → Ran s w code
+      ran [] s w d e r plain code has b at up finds =
+          subst (λ (x : State). Ran s x []) r (record {
+            keeps = tt;
+            beneath = b;
+            has = has;
+            rip = (let z : s.cpu.rip ≡ s.cpu.rip + 0 = omega arith in z);
+            stack = refl;
+          })
+      ran (i ∷ code) s w d e r plain code' has b at up finds =
+          let u = r.0 in
+          let st = r.1 in
+          let first = plain_step s u d e i code plain.0 code' st b at up in
+          let has' = program_kept t fs program p q s.memory u.memory
           (record { protection = st.protection; fixed = st.fixed }) has in
-        let at' : register u.cpu Rsp + d ≡ top = omega (arith, first.stack) in
-        let z : s.cpu.rip + 0 ≡ s.cpu.rip = omega arith in
-        let next : s.cpu.rip + (size i + 0) ≡ u.cpu.rip = omega (arith, first.rip) in
-        let before = gives_above t s top from back others is d b
+          let at' : register u.cpu Rsp + d ≡ top = omega (arith, first.stack) in
+          let z : s.cpu.rip + 0 ≡ s.cpu.rip = omega arith in
+          let next : s.cpu.rip + (size i + 0) ≡ u.cpu.rip = omega (arith, first.rip) in
+          let before = gives_above t s top from back others is d b
           (subst (λ a. FindsReturn t s.memory a d) z (finds [] (i ∷ code) refl s.memory has)) at in
-        let after = gives_above t u top from back others is d first.beneath
+          let after = gives_above t u top from back others is d first.beneath
           (subst (λ a. FindsReturn t u.memory a d) next (finds (i ∷ []) code refl u.memory has'))
           at' in
-        let quiet = ap is_call (read_here s u i code plain.0.0 code')
+          let quiet = ap is_call (read_here s u i code plain.0.0 code')
           ∙ plain_calls_nothing d e i plain.0.1 in
-        let keep = straight t fs s u (callers_above t top back others is) st.steps quiet before
+          let keep = straight t fs s u (callers_above t top back others is) st.steps quiet before
           after (let h : register u.cpu Rsp + 8 ≤ top + 8 = omega arith in h) in
-        let finds' : Finds u.cpu.rip code d = λ done left parts m h.
-        (let same : s.cpu.rip + (size i + sizes done)
+          let finds' : Finds u.cpu.rip code d = λ done left parts m h.
+          (let same : s.cpu.rip + (size i + sizes done)
           ≡ u.cpu.rip + sizes done = omega (arith, first.rip) in
-        subst (λ a. FindsReturn t m a d) same
+          subst (λ a. FindsReturn t m a d) same
           (finds (i ∷ done) left (ap (λ (xs : List Instr). i ∷ xs) parts) m h)) in
-        let rest = ran code u w d e r.2 plain.1 (code_next s u i code plain.0.0 code' st first.rip)
+          let rest = ran code u w d e r.2 plain.1 (code_next s u i code plain.0.0 code' st first.rip)
           has' first.beneath at' up finds' in
-        record {
-          keeps = keep_first t fs (length code) s u st.steps keep rest.keeps;
-          beneath = rest.beneath;
-          has = rest.has;
-          rip = rest.rip ∙ (let same : u.cpu.rip + sizes code
-            ≡ s.cpu.rip + (size i + sizes code) = omega (arith, first.rip) in same);
-          stack = rest.stack ∙ first.stack;
-        }
+          record {
+            keeps = keep_first t fs (length code) s u st.steps keep rest.keeps;
+            beneath = rest.beneath;
+            has = rest.has;
+            rip = rest.rip ∙ (let same : u.cpu.rip + sizes code
+                ≡ s.cpu.rip + (size i + sizes code) = omega (arith, first.rip) in same);
+            stack = rest.stack ∙ first.stack;
+          }
 
 -- ---- where a list is above a return address
 
@@ -346,9 +366,12 @@ beneath_by t s top back is count returns list high no_code = record {
   count = count;
   returns = returns;
   list = list;
-  owned = λ a o. elim (cases_lt a (top + 8)) [ inl lt ↦ absurd
-      (nothing_below_is_owned t s.memory (context_below back (top + 8) (others_of s.cpu.registers))
-      is a list lt o) | inr ge ↦ ge ];
+  owned = λ a o. elim (cases_lt a (top + 8)) [
+    | inl lt ↦ absurd
+        (nothing_below_is_owned t s.memory (context_below back (top + 8) (others_of s.cpu.registers))
+        is a list lt o)
+    | inr ge ↦ ge
+  ];
   past = (let z : top + 8 ≤ top + 8 = omega arith in z);
   high = omega arith;
   limit = omega arith;

@@ -60,7 +60,7 @@ others_by : (r : List ℕ) (k v : ℕ) → (let j : ℕ = 3 in j ≢ k) → (let
     → (let j : ℕ = 15 in j ≢ k) → others_of (slice_set r k v) ≡ others_of r
 others_by r k v a b c d e f g h =
     λ i. get_or-set_other r k 3 v 0 a i ∷ get_or-set_other r k 5 v 0 b i
-      ∷ get_or-set_other r k 6 v 0 c i ∷ get_or-set_other r k 7 v 0 d i
+    ∷ get_or-set_other r k 6 v 0 c i ∷ get_or-set_other r k 7 v 0 d i
     ∷ get_or-set_other r k 12 v 0 e i ∷ get_or-set_other r k 13 v 0 f i
     ∷ get_or-set_other r k 14 v 0 g i ∷ get_or-set_other r k 15 v 0 h i ∷ []
 
@@ -72,8 +72,8 @@ others_set r k v (inr h) =
     let l = h.0 in
     let u = h.1 in
     others_by r k v (λ e. absurd (omega arith)) (λ e. absurd (omega arith))
-      (λ e. absurd (omega arith)) (λ e. absurd (omega arith)) (λ e. absurd (omega arith))
-      (λ e. absurd (omega arith)) (λ e. absurd (omega arith)) (λ e. absurd (omega arith))
+    (λ e. absurd (omega arith)) (λ e. absurd (omega arith)) (λ e. absurd (omega arith))
+    (λ e. absurd (omega arith)) (λ e. absurd (omega arith)) (λ e. absurd (omega arith))
 
 -- RSP isn't one of them
 others_rsp : (r : List ℕ) (v : ℕ) → others_of (slice_set r 4 v) ≡ others_of r
@@ -113,9 +113,12 @@ set_leaves : (s t : State) (w : Width) (k : Reg) (v : ℕ) → is_volatile k ≡
     → ◌≡◌ {A = Answer State} (Ok (record s { cpu = with_register w s.cpu k v })) (Ok t) → Leaves s t
 set_leaves s t w k v q e =
     let b = volatile_number k q in
-    subst (Leaves s) (the_same e) (record { memory = refl; rip = refl;
+    subst (Leaves s) (the_same e) (record {
+      memory = refl;
+      rip = refl;
       stack = rsp_set s.cpu.registers (number k) _ b;
-      others = others_set s.cpu.registers (number k) _ b })
+      others = others_set s.cpu.registers (number k) _ b;
+    })
 
 write_leaves : (s t : State) (w : Width) (to : RegisterOrMemory) (v : ℕ)
     → is_volatile_place to ≡ true → write s w to v ≡ Ok t → Leaves s t
@@ -135,22 +138,22 @@ idle_leaves s t (instrs.Move w to from) q e = let b = bound (operand s w from) (
 idle_leaves s t (instrs.LoadAddress w to m) q e = set_leaves s t w to _ q e
 idle_leaves s t (instrs.Test w first second) q e =
     let b = bound (operand s w second) (λ b. read s w first
-      >>= λ a. Ok (with_flags s (computed operations.And w a b).1)) t e in
+    >>= λ a. Ok (with_flags s (computed operations.And w a b).1)) t e in
     let c = bound (read s w first) (λ a. Ok (with_flags s (computed operations.And w a b.value).1))
-      t b.then in
+    t b.then in
     subst (Leaves s) (the_same c.then) (record
-      { memory = refl; rip = refl; stack = refl; others = refl })
+    { memory = refl; rip = refl; stack = refl; others = refl })
 idle_leaves s t (instrs.Arithmetic operations.Sub w to from) q e =
     let o = operations.Sub in
     let b = bound (operand s w from) (λ b. may_change s w to >>= λ _. read s w to
-      >>= λ a. write (with_flags s (computed o w a b).1) w to (computed o w a b).0) t e in
+    >>= λ a. write (with_flags s (computed o w a b).1) w to (computed o w a b).0) t e in
     let c = bound (may_change s w to) (λ _. read s w to
-      >>= λ a. write (with_flags s (computed o w a b.value).1) w to (computed o w a b.value).0) t
-        b.then in
+    >>= λ a. write (with_flags s (computed o w a b.value).1) w to (computed o w a b.value).0) t
+    b.then in
     let d = bound (read s w to) (λ a. write (with_flags s (computed o w a b.value).1) w to
-      (computed o w a b.value).0) t c.then in
+    (computed o w a b.value).0) t c.then in
     let r = write_leaves (with_flags s (computed o w d.value b.value).1) t w to
-      (computed o w d.value b.value).0 q d.then in
+    (computed o w d.value b.value).0 q d.then in
     record { memory = r.memory; rip = r.rip; stack = r.stack; others = r.others }
 idle_leaves s t i q e = absurd cc
 
@@ -189,8 +192,11 @@ store_leaves s t d r high e =
     let v = register s.cpu r % 2 ^ 64 in
     let is = store_is s t (sp + d) v (subst (λ a. store s a W64 v ≡ Ok t) place e) in
     subst (λ u. Stores s u (sp + d)) (sym is)
-      (record { registers = refl; rip = refl;
-      beside = λ x out. store_beside s.memory (sp + d) v x high out })
+    (record {
+      registers = refl;
+      rip = refl;
+      beside = λ x out. store_beside s.memory (sp + d) v x high out;
+    })
 
 -- ---- RSP is set
 
@@ -221,17 +227,17 @@ changed_sets : (s t : State) (o : Operation) (from : Operand) (b sp : ℕ)
 changed_sets s t o from b sp n is value e =
     let a = register s.cpu Rsp % 2 ^ 64 in
     let k = bound (operand s W64 from) (λ c. write (with_flags s (computed o W64 a c).1) W64
-      (places.Register Rsp) (computed o W64 a c).0) t e in
+    (places.Register Rsp) (computed o W64 a c).0) t e in
     let same : k.value ≡ b = the_same (sym k.is ∙ is) in
     let then = subst (λ c. write (with_flags s (computed o W64 a c).1) W64 (places.Register Rsp)
-      (computed o W64 a c).0 ≡ Ok t) same k.then in
+    (computed o W64 a c).0 ≡ Ok t) same k.then in
     let r = rsp_sets (with_flags s (computed o W64 a b).1) t (computed o W64 a b).0 sp n value
-      then in
+    then in
     record { memory = r.memory; rip = r.rip; stack = r.stack; others = r.others; count = r.count }
 
 pub falls : (s t : State) (n sp : ℕ) → length s.cpu.registers ≡ 16 → register s.cpu Rsp ≡ sp + n
     → sp + n < 2 ^ 64 → effect s (instrs.Arithmetic operations.Sub W64 (places.Register Rsp)
-      (operands.Immediate n)) ≡ Ok t → Sets s t sp
+    (operands.Immediate n)) ≡ Ok t → Sets s t sp
 unfolding subtracted
 falls s t n sp count at high e = changed_sets s t operations.Sub (operands.Immediate n) (n % 2 ^ 64)
     sp count refl (omega arith) e
@@ -246,7 +252,7 @@ falls_by_rax s t n sp count rax at high e = changed_sets s t operations.Sub (ope
 
 pub rises : (s t : State) (n sp : ℕ) → length s.cpu.registers ≡ 16 → register s.cpu Rsp + n ≡ sp
     → sp < 2 ^ 64 → effect s (instrs.Arithmetic operations.Add W64 (places.Register Rsp)
-      (operands.Immediate n)) ≡ Ok t → Sets s t sp
+    (operands.Immediate n)) ≡ Ok t → Sets s t sp
 unfolding added
 rises s t n sp count at high e = changed_sets s t operations.Add (operands.Immediate n) (n % 2 ^ 64)
     sp count refl (omega arith) e
@@ -287,23 +293,23 @@ calls s t d sp to n small at high target e =
     let lowered = λ (a : ℕ). record s { cpu = with_register W64 s.cpu Rsp a } in
     let place : (register s.cpu Rsp + (2 ^ 64 - 8)) % 2 ^ 64 ≡ sp = omega arith in
     let moved = subst (λ (a : ℕ). (store (lowered a) a W64 next
-      >>= λ after. Ok (with_rip after ((next + d) % 2 ^ 64))) ≡ Ok t) place e in
+    >>= λ after. Ok (with_rip after ((next + d) % 2 ^ 64))) ≡ Ok t) place e in
     let k = bound (store (lowered sp) sp W64 next)
-      (λ after. Ok (with_rip after ((next + d) % 2 ^ 64))) t moved in
+    (λ after. Ok (with_rip after ((next + d) % 2 ^ 64))) t moved in
     let is = store_is (lowered sp) k.value sp next k.is in
     let may = granted_ok (stored s.memory sp W64) _
-      (bound (granted (stored s.memory sp W64))
-      (λ _. Ok (record (lowered sp) { memory = after_store s.memory sp W64 next })) k.value
-      k.is).is in
+    (bound (granted (stored s.memory sp W64))
+    (λ _. Ok (record (lowered sp) { memory = after_store s.memory sp W64 next })) k.value
+    k.is).is in
     let w : State = with_rip (record (lowered sp) { memory = after_store s.memory sp W64 next })
-      ((next + d) % 2 ^ 64) in
+    ((next + d) % 2 ^ 64) in
     let same : w ≡ t = ap (λ (u : State). with_rip u ((next + d) % 2 ^ 64)) (sym is)
-      ∙ the_same k.then in
+    ∙ the_same k.then in
     subst (λ u. Calls s u sp to) same
     (record {
       rip = target;
       stack = get_or-set_same s.cpu.registers 4 (sp % 2 ^ 64) 0 (omega arith)
-        ∙ (let z : sp % 2 ^ 64 ≡ sp = omega arith in z);
+          ∙ (let z : sp % 2 ^ 64 ≡ sp = omega arith in z);
       others = others_rsp s.cpu.registers (sp % 2 ^ 64);
       count = length-set s.cpu.registers 4 (sp % 2 ^ 64);
       rax = get_or-set_other s.cpu.registers 4 0 (sp % 2 ^ 64) 0 (λ z. absurd (omega arith));
@@ -327,7 +333,7 @@ returns s t sp back n at high is e =
     let after : State = record s { cpu = with_register W64 s.cpu Rsp up } in
     let same : ◌≡◌ {A = Answer State} (Ok (with_rip after back)) (Ok t) =
     sym (ap (λ (o : Answer ℕ). (o >>= λ v. let y : Answer (ℕ × State) = Ok (v, after) in y)
-      >>= λ x. Ok (with_rip x.1 x.0)) is) ∙ e in
+    >>= λ x. Ok (with_rip x.1 x.0)) is) ∙ e in
     let v : up % 2 ^ 64 ≡ sp = omega arith in
     subst (λ u. Returns s u sp back) (the_same same)
     (record {
@@ -348,7 +354,7 @@ pub puts_rax : (s t : State) (v : ℕ) → length s.cpu.registers ≡ 16 → v <
 puts_rax s t v n lt e =
     let z : v % 2 ^ 32 % 2 ^ 32 ≡ v = omega arith in
     subst (λ (u : State). register u.cpu Rax ≡ v) (the_same e)
-      (get_or-set_same s.cpu.registers 0 (v % 2 ^ 32 % 2 ^ 32) 0 (omega arith) ∙ z)
+    (get_or-set_same s.cpu.registers 0 (v % 2 ^ 32 % 2 ^ 32) 0 (omega arith) ∙ z)
 
 -- these leave it
 abbrev pub is_probing : Instr → Bool
@@ -370,17 +376,17 @@ rax_stays s t (instrs.LoadAddress W64 regs.R11 m) q e = subst
     (get_or-set_other s.cpu.registers 11 0 _ 0 (λ z. absurd (omega arith)))
 rax_stays s t (instrs.Test w first second) q e =
     let b = bound (operand s w second) (λ b. read s w first
-      >>= λ a. Ok (with_flags s (computed operations.And w a b).1)) t e in
+    >>= λ a. Ok (with_flags s (computed operations.And w a b).1)) t e in
     let c = bound (read s w first) (λ a. Ok (with_flags s (computed operations.And w a b.value).1))
-      t b.then in
+    t b.then in
     subst (λ (u : State). register u.cpu Rax ≡ register s.cpu Rax) (the_same c.then) refl
 rax_stays s t (instrs.Arithmetic operations.Sub W64 (places.Register regs.R11) from) q e =
     let o = operations.Sub in
     let to = places.Register regs.R11 in
     let b = bound (operand s W64 from) (λ b. may_change s W64 to >>= λ _. read s W64 to
-      >>= λ a. write (with_flags s (computed o W64 a b).1) W64 to (computed o W64 a b).0) t e in
+    >>= λ a. write (with_flags s (computed o W64 a b).1) W64 to (computed o W64 a b).0) t e in
     subst (λ (u : State). register u.cpu Rax ≡ register s.cpu Rax) (the_same b.then)
-      (get_or-set_other s.cpu.registers 11 0 _ 0 (λ z. absurd (omega arith)))
+    (get_or-set_other s.cpu.registers 11 0 _ 0 (λ z. absurd (omega arith)))
 rax_stays s t i q e = absurd cc
 
 -- none of these is a call

@@ -38,8 +38,11 @@ plain_both d e (i ∷ a) b p q = (p.0, plain_both d e a b p.1 q)
 
 pub kept_plain : (d e : ℕ) (r : Reg) (k : ℕ) → k < 2 ^ 31
     → (k + 8 ≤ d) ⊎ ((d + 8 ≤ k) × (k + 8 ≤ d + e)) → IsPlain d e (keep_register r k)
-kept_plain d e r k lt inside = (near k lt, inr
-    (record { kept = r; offset = k; is = refl; inside = inside }))
+kept_plain d e r k lt inside = (
+  near k lt,
+  inr
+      (record { kept = r; offset = k; is = refl; inside = inside }),
+)
 
 pub fetched_plain : (d e : ℕ) (base : Reg) (k : ℕ) → k < 2 ^ 31 → IsPlain d e (fetched Rax base k)
 fetched_plain d e base k lt = (near k lt, inl refl)
@@ -49,19 +52,26 @@ pub arguments_plain : (d e : ℕ) (y : Layout) (first : ℕ) → temporary_at y 
     → AllPlain d e (arguments_code y first)
 arguments_plain d e y first lt = (
   (near (temporary_at y first) (omega arith), inl refl),
-  ((near (temporary_at y (first + 1)) (omega arith), inl refl),
-      ((near (temporary_at y (first + 2)) (omega arith), inl refl),
-      ((near (temporary_at y (first + 3)) (omega arith), inl refl), tt))),
+  (
+    (near (temporary_at y (first + 1)) (omega arith), inl refl),
+    (
+      (near (temporary_at y (first + 2)) (omega arith), inl refl),
+      ((near (temporary_at y (first + 3)) (omega arith), inl refl), tt),
+    ),
+  ),
 )
 
 -- those from the fifth on
 pub passing_plain : (d e : ℕ) (y : Layout) (first i n : ℕ) → temporary_at y (first + i + n) < 2 ^ 31
     → 8 * (i + n) ≤ d → d < 2 ^ 31 → AllPlain d e (passing_code y first i n)
 passing_plain d e y first i zero lt le small = tt
-passing_plain d e y first i (suc n) lt le small =
-    (fetched_plain d e Rsp (temporary_at y (first + i)) (omega arith),
-      (kept_plain d e Rax (8 * i) (omega arith) (inl (omega arith)),
-      passing_plain d e y first (i + 1) n (omega arith) (omega arith) small))
+passing_plain d e y first i (suc n) lt le small = (
+  fetched_plain d e Rsp (temporary_at y (first + i)) (omega arith),
+  (
+    kept_plain d e Rax (8 * i) (omega arith) (inl (omega arith)),
+    passing_plain d e y first (i + 1) n (omega arith) (omega arith) small,
+  ),
+)
 
 -- parameters
 parameter_plain : (d e : ℕ) (y : Layout) (i : ℕ) (few : Bool) → local_at y i < 2 ^ 31
@@ -69,11 +79,15 @@ parameter_plain : (d e : ℕ) (y : Layout) (i : ℕ) (few : Bool) → local_at y
     ⊎ ((d + 8 ≤ local_at y i) × (local_at y i + 8 ≤ d + e))
     → AllPlain d e (if few then keep_register (parameter_register i) (local_at y i)
     ∷ [] else fetched Rax Rsp (stack_parameter y i) ∷ keep_register Rax (local_at y i) ∷ [])
-parameter_plain d e y i true lt lt' inside = (kept_plain d e (parameter_register i) (local_at y i)
-    lt inside, tt)
-parameter_plain d e y i false lt lt' inside =
-    (fetched_plain d e Rsp (stack_parameter y i) lt',
-    (kept_plain d e Rax (local_at y i) lt inside, tt))
+parameter_plain d e y i true lt lt' inside = (
+  kept_plain d e (parameter_register i) (local_at y i)
+      lt inside,
+  tt,
+)
+parameter_plain d e y i false lt lt' inside = (
+  fetched_plain d e Rsp (stack_parameter y i) lt',
+  (kept_plain d e Rax (local_at y i) lt inside, tt),
+)
 
 pub parameters_plain : (d e : ℕ) (y : Layout) (i n : ℕ) → local_at y (i + n) < 2 ^ 31
     → stack_parameter y (i + n) < 2 ^ 31
@@ -82,7 +96,7 @@ pub parameters_plain : (d e : ℕ) (y : Layout) (i n : ℕ) → local_at y (i + 
 parameters_plain d e y i zero lt lt' inside = tt
 parameters_plain d e y i (suc n) lt lt' inside =
     plain_both d e (parameter_code y i) (parameters_code y (i + 1) n)
-      (parameter_plain d e y i (nat_lt i 4) (omega arith) (omega arith) (inside i (omega arith)))
+    (parameter_plain d e y i (nat_lt i 4) (omega arith) (omega arith) (inside i (omega arith)))
     (parameters_plain d e y (i + 1) n (omega arith) (omega arith) (λ j l. inside j (omega arith)))
 
 -- where a funclet keeps its base
@@ -90,8 +104,10 @@ pub base_plain : (d e : ℕ) (parent : Option ℕ) (b : ℕ)
     → ((away : ℕ) → parent ≡ Some away → away < 2 ^ 31) → b + 8 ≤ d → d < 2 ^ 31
     → AllPlain d e (sites.keep_base parent b)
 base_plain d e None b lt le small = (kept_plain d e Rdx b (omega arith) (inl le), tt)
-base_plain d e (Some away) b lt le small = (fetched_plain d e Rdx away (lt away refl),
-    (kept_plain d e Rax b (omega arith) (inl le), tt))
+base_plain d e (Some away) b lt le small = (
+  fetched_plain d e Rdx away (lt away refl),
+  (kept_plain d e Rax b (omega arith) (inl le), tt),
+)
 
 -- ---- a routine is entered
 
@@ -111,9 +127,9 @@ module _ (t : Functions) (fs : List Funclet) (program : LinearProgram) (p : Imag
       pub stack : register w.cpu Rsp + frame ≡ top
 
     pub entry_ran : (n : ℕ) (e w : State) (a c : List Instr) (extra : ℕ)
-      → sites.arguments_code program p name ≡ a ++ c
-      → n ≡ making_steps (p.leaf name) frame + length a → StepsTo n e w
-      → e.cpu.rip ≡ begin_of p q name → register e.cpu Rsp ≡ top
+        → sites.arguments_code program p name ≡ a ++ c
+        → n ≡ making_steps (p.leaf name) frame + length a → StepsTo n e w
+        → e.cpu.rip ≡ begin_of p q name → register e.cpu Rsp ≡ top
         → Beneath t e top from back others list → HasProgram t fs program p q e.memory
         → frame + 8 ≤ LARGEST_FRAME → LARGEST_FRAME ≤ top → from ≡ top + extra
         → AllPlain frame extra a → EntryRan n e w a
@@ -122,20 +138,20 @@ module _ (t : Functions) (fs : List Funclet) (program : LinearProgram) (p : Imag
         let h = steps_split making (length a) e w (subst (λ k. StepsTo k e w) count run) in
         let u = h.0 in
         let m = made_by t fs program p q image name b is some top from back others list e u here
-          at_top beneath has (omega arith) (p.leaf name) refl most (omega arith) h.1 in
+        at_top beneath has (omega arith) (p.leaf name) refl most (omega arith) h.1 in
         let code = code_split u.memory (begin_of p q name + making_size p q name) a c
-          (subst (HasCode u.memory (begin_of p q name + making_size p q name)) parts
-          (frame_there t fs program p q image name b is some u.memory m.has).1) in
+        (subst (HasCode u.memory (begin_of p q name + making_size p q name)) parts
+        (frame_there t fs program p q image name b is some u.memory m.has).1) in
         let finds : Finds t fs program p q top from back others list u.cpu.rip a frame = λ done left
-          split mem k.
+        split mem k.
         subst (λ x. FindsReturn t mem (x + sizes done) frame) (sym m.rip)
         (argument_found t fs program p q image name b is mem k some done (left ++ c)
-          (parts ∙ ap (λ (xs : List Instr). xs ++ c) split ∙ append_assoc done left c)) in
+        (parts ∙ ap (λ (xs : List Instr). xs ++ c) split ∙ append_assoc done left c)) in
         let r = ran t fs program p q top from back others list a u w frame extra h.2 plain
-          (subst (λ x. HasCode u.memory x a) (sym m.rip) code.0) m.has m.beneath m.stack up finds in
+        (subst (λ x. HasCode u.memory x a) (sym m.rip) code.0) m.has m.beneath m.stack up finds in
         record {
           keeps = subst (λ k. AllKeep t fs k e) (sym count)
-            (keeps_split t fs making (length a) e u h.1 m.keeps r.keeps);
+              (keeps_split t fs making (length a) e u h.1 m.keeps r.keeps);
           beneath = r.beneath;
           has = r.has;
           rip = r.rip ∙ ap (λ x. x + sizes a) m.rip;

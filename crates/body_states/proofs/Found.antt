@@ -32,6 +32,6 @@ pub begin_finds : (t : Functions) (fs : List Funclet) (program : LinearProgram) 
     → FindsReturn t m (p.address name label) (p.layout name).frame
 begin_finds t fs program p q image m name b label there has lt = elim
     (slice_get_cases b.code label).1 [
-  | inl x ↦ label_found t fs program p q image name b there m has label x.0 x.2
-  | inr x ↦ let le = x.0 in absurd (omega arith)
-]
+      | inl x ↦ label_found t fs program p q image name b there m has label x.0 x.2
+      | inr x ↦ let le = x.0 in absurd (omega arith)
+    ]

@@ -37,8 +37,13 @@ modrm_some : (w : Width) (op : Opcode) (r : ℕ) (at : RegisterOrMemory)
 unfolding modrm
 modrm_some w op r at =
     let bits = modrm_bits w r at in
-    omega (arith, opcode_some op, length-append (prefixes w bits ++ opcode_bytes op)
-      (place_bytes (r % 8) at), length-append (prefixes w bits) (opcode_bytes op))
+    omega (
+      arith,
+      opcode_some op,
+      length-append (prefixes w bits ++ opcode_bytes op)
+          (place_bytes (r % 8) at),
+      length-append (prefixes w bits) (opcode_bytes op),
+    )
 
 fetched_some : (to base : Reg) (d : ℕ) → 1 ≤ size (fetched to base d)
 unfolding size
@@ -69,8 +74,13 @@ keep_some y (Local i) = keep_local_some y.base (local_at y i)
 pub template_some : (y : Layout) (i : Instruction) → 1 ≤ template_size y i
 unfolding template_size size
 template_some y (instructions.Compute to o first second) =
-    omega (arith, fetch_some y Rax first, sizes_append (operands_code y o first second)
-      (finish_code y o to), sizes_append (fetch y Rax first) (fetch y Rcx second ++ before o))
+    omega (
+      arith,
+      fetch_some y Rax first,
+      sizes_append (operands_code y o first second)
+          (finish_code y o to),
+      sizes_append (fetch y Rax first) (fetch y Rcx second ++ before o),
+    )
 template_some y (instructions.Information to field) = let e = fetched_some Rax Rsp y.pointers in
     omega arith
 template_some y (instructions.Landing to) = keep_some y to
@@ -94,7 +104,7 @@ module _ (t : Functions) (fs : List Funclet) (program : LinearProgram) (p : Imag
   pub address_next : (name : BodyName) (b : LinearBody) (label : ℕ) → body_of program name ≡ Some b
       → label < length b.code → p.address name (label + 1)
       ≡ p.address name label + template_size (p.layout name)
-        (get_or b.code label instructions.Separator)
+      (get_or b.code label instructions.Separator)
   address_next name b label e lt =
       let a = (image.addresses name b e).labels in
       let n : label + 1 ≡ suc label = omega arith in

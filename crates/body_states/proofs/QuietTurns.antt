@@ -57,8 +57,11 @@ step_keeps s u st = record { protection = st.protection; fixed = st.fixed }
 
 code_kept : (m m' : Memory) (at : ℕ) (code : List Instr) → KeepsCode m m' → HasCode m at code
     → HasCode m' at code
-code_kept m m' at code k h = record { is_there = bytes_kept m m' at (spelled code) k.fixed
-    k.protection h.is_there; placed = h.placed }
+code_kept m m' at code k h = record {
+  is_there = bytes_kept m m' at (spelled code) k.fixed
+      k.protection h.is_there;
+  placed = h.placed;
+}
 
 thunk_kept : (m m' : Memory) (at service : ℕ) → KeepsCode m m' → HasThunk m at service
     → HasThunk m' at service
@@ -70,153 +73,159 @@ thunk_kept m m' at service k h =
       near = h.near;
       code = code_kept m m' at (thunk h.away ∷ []) k h.code;
       readable = λ a lo hi. ap (λ (f : ℕ → Protection). is_readable (f a).rights) k.protection
-        ∙ h.readable a lo hi;
+          ∙ h.readable a lo hi;
       fixed = λ a lo hi. ap (λ (f : ℕ → Protection). is_writable (f a).rights) k.protection
-        ∙ h.fixed a lo hi;
+          ∙ h.fixed a lo hi;
       bound = same_number m'.byte m.byte 8 (at + 6 + h.away) (omega arith)
-        (λ a lo hi. k.fixed a (h.fixed a lo hi)) ∙ h.bound;
+          (λ a lo hi. k.fixed a (h.fixed a lo hi)) ∙ h.bound;
     }
 
 module _ (t : Functions) (fs : List Funclet) (program : LinearProgram) (p : ImagePlan) (q : Sites)
-    where
-  service_kept : (m m' : Memory) (at : ℕ) (service : Service) → KeepsCode m m'
-      → HasService t fs program p q m at service → HasService t fs program p q m' at service
-  unfolding thunk_kept
-  service_kept m m' at service k h = record { thunk = thunk_kept m m' at (address_of service) k
-      h.thunk; inside = h.inside; slot = h.slot }
+  where
+    service_kept : (m m' : Memory) (at : ℕ) (service : Service) → KeepsCode m m'
+        → HasService t fs program p q m at service → HasService t fs program p q m' at service
+    unfolding thunk_kept
+    service_kept m m' at service k h = record {
+      thunk = thunk_kept m m' at (address_of service) k
+          h.thunk;
+      inside = h.inside;
+      slot = h.slot;
+    }
 
-  pub program_kept : (m m' : Memory) → KeepsCode m m' → HasProgram t fs program p q m
-      → HasProgram t fs program p q m'
-  program_kept m m' k h = record {
-    code = λ name b e. code_kept m m' (begin_of p q name) (code_of program p q name b) k
-      (h.code name b e);
-    thunks = λ f. service_kept m m' (q.thunk f) (service_of f) k (h.thunks f);
-    local_unwind = service_kept m m' q.local_unwind services.LocalUnwind k h.local_unwind;
-    check_stack = code_kept m m' q.check_stack check_stack k h.check_stack;
-  }
+    pub program_kept : (m m' : Memory) → KeepsCode m m' → HasProgram t fs program p q m
+        → HasProgram t fs program p q m'
+    program_kept m m' k h = record {
+      code = λ name b e. code_kept m m' (begin_of p q name) (code_of program p q name b) k
+          (h.code name b e);
+      thunks = λ f. service_kept m m' (q.thunk f) (service_of f) k (h.thunks f);
+      local_unwind = service_kept m m' q.local_unwind services.LocalUnwind k h.local_unwind;
+      check_stack = code_kept m m' q.check_stack check_stack k h.check_stack;
+    }
 
-  -- ---- a funclet's first instruction
+    -- ---- a funclet's first instruction
 
-  made_first : (size at check : ℕ) (leaf : Bool) → leaf ≡ false → size ≤ 4096
-      → frame_code size at check leaf ≡ enter_code size
-  made_first size at check leaf e small = ap (frame_code size at check) e
-      ∙ ap (making size at check) (le-leb size 4096 small)
+    made_first : (size at check : ℕ) (leaf : Bool) → leaf ≡ false → size ≤ 4096
+        → frame_code size at check leaf ≡ enter_code size
+    made_first size at check leaf e small = ap (frame_code size at check) e
+        ∙ ap (making size at check) (le-leb size 4096 small)
 
-  abbrev taking : Option (Instr × ℕ) → Bool
-  taking None = true
-  taking (Some x) = takes_frame x.0
+    abbrev taking : Option (Instr × ℕ) → Bool
+    taking None = true
+    taking (Some x) = takes_frame x.0
 
-  never_quiet : (i j : Instr) (m n : ℕ) → ◌≡◌ {A = Option (Instr × ℕ)} (Some (i, m)) (Some (j, n))
-      → takes_frame i ≡ true → takes_frame j ≡ false → ⊥
-  never_quiet i j m n e makes quiet = let z : true ≡ false = sym makes ∙ ap taking e ∙ quiet in
-      absurd cc
+    never_quiet : (i j : Instr) (m n : ℕ) → ◌≡◌ {A = Option (Instr × ℕ)} (Some (i, m)) (Some (j, n))
+        → takes_frame i ≡ true → takes_frame j ≡ false → ⊥
+    never_quiet i j m n e makes quiet = let z : true ≡ false = sym makes ∙ ap taking e ∙ quiet in
+        absurd cc
 
-  entered_by : (m : Memory) (at size : ℕ) (j : Instr) (n : ℕ) → size ≤ 4096
-      → HasCode m at (enter_code size) → leading (executable m 15 at) ≡ Some (j, n)
-      → takes_frame j ≡ false → ⊥
-  unfolding Rattle.template_code.specs.Bytes.size
-  entered_by m at size j n small code e quiet =
-      let i = instrs.Arithmetic operations.Sub W64 (places.Register Rsp)
+    entered_by : (m : Memory) (at size : ℕ) (j : Instr) (n : ℕ) → size ≤ 4096
+        → HasCode m at (enter_code size) → leading (executable m 15 at) ≡ Some (j, n)
+        → takes_frame j ≡ false → ⊥
+    unfolding Rattle.template_code.specs.Bytes.size
+    entered_by m at size j n small code e quiet =
+        let i = instrs.Arithmetic operations.Sub W64 (places.Register Rsp)
         (operands.Immediate size) in
-      let parts = bytes_split m at (chosen i) [] code.is_there in
-      let l = code.placed.low in
-      let h = code.placed.high in
-      let s : State = record { cpu = record { registers = []; rip = at; flags = no_flags };
-        memory = m } in
-      let r = reads s i (chosen i) (spells i (near size (omega arith))) (longest i) parts.0
+        let parts = bytes_split m at (chosen i) [] code.is_there in
+        let l = code.placed.low in
+        let h = code.placed.high in
+        let s : State = record {
+          cpu = record { registers = []; rip = at; flags = no_flags };
+          memory = m;
+        } in
+        let r = reads s i (chosen i) (spells i (near size (omega arith))) (longest i) parts.0
         (record { low = l; high = omega arith }) in
-      never_quiet i j (length (chosen i)) n (sym r ∙ e) refl quiet
+        never_quiet i j (length (chosen i)) n (sym r ∙ e) refl quiet
 
-  module _ (image : IsProgramImage t fs program p q) where
-    -- a funclet's first instruction makes its frame
-    pub funclet_makes : (m : Memory) (k : ℕ) (f : LinearFunclet) (j : Instr) (n : ℕ)
-      → slice_get program.funclets k ≡ Some f → HasProgram t fs program p q m
-      → leading (executable m 15 (p.funclet k)) ≡ Some (j, n) → takes_frame j ≡ false → ⊥
-    funclet_makes m k f j n there has e quiet =
-        let name = FuncletBody k in
-        let is : body_of program name ≡ Some f.body = ap funclet_body there in
-        let plan = image.laid_out name f.body is in
-        let small = plan.layout.small in
-        let y = p.layout name in
-        let first = frame_code y.frame (p.funclet k) q.check_stack (p.leaf name) in
-        let all = has.code name f.body is in
-        let entry = code_split m (p.funclet k) (entry_code program p q name)
+    module _ (image : IsProgramImage t fs program p q) where
+      -- a funclet's first instruction makes its frame
+      pub funclet_makes : (m : Memory) (k : ℕ) (f : LinearFunclet) (j : Instr) (n : ℕ)
+          → slice_get program.funclets k ≡ Some f → HasProgram t fs program p q m
+          → leading (executable m 15 (p.funclet k)) ≡ Some (j, n) → takes_frame j ≡ false → ⊥
+      funclet_makes m k f j n there has e quiet =
+          let name = FuncletBody k in
+          let is : body_of program name ≡ Some f.body = ap funclet_body there in
+          let plan = image.laid_out name f.body is in
+          let small = plan.layout.small in
+          let y = p.layout name in
+          let first = frame_code y.frame (p.funclet k) q.check_stack (p.leaf name) in
+          let all = has.code name f.body is in
+          let entry = code_split m (p.funclet k) (entry_code program p q name)
           (code_from (links_of p q name) y (p.address name 0) f.body.code) all in
-        let frame = code_split m (p.funclet k) first (arguments_code program p name) entry.0 in
-        entered_by m (p.funclet k) y.frame j n (omega arith)
+          let frame = code_split m (p.funclet k) first (arguments_code program p name) entry.0 in
+          entered_by m (p.funclet k) y.frame j n (omega arith)
           (subst (HasCode m (p.funclet k)) (made_first y.frame (p.funclet k) q.check_stack
           (p.leaf name) plan.framed (omega arith)) frame.0) e quiet
 
-    elsewhere : (s u : State) → Runs s u → HasProgram t fs program p q s.memory → (k : ℕ)
-      → k < length program.funclets → s.cpu.rip ≢ p.funclet k
-    elsewhere s u r has k lt e = elim (slice_get_cases program.funclets k).1 [
-      | inl x ↦ funclet_makes s.memory k x.0 r.instruction r.bytes x.2 has
-        (ap (λ (a : ℕ). leading (executable s.memory 15 a)) (sym e) ∙ r.read) r.inside
-      | inr x ↦ let le = x.0 in absurd (omega arith)
-    ]
+      elsewhere : (s u : State) → Runs s u → HasProgram t fs program p q s.memory → (k : ℕ)
+          → k < length program.funclets → s.cpu.rip ≢ p.funclet k
+      elsewhere s u r has k lt e = elim (slice_get_cases program.funclets k).1 [
+        | inl x ↦ funclet_makes s.memory k x.0 r.instruction r.bytes x.2 has
+            (ap (λ (a : ℕ). leading (executable s.memory 15 a)) (sym e) ∙ r.read) r.inside
+        | inr x ↦ let le = x.0 in absurd (omega arith)
+      ]
 
-    -- where a run continues inside a body, no funclet begins
-    pub quiet_here : (s u : State) (c : Cpu) → Runs s u → HasProgram t fs program p q s.memory
-      → arrivals c (distance t.base s.cpu.rip) 1 fs ≡ []
-    quiet_here s u c r has = image.funclets.none s.cpu.rip r.steps.rip_small (elsewhere s u r has) c
+      -- where a run continues inside a body, no funclet begins
+      pub quiet_here : (s u : State) (c : Cpu) → Runs s u → HasProgram t fs program p q s.memory
+          → arrivals c (distance t.base s.cpu.rip) 1 fs ≡ []
+      quiet_here s u c r has = image.funclets.none s.cpu.rip r.steps.rip_small (elsewhere s u r has) c
 
-    -- ---- turns
+      -- ---- turns
 
-    live_here : (s u : State) → Steps s u → IsLive s
-    live_here s u st = ne_eqb s.cpu.rip 0 st.live
+      live_here : (s u : State) → Steps s u → IsLive s
+      live_here s u st = ne_eqb s.cpu.rip 0 st.live
 
-    from_step : (n : ℕ) (s u w : State) → Steps s u → Reaches n u w → AllKeep t fs (suc n) s
-      → HasProgram t fs program p q s.memory → Comes t fs (suc n) s
-        (arrivals w.cpu (distance t.base w.cpu.rip) 1 fs) w
-    from_step zero s u w st e keep has = subst
-      (λ (x : State). Comes t fs 1 s (arrivals x.cpu (distance t.base x.cpu.rip) 1 fs) x) e
-      (comes_by_step t fs s u (live_here s u st) st.steps (keep u st.steps).0)
-    from_step (suc n) s u w st r keep has =
-        let kept = program_kept s.memory u.memory (step_keeps s u st) has in
-        let one : Comes t fs 1 s [] u = subst (λ (es : List Event). Comes t fs 1 s es u)
+      from_step : (n : ℕ) (s u w : State) → Steps s u → Reaches n u w → AllKeep t fs (suc n) s
+          → HasProgram t fs program p q s.memory → Comes t fs (suc n) s
+          (arrivals w.cpu (distance t.base w.cpu.rip) 1 fs) w
+      from_step zero s u w st e keep has = subst
+          (λ (x : State). Comes t fs 1 s (arrivals x.cpu (distance t.base x.cpu.rip) 1 fs) x) e
+          (comes_by_step t fs s u (live_here s u st) st.steps (keep u st.steps).0)
+      from_step (suc n) s u w st r keep has =
+          let kept = program_kept s.memory u.memory (step_keeps s u st) has in
+          let one : Comes t fs 1 s [] u = subst (λ (es : List Event). Comes t fs 1 s es u)
           (quiet_here u r.0 u.cpu r.1 kept) (comes_by_step t fs s u (live_here s u st) st.steps
           (keep u st.steps).0) in
-        let k : 1 + suc n ≡ suc (suc n) = omega arith in
-        subst (λ m. Comes t fs m s (arrivals w.cpu (distance t.base w.cpu.rip) 1 fs) w) k
-        (comes_then t fs 1 (suc n) s u w [] (arrivals w.cpu (distance t.base w.cpu.rip) 1 fs) one
+          let k : 1 + suc n ≡ suc (suc n) = omega arith in
+          subst (λ m. Comes t fs m s (arrivals w.cpu (distance t.base w.cpu.rip) 1 fs) w) k
+          (comes_then t fs 1 (suc n) s u w [] (arrivals w.cpu (distance t.base w.cpu.rip) 1 fs) one
           (from_step n u r.0 w r.1.steps r.2 (keep u st.steps).1 kept))
 
-    -- a run of at least one turn, each of which keeps the shadow, shows what its last state's RIP
-    -- arrives at
-    pub enters_comes : (n : ℕ) (s w : State) (events : List Event) → Enters (suc n) s w
-      → AllKeep t fs (suc n) s → HasProgram t fs program p q s.memory
-      → arrivals w.cpu (distance t.base w.cpu.rip) 1 fs ≡ events → Comes t fs (suc n) s events w
-    enters_comes n s w events r keep has e = subst (λ (es : List Event). Comes t fs (suc n) s es w)
-      e (from_step n s r.0 w r.1 r.2 keep has)
+      -- a run of at least one turn, each of which keeps the shadow, shows what its last state's RIP
+      -- arrives at
+      pub enters_comes : (n : ℕ) (s w : State) (events : List Event) → Enters (suc n) s w
+          → AllKeep t fs (suc n) s → HasProgram t fs program p q s.memory
+          → arrivals w.cpu (distance t.base w.cpu.rip) 1 fs ≡ events → Comes t fs (suc n) s events w
+      enters_comes n s w events r keep has e = subst (λ (es : List Event). Comes t fs (suc n) s es w)
+          e (from_step n s r.0 w r.1 r.2 keep has)
 
-    pub reaches_comes : (n : ℕ) (s w : State) (events : List Event) → Reaches (suc n) s w
-      → AllKeep t fs (suc n) s → HasProgram t fs program p q s.memory
-      → arrivals w.cpu (distance t.base w.cpu.rip) 1 fs ≡ events → Comes t fs (suc n) s events w
-    reaches_comes n s w events r keep has e = subst (λ (es : List Event). Comes t fs (suc n) s es w)
-      e (from_step n s r.0 w r.1.steps r.2 keep has)
+      pub reaches_comes : (n : ℕ) (s w : State) (events : List Event) → Reaches (suc n) s w
+          → AllKeep t fs (suc n) s → HasProgram t fs program p q s.memory
+          → arrivals w.cpu (distance t.base w.cpu.rip) 1 fs ≡ events → Comes t fs (suc n) s events w
+      reaches_comes n s w events r keep has e = subst (λ (es : List Event). Comes t fs (suc n) s es w)
+          e (from_step n s r.0 w r.1.steps r.2 keep has)
 
-    -- and nothing, where no funclet begins there
-    pub reaches_quietly : (n : ℕ) (s w : State) → Reaches n s w → AllKeep t fs n s
-      → HasProgram t fs program p q s.memory → arrivals w.cpu (distance t.base w.cpu.rip) 1 fs ≡ []
-      → Comes t fs n s [] w
-    reaches_quietly zero s w r keep has e = (refl, r)
-    reaches_quietly (suc n) s w r keep has e = reaches_comes n s w [] r keep has e
+      -- and nothing, where no funclet begins there
+      pub reaches_quietly : (n : ℕ) (s w : State) → Reaches n s w → AllKeep t fs n s
+          → HasProgram t fs program p q s.memory → arrivals w.cpu (distance t.base w.cpu.rip) 1 fs ≡ []
+          → Comes t fs n s [] w
+      reaches_quietly zero s w r keep has e = (refl, r)
+      reaches_quietly (suc n) s w r keep has e = reaches_comes n s w [] r keep has e
 
-    pub enters_quietly : (n : ℕ) (s w : State) → Enters n s w → AllKeep t fs n s
-      → HasProgram t fs program p q s.memory → arrivals w.cpu (distance t.base w.cpu.rip) 1 fs ≡ []
-      → Comes t fs n s [] w
-    enters_quietly zero s w r keep has e = (refl, r)
-    enters_quietly (suc n) s w r keep has e = enters_comes n s w [] r keep has e
+      pub enters_quietly : (n : ℕ) (s w : State) → Enters n s w → AllKeep t fs n s
+          → HasProgram t fs program p q s.memory → arrivals w.cpu (distance t.base w.cpu.rip) 1 fs ≡ []
+          → Comes t fs n s [] w
+      enters_quietly zero s w r keep has e = (refl, r)
+      enters_quietly (suc n) s w r keep has e = enters_comes n s w [] r keep has e
 
-  -- the code of the program is where a run comes to
-  pub program_reaches : (n : ℕ) (s w : State) → Reaches n s w → HasProgram t fs program p q s.memory
-      → HasProgram t fs program p q w.memory
-  program_reaches zero s w r has = subst (λ (x : State). HasProgram t fs program p q x.memory) r has
-  program_reaches (suc n) s w r has = program_reaches n r.0 w r.2
-      (program_kept s.memory r.0.memory (step_keeps s r.0 r.1.steps) has)
+    -- the code of the program is where a run comes to
+    pub program_reaches : (n : ℕ) (s w : State) → Reaches n s w → HasProgram t fs program p q s.memory
+        → HasProgram t fs program p q w.memory
+    program_reaches zero s w r has = subst (λ (x : State). HasProgram t fs program p q x.memory) r has
+    program_reaches (suc n) s w r has = program_reaches n r.0 w r.2
+        (program_kept s.memory r.0.memory (step_keeps s r.0 r.1.steps) has)
 
-  pub program_enters : (n : ℕ) (s w : State) → Enters n s w → HasProgram t fs program p q s.memory
-      → HasProgram t fs program p q w.memory
-  program_enters zero s w r has = subst (λ (x : State). HasProgram t fs program p q x.memory) r has
-  program_enters (suc n) s w r has = program_reaches n r.0 w r.2
-      (program_kept s.memory r.0.memory (step_keeps s r.0 r.1) has)
+    pub program_enters : (n : ℕ) (s w : State) → Enters n s w → HasProgram t fs program p q s.memory
+        → HasProgram t fs program p q w.memory
+    program_enters zero s w r has = subst (λ (x : State). HasProgram t fs program p q x.memory) r has
+    program_enters (suc n) s w r has = program_reaches n r.0 w r.2
+        (program_kept s.memory r.0.memory (step_keeps s r.0 r.1) has)

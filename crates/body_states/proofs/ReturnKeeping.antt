@@ -51,12 +51,12 @@ module _ (t : Functions) (fs : List Funclet) (program : LinearProgram) (p : Imag
   module _ (name : BodyName) (b : LinearBody) (is : body_of program name ≡ Some b) (label : ℕ)
       (from : Slot) (at : slice_get b.code label ≡ Some (instructions.Return from))
       (s w : State) (top back : ℕ) (others : List ℕ) (list : List StackItem)
-        (here : s.cpu.rip ≡ p.address name label)
-        (beneath : Beneath t s top (top + 8) back others list)
+      (here : s.cpu.rip ≡ p.address name label)
+      (beneath : Beneath t s top (top + 8) back others list)
       (below : register s.cpu Rsp + (p.layout name).frame ≡ top)
-        (has : HasProgram t fs program p q s.memory) (small : (p.layout name).frame < 2 ^ 31)
+      (has : HasProgram t fs program p q s.memory) (small : (p.layout name).frame < 2 ^ 31)
       (plain : AllPlain (p.layout name).frame 8 (fetch (p.layout name) Rax from))
-        (run : StepsTo (length (return_code (p.layout name) from)) s w) where
+      (run : StepsTo (length (return_code (p.layout name) from)) s w) where
     abbrev y : Layout
     y = p.layout name
 
@@ -65,47 +65,47 @@ module _ (t : Functions) (fs : List Funclet) (program : LinearProgram) (p : Imag
 
     halves : (u : State) × StepsTo (length fetching) s u × StepsTo (length (epilogue y.frame)) u w
     halves = steps_split (length fetching) (length (epilogue y.frame)) s w
-      (subst (λ n. StepsTo n s w) (length-append fetching (epilogue y.frame)) run)
+        (subst (λ n. StepsTo n s w) (length-append fetching (epilogue y.frame)) run)
 
     abbrev u : State
     u = halves.0
 
     codes : (m : Memory) → HasProgram t fs program p q m
-      → HasCode m (p.address name label) fetching
-      × HasCode m (p.address name label + sizes fetching) (epilogue y.frame)
+        → HasCode m (p.address name label) fetching
+        × HasCode m (p.address name label + sizes fetching) (epilogue y.frame)
     codes m h = code_split m (p.address name label) fetching (epilogue y.frame)
-      (template_there t fs program p q image name b is m h label (instructions.Return from) at)
+        (template_there t fs program p q image name b is m h label (instructions.Return from) at)
 
     finds : Finds t fs program p q top (top + 8) back others list s.cpu.rip fetching y.frame
     finds done left split m h = subst (λ a. FindsReturn t m (a + sizes done) y.frame) (sym here)
-      ((image.callers name b is).returns m label from done left h at split)
+        ((image.callers name b is).returns m label from done left h at split)
 
     first : Ran t fs program p q top (top + 8) back others list s u fetching
     first = ran t fs program p q top (top + 8) back others list fetching s u y.frame 8 halves.1
-      plain (subst (λ a. HasCode s.memory a fetching) (sym here) (codes s.memory has).0) has beneath
-      below refl finds
+        plain (subst (λ a. HasCode s.memory a fetching) (sym here) (codes s.memory has).0) has beneath
+        below refl finds
 
     there_is : p.address name label + sizes fetching ≡ u.cpu.rip
     there_is = omega (arith, first.rip)
 
     epilogue_found : FindsReturn t u.memory u.cpu.rip y.frame
     epilogue_found = subst (λ a. FindsReturn t u.memory a y.frame) there_is
-      ((image.callers name b is).returns u.memory label from fetching [] first.has at
-      (sym (append-nil fetching)))
+        ((image.callers name b is).returns u.memory label from fetching [] first.has at
+        (sym (append-nil fetching)))
 
     -- the return itself
     last_keeps : (v : State) → Beneath t v top (top + 8) back others list → register v.cpu Rsp ≡ top
-      → FindsReturn t v.memory v.cpu.rip 0 → HasCode v.memory v.cpu.rip (instrs.Return ∷ [])
-      → StepsTo 1 v w → AllKeep t fs 1 v
+        → FindsReturn t v.memory v.cpu.rip 0 → HasCode v.memory v.cpu.rip (instrs.Return ∷ [])
+        → StepsTo 1 v w → AllKeep t fs 1 v
     last_keeps v b' up found code r = keep_first t fs 0 v r.0 r.1.steps
-      (return_keeps_shadow t fs top (top + 8) back others list v r.0 r.1 b' up [] code found) tt
+        (return_keeps_shadow t fs top (top + 8) back others list v r.0 r.1 b' up [] code found) tt
 
     epilogue_keeps : (n : ℕ) → y.frame ≡ n → StepsTo (length (epilogue n)) u w
-      → HasCode u.memory u.cpu.rip (epilogue n) → AllKeep t fs (length (epilogue n)) u
+        → HasCode u.memory u.cpu.rip (epilogue n) → AllKeep t fs (length (epilogue n)) u
     epilogue_keeps zero e r code =
         let z = first.stack in
         last_keeps u first.beneath (omega arith)
-          (subst (λ n. FindsReturn t u.memory u.cpu.rip n) e epilogue_found) code r
+        (subst (λ n. FindsReturn t u.memory u.cpu.rip n) e epilogue_found) code r
     epilogue_keeps (suc n) e r code =
         let i = give_back (suc n) in
         let v = r.0 in
@@ -118,26 +118,26 @@ module _ (t : Functions) (fs : List Funclet) (program : LinearProgram) (p : Imag
         let below' : register u.cpu Rsp + y.frame ≡ top = omega arith in
         let up : top + 0 ≡ top = omega arith in
         let sets = rises (with_rip u next) v (suc n) top first.beneath.count at_top (omega arith)
-          (effect_here u v i (instrs.Return ∷ []) enc code st.steps) in
+        (effect_here u v i (instrs.Return ∷ []) enc code st.steps) in
         let has' = program_kept t fs program p q u.memory v.memory
-          (record { protection = st.protection; fixed = st.fixed }) first.has in
+        (record { protection = st.protection; fixed = st.fixed }) first.has in
         let found : (m : Memory) → HasProgram t fs program p q m → FindsReturn t m next 0 = λ m h.
         (let f = (image.callers name b is).ends m label from n h at e in
         let same : p.address name label + sizes fetching + size (give_back y.frame)
-          ≡ next = ap (λ k. p.address name label + sizes fetching + size (give_back k)) e
-          ∙ ap (λ k. k + size i) there_is in
+        ≡ next = ap (λ k. p.address name label + sizes fetching + size (give_back k)) e
+        ∙ ap (λ k. k + size i) there_is in
         subst (λ a. FindsReturn t m a 0) same f) in
         let k = shifts t fs top (top + 8) back others list u v st first.beneath top next y.frame 0
-          sets below' up (ap is_call (read_here u v i (instrs.Return ∷ []) enc code)) epilogue_found
-          (found v.memory has') in
+        sets below' up (ap is_call (read_here u v i (instrs.Return ∷ []) enc code)) epilogue_found
+        (found v.memory has') in
         keep_first t fs 1 u v st.steps k.keeps
-          (last_keeps v k.beneath k.stack (subst (λ a. FindsReturn t v.memory a 0) (sym k.rip)
-          (found v.memory has')) (code_next u v i (instrs.Return ∷ []) enc code st k.rip) r.2)
+        (last_keeps v k.beneath k.stack (subst (λ a. FindsReturn t v.memory a 0) (sym k.rip)
+        (found v.memory has')) (code_next u v i (instrs.Return ∷ []) enc code st k.rip) r.2)
 
     pub returns_keep : AllKeep t fs (length (return_code y from)) s
     returns_keep =
         subst (λ n. AllKeep t fs n s) (sym (length-append fetching (epilogue y.frame)))
         (keeps_split t fs (length fetching) (length (epilogue y.frame)) s u halves.1 first.keeps
         (epilogue_keeps y.frame refl halves.2
-          (subst (λ a. HasCode u.memory a (epilogue y.frame)) there_is
-          (codes u.memory first.has).1)))
+        (subst (λ a. HasCode u.memory a (epilogue y.frame)) there_is
+        (codes u.memory first.has).1)))

@@ -57,4 +57,4 @@ module _ (t : Functions) (fs : List Funclet) where
       let e : suc (m + n) ≡ suc m + n = omega arith in
       let first = before r.0 r.1.steps.steps in
       subst (λ k. AllKeep t fs k s) e (keep_first t fs (m + n) s r.0 r.1.steps.steps first.0
-        (keep_then m n r.0 u r.2 first.1 after))
+      (keep_then m n r.0 u r.2 first.1 after))

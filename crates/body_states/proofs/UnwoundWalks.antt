@@ -36,11 +36,19 @@ module _ (t : Functions) (m : Memory) where
   past_caller : (low : ℕ) (c : Context) (cs : List Context) (x : UnwindResult) → low ≤ rsp c
       → Unwinds (rsp c) cs x → Unwinds low (c ∷ cs) x
   past_caller low c cs (Finally handler frame row to) le h = let a = h.above in
-      record { above = omega arith; inner = h.inner; stack = h.stack;
-      drops = one_below (rsp to) c cs (omega arith) ∙ h.drops }
+      record {
+        above = omega arith;
+        inner = h.inner;
+        stack = h.stack;
+        drops = one_below (rsp to) c cs (omega arith) ∙ h.drops;
+      }
   past_caller low c cs (Land to) le h = let a = h.above in
-      record { above = omega arith; inner = h.inner; stack = h.stack;
-      drops = one_below (rsp to) c cs (omega arith) ∙ h.drops }
+      record {
+        above = omega arith;
+        inner = h.inner;
+        stack = h.stack;
+        drops = one_below (rsp to) c cs (omega arith) ∙ h.drops;
+      }
   past_caller low c cs (Stop why) le h = tt
 
   -- a record leaves them as they are
@@ -54,8 +62,12 @@ module _ (t : Functions) (m : Memory) where
 
   -- it ends in the frame of a context
   here : (c : Context) (is : List StackItem) → IsStack t m c is → ComesTo (rsp c) (callers c is) c
-  here c is s = record { above = omega arith; inner = is; stack = s;
-      drops = none_below (rsp c) (callers c is) (stack_rises t m c is s) }
+  here c is s = record {
+    above = omega arith;
+    inner = is;
+    stack = s;
+    drops = none_below (rsp c) (callers c is) (stack_rises t m c is s);
+  }
 
   module _ (frame target : ℕ) (c : Context) (row : ℕ) (is : List StackItem) (s : IsStack t m c is)
       (others : UnwindResult) (rest : Unwinds (rsp c) (callers c is) others) (f : CallerFrame)
@@ -65,16 +77,16 @@ module _ (t : Functions) (m : Memory) where
     by_target false = rest
 
     by_record : (b : Bool) (o : Option AskedRecord)
-      → Unwinds (rsp c) (callers c is) (decided_or others (by_row t f.frame c u b o))
+        → Unwinds (rsp c) (callers c is) (decided_or others (by_row t f.frame c u b o))
     by_record b None = by_target b
     by_record b (Some r) = here c is s
 
     in_frame_or : (b : Bool) → Unwinds (rsp c) (callers c is)
-      (decided_or others (if_past t frame target (state c row) f u b))
+        (decided_or others (if_past t frame target (state c row) f u b))
     in_frame_or true = tt
     in_frame_or false = by_record (nat_eq f.frame frame)
-      (first_finally (unwound f.asked (distance t.base c.rip) row (nat_eq f.frame frame)
-      (distance t.base target)))
+        (first_finally (unwound f.asked (distance t.base c.rip) row (nat_eq f.frame frame)
+        (distance t.base target)))
 
   along : (frame target : ℕ) (c : Context) (row : ℕ) (is : List StackItem) → IsStack t m c is
       → Unwinds (rsp c) (callers c is) (plain_unwind t frame target c row is)
@@ -84,48 +96,48 @@ module _ (t : Functions) (m : Memory) where
       let next = after_frame c f in
       let others = plain_unwind t frame target next 0 is in
       in_frame_or frame target c row (Framed f ∷ is) s others
-        (past_caller (rsp c) next (callers next is) others (omega arith)
-        (along frame target next 0 is s.1)) (caller_frame c f) (state next 0) (nat_lt frame (rsp c))
+      (past_caller (rsp c) next (callers next is) others (omega arith)
+      (along frame target next 0 is s.1)) (caller_frame c f) (state next 0) (nat_lt frame (rsp c))
   along frame target c row (Leaf back ∷ is) s =
       let up = set_head c.kept (rsp c + 8) (let k = s.0.kept in omega arith) in
       let next = after_leaf c back in
       let others = plain_unwind t frame target next 0 is in
       in_frame_or frame target c row (Leaf back ∷ is) s others
-        (past_caller (rsp c) next (callers next is) others (omega arith)
-        (along frame target next 0 is s.1)) (caller_of_leaf c back) (state next 0)
-        (nat_lt frame (rsp c))
+      (past_caller (rsp c) next (callers next is) others (omega arith)
+      (along frame target next 0 is s.1)) (caller_of_leaf c back) (state next 0)
+      (nat_lt frame (rsp c))
   along frame target c row (Searching r ∷ is) s =
       let a = s.0.above in
       past_record (rsp c) (rsp (context_of r.saved)) (callers (context_of r.saved) is)
-        (plain_unwind t frame target (context_of r.saved) 0 is) (omega arith)
-        (along frame target (context_of r.saved) 0 is s.1)
+      (plain_unwind t frame target (context_of r.saved) 0 is) (omega arith)
+      (along frame target (context_of r.saved) 0 is s.1)
   along frame target c row (Unwinding r ∷ is) s =
       let a = s.0.above in
       past_record (rsp c) (rsp r.walk) (callers r.walk is)
-        (plain_unwind t frame target r.walk r.row is) (omega arith)
-        (along frame target r.walk r.row is s.1)
+      (plain_unwind t frame target r.walk r.row is) (omega arith)
+      (along frame target r.walk r.row is s.1)
 
   module _ (frame target : ℕ) (c : Context) (row : ℕ) (is : List StackItem) (n : ℕ)
       (s : IsStack t m c is) (short : length is < n) where
     comes_to : (x : UnwindResult) → unwind n t m frame target (state c row) ≡ x
-      → Unwinds (rsp c) (callers c is) x
+        → Unwinds (rsp c) (callers c is) x
     comes_to x e = subst (Unwinds (rsp c) (callers c is))
-      (sym (unwinding_is_of_the_list t m frame target c row is n s short) ∙ e)
-      (along frame target c row is s)
+        (sym (unwinding_is_of_the_list t m frame target c row is n s short) ∙ e)
+        (along frame target c row is s)
 
     rest_of : (to : Context) (inner : List StackItem) → ComesTo (rsp c) (callers c is) to
-      → IsStack t m to inner → drop_below (rsp to) (callers c is) ≡ callers to inner
+        → IsStack t m to inner → drop_below (rsp to) (callers c is) ≡ callers to inner
     rest_of to inner h there = h.drops ∙ unique t m (state to 0) (callers to h.inner)
-      (callers to inner) (on_stack t m to 0 h.inner h.stack) (on_stack t m to 0 inner there)
+        (callers to inner) (on_stack t m to 0 h.inner h.stack) (on_stack t m to 0 inner there)
 
     -- where a `__finally` block is run, and where the unwinding lands
     pub block_callers : (handler establisher next : ℕ) (to : Context) (inner : List StackItem)
-      → unwind n t m frame target (state c row) ≡ Finally handler establisher next to
-      → IsStack t m to inner → drop_below (rsp to) (callers c is) ≡ callers to inner
+        → unwind n t m frame target (state c row) ≡ Finally handler establisher next to
+        → IsStack t m to inner → drop_below (rsp to) (callers c is) ≡ callers to inner
     block_callers handler establisher next to inner e there = rest_of to inner
-      (comes_to (Finally handler establisher next to) e) there
+        (comes_to (Finally handler establisher next to) e) there
 
     pub landing_callers : (to : Context) (inner : List StackItem)
-      → unwind n t m frame target (state c row) ≡ Land to → IsStack t m to inner
-      → drop_below (rsp to) (callers c is) ≡ callers to inner
+        → unwind n t m frame target (state c row) ≡ Land to → IsStack t m to inner
+        → drop_below (rsp to) (callers c is) ≡ callers to inner
     landing_callers to inner e there = rest_of to inner (comes_to (Land to) e) there

@@ -32,14 +32,14 @@ activated (a ∷ outer) k values lt = elim (cases_eq k (length outer)) [
   | inl e ↦
       (let n : length (locals_of outer) ≡ k = locals_count outer ∙ sym e in
       ap locals_of (first_changes a outer k values e)
-        ∙ sym (subst (λ j. slice_set (locals_of outer ++ a.values ∷ []) j values
-        ≡ locals_of outer ++ values ∷ []) n (set_last (locals_of outer) a.values values)))
+      ∙ sym (subst (λ j. slice_set (locals_of outer ++ a.values ∷ []) j values
+      ≡ locals_of outer ++ values ∷ []) n (set_last (locals_of outer) a.values values)))
   | inr e ↦
       (let small : k < length outer = omega arith in
       let n = locals_count outer in
       ap locals_of (later_changes a outer k values small)
-        ∙ ap (λ xs. xs ++ a.values ∷ []) (activated outer k values small)
-        ∙ sym (set_before (locals_of outer) (a.values ∷ []) k values (omega arith)))
+      ∙ ap (λ xs. xs ++ a.values ∷ []) (activated outer k values small)
+      ∙ sym (set_before (locals_of outer) (a.values ∷ []) k values (omega arith)))
 ]
 
 -- with the same numbers

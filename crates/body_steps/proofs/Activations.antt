@@ -23,8 +23,11 @@ use Rattle.body_steps.specs.Stores.{ActivationIsAt, ActivationsAreAt}
 
 pub locals_count : (acts : List Activation) → length (locals_of acts) ≡ length acts
 locals_count [] = refl
-locals_count (a ∷ outer) = omega (arith, length-append (locals_of outer) (a.values ∷ []),
-    locals_count outer)
+locals_count (a ∷ outer) = omega (
+  arith,
+  length-append (locals_of outer) (a.values ∷ []),
+  locals_count outer,
+)
 
 pub got_before : {A : Type 0} → (xs ys : List A) (k : ℕ) (x : A) → slice_get xs k ≡ Some x
     → slice_get (xs ++ ys) k ≡ Some x
@@ -39,9 +42,12 @@ got_last (x ∷ xs) y = got_last xs y
 pub words_shorter : (m : Memory) (at end : ℕ) (vs : List ℕ) → HoldsWords m at end vs
     → HoldsWords m at (at + 8 * length vs) vs
 words_shorter m at end [] h = omega arith
-words_shorter m at end (v ∷ vs) h = (h.0, let e : at + 8 + 8 * length vs
-    ≡ at + 8 * length (v ∷ vs) = omega arith in
-      subst (λ x. HoldsWords m (at + 8) x vs) e (words_shorter m (at + 8) end vs h.1))
+words_shorter m at end (v ∷ vs) h = (
+  h.0,
+  let e : at + 8 + 8 * length vs
+      ≡ at + 8 * length (v ∷ vs) = omega arith in
+      subst (λ x. HoldsWords m (at + 8) x vs) e (words_shorter m (at + 8) end vs h.1),
+)
 
 -- ---- the list
 
@@ -50,15 +56,24 @@ module _ (t : Functions) (fs : List Funclet) (program : LinearProgram) (p : Imag
       → ActivationIsAt t fs program p m above k base distance acts
       → ActivationIsAt t fs program p m low k base distance acts
   higher m low above k base distance acts le a = let l = a.low_end in
-      record { values = a.values; number = a.number; low_end = omega arith; high_end = a.high_end;
-      holds = a.holds }
+      record {
+        values = a.values;
+        number = a.number;
+        low_end = omega arith;
+        high_end = a.high_end;
+        holds = a.holds;
+      }
 
   one_more : (m : Memory) (low k base distance : ℕ) (a : Activation) (outer : List Activation)
       → ActivationIsAt t fs program p m low k base distance outer
       → ActivationIsAt t fs program p m low k base distance (a ∷ outer)
-  one_more m low k base distance a outer s = record { values = s.values;
-      number = got_before (locals_of outer) (a.values ∷ []) k s.values s.number;
-      low_end = s.low_end; high_end = s.high_end; holds = s.holds }
+  one_more m low k base distance a outer s = record {
+    values = s.values;
+    number = got_before (locals_of outer) (a.values ∷ []) k s.values s.number;
+    low_end = s.low_end;
+    high_end = s.high_end;
+    holds = s.holds;
+  }
 
   -- in a function's own frame
   own : (m : Memory) (y : Layout) (sp size number k base distance : ℕ) (a : Activation)
@@ -67,17 +82,17 @@ module _ (t : Functions) (fs : List Funclet) (program : LinearProgram) (p : Imag
       → ActivationIsAt t fs program p m sp k base distance (a ∷ outer)
   own m y sp size number k base distance a outer h b le =
       let at : sp + y.locals ≡ base + distance = omega
-        (arith, h.activation.base, h.activation.distance, b.base, b.distance) in
+      (arith, h.activation.base, h.activation.distance, b.base, b.distance) in
       let fit = words_fit m (sp + y.locals) (sp + size) a.values h.values in
       let n : length (locals_of outer) ≡ k = locals_count outer ∙ sym b.number in
       record {
         values = a.values;
         number = subst (λ x. slice_get (locals_of outer ++ a.values ∷ []) x ≡ Some a.values) n
-          (got_last (locals_of outer) a.values);
+            (got_last (locals_of outer) a.values);
         low_end = omega arith;
         high_end = omega arith;
         holds = subst (λ x. HoldsWords m x (x + 8 * length a.values) a.values) at
-          (words_shorter m (sp + y.locals) (sp + size) a.values h.values);
+            (words_shorter m (sp + y.locals) (sp + size) a.values h.values);
       }
 
   -- a body's activation, or one of those below it
@@ -89,12 +104,14 @@ module _ (t : Functions) (fs : List Funclet) (program : LinearProgram) (p : Imag
       → ActivationIsAt t fs program p m sp k base distance acts
   in_body m y sp size number above k base distance [] name h i le up rest = absurd i
   in_body m y sp size number above k base distance (a ∷ outer) (FunctionBody f) h (inl b) le up
-      rest = own m y sp size number k base distance a outer h b le
+      rest =
+      own m y sp size number k base distance a outer h b le
   in_body m y sp size number above k base distance (a ∷ outer) (FunctionBody f) h (inr i) le up
-      rest = one_more m sp k base distance a outer
+      rest =
+      one_more m sp k base distance a outer
       (higher m sp above k base distance outer up (rest i))
-  in_body m y sp size number above k base distance (a ∷ outer) (FuncletBody j) h i le up
-      rest = higher m sp above k base distance (a ∷ outer) up (rest i)
+  in_body m y sp size number above k base distance (a ∷ outer) (FuncletBody j) h i le up rest =
+      higher m sp above k base distance (a ∷ outer) up (rest i)
 
   pub are_there : (m : Memory) (c : Context) (is : List StackItem) (items : List Item)
       (acts : List Activation) (k base distance : ℕ) → IsStack t m c is
@@ -105,40 +122,42 @@ module _ (t : Functions) (fs : List Funclet) (program : LinearProgram) (p : Imag
   are_there m c (Framed f ∷ is) (Waits b ∷ below) acts k base distance s h i =
       let nine = s.0.kept in
       let e : rsp (after_frame c f) ≡ rsp c + f.size
-        + 8 = set_head c.kept (rsp c + f.size + 8) (omega arith) in
+      + 8 = set_head c.kept (rsp c + f.size + 8) (omega arith) in
       let l = in_stack t fs program p m (after_frame c f) is below (activations_below b.body acts)
-        s.1 h.2 in
+      s.1 h.2 in
       in_body m (p.layout b.body) (rsp c) f.size b.activation (rsp (after_frame c f)) k base
-        distance acts b.body h.0.waits.activation i (omega arith) (omega arith)
+      distance acts b.body h.0.waits.activation i (omega arith) (omega arith)
       (λ j. are_there m (after_frame c f) is below (activations_below b.body acts) k base distance
-        s.1 h.2 j)
+      s.1 h.2 j)
   are_there m c (Leaf back ∷ is) (Waits b ∷ below) acts k base distance s h i =
       let e = rises t m c (Leaf back) s.0 in
       let home = h.0.home in
       let w = words_fit m (rsp c + (p.layout b.body).temporaries) (rsp c + home_end) b.temporaries
-        h.0.waits.temporaries in
+      h.0.waits.temporaries in
       in_body m (p.layout b.body) (rsp c) (p.layout b.body).temporaries b.activation
-        (rsp (after_leaf c back)) k base distance acts b.body h.0.waits.activation i (omega arith)
-        (omega arith)
+      (rsp (after_leaf c back)) k base distance acts b.body h.0.waits.activation i (omega arith)
+      (omega arith)
       (λ j. are_there m (after_leaf c back) is below (activations_below b.body acts) k base distance
-        s.1 h.2 j)
+      s.1 h.2 j)
   are_there m c (Searching r ∷ is) (Searches exception resumption asked rest ∷ below) acts k base
       distance s h i =
       let e = rises t m c (Searching r) s.0 in
-        higher m (rsp c) (rsp (context_of r.saved)) k base distance acts (omega arith)
-        (are_there m (context_of r.saved) is below acts k base distance s.1 h.1 i)
+      higher m (rsp c) (rsp (context_of r.saved)) k base distance acts (omega arith)
+      (are_there m (context_of r.saved) is below acts k base distance s.1 h.1 i)
   are_there m c (Unwinding r ∷ is) (Unwinds rest target ∷ below) acts k base distance s h i =
       let e = rises t m c (Unwinding r) s.0 in
-        higher m (rsp c) (rsp r.walk) k base distance acts (omega arith)
-        (are_there m r.walk is below acts k base distance s.1 h.1 i)
+      higher m (rsp c) (rsp r.walk) k base distance acts (omega arith)
+      (are_there m r.walk is below acts k base distance s.1 h.1 i)
   are_there m c [] (j ∷ items) acts k base distance s h i = absurd h
   are_there m c (Framed f ∷ is) [] acts k base distance s h i = absurd h
   are_there m c (Framed f ∷ is) (Searches exception resumption asked rest ∷ below) acts k base
-      distance s h i = absurd h
+      distance s h i =
+      absurd h
   are_there m c (Framed f ∷ is) (Unwinds rest target ∷ below) acts k base distance s h i = absurd h
   are_there m c (Leaf back ∷ is) [] acts k base distance s h i = absurd h
   are_there m c (Leaf back ∷ is) (Searches exception resumption asked rest ∷ below) acts k base
-      distance s h i = absurd h
+      distance s h i =
+      absurd h
   are_there m c (Leaf back ∷ is) (Unwinds rest target ∷ below) acts k base distance s h i = absurd h
   are_there m c (Searching r ∷ is) [] acts k base distance s h i = absurd h
   are_there m c (Searching r ∷ is) (Waits b ∷ below) acts k base distance s h i = absurd h
@@ -147,7 +166,8 @@ module _ (t : Functions) (fs : List Funclet) (program : LinearProgram) (p : Imag
   are_there m c (Unwinding r ∷ is) [] acts k base distance s h i = absurd h
   are_there m c (Unwinding r ∷ is) (Waits b ∷ below) acts k base distance s h i = absurd h
   are_there m c (Unwinding r ∷ is) (Searches exception resumption asked rest ∷ below) acts k base
-      distance s h i = absurd h
+      distance s h i =
+      absurd h
 
 pub activations_are_at : (t : Functions) (fs : List Funclet) (program : LinearProgram)
     (p : ImagePlan) → ActivationsAreAt t fs program p

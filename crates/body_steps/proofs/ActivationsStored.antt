@@ -13,7 +13,7 @@ with_count [] k values = refl
 with_count (a ∷ outer) k values = by (k == length outer) (with_count outer k values)
   where
     by : (b : Bool) → length (with_values outer k values) ≡ length outer
-      → length (with_values_if b a outer values (with_values outer k values)) ≡ length (a ∷ outer)
+        → length (with_values_if b a outer values (with_values outer k values)) ≡ length (a ∷ outer)
     by true e = refl
     by false e = ap suc e
 
@@ -32,13 +32,16 @@ still_is (a ∷ outer) k values j base distance i = by (k == length outer) i
     (λ h. still_is outer k values j base distance h)
   where
     by : (b : Bool) → IsActivation (a ∷ outer) j base distance
-      → (IsActivation outer j base distance → IsActivation (with_values outer k values) j base
+        → (IsActivation outer j base distance → IsActivation (with_values outer k values) j base
         distance) → IsActivation (with_values_if b a outer values (with_values outer k values)) j
         base distance
     by true (inl h) rest = inl (record { number = h.number; base = h.base; distance = h.distance })
     by true (inr h) rest = inr h
-    by false (inl h) rest = inl (record { number = h.number ∙ sym (with_count outer k values);
-      base = h.base; distance = h.distance })
+    by false (inl h) rest = inl (record {
+      number = h.number ∙ sym (with_count outer k values);
+      base = h.base;
+      distance = h.distance;
+    })
     by false (inr h) rest = inr (rest h)
 
 -- the first one, and one of the others

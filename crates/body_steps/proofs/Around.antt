@@ -89,9 +89,12 @@ module _ (program : LinearProgram) where
       → WorksOn program f name (owners_of below)
       → (k : ℕ) × (owner_of program name ≡ Some k)
       × (slice_get (with_own name (owners_of below)) f.activation ≡ Some k)
-  owner_here (FunctionBody k) f below h = (k, refl,
-      subst (λ i. slice_get (owners_of below ++ k ∷ []) i ≡ Some k) (sym h)
-      (at_end (owners_of below) k))
+  owner_here (FunctionBody k) f below h = (
+    k,
+    refl,
+    subst (λ i. slice_get (owners_of below ++ k ∷ []) i ≡ Some k) (sym h)
+        (at_end (owners_of below) k),
+  )
   owner_here (FuncletBody k) f below h = (h.0, h.1, h.2)
 
   locals_are : (store : List (List ℕ)) (i : ℕ) (locals : List ℕ) → slice_get store i ≡ Some locals
@@ -106,25 +109,25 @@ module _ (t : Functions) (fs : List Funclet) (program : LinearProgram) (p : Imag
       → slice_get program.functions k ≡ Some function → function.body.locals ≡ b.locals
   as_many (FunctionBody f) b k function there owner is =
       ap (λ (x : LinearBody). x.locals) (function_body_is (slice_get program.functions f) function b
-        (subst (λ i. slice_get program.functions i ≡ Some function) (sym (some_is f k owner)) is)
-        there)
+      (subst (λ i. slice_get program.functions i ≡ Some function) (sym (some_is f k owner)) is)
+      there)
   as_many (FuncletBody f) b k function there owner is =
       let plan : IsFuncletPlan program p f b = image.laid_out (FuncletBody f) b there in
       let same : plan.funclet.function ≡ k = some_is plan.funclet.function k
-        (sym (ap function_of plan.there) ∙ owner) in
+      (sym (ap function_of plan.there) ∙ owner) in
       ap (λ (x : LinearBody). x.locals) (function_body_is
-        (slice_get program.functions plan.funclet.function) function plan.function
-        (subst (λ i. slice_get program.functions i ≡ Some function) (sym same) is)
-        plan.function_there)
+      (slice_get program.functions plan.funclet.function) function plan.function
+      (subst (λ i. slice_get program.functions i ≡ Some function) (sym same) is)
+      plan.function_there)
       ∙ sym plan.same_locals
 
   pub counted_here : (c : Configuration) → IsKnown program c → IsCounted t fs program p q image c
   counted_here c known b there =
       let own = owner_here program c.frame.body c.frame c.below known.activations.working.0 in
       let stored = owned program (owners_of (Waits c.frame ∷ c.below)) c.store.activations
-        c.frame.activation own.0 known.activations.stored own.2 in
+      c.frame.activation own.0 known.activations.stored own.2 in
       ap length (locals_are program c.store.activations c.frame.activation stored.0 stored.1)
-        ∙ stored.2.count ∙ as_many c.frame.body b own.0 stored.2.function there own.1 stored.2.there
+      ∙ stored.2.count ∙ as_many c.frame.body b own.0 stored.2.function there own.1 stored.2.there
 
   -- ---- what waits below
 
@@ -136,7 +139,7 @@ module _ (t : Functions) (fs : List Funclet) (program : LinearProgram) (p : Imag
   calls_with_frame w k first count at true e =
       let b = body_there (body_of program w.body) w.next (instructions.Call k first count) at in
       let no : true ≡ false = made.leaves w.body b.0 w.next (instructions.Call k first count) b.1 e
-        (label_in (body_of program w.body) b.0 w.next (instructions.Call k first count) b.1 at) in
+      (label_in (body_of program w.body) b.0 w.next (instructions.Call k first count) b.1 at) in
       no
 
   pub leaf_or_funclet : (c : Configuration) (b : LinearBody) (name : BodyName)
@@ -174,86 +177,86 @@ module _ (t : Functions) (fs : List Funclet) (program : LinearProgram) (p : Imag
       (owner_waits k below (activations_below w.body acts) h.2) w.body refl h.0.at n frames
     where
       by : (length (activations_below w.body acts) ≡ length (owners_of below)
-        → HaveFrames k (owners_of below) → OwnerHasFrame t fs program p k below
+          → HaveFrames k (owners_of below) → OwnerHasFrame t fs program p k below
           (activations_below w.body acts)) → (name : BodyName) → w.body ≡ name
-        → IsAt program w h.0.instruction → length acts ≡ length (with_own name (owners_of below))
-        → HaveFrames k (with_own name (owners_of below))
-        → OwnerHasFrame t fs program p k (Waits w ∷ below) acts
+          → IsAt program w h.0.instruction → length acts ≡ length (with_own name (owners_of below))
+          → HaveFrames k (with_own name (owners_of below))
+          → OwnerHasFrame t fs program p k (Waits w ∷ below) acts
       by again (FunctionBody f) name at n frames =
           let m = below_count acts (length (owners_of below))
-            (n ∙ length-append (owners_of below) (f ∷ [])
-            ∙ (let o : length (owners_of below) + 1
-            ≡ suc (length (owners_of below)) = omega arith in o)) in
+          (n ∙ length-append (owners_of below) (f ∷ [])
+          ∙ (let o : length (owners_of below) + 1
+          ≡ suc (length (owners_of below)) = omega arith in o)) in
           let same : length (activations_below w.body acts)
-            ≡ length (activations_below (FunctionBody f) acts) = ap
-              (λ x. length (activations_below x acts)) name in (
+          ≡ length (activations_below (FunctionBody f) acts) = ap
+          (λ x. length (activations_below x acts)) name in (
             λ e. ap p.leaf name ∙ frames f (subst
-              (λ i. slice_get (owners_of below ++ f ∷ []) i ≡ Some f) (sym (e ∙ same ∙ m))
-              (at_end (owners_of below) f)),
+                (λ i. slice_get (owners_of below ++ f ∷ []) i ≡ Some f) (sym (e ∙ same ∙ m))
+                (at_end (owners_of below) f)),
             again (same ∙ m) (λ g e. frames g (in_front (owners_of below) f k g e)),
           )
       by again (FuncletBody j) name at n frames =
           let b = body_there (body_of program w.body) w.next h.0.instruction at in
           let plan : IsFuncletPlan program p j b.0 = image.laid_out (FuncletBody j) b.0
-            (subst (λ x. body_of program x ≡ Some b.0) name b.1) in
+          (subst (λ x. body_of program x ≡ Some b.0) name b.1) in
           let same : length (activations_below w.body acts)
-            ≡ length acts = ap (λ x. length (activations_below x acts)) name in
+          ≡ length acts = ap (λ x. length (activations_below x acts)) name in
           (λ e. ap p.leaf name ∙ plan.framed, again (same ∙ n) frames)
 
   module _ (s : State) (c : Configuration) (b : Begins t fs program p q s c)
       (known : IsKnown program c) where
     owner_here_framed : (k : ℕ) → c.frame.body ≡ FuncletBody k
-      → OwnerHasFrame t fs program p c.frame.activation c.below b.body.acts
+        → OwnerHasFrame t fs program p c.frame.activation c.below b.body.acts
     owner_here_framed k name =
         let plan : IsFuncletPlan program p k b.body.slots.code = image.laid_out (FuncletBody k)
-          b.body.slots.code (subst (λ x. body_of program x ≡ Some b.body.slots.code) name
-          b.body.slots.body) in
+        b.body.slots.code (subst (λ x. body_of program x ≡ Some b.body.slots.code) name
+        b.body.slots.body) in
         let works : WorksOn program c.frame (FuncletBody k) (owners_of c.below) = subst
-          (λ x. WorksOn program c.frame x (owners_of c.below)) name known.activations.working.0 in
+        (λ x. WorksOn program c.frame x (owners_of c.below)) name known.activations.working.0 in
         let function : plan.funclet.function ≡ works.0 = some_is plan.funclet.function works.0
-          (sym (ap function_of plan.there) ∙ works.1) in
+        (sym (ap function_of plan.there) ∙ works.1) in
         let n = owned_count program (owners_of (Waits c.frame ∷ c.below)) c.store.activations
-          known.activations.stored in
+        known.activations.stored in
         let names : length (with_own c.frame.body (owners_of c.below))
-          ≡ length (owners_of c.below) = ap (λ x. length (with_own x (owners_of c.below))) name in
+        ≡ length (owners_of c.below) = ap (λ x. length (with_own x (owners_of c.below))) name in
         owner_waits c.frame.activation c.below b.body.acts known.stacked.below
-          (sym (locals_count b.body.acts) ∙ sym (ap length b.body.store) ∙ sym n ∙ names)
+        (sym (locals_count b.body.acts) ∙ sym (ap length b.body.store) ∙ sym n ∙ names)
         (λ f e. ap (λ x. p.leaf (FunctionBody x))
-          (sym (some_is works.0 f (sym works.2 ∙ e)) ∙ sym function) ∙ plan.function_framed)
+        (sym (some_is works.0 f (sym works.2 ∙ e)) ∙ sym function) ∙ plan.function_framed)
 
     -- all that the steps ask of what is around
     pub around_here : Surroundings t fs program p q image made.room s c b (counted_here c known)
     around_here = record {
       caller = λ leaf. leaf_or_funclet c b.body.slots.code c.frame.body b.body.slots.body leaf
-        known.stacked.above;
+          known.stacked.above;
       owner = owner_here_framed;
     }
 
     -- the instruction that the configuration is at is in the body's code
     pub code_at : (i : Instruction) → instruction_at program c ≡ Some i
-      → slice_get (code t fs program p q image made.room s c b (counted_here c known)).code
+        → slice_get (code t fs program p q image made.room s c b (counted_here c known)).code
         c.frame.next ≡ Some i
     code_at i e = label_in (body_of program c.frame.body) b.body.slots.code c.frame.next i
-      b.body.slots.body e
+        b.body.slots.body e
 
     pub held_here : length c.frame.temporaries
-      ≤ (code t fs program p q image made.room s c b (counted_here c known)).temporaries
+        ≤ (code t fs program p q image made.room s c b (counted_here c known)).temporaries
     held_here =
         let d = made.room c.frame.body b.body.slots.code b.body.slots.body in
         let here : length c.frame.temporaries
-          ≡ depth_at b.body.slots.code.code c.frame.next = known.depths.held
-          ∙ ap (λ o. depth_in o c.frame.next) b.body.slots.body in
+        ≡ depth_at b.body.slots.code.code c.frame.next = known.depths.held
+        ∙ ap (λ o. depth_in o c.frame.next) b.body.slots.body in
         let most = d.depths c.frame.next in
         omega arith
 
     pub goes_inside : (i : Instruction) → instruction_at program c ≡ Some i
-      → GoesInside t fs program p q image made.room s c b (counted_here c known) around_here i
+        → GoesInside t fs program p q image made.room s c b (counted_here c known) around_here i
     goes_inside i e d goes o there =
         let g = known.next i d e goes in
         slice_get_within o.code d.frame.next g.instruction
-          (label_in (body_of program d.frame.body) o d.frame.next g.instruction there g.at)
+        (label_in (body_of program d.frame.body) o d.frame.next g.instruction there g.at)
 
     -- what an instruction needs is there
     pub ready_here : (i : Instruction) → instruction_at program c ≡ Some i → IsReady program c i
     ready_here i e = subst (IsReady program c)
-      (some_is known.continues.instruction i (sym known.continues.at ∙ e)) known.continues.ready
+        (some_is known.continues.instruction i (sym known.continues.at ∙ e)) known.continues.ready

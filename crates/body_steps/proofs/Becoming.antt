@@ -37,15 +37,15 @@ words_are m at end (v ∷ vs) le h = (
 
 -- a memory after a change of a body's slots, and of bytes where the source may look
 pub record Changed (globals : List ℕ) (s u : State) (y : Layout) (n : Counts) (sp base : ℕ) : Type 0
-    where
-  pub changes : Changes y n (is_reserved globals) sp base s.memory u.memory
-  pub keeps : Keeps s u
+  where
+    pub changes : Changes y n (is_reserved globals) sp base s.memory u.memory
+    pub keeps : Keeps s u
 
 module _ (globals : List ℕ) (s u : State) (y : Layout) (n : Counts) (sp k : ℕ)
     (acts : List Activation) (placed : SlotsPlaced s.memory y n.temporaries sp k acts)
     (count : length placed.values ≡ n.locals)
     (changed : Changed globals s u y n sp placed.base) (data_alone : IsData s.memory)
-      (may : (a : ℕ) → STACK_START ≤ a → a < STACK_END → may_write s.memory a ≡ true) where
+    (may : (a : ℕ) → STACK_START ≤ a → a < STACK_END → may_write s.memory a ≡ true) where
   pub protection_same : (a : ℕ) → u.memory.protection a ≡ s.memory.protection a
   protection_same a = ap (λ (f : ℕ → Protection). f a) changed.keeps.protection
 
@@ -65,9 +65,9 @@ module _ (globals : List ℕ) (s u : State) (y : Layout) (n : Counts) (sp k : �
       → word s.memory at ≡ Ok v → word u.memory at ≡ Ok v
   word_beside at v l h out w =
       word_of u.memory at v (omega arith) (λ a x z. may_read_written u.memory a
-        (stack_written a (omega arith) (omega arith)))
+      (stack_written a (omega arith) (omega arith)))
       (same_number u.memory.byte s.memory.byte 8 at (omega arith)
-        (λ a x z. beside_slots a (omega arith) (omega arith) (out a x z)) ∙ word_is s.memory at v w)
+      (λ a x z. beside_slots a (omega arith) (omega arith) (out a x z)) ∙ word_is s.memory at v w)
 
   -- a slot's word
   pub slot_word : (at v : ℕ) → STACK_START ≤ at → at + 8 ≤ STACK_END
@@ -89,15 +89,17 @@ module _ (globals : List ℕ) (s u : State) (y : Layout) (n : Counts) (sp k : �
   no_more_code x e = ap (λ (q : Protection). q.execute) (protection_same x) ∙ e
 
   pub stays_data : IsData u.memory
-  stays_data = record { bytes = changed.changes.bytes data_alone.bytes;
-      no_code = λ x w. no_more_code x (data_alone.no_code x
-      (ap (λ (q : Protection). is_writable q.rights) (sym (protection_same x)) ∙ w)) }
+  stays_data = record {
+    bytes = changed.changes.bytes data_alone.bytes;
+    no_code = λ x w. no_more_code x (data_alone.no_code x
+        (ap (λ (q : Protection). is_writable q.rights) (sym (protection_same x)) ∙ w));
+  }
 
   pub image_kept : KeepsImage globals s.memory u.memory
   image_kept = record {
     byte = λ a l h own. changed.changes.byte a own
-      (λ i. let r = in_stack_slots s.memory y n sp k acts a placed count i in let b = r.1 in
-      absurd (omega arith));
+        (λ i. let r = in_stack_slots s.memory y n sp k acts a placed count i in let b = r.1 in
+        absurd (omega arith));
     protection = λ a l h own. protection_same a;
   }
 
@@ -106,8 +108,11 @@ module _ (globals : List ℕ) (s u : State) (y : Layout) (n : Counts) (sp k : �
       → placed.base + y.locals + 8 * n.locals ≤ low → KeepsStack s.memory u.memory low
   stack_kept low start t l = record {
     bytes = λ x from h. beside_slots x (omega arith) h
-      (λ i. elim i [ inl z ↦ (let b = z.1 in absurd (omega arith)) | inr
-      z ↦ (let b = z.1 in absurd (omega arith)) ]);
+        (λ i. elim i [
+          | inl z ↦ (let b = z.1 in absurd (omega arith))
+          | inr
+              z ↦ (let b = z.1 in absurd (omega arith))
+        ]);
     protection = λ x from h. protection_same x;
     code = code_same;
     no_more_code = no_more_code;
@@ -116,12 +121,15 @@ module _ (globals : List ℕ) (s u : State) (y : Layout) (n : Counts) (sp k : �
   -- the stack above the temporaries, but for the locals of an activation further up
   pub stack_kept_but : (low : ℕ) → STACK_START ≤ low → sp + y.temporaries + 8 * n.temporaries ≤ low
       → KeepsStackBut s.memory u.memory low (placed.base + y.locals)
-        (placed.base + y.locals + 8 * n.locals)
+      (placed.base + y.locals + 8 * n.locals)
   stack_kept_but low start t = record {
     bytes = λ x from h out. beside_slots x (omega arith) h
-      (λ i. elim i [ inl z ↦ (let b = z.1 in absurd (omega arith)) | inr
-      z ↦ (let a = z.0 in let b = z.1 in elim out
-      [ inl o ↦ absurd (omega arith) | inr o ↦ absurd (omega arith) ]) ]);
+        (λ i. elim i [
+          | inl z ↦ (let b = z.1 in absurd (omega arith))
+          | inr
+              z ↦ (let a = z.0 in let b = z.1 in elim out
+              [ inl o ↦ absurd (omega arith) | inr o ↦ absurd (omega arith) ])
+        ]);
     protection = λ x from h. protection_same x;
     code = code_same;
     no_more_code = no_more_code;

@@ -66,13 +66,20 @@ some_code : (y : Layout) (to : Slot) (o : Operation) (first second : Slot)
     → 1 ≤ length (compute_code y to o first second)
 some_code y to o first second =
     let f = some_fetch y Rax first in
-    omega (arith, length-append (fetch y Rax first ++ (fetch y Rcx second ++ before o))
-      (finish_code y o to), length-append (fetch y Rax first) (fetch y Rcx second ++ before o))
+    omega (
+      arith,
+      length-append (fetch y Rax first ++ (fetch y Rcx second ++ before o))
+          (finish_code y o to),
+      length-append (fetch y Rax first) (fetch y Rcx second ++ before o),
+    )
 
 -- a temporary is the last one after it is written
 exactly : (ts : List ℕ) (i value : ℕ) → i ≤ length ts → length (take i ts ++ value ∷ []) ≡ i + 1
-exactly ts i value le = omega (arith, length-append (take i ts) (value ∷ []),
-    length-take-le i ts le)
+exactly ts i value le = omega (
+  arith,
+  length-append (take i ts) (value ∷ []),
+  length-take-le i ts le,
+)
 
 -- a constant reads nothing
 pub same_constant : (reserved : ℕ → Bool) (o : Operation) (a b x y : ℕ) (m : Memory)
@@ -105,27 +112,27 @@ module _ (t : Functions) (fs : List Funclet) (program : LinearProgram) (p : Imag
   unfolding with_some
   operands_read to o first second true e f g hf hg next =
       ap (λ z. with_some c.events (operand z c first)
-        (λ a. with_some c.events (operand z c second)
-        (λ b. computed program next to c (performed (is_reserved program.globals) o a b
-        c.store.memory)))) e
+      (λ a. with_some c.events (operand z c second)
+      (λ b. computed program next to c (performed (is_reserved program.globals) o a b
+      c.store.memory)))) e
       ∙ ap (computed program next to c) (same_constant (is_reserved program.globals) o 0 0
-        (now.slots first) (now.slots second) c.store.memory e)
+      (now.slots first) (now.slots second) c.store.memory e)
   operands_read to o first second false e f g hf hg next =
       let x = is_read t fs program p q image roomy s c b counted around first f hf in
       let y = is_read t fs program p q image roomy s c b counted around second g hg in
       ap (λ z. with_some c.events (operand z c first)
-        (λ a. with_some c.events (operand z c second)
-        (λ b. computed program next to c (performed (is_reserved program.globals) o a b
-        c.store.memory)))) e
+      (λ a. with_some c.events (operand z c second)
+      (λ b. computed program next to c (performed (is_reserved program.globals) o a b
+      c.store.memory)))) e
       ∙ ap (λ z. with_some c.events z (λ a. with_some c.events (read c second)
-        (λ b. computed program next to c (performed (is_reserved program.globals) o a b
-        c.store.memory)))) x.reads
+      (λ b. computed program next to c (performed (is_reserved program.globals) o a b
+      c.store.memory)))) x.reads
       ∙ ap (λ z. with_some c.events z (λ b. computed program next to c
-        (performed (is_reserved program.globals) o x.value b c.store.memory))) y.reads
+      (performed (is_reserved program.globals) o x.value b c.store.memory))) y.reads
       ∙ ap (λ z. computed program next to c (performed (is_reserved program.globals) o z y.value
-        c.store.memory)) (sym x.same)
+      c.store.memory)) (sym x.same)
       ∙ ap (λ z. computed program next to c (performed (is_reserved program.globals) o
-        (now.slots first) z c.store.memory)) (sym y.same)
+      (now.slots first) z c.store.memory)) (sym y.same)
 
   -- linear code with a number in a slot and another memory, at the next instruction
   abbrev pub stored : Slot → ℕ → Memory → Configuration
@@ -145,20 +152,20 @@ module _ (t : Functions) (fs : List Funclet) (program : LinearProgram) (p : Imag
       → length c.frame.temporaries ≤ body.temporaries → FitsAfter c.frame.temporaries to
       → IsSlot (counts_of body) to
       → Leaves body (record { slots = with_slot now.slots to value; memory = m })
-        (locals_after (linear.locals_of c.store c.frame.activation) to value)
-        (temporaries_after c.frame.temporaries to value)
+      (locals_after (linear.locals_of c.store c.frame.activation) to value)
+      (temporaries_after c.frame.temporaries to value)
   leaves_stored to value m held fits there =
       let all = slots_here t fs program p q image s c b counted in
       let n : length (linear.locals_of c.store c.frame.activation)
-        ≡ body.locals = ap length (locals_here t fs program p q image s c b counted)
-        ∙ count t fs program p q image s c b counted in
+      ≡ body.locals = ap length (locals_here t fs program p q image s c b counted)
+      ∙ count t fs program p q image s c b counted in
       record {
         count = locals_count_after (linear.locals_of c.store c.frame.activation) to value ∙ n;
         locals = λ i lt. local_after now.slots (linear.locals_of c.store c.frame.activation) to
-          value i (omega arith) (all.locals i lt);
+            value i (omega arith) (all.locals i lt);
         few = written_fits to held fits there value;
         temporaries = λ i w e. temporary_after now.slots c.frame.temporaries to value i w fits
-          all.temporaries e;
+            all.temporaries e;
       }
 
   -- linear code writes a slot, in another memory
@@ -170,32 +177,36 @@ module _ (t : Functions) (fs : List Funclet) (program : LinearProgram) (p : Imag
   writes (Temporary i) value m fits next =
       let d : Configuration = record c { store = record c.store { memory = m } } in
       ap (λ z. with_some c.events (with_temporaries d
-        (if z then Some (take i c.frame.temporaries ++ value ∷ []) else None))
-        (λ e. next (forth e))) (le-leb i (length c.frame.temporaries) fits)
-      ∙ ap (λ xs. let o : Configuration = record { frame = record c.frame
-        { next = c.frame.next + 1; temporaries = take i c.frame.temporaries ++ value ∷ [] };
-        below = c.below; store = record { memory = m; activations = xs }; events = c.events } in
-        next o) (sym (same_store_here))
+      (if z then Some (take i c.frame.temporaries ++ value ∷ []) else None))
+      (λ e. next (forth e))) (le-leb i (length c.frame.temporaries) fits)
+      ∙ ap (λ xs. let o : Configuration = record {
+        frame = record c.frame
+            { next = c.frame.next + 1; temporaries = take i c.frame.temporaries ++ value ∷ [] };
+        below = c.below;
+        store = record { memory = m; activations = xs };
+        events = c.events;
+      } in
+      next o) (sym (same_store_here))
     where
       same_store_here : slice_set c.store.activations c.frame.activation
-        (linear.locals_of c.store c.frame.activation) ≡ c.store.activations
+          (linear.locals_of c.store c.frame.activation) ≡ c.store.activations
       same_store_here = ap (slice_set c.store.activations c.frame.activation)
-        (locals_here t fs program p q image s c b counted)
-        ∙ same_store t fs program p q image roomy s c b counted around
+          (locals_here t fs program p q image s c b counted)
+          ∙ same_store t fs program p q image roomy s c b counted around
 
   -- it isn't stuck, so that the slot is the next one at most
   pub fits_when_read : (to : Slot) (value : ℕ) (m : Memory)
       → HasRule (written (record c { store = record c.store { memory = m } }) to value
-        (exec program zero)) → FitsAfter c.frame.temporaries to
+      (exec program zero)) → FitsAfter c.frame.temporaries to
   unfolding with_some
   fits_when_read (Local x) value m h = tt
   fits_when_read (Temporary i) value m h = by (nat_le i (length c.frame.temporaries)) refl h
     where
       by : (z : Bool) → nat_le i (length c.frame.temporaries) ≡ z
           → HasRule (with_some c.events (with_temporaries
-            (record c { store = record c.store { memory = m } })
-            (if z then Some (take i c.frame.temporaries ++ value ∷ []) else None))
-            (λ e. exec program zero (forth e))) → i ≤ length c.frame.temporaries
+          (record c { store = record c.store { memory = m } })
+          (if z then Some (take i c.frame.temporaries ++ value ∷ []) else None))
+          (λ e. exec program zero (forth e))) → i ≤ length c.frame.temporaries
       by true e h = leb-true i (length c.frame.temporaries) e
       by false e h = absurd h
 
@@ -207,52 +218,52 @@ module _ (t : Functions) (fs : List Funclet) (program : LinearProgram) (p : Imag
       → ready.IsRead (is_constant o) (length c.frame.temporaries) second
       → HasRule (act program (instructions.Compute to o first second) (exec program zero) c)
       → GoesInside t fs program p q image roomy s c b counted around
-        (instructions.Compute to o first second)
+      (instructions.Compute to o first second)
       → outcome_here o first second ≡ Gives value m
       → Moves t fs program 16 turns_left (Begins t fs program p q) s c
-        (instructions.Compute to o first second)
+      (instructions.Compute to o first second)
   compute_step to o first second value m free e held hf hg rule inside gives =
       let there = has_slots t fs program p q image roomy s c b counted
-        (instructions.Compute to o first second) e in
+      (instructions.Compute to o first second) e in
       let reads = operands_read to o first second (is_constant o) refl there.1 there.2 hf hg in
       let fits = fits_when_read to value m (subst HasRule
-        (reads (exec program zero) ∙ ap (computed program (exec program zero) to c) gives) rule) in
+      (reads (exec program zero) ∙ ap (computed program (exec program zero) to c) gives) rule) in
       let acts : (next : Next) → act program (instructions.Compute to o first second) next c
-        ≡ next (stored to value m) = λ next. reads next ∙ ap (computed program next to c) gives
-        ∙ writes to value m fits next in
+      ≡ next (stored to value m) = λ next. reads next ∙ ap (computed program next to c) gives
+      ∙ writes to value m fits next in
       let lt = inside (stored to value m) acts body b.body.slots.body in
       let at = next_address t fs program p q image roomy s c b counted
-        (instructions.Compute to o first second) e in
+      (instructions.Compute to o first second) e in
       let small = label_small t fs program p q image roomy s c b counted around (c.frame.next + 1)
-        lt in
+      lt in
       let run : Computed (frame t fs program p q image roomy s c b counted) to o first second
-        (v t fs program p q image roomy s c b counted) s.cpu.rip s.cpu.flags now
-        (kept to now.slots (Gives value m)) =
+      (v t fs program p q image roomy s c b counted) s.cpu.rip s.cpu.flags now
+      (kept to now.slots (Gives value m)) =
       subst (λ x. Computed (frame t fs program p q image roomy s c b counted) to o first second
-        (v t fs program p q image roomy s c b counted) s.cpu.rip s.cpu.flags now
-        (kept to now.slots x)) gives
+      (v t fs program p q image roomy s c b counted) s.cpu.rip s.cpu.flags now
+      (kept to now.slots x)) gives
       (compute_run (frame t fs program p q image roomy s c b counted) to o first second
-        (v t fs program p q image roomy s c b counted) s.cpu.rip s.cpu.flags now
-        (room_here t fs program p q image s c b counted) there.0 there.1 there.2
-        (sp_is t fs program p q image roomy s c b counted)
-        (holds_here t fs program p q image s c b counted)
+      (v t fs program p q image roomy s c b counted) s.cpu.rip s.cpu.flags now
+      (room_here t fs program p q image s c b counted) there.0 there.1 there.2
+      (sp_is t fs program p q image roomy s c b counted)
+      (holds_here t fs program p q image s c b counted)
       (template_here t fs program p q image roomy s c b counted
-        (instructions.Compute to o first second) e)) in
+      (instructions.Compute to o first second) e)) in
       let y = p.layout c.frame.body in
       let len = compute_length y to o first second in
       let more = one_more c.frame.temporaries to value fits in
       moves_to t fs program p q image roomy s c b counted around
-        (instructions.Compute to o first second) (length (compute_code y to o first second))
-        (c.frame.next + 1) (s.cpu.rip + sizes (compute_code y to o first second))
+      (instructions.Compute to o first second) (length (compute_code y to o first second))
+      (c.frame.next + 1) (s.cpu.rip + sizes (compute_code y to o first second))
       (record { slots = with_slot now.slots to value; memory = m })
-        (locals_after (linear.locals_of c.store c.frame.activation) to value)
-        (temporaries_after c.frame.temporaries to value) c.frame.landed
+      (locals_after (linear.locals_of c.store c.frame.activation) to value)
+      (temporaries_after c.frame.temporaries to value) c.frame.landed
       (from_here t fs program p q image roomy s c b counted around
-        (length (compute_code y to o first second))
-        (s.cpu.rip + sizes (compute_code y to o first second))
-        (record { slots = with_slot now.slots to value; memory = m }) run)
+      (length (compute_code y to o first second))
+      (s.cpu.rip + sizes (compute_code y to o first second))
+      (record { slots = with_slot now.slots to value; memory = m }) run)
       (let z = compute_size y to o first second in omega arith) lt
-        (let z = compute_size y to o first second in omega arith)
-        (leaves_stored to value m held fits there.0) free
-        (compute_keeps t fs program p q image roomy s c b counted around to o first second e value m
-        gives) acts (some_code y to o first second) (omega arith)
+      (let z = compute_size y to o first second in omega arith)
+      (leaves_stored to value m held fits there.0) free
+      (compute_keeps t fs program p q image roomy s c b counted around to o first second e value m
+      gives) acts (some_code y to o first second) (omega arith)

@@ -28,14 +28,14 @@ module _ (m m' : Memory) (t : Functions) (fs : List Funclet) (program : LinearPr
   module _ (c : Context) (keeps : KeepsStackBut m m' (rsp c) (rsp c) (rsp c + 32))
       (start : STACK_START ≤ rsp c) where
     pub home_is_free : (is : List StackItem) (items : List Item) (acts : List Activation)
-      → CallerHasFrame p items → IsLinkedStack t fs program p m c is items acts
-      → IsLinkedStack t fs program p m' c is items acts
+        → CallerHasFrame p items → IsLinkedStack t fs program p m c is items acts
+        → IsLinkedStack t fs program p m' c is items acts
     home_is_free [] [] acts o s = record { stack = s.stack; linked = s.linked }
     home_is_free (Framed f ∷ is) [] acts o s = absurd s.linked
     home_is_free (Leaf back ∷ is) [] acts o s = absurd s.linked
     home_is_free (Searching d ∷ is) [] acts o s = absurd s.linked
     home_is_free (Unwinding d ∷ is) [] acts o s = absurd s.linked
     home_is_free is (Waits b ∷ below) acts o s = outgoing_is_free m m' t fs program p laid 32 c
-      keeps start is b below acts (λ code e. omega arith) o s
+        keeps start is b below acts (λ code e. omega arith) o s
     home_is_free is (Searches exception resumption asked rest ∷ below) acts o s = absurd o
     home_is_free is (Unwinds rest target ∷ below) acts o s = absurd o

@@ -82,13 +82,20 @@ module _ (t : Functions) (fs : List Funclet) (program : LinearProgram) (p : Imag
   writes (Local x) value fits next = refl
   writes (Temporary i) value fits next =
       ap (λ z. with_some c.events (with_temporaries (not_landed c)
-        (if z then Some (take i c.frame.temporaries ++ value ∷ []) else None))
-        (λ e. next (forth e))) (le-leb i (length c.frame.temporaries) fits)
-      ∙ ap (λ xs. let o : Configuration = record { frame = record c.frame
-        { next = c.frame.next + 1; temporaries = take i c.frame.temporaries ++ value ∷ [];
-        landed = None }; below = c.below; store =
-        record { memory = c.store.memory; activations = xs }; events = c.events } in next o)
-        (sym same)
+      (if z then Some (take i c.frame.temporaries ++ value ∷ []) else None))
+      (λ e. next (forth e))) (le-leb i (length c.frame.temporaries) fits)
+      ∙ ap (λ xs. let o : Configuration = record {
+        frame = record c.frame {
+          next = c.frame.next + 1;
+          temporaries = take i c.frame.temporaries ++ value ∷ [];
+          landed = None;
+        };
+        below = c.below;
+        store =
+            record { memory = c.store.memory; activations = xs };
+        events = c.events;
+      } in next o)
+      (sym same)
 
   lands : (to : Slot) (value : ℕ) → c.frame.landed ≡ Some value → FitsAfter c.frame.temporaries to
       → (next : Next) → act program (instructions.Landing to) next c ≡ next (taken_over to value)
@@ -103,39 +110,39 @@ module _ (t : Functions) (fs : List Funclet) (program : LinearProgram) (p : Imag
       → Moves t fs program 16 turns_left (Begins t fs program p q) s c (instructions.Landing to)
   landing_step to value landed small e held next inside =
       let there = has_slots t fs program p q image roomy s c b counted (instructions.Landing to)
-        e in
+      e in
       let fits = fits_next to next in
       let acts = lands to value landed fits in
       let lt = inside (taken_over to value) acts body b.body.slots.body in
       let at = next_address t fs program p q image roomy s c b counted (instructions.Landing to)
-        e in
+      e in
       let near = label_small t fs program p q image roomy s c b counted around (c.frame.next + 1)
-        lt in
+      lt in
       let y = p.layout c.frame.body in
       let rax : register s.cpu Rax ≡ value = b.landed value landed in
       let run = call_ends (frame t fs program p q image roomy s c b counted) to
-        (v t fs program p q image roomy s c b counted) s.cpu.rip s.cpu.flags now
-        (room_here t fs program p q image s c b counted) there (omega arith)
-        (sp_is t fs program p q image roomy s c b counted)
-        (holds_here t fs program p q image s c b counted)
+      (v t fs program p q image roomy s c b counted) s.cpu.rip s.cpu.flags now
+      (room_here t fs program p q image s c b counted) there (omega arith)
+      (sp_is t fs program p q image roomy s c b counted)
+      (holds_here t fs program p q image s c b counted)
       (template_here t fs program p q image roomy s c b counted (instructions.Landing to) e) in
       let len = keep_length y to in
       let more = one_more c.frame.temporaries to value fits in
       let size = landing_size y to in
       moves_to t fs program p q image roomy s c b counted around (instructions.Landing to)
-        (length (keep y to)) (c.frame.next + 1) (s.cpu.rip + sizes (keep y to))
-        (record { slots = with_slot now.slots to value; memory = c.store.memory })
+      (length (keep y to)) (c.frame.next + 1) (s.cpu.rip + sizes (keep y to))
+      (record { slots = with_slot now.slots to value; memory = c.store.memory })
       (locals_after (linear.locals_of c.store c.frame.activation) to value)
-        (temporaries_after c.frame.temporaries to value) None
+      (temporaries_after c.frame.temporaries to value) None
       (from_here t fs program p q image roomy s c b counted around (length (keep y to))
-        (s.cpu.rip + sizes (keep y to)) (record
-        { slots = with_slot now.slots to value; memory = c.store.memory })
+      (s.cpu.rip + sizes (keep y to)) (record
+      { slots = with_slot now.slots to value; memory = c.store.memory })
       (subst (λ x. ReachesBody (frame t fs program p q image roomy s c b counted)
-        (length (keep y to)) (machine (v t fs program p q image roomy s c b counted) s.cpu.rip
-        s.cpu.flags) (s.cpu.rip + sizes (keep y to))
-        (v t fs program p q image roomy s c b counted).rest
-        (record { slots = with_slot now.slots to x; memory = c.store.memory })) rax run))
+      (length (keep y to)) (machine (v t fs program p q image roomy s c b counted) s.cpu.rip
+      s.cpu.flags) (s.cpu.rip + sizes (keep y to))
+      (v t fs program p q image roomy s c b counted).rest
+      (record { slots = with_slot now.slots to x; memory = c.store.memory })) rax run))
       (omega arith) lt (omega arith) (leaves_stored t fs program p q image roomy s c b counted
-        around to value c.store.memory held fits there) refl
-        (landing_keeps t fs program p q image roomy s c b counted to e) acts (some_keep y to)
-        (omega arith)
+      around to value c.store.memory held fits there) refl
+      (landing_keeps t fs program p q image roomy s c b counted to e) acts (some_keep y to)
+      (omega arith)

@@ -41,16 +41,21 @@ code_there m m' at (b ∷ bytes) same h =
         executes = ap (λ (x : Protection). x.execute) e ∙ h.0.executes;
         fixed = ap (λ (x : Protection). is_writable x.rights) e ∙ h.0.fixed;
       },
-      code_there m m' (at + 1) bytes (record { byte = λ a l u. same.byte a (omega arith)
-        (omega arith); protection = λ a l u. same.protection a (omega arith) (omega arith) }) h.1,
+      code_there m m' (at + 1) bytes (record {
+        byte = λ a l u. same.byte a (omega arith)
+            (omega arith);
+        protection = λ a l u. same.protection a (omega arith) (omega arith);
+      }) h.1,
     )
 
 pub has_code_there : (m m' : Memory) (at : ℕ) (code : List Instr)
     → SameThere m m' at (at + sizes code) → HasCode m at code → HasCode m' at code
 has_code_there m m' at code same h = record {
   is_there = code_there m m' at (spelled code)
-      (let e = sizes_spelled code in record { byte = λ a l u. same.byte a l (omega arith);
-      protection = λ a l u. same.protection a l (omega arith) }) h.is_there;
+      (let e = sizes_spelled code in record {
+        byte = λ a l u. same.byte a l (omega arith);
+        protection = λ a l u. same.protection a l (omega arith);
+      }) h.is_there;
   placed = h.placed;
 }
 
@@ -62,69 +67,75 @@ pub record KeepsImage (globals : List ℕ) (m m' : Memory) : Type 0 where
       → m'.protection a ≡ m.protection a
 
 module _ (t : Functions) (fs : List Funclet) (program : LinearProgram) (p : ImagePlan) (q : Sites)
-    where
-  there : (m m' : Memory) (from to : ℕ) → KeepsImage program.globals m m'
-      → IsInImage t fs program p q from to → SameThere m m' from to
-  there m m' from to keeps inside =
-      let low = inside.low in
-      let high = inside.high in
-      record {
-        byte = λ a l u. keeps.byte a (omega arith) (omega arith) (inside.own a l u);
-        protection = λ a l u. keeps.protection a (omega arith) (omega arith) (inside.own a l u);
-      }
+  where
+    there : (m m' : Memory) (from to : ℕ) → KeepsImage program.globals m m'
+        → IsInImage t fs program p q from to → SameThere m m' from to
+    there m m' from to keeps inside =
+        let low = inside.low in
+        let high = inside.high in
+        record {
+          byte = λ a l u. keeps.byte a (omega arith) (omega arith) (inside.own a l u);
+          protection = λ a l u. keeps.protection a (omega arith) (omega arith) (inside.own a l u);
+        }
 
-  thunk_there : (m m' : Memory) (at service : ℕ) (h : HasThunk m at service)
-      → SameThere m m' at (at + 6) → SameThere m m' (at + 6 + h.away) (at + 6 + h.away + 8)
-      → HasThunk m' at service
-  thunk_there m m' at service h code slot =
-      let near = h.near in
-      let high = h.code.placed.high in
-      record {
-        away = h.away;
-        near = h.near;
-        code = has_code_there m m' at (thunk h.away ∷ [])
-          (let e = thunk_size h.away in record { byte = λ a l u. code.byte a l (omega arith);
-          protection = λ a l u. code.protection a l (omega arith) }) h.code;
-        readable = λ a l u. ap (λ (x : Protection). is_readable x.rights) (slot.protection a l u)
-          ∙ h.readable a l u;
-        fixed = λ a l u. ap (λ (x : Protection). is_writable x.rights) (slot.protection a l u)
-          ∙ h.fixed a l u;
-        bound = same_number m'.byte m.byte 8 (at + 6 + h.away) (omega arith) slot.byte ∙ h.bound;
-      }
+    thunk_there : (m m' : Memory) (at service : ℕ) (h : HasThunk m at service)
+        → SameThere m m' at (at + 6) → SameThere m m' (at + 6 + h.away) (at + 6 + h.away + 8)
+        → HasThunk m' at service
+    thunk_there m m' at service h code slot =
+        let near = h.near in
+        let high = h.code.placed.high in
+        record {
+          away = h.away;
+          near = h.near;
+          code = has_code_there m m' at (thunk h.away ∷ [])
+              (let e = thunk_size h.away in record {
+                byte = λ a l u. code.byte a l (omega arith);
+                protection = λ a l u. code.protection a l (omega arith);
+              }) h.code;
+          readable = λ a l u. ap (λ (x : Protection). is_readable x.rights) (slot.protection a l u)
+              ∙ h.readable a l u;
+          fixed = λ a l u. ap (λ (x : Protection). is_writable x.rights) (slot.protection a l u)
+              ∙ h.fixed a l u;
+          bound = same_number m'.byte m.byte 8 (at + 6 + h.away) (omega arith) slot.byte ∙ h.bound;
+        }
 
-  service_there : (m m' : Memory) (at : ℕ) (service : Service) → KeepsImage program.globals m m'
-      → HasService t fs program p q m at service → HasService t fs program p q m' at service
-  unfolding thunk_there
-  service_there m m' at service keeps h = record {
-    thunk = thunk_there m m' at (address_of service) h.thunk (there m m' at (at + 6) keeps h.inside)
-      (there m m' (at + 6 + h.thunk.away) (at + 6 + h.thunk.away + 8) keeps h.slot);
-    inside = h.inside;
-    slot = h.slot;
-  }
+    service_there : (m m' : Memory) (at : ℕ) (service : Service) → KeepsImage program.globals m m'
+        → HasService t fs program p q m at service → HasService t fs program p q m' at service
+    unfolding thunk_there
+    service_there m m' at service keeps h = record {
+      thunk = thunk_there m m' at (address_of service) h.thunk (there m m' at (at + 6) keeps h.inside)
+          (there m m' (at + 6 + h.thunk.away) (at + 6 + h.thunk.away + 8) keeps h.slot);
+      inside = h.inside;
+      slot = h.slot;
+    }
 
-  module _ (image : IsProgramImage t fs program p q) where
-    code_size : (name : BodyName) (b : LinearBody) → body_of program name ≡ Some b
-      → begin_of p q name + sizes (code_of program p q name b)
-      ≡ p.address name 0 + body_size (p.layout name) b.code
-    code_size name b e =
-        let a = image.addresses name b e in
-        omega (arith, a.first, sizes_append (entry_code program p q name)
-          (code_from (links_of p q name) (p.layout name) (p.address name 0) b.code),
-          body_sizes (links_of p q name) (p.layout name) (p.address name 0) b.code)
+    module _ (image : IsProgramImage t fs program p q) where
+      code_size : (name : BodyName) (b : LinearBody) → body_of program name ≡ Some b
+          → begin_of p q name + sizes (code_of program p q name b)
+          ≡ p.address name 0 + body_size (p.layout name) b.code
+      code_size name b e =
+          let a = image.addresses name b e in
+          omega (
+            arith,
+            a.first,
+            sizes_append (entry_code program p q name)
+                (code_from (links_of p q name) (p.layout name) (p.address name 0) b.code),
+            body_sizes (links_of p q name) (p.layout name) (p.address name 0) b.code,
+          )
 
-    pub program_stays : (m m' : Memory) → KeepsImage program.globals m m'
-      → HasProgram t fs program p q m → HasProgram t fs program p q m'
-    program_stays m m' keeps h = record {
-      code = λ name b e.
-          let inside = there m m' (begin_of p q name)
+      pub program_stays : (m m' : Memory) → KeepsImage program.globals m m'
+          → HasProgram t fs program p q m → HasProgram t fs program p q m'
+      program_stays m m' keeps h = record {
+        code = λ name b e.
+            let inside = there m m' (begin_of p q name)
             (p.address name 0 + body_size (p.layout name) b.code) keeps
             (image.addresses name b e).inside in
-          has_code_there m m' (begin_of p q name) (code_of program p q name b)
+            has_code_there m m' (begin_of p q name) (code_of program p q name b)
             (subst (SameThere m m' (begin_of p q name)) (sym (code_size name b e)) inside)
             (h.code name b e);
-      thunks = λ f. service_there m m' (q.thunk f) (service_of f) keeps (h.thunks f);
-      local_unwind = service_there m m' q.local_unwind services.LocalUnwind keeps h.local_unwind;
-      check_stack = has_code_there m m' q.check_stack check_stack
-        (there m m' q.check_stack (q.check_stack + sizes check_stack) keeps image.check_stack)
-        h.check_stack;
-    }
+        thunks = λ f. service_there m m' (q.thunk f) (service_of f) keeps (h.thunks f);
+        local_unwind = service_there m m' q.local_unwind services.LocalUnwind keeps h.local_unwind;
+        check_stack = has_code_there m m' q.check_stack check_stack
+            (there m m' q.check_stack (q.check_stack + sizes check_stack) keeps image.check_stack)
+            h.check_stack;
+      }

@@ -30,8 +30,12 @@ keeps_then s t u a b = record {
 }
 
 pub step_keeps : (s u : State) → Steps s u → Keeps s u
-step_keeps s u r = record { protection = r.protection; fixed = r.fixed; count = r.count;
-    small = r.small }
+step_keeps s u r = record {
+  protection = r.protection;
+  fixed = r.fixed;
+  count = r.count;
+  small = r.small;
+}
 
 pub reaches_keeps : (n : ℕ) (s u : State) → Reaches n s u → Keeps s u
 reaches_keeps zero s u r = keeps_nothing s u r
@@ -54,5 +58,8 @@ are_all (r ∷ rs) h zero lt = h.0
 are_all (r ∷ rs) h (suc j) lt = are_all rs h.1 j (omega arith)
 
 pub stays_sane : (s u : State) → Keeps s u → u.cpu.rip < 2 ^ 64 → IsSane s → IsSane u
-stays_sane s u k lt h = record { rip_small = lt; count = k.count ∙ h.count;
-    small = are_all u.cpu.registers (k.small (all_are s.cpu.registers h.small)) }
+stays_sane s u k lt h = record {
+  rip_small = lt;
+  count = k.count ∙ h.count;
+  small = are_all u.cpu.registers (k.small (all_are s.cpu.registers h.small));
+}

@@ -108,48 +108,48 @@ module _ (t : Functions) (fs : List Funclet) (program : LinearProgram) (p : Imag
 
     -- the instructions, one after another
     pub body_code : HasCode s.memory (p.address name 0)
-      (code_from (links_of p q name) y (p.address name 0) code.code)
+        (code_from (links_of p q name) y (p.address name 0) code.code)
     body_code =
         let a = image.addresses name code b.body.slots.body in
         let h = code_split s.memory (begin_of p q name) (entry_code program p q name)
-          (code_from (links_of p q name) y (p.address name 0) code.code)
-          (b.memory.code.code name code b.body.slots.body) in
+        (code_from (links_of p q name) y (p.address name 0) code.code)
+        (b.memory.code.code name code b.body.slots.body) in
         subst (λ x. HasCode s.memory x (code_from (links_of p q name) y (p.address name 0)
-          code.code)) (sym a.first) h.1
+        code.code)) (sym a.first) h.1
 
     -- the template of an instruction
     pub template_here : (i : Instruction) → slice_get code.code c.frame.next ≡ Some i
-      → HasCode s.memory s.cpu.rip (template (links_of p q name) y s.cpu.rip i)
+        → HasCode s.memory s.cpu.rip (template (links_of p q name) y s.cpu.rip i)
     template_here i e =
         let a = image.addresses name code b.body.slots.body in
         let g = get_or_is code.code c.frame.next i instructions.Separator e in
         let at : p.address name 0 + offset_of y code.code c.frame.next
-          ≡ s.cpu.rip = sym (a.labels c.frame.next) ∙ sym b.rip in
+        ≡ s.cpu.rip = sym (a.labels c.frame.next) ∙ sym b.rip in
         subst (λ x. HasCode s.memory x (template (links_of p q name) y x i)) at
         (subst (λ j. HasCode s.memory (p.address name 0 + offset_of y code.code c.frame.next)
-          (template (links_of p q name) y (p.address name 0 + offset_of y code.code c.frame.next)
-          j)) g.0
+        (template (links_of p q name) y (p.address name 0 + offset_of y code.code c.frame.next)
+        j)) g.0
         (template_placed (links_of p q name) y s.memory (p.address name 0) code.code c.frame.next
-          instructions.Separator body_code g.1))
+        instructions.Separator body_code g.1))
 
     pub has_slots : (i : Instruction) → slice_get code.code c.frame.next ≡ Some i
-      → HasSlots (counts_of code) i
+        → HasSlots (counts_of code) i
     has_slots i e = each (HasSlots (counts_of code)) code.code c.frame.next i
-      (roomy name code b.body.slots.body).slots e
+        (roomy name code b.body.slots.body).slots e
 
     -- the next instruction is right after the template
     pub next_address : (i : Instruction) → slice_get code.code c.frame.next ≡ Some i
-      → p.address name (c.frame.next + 1) ≡ s.cpu.rip + template_size y i
+        → p.address name (c.frame.next + 1) ≡ s.cpu.rip + template_size y i
     next_address i e =
         let a = image.addresses name code b.body.slots.body in
         let g = get_or_is code.code c.frame.next i instructions.Separator e in
         let o = offset_next y code.code c.frame.next instructions.Separator g.1 in
         let z : template_size y (get_or code.code c.frame.next instructions.Separator)
-          ≡ template_size y i = ap (template_size y) g.0 in
+        ≡ template_size y i = ap (template_size y) g.0 in
         let n : offset_of y code.code (c.frame.next + 1)
-          ≡ offset_of y code.code (suc c.frame.next) =
-            (let k : c.frame.next + 1 ≡ suc c.frame.next = omega arith in
-            ap (offset_of y code.code) k) in
+        ≡ offset_of y code.code (suc c.frame.next) =
+        (let k : c.frame.next + 1 ≡ suc c.frame.next = omega arith in
+        ap (offset_of y code.code) k) in
         omega (arith, a.labels (c.frame.next + 1), a.labels c.frame.next, b.rip, n, o, z)
 
     pub sp_is : sp_of v ≡ register s.cpu Rsp
@@ -157,7 +157,7 @@ module _ (t : Functions) (fs : List Funclet) (program : LinearProgram) (p : Imag
 
     -- what the template of the instruction here does
     pub done : (i : Instruction) → slice_get code.code c.frame.next ≡ Some i
-      → InstructionDone frame (links_of p q name) v s.cpu.rip s.cpu.flags slots i
+        → InstructionDone frame (links_of p q name) v s.cpu.rip s.cpu.flags slots i
         (step frame.reserved i slots)
     done i e =
         let a = image.addresses name code b.body.slots.body in
@@ -165,62 +165,66 @@ module _ (t : Functions) (fs : List Funclet) (program : LinearProgram) (p : Imag
         let high = a.inside.high in
         let g = get_or_is code.code c.frame.next i instructions.Separator e in
         let at : p.address name 0 + offset_of y code.code c.frame.next
-          ≡ s.cpu.rip = sym (a.labels c.frame.next) ∙ sym b.rip in
+        ≡ s.cpu.rip = sym (a.labels c.frame.next) ∙ sym b.rip in
         let first = a.first in
         subst (λ j. InstructionDone frame (links_of p q name) v s.cpu.rip s.cpu.flags slots j
-          (step frame.reserved j slots)) g.0
+        (step frame.reserved j slots)) g.0
         (subst (λ x. InstructionDone frame (links_of p q name) v x s.cpu.flags slots
-          (get_or code.code c.frame.next instructions.Separator)
-          (step frame.reserved (get_or code.code c.frame.next instructions.Separator) slots)) at
+        (get_or code.code c.frame.next instructions.Separator)
+        (step frame.reserved (get_or code.code c.frame.next instructions.Separator) slots)) at
         (body_instruction_run frame (links_of p q name) (p.address name 0) code.code c.frame.next v
-          s.cpu.flags slots (room_here t fs program p q image s c b counted) a.labels (omega arith)
-          (omega arith) g.1
+        s.cpu.flags slots (room_here t fs program p q image s c b counted) a.labels (omega arith)
+        (omega arith) g.1
         (subst (HasSlots (counts_of code)) (sym g.0) (has_slots i e)) sp_is
-          (holds_here t fs program p q image s c b counted) body_code))
+        (holds_here t fs program p q image s c b counted) body_code))
 
     -- ---- a turn of linear code that stays in the body
 
     -- RIP at an instruction is at no funclet's first byte
     pub quiet_at : (label rip : ℕ) → rip ≡ p.address name label → label < length code.code
-      → rip < 2 ^ 64 → (u : State) → u.cpu.rip ≡ rip
-      → arrivals u.cpu (distance t.base u.cpu.rip) 1 fs ≡ []
+        → rip < 2 ^ 64 → (u : State) → u.cpu.rip ≡ rip
+        → arrivals u.cpu (distance t.base u.cpu.rip) 1 fs ≡ []
     quiet_at label rip at lt small u here =
         let a = image.addresses name code b.body.slots.body in
         subst (λ r. arrivals u.cpu (distance t.base r) 1 fs ≡ []) (sym here)
-          (image.funclets.none rip small (λ k inside e. a.not_first label k lt inside (sym at ∙ e))
-          u.cpu)
+        (image.funclets.none rip small (λ k inside e. a.not_first label k lt inside (sym at ∙ e))
+        u.cpu)
 
     -- what holds below of a leaf's caller, and of the activation of a funclet
     pub record Surroundings : Type 0 where
       pub caller : p.leaf c.frame.body ≡ true → CallerHasFrame p c.below
       pub owner : (k : ℕ) → c.frame.body ≡ FuncletBody k
-        → OwnerHasFrame t fs program p c.frame.activation c.below b.body.acts
+          → OwnerHasFrame t fs program p c.frame.activation c.below b.body.acts
 
     module _ (around : Surroundings) where
       -- a run of so many turns to an instruction of the body, with these slots
       pub to_label : (n label rip : ℕ) (d : BodyState) (values ts : List ℕ) (landed : Option ℕ)
-        (events : List Event) → ReachesBody frame n s rip v.rest d → rip ≡ p.address name label
-        → label < length code.code → rip < 2 ^ 64 → Leaves code d values ts → landed ≡ None
+          (events : List Event) → ReachesBody frame n s rip v.rest d → rip ≡ p.address name label
+          → label < length code.code → rip < 2 ^ 64 → Leaves code d values ts → landed ≡ None
           → RunsKeep t fs program p q image s c b counted n s
           → (u : State) × (Comes t fs n s [] u)
           × (Begins t fs program p q u (further t fs program p q image c b.body.acts label values ts
-            landed d.memory events))
+          landed d.memory events))
       to_label n label rip d values ts landed events r at lt small leaves free keep =
           let u : State = machine r.after rip r.flags in
           let keeps = reaches_keeps n s u r.comes in
           let sp : register u.cpu Rsp ≡ register s.cpu Rsp = ap (λ (xs : List ℕ). slice_index xs 1)
-            r.rest ∙ dropped s.cpu.registers in
+          r.rest ∙ dropped s.cpu.registers in
           let ran : Ran t fs program p q image s c b counted u d values
-            ts = record { changed = record { changes = r.changes; keeps = keeps }; holds = r.holds;
-            stack = sp; leaves = leaves } in
+          ts = record {
+            changed = record { changes = r.changes; keeps = keeps };
+            holds = r.holds;
+            stack = sp;
+            leaves = leaves;
+          } in
           let kept = kept_by_rest r.after.rest s.cpu.registers r.rest in
           let ends = ends_at t fs program p q image s c b counted u label at lt kept
-            (is_after t fs program p q image s c b counted u d values ts ran around.caller
-            around.owner) in (
+          (is_after t fs program p q image s c b counted u d values ts ran around.caller
+          around.owner) in (
             u,
             reaches_quietly t fs program p q image n s u r.comes (keep u r.comes ends) b.memory.code
-              (quiet_at label rip at lt small u refl),
+                (quiet_at label rip at lt small u refl),
             begins_next t fs program p q image s c b counted u d values ts ran label landed events
-              at lt (stays_sane s u keeps small b.sane)
-              (λ value e. absurd (nothing landed value free e)) around.caller around.owner,
+                at lt (stays_sane s u keeps small b.sane)
+                (λ value e. absurd (nothing landed value free e)) around.caller around.owner,
           )

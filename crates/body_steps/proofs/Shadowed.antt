@@ -87,9 +87,12 @@ module _ (t : Functions) (fs : List Funclet) (program : LinearProgram) (p : Imag
   enough = let h = frame_top t fs program p q image s c b counted in omega arith
 
   pub is_here : Below s.memory
-  is_here = record { program_there = b.memory.code; returns = b.body.returns;
-      beyond = on_stack t s.memory caller_here 0 b.body.is
-      (b.body.below (drop 1 kept_here) refl).is_there.stack }
+  is_here = record {
+    program_there = b.memory.code;
+    returns = b.body.returns;
+    beyond = on_stack t s.memory caller_here 0 b.body.is
+        (b.body.below (drop 1 kept_here) refl).is_there.stack;
+  }
 
   -- after a run of a template
   pub is_after : (u : State) (d : BodyState) (values ts : List ℕ)
@@ -99,12 +102,12 @@ module _ (t : Functions) (fs : List Funclet) (program : LinearProgram) (p : Imag
       → OwnerHasFrame t fs program p c.frame.activation c.below b.body.acts) → Below u.memory
   is_after u d values ts r caller owner = record {
     program_there = program_kept t fs program p q s.memory u.memory
-      (record { protection = r.changed.keeps.protection; fixed = r.changed.keeps.fixed })
-      b.memory.code;
+        (record { protection = r.changed.keeps.protection; fixed = r.changed.keeps.fixed })
+        b.memory.code;
     returns = returns t fs program p q image s c b counted u d values ts r;
     beyond = on_stack t u.memory caller_here 0 b.body.is
-      (new_on t fs program p q image s c b counted u d values ts r caller owner (drop 1 kept_here)
-      refl).is_there.stack;
+        (new_on t fs program p q image s c b counted u d values ts r caller owner (drop 1 kept_here)
+        refl).is_there.stack;
   }
 
   -- where no reserved byte has changed the slots are as they were
@@ -113,25 +116,31 @@ module _ (t : Functions) (fs : List Funclet) (program : LinearProgram) (p : Imag
       → (IsBytes s.memory → IsBytes u.memory) → Agrees (is_reserved program.globals) u.memory source
       → register u.cpu Rsp ≡ register s.cpu Rsp
       → Ran t fs program p q image s c b counted u
-        (record { slots = (state_of program p s c
-        (placed t fs program p q image s c b counted).base).slots; memory = source })
-        (placed t fs program p q image s c b counted).values []
+      (record {
+        slots = (state_of program p s c
+            (placed t fs program p q image s c b counted).base).slots;
+        memory = source;
+      })
+      (placed t fs program p q image s c b counted).values []
   ran_same u source keeps own bytes agrees sp =
       let base = (placed t fs program p q image s c b counted).base in
       let room = room_here t fs program p q image s c b counted in
       let w = slots_here t fs program p q image s c b counted in
       record {
-        changed = record { changes = changes_same layout_here (counts_of code_here)
-          (is_reserved program.globals) (register s.cpu Rsp) base room s.memory u.memory own
-          keeps.protection bytes; keeps = keeps };
+        changed = record {
+          changes = changes_same layout_here (counts_of code_here)
+              (is_reserved program.globals) (register s.cpu Rsp) base room s.memory u.memory own
+              keeps.protection bytes;
+          keeps = keeps;
+        };
         holds = holds_same layout_here (counts_of code_here) (is_reserved program.globals)
-          (register s.cpu Rsp) base room s.memory u.memory source (state_of program p s c base) own
-          keeps.protection agrees (holds_here t fs program p q image s c b counted);
+            (register s.cpu Rsp) base room s.memory u.memory source (state_of program p s c base) own
+            keeps.protection agrees (holds_here t fs program p q image s c b counted);
         stack = sp;
         leaves = record {
           count = count t fs program p q image s c b counted;
           locals = λ i lt. w.locals i lt ∙ ap (λ xs. slice_index xs i)
-            (locals_here t fs program p q image s c b counted);
+              (locals_here t fs program p q image s c b counted);
           few = omega arith;
           temporaries = λ i v e. cc;
         };
@@ -153,8 +162,8 @@ module _ (t : Functions) (fs : List Funclet) (program : LinearProgram) (p : Imag
     registers = registers;
     is_there = is_there;
     finds = subst (λ a. FindsReturn t u.memory a layout_here.frame) (sym rip)
-      (begin_finds t fs program p q image u.memory c.frame.body code_here label b.body.slots.body
-      is_there.program_there lt);
+        (begin_finds t fs program p q image u.memory c.frame.body code_here label b.body.slots.body
+        is_there.program_there lt);
   }
 
   -- there the walk gives these callers
@@ -162,7 +171,7 @@ module _ (t : Functions) (fs : List Funclet) (program : LinearProgram) (p : Imag
   ends_gives u e =
       let nine : length kept_here ≡ 9 = refl in
       from_state t fs program p q u kept_here layout_here.frame b.body.back beyond_here e.finds
-        e.registers nine enough e.is_there
+      e.registers nine enough e.is_there
 
   -- each turn of a run that ends so keeps the shadow
   abbrev pub RunsKeep : ℕ → State → Type 0
@@ -184,65 +193,68 @@ module _ (t : Functions) (fs : List Funclet) (program : LinearProgram) (p : Imag
 
     -- the rest of the template
     pub one_piece : (before code : List Instr) (x : State) → whole ≡ before ++ code → IsFlow code
-      → IsPast before x → RunsKeep (length code) x
+        → IsPast before x → RunsKeep (length code) x
     one_piece before code x parts flow past u r ends =
         piece_keeps t fs program p q image c.frame.body code_here c.frame.next i b.body.slots.body
-          at goes before code [] (parts ∙ ap (λ (xs : List Instr). before ++ xs)
-          (sym (append-nil code)))
+        at goes before code [] (parts ∙ ap (λ (xs : List Instr). before ++ xs)
+        (sym (append-nil code)))
         x u kept_here b.body.back beyond_here flow r past.rip past.registers ends.registers enough
-          past.is_there ends.is_there ends.finds
+        past.is_there ends.is_there ends.finds
 
     -- where another instruction of the template is left, the walk finds the return address
     pub past_ends : (before left : List Instr) (x : State) → whole ≡ before ++ left
-      → 1 ≤ length left → IsPast before x → Ends x
+        → 1 ≤ length left → IsPast before x → Ends x
     past_ends before left x parts some past =
         let z = some_length left some in
         let begin = p.address c.frame.body c.frame.next + sizes before in
         let none : begin + sizes [] ≡ begin = omega arith in
         let parts_after : whole ≡ before ++ (left ++ []) = parts
-          ∙ ap (λ (xs : List Instr). before ++ xs) (sym (append-nil left)) in
+        ∙ ap (λ (xs : List Instr). before ++ xs) (sym (append-nil left)) in
         let finds = piece_finds t fs program p q image c.frame.body code_here c.frame.next i
-          b.body.slots.body at goes before left [] parts_after x.memory begin [] z.1 z.0 refl
-          past.is_there.program_there z.2 in
-        record { registers = past.registers; is_there = past.is_there;
+        b.body.slots.body at goes before left [] parts_after x.memory begin [] z.1 z.0 refl
+        past.is_there.program_there z.2 in
+        record {
+          registers = past.registers;
+          is_there = past.is_there;
           finds = subst (λ a. FindsReturn t x.memory a layout_here.frame) (none ∙ sym past.rip)
-          finds }
+              finds;
+        }
 
     -- a piece before others, up to where they begin
     pub piece_to : (before first second : List Instr) (x mid : State)
-      → whole ≡ before ++ (first ++ second) → IsFlow first → 1 ≤ length second → IsPast before x
-      → Reaches (length first) x mid → IsPast (before ++ first) mid → AllKeep t fs (length first) x
+        → whole ≡ before ++ (first ++ second) → IsFlow first → 1 ≤ length second → IsPast before x
+        → Reaches (length first) x mid → IsPast (before ++ first) mid → AllKeep t fs (length first) x
     piece_to before first second x mid parts flow some past comes there =
         let ends = past_ends (before ++ first) second mid
-          (parts ∙ sym (append_assoc before first second)) some there in
+        (parts ∙ sym (append_assoc before first second)) some there in
         piece_keeps t fs program p q image c.frame.body code_here c.frame.next i b.body.slots.body
-          at goes before first second parts x mid kept_here b.body.back beyond_here flow comes
-          past.rip past.registers ends.registers enough past.is_there ends.is_there ends.finds
+        at goes before first second parts x mid kept_here b.body.back beyond_here flow comes
+        past.rip past.registers ends.registers enough past.is_there ends.is_there ends.finds
 
     -- and with them, where they do so too
     pub piece_then : (before first second : List Instr) (x mid : State)
-      → whole ≡ before ++ (first ++ second) → IsFlow first → 1 ≤ length second → IsPast before x
-      → Reaches (length first) x mid → IsPast (before ++ first) mid
-      → AllKeep t fs (length second) mid → AllKeep t fs (length (first ++ second)) x
+        → whole ≡ before ++ (first ++ second) → IsFlow first → 1 ≤ length second → IsPast before x
+        → Reaches (length first) x mid → IsPast (before ++ first) mid
+        → AllKeep t fs (length second) mid → AllKeep t fs (length (first ++ second)) x
     piece_then before first second x mid parts flow some past comes there rest =
         subst (λ k. AllKeep t fs k x) (sym (length-append first second))
         (keep_then t fs (length first) (length second) x mid comes
-          (piece_to before first second x mid parts flow some past comes there) rest)
+        (piece_to before first second x mid parts flow some past comes there) rest)
 
     -- the labels that it goes to are near
     pub near_here : LabelsNear (links_of p q c.frame.body) layout_here
-      (p.address c.frame.body c.frame.next) i
+        (p.address c.frame.body c.frame.next) i
     near_here =
         let a = image.addresses c.frame.body code_here b.body.slots.body in
         let lt = slice_get_within code_here.code c.frame.next i at in
         let same = ap (template_size layout_here)
-          (get_or_from_slice_get code_here.code c.frame.next i instructions.Separator at) in
+        (get_or_from_slice_get code_here.code c.frame.next i instructions.Separator at) in
         let next = offset_next layout_here code_here.code c.frame.next instructions.Separator lt in
         let most = body_most layout_here code_here.code (suc c.frame.next) in
         let low = a.inside.low in
         let high = a.inside.high in
         let first = a.first in
         subst (λ x. LabelsNear (links_of p q c.frame.body) layout_here x i)
-          (sym (a.labels c.frame.next))
+        (sym (a.labels c.frame.next))
         (labels_near (links_of p q c.frame.body) layout_here (p.address c.frame.body 0)
-          code_here.code c.frame.next i a.labels (omega arith) (omega arith) (omega arith))
+        code_here.code c.frame.next i a.labels (omega arith) (omega arith) (omega arith))

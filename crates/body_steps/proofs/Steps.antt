@@ -51,8 +51,8 @@ lands_at : (program : LinearProgram) (c : Configuration) (i : Instruction) (land
 lands_at program c i None h e f = refl
 lands_at program c i (Some v) h e f =
     let same : instructions.Landing (Local h.0)
-      ≡ i = same_instruction (instruction_at program c) (instructions.Landing (Local h.0)) i h.1
-        e in
+    ≡ i = same_instruction (instruction_at program c) (instructions.Landing (Local h.0)) i h.1
+    e in
     absurd (let x : true ≡ false = ap is_landing same ∙ f in cc)
 
 module _ (t : Functions) (fs : List Funclet) (program : LinearProgram) (p : ImagePlan) (q : Sites)
@@ -67,49 +67,49 @@ module _ (t : Functions) (fs : List Funclet) (program : LinearProgram) (p : Imag
       → instruction_at program c ≡ Some (instructions.Compute to o first second)
       → (d : Completes program c o first second)
       → outcome_here t fs program p q image made.room s c b
-        (counted_here t fs program p q image made c known)
-        (around_here t fs program p q image made s c b known) o first second
+      (counted_here t fs program p q image made c known)
+      (around_here t fs program p q image made s c b known) o first second
       ≡ Gives d.value d.memory
   completes to o first second e d =
       let there = has_slots t fs program p q image made.room s c b
-        (counted_here t fs program p q image made c known) (instructions.Compute to o first second)
-        (code_at t fs program p q image made s c b known (instructions.Compute to o first second)
-        e) in
+      (counted_here t fs program p q image made c known) (instructions.Compute to o first second)
+      (code_at t fs program p q image made s c b known (instructions.Compute to o first second)
+      e) in
       let r = ready_here t fs program p q image made s c b known
-        (instructions.Compute to o first second) e in
+      (instructions.Compute to o first second) e in
       by (is_constant o) refl there.1 there.2 r.0 r.1 d.reads_first d.reads_second
     where
       by : (constant : Bool) → is_constant o ≡ constant
-        → IsSlot (counts_of (code t fs program p q image made.room s c b
+          → IsSlot (counts_of (code t fs program p q image made.room s c b
           (counted_here t fs program p q image made c known))) first
-        → IsSlot (counts_of (code t fs program p q image made.room s c b
+          → IsSlot (counts_of (code t fs program p q image made.room s c b
           (counted_here t fs program p q image made c known))) second
           → ready.IsRead constant (ready.held c) first → ready.IsRead constant (ready.held c) second
           → operand constant c first ≡ Some d.a → operand constant c second ≡ Some d.b
           → outcome_here t fs program p q image made.room s c b
-            (counted_here t fs program p q image made c known)
-            (around_here t fs program p q image made s c b known) o first second
+          (counted_here t fs program p q image made c known)
+          (around_here t fs program p q image made s c b known) o first second
           ≡ Gives d.value d.memory
       by true k f g hf hg rf rg =
           same_constant (is_reserved program.globals) o
-            ((slots t fs program p q image made.room s c b
-            (counted_here t fs program p q image made c known)).slots first)
-            ((slots t fs program p q image made.room s c b
-            (counted_here t fs program p q image made c known)).slots second) d.a d.b c.store.memory
-            k ∙ d.gives
+          ((slots t fs program p q image made.room s c b
+          (counted_here t fs program p q image made c known)).slots first)
+          ((slots t fs program p q image made.room s c b
+          (counted_here t fs program p q image made c known)).slots second) d.a d.b c.store.memory
+          k ∙ d.gives
       by false k f g hf hg rf rg =
           let x = is_read t fs program p q image made.room s c b
-            (counted_here t fs program p q image made c known)
-            (around_here t fs program p q image made s c b known) first f hf in
+          (counted_here t fs program p q image made c known)
+          (around_here t fs program p q image made s c b known) first f hf in
           let y = is_read t fs program p q image made.room s c b
-            (counted_here t fs program p q image made c known)
-            (around_here t fs program p q image made s c b known) second g hg in
+          (counted_here t fs program p q image made c known)
+          (around_here t fs program p q image made s c b known) second g hg in
           let a : x.value ≡ d.a = some_number x.value d.a (sym x.reads ∙ rf) in
           let e : y.value ≡ d.b = some_number y.value d.b (sym y.reads ∙ rg) in
           ap (λ z. performed (is_reserved program.globals) o z
-            ((slots t fs program p q image made.room s c b
-            (counted_here t fs program p q image made c known)).slots second) c.store.memory)
-            (x.same ∙ a)
+          ((slots t fs program p q image made.room s c b
+          (counted_here t fs program p q image made c known)).slots second) c.store.memory)
+          (x.same ∙ a)
           ∙ ap (λ z. performed (is_reserved program.globals) o d.a z c.store.memory) (y.same ∙ e)
           ∙ d.gives
 
@@ -122,48 +122,48 @@ module _ (t : Functions) (fs : List Funclet) (program : LinearProgram) (p : Imag
       → Moves t fs program pace turns_left (Begins t fs program p q) s c i
   step (instructions.Compute to o first second) e h rule =
       let r = ready_here t fs program p q image made s c b known
-        (instructions.Compute to o first second) e in
+      (instructions.Compute to o first second) e in
       compute_step t fs program p q image made.room s c b
-        (counted_here t fs program p q image made c known)
-        (around_here t fs program p q image made s c b known) to o first second h.value h.memory
+      (counted_here t fs program p q image made c known)
+      (around_here t fs program p q image made s c b known) to o first second h.value h.memory
       (free (instructions.Compute to o first second) e refl)
-        (code_at t fs program p q image made s c b known (instructions.Compute to o first second) e)
-        (held_here t fs program p q image made s c b known) r.0 r.1 rule
+      (code_at t fs program p q image made s c b known (instructions.Compute to o first second) e)
+      (held_here t fs program p q image made s c b known) r.0 r.1 rule
       (goes_inside t fs program p q image made s c b known (instructions.Compute to o first second)
-        e) (completes to o first second e h)
+      e) (completes to o first second e h)
   step (instructions.Jump label) e h rule =
       jump_step t fs program p q image made.room s c b
-        (counted_here t fs program p q image made c known)
-        (around_here t fs program p q image made s c b known) label
+      (counted_here t fs program p q image made c known)
+      (around_here t fs program p q image made s c b known) label
       (free (instructions.Jump label) e refl)
-        (code_at t fs program p q image made s c b known (instructions.Jump label) e)
-        (held_here t fs program p q image made s c b known)
-        (goes_inside t fs program p q image made s c b known (instructions.Jump label) e)
+      (code_at t fs program p q image made s c b known (instructions.Jump label) e)
+      (held_here t fs program p q image made s c b known)
+      (goes_inside t fs program p q image made s c b known (instructions.Jump label) e)
   step (instructions.JumpIfZero slot label) e h rule =
       jump_if_zero_step t fs program p q image made.room s c b
-        (counted_here t fs program p q image made c known)
-        (around_here t fs program p q image made s c b known) slot label
+      (counted_here t fs program p q image made c known)
+      (around_here t fs program p q image made s c b known) slot label
       (free (instructions.JumpIfZero slot label) e refl)
-        (code_at t fs program p q image made s c b known (instructions.JumpIfZero slot label) e)
-        (held_here t fs program p q image made s c b known)
+      (code_at t fs program p q image made s c b known (instructions.JumpIfZero slot label) e)
+      (held_here t fs program p q image made s c b known)
       (ready_here t fs program p q image made s c b known (instructions.JumpIfZero slot label) e)
-        (goes_inside t fs program p q image made s c b known (instructions.JumpIfZero slot label) e)
+      (goes_inside t fs program p q image made s c b known (instructions.JumpIfZero slot label) e)
   step (instructions.Landing to) e h rule =
       let r = ready_here t fs program p q image made s c b known (instructions.Landing to) e in
       landing_step t fs program p q image made.room s c b
-        (counted_here t fs program p q image made c known)
-        (around_here t fs program p q image made s c b known) to r.0.0 r.0.1
-        (small_code c.frame.landed r.0.0 r.0.1 known.small.items.0.landed)
+      (counted_here t fs program p q image made c known)
+      (around_here t fs program p q image made s c b known) to r.0.0 r.0.1
+      (small_code c.frame.landed r.0.0 r.0.1 known.small.items.0.landed)
       (code_at t fs program p q image made s c b known (instructions.Landing to) e)
-        (held_here t fs program p q image made s c b known) r.1
-        (goes_inside t fs program p q image made s c b known (instructions.Landing to) e)
+      (held_here t fs program p q image made s c b known) r.1
+      (goes_inside t fs program p q image made s c b known (instructions.Landing to) e)
   step instructions.Separator e h rule =
       separator_step t fs program p q image made.room s c b
-        (counted_here t fs program p q image made c known)
-        (around_here t fs program p q image made s c b known)
+      (counted_here t fs program p q image made c known)
+      (around_here t fs program p q image made s c b known)
       (free instructions.Separator e refl) (code_at t fs program p q image made s c b known
-        instructions.Separator e) (held_here t fs program p q image made s c b known)
-        (goes_inside t fs program p q image made s c b known instructions.Separator e)
+      instructions.Separator e) (held_here t fs program p q image made s c b known)
+      (goes_inside t fs program p q image made s c b known instructions.Separator e)
   step (instructions.Information to field) e h rule = absurd h
   step (instructions.Call f first count) e h rule = absurd h
   step (instructions.CallBuiltIn f first) e h rule = absurd h

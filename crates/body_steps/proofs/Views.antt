@@ -64,7 +64,7 @@ own_number : (a : Activation) (outer : List Activation) (k : ℕ) → k ≡ leng
 own_number a outer k e =
     let n : length (locals_of outer) ≡ k = locals_count outer ∙ sym e in
     subst (λ x. slice_get (locals_of outer ++ a.values ∷ []) x ≡ Some a.values) n
-      (got_last (locals_of outer) a.values)
+    (got_last (locals_of outer) a.values)
 
 -- locals and temporaries lie apart in the first bytes from RSP on
 own_placed : (m : Memory) (y : Layout) (temporaries sp size k f room : ℕ) (a : Activation)
@@ -75,21 +75,21 @@ own_placed : (m : Memory) (y : Layout) (temporaries sp size k f room : ℕ) (a :
     → (sp + (y.locals + 8 * length a.values) ≤ sp + y.temporaries)
     ⊎ (sp + (y.temporaries + 8 * temporaries) ≤ sp + y.locals)
     → SlotsPlaced m y temporaries sp k (a ∷ outer)
-own_placed m y temporaries sp size k f room a outer none h low high small temps locals
-    apart = record {
-  base = sp;
-  values = a.values;
-  number = own_number a outer k h.activation.number;
-  holds = words_shorter m (sp + y.locals) (sp + size) a.values h.values;
-  sp_low = low;
-  sp_high = omega arith;
-  base_low = low;
-  base_high = omega arith;
-  temporaries_small = omega arith;
-  locals_small = omega arith;
-  apart = apart;
-  kept = subst (λ o. KeepsSlot m y o sp sp) (sym none) refl;
-}
+own_placed m y temporaries sp size k f room a outer none h low high small temps locals apart =
+    record {
+      base = sp;
+      values = a.values;
+      number = own_number a outer k h.activation.number;
+      holds = words_shorter m (sp + y.locals) (sp + size) a.values h.values;
+      sp_low = low;
+      sp_high = omega arith;
+      base_low = low;
+      base_high = omega arith;
+      temporaries_small = omega arith;
+      locals_small = omega arith;
+      apart = apart;
+      kept = subst (λ o. KeepsSlot m y o sp sp) (sym none) refl;
+    }
 
 pub function_placed : (m : Memory) (y : Layout) (b : LinearBody) (sp k f : ℕ)
     (acts : List Activation) → IsFunctionLayout y b → STACK_START ≤ sp → sp + y.frame ≤ STACK_END
@@ -101,7 +101,7 @@ function_placed m y b sp k f (a ∷ outer) l low high h =
     let small = l.small in
     let more = l.locals in
     own_placed m y b.temporaries sp y.frame k f y.frame a outer l.none h low high (omega arith)
-      (omega arith) (omega arith) (inr (omega arith))
+    (omega arith) (omega arith) (inr (omega arith))
 
 pub leaf_placed : (m : Memory) (y : Layout) (b : LinearBody) (sp k f : ℕ) (acts : List Activation)
     → IsLeafLayout y b → STACK_START ≤ sp → sp + home_end ≤ STACK_END
@@ -114,7 +114,7 @@ leaf_placed m y b sp k f (a ∷ outer) l low high h =
     let few = l.few in
     let first = l.locals in
     own_placed m y b.temporaries sp y.temporaries k f home_end a outer l.none h low high
-      (omega arith) (omega arith) (omega arith) (inl (omega arith))
+    (omega arith) (omega arith) (omega arith) (inl (omega arith))
 
 -- ---- a funclet's, further up
 
@@ -132,7 +132,7 @@ module _ (t : Functions) (fs : List Funclet) (program : LinearProgram) (p : Imag
       → SlotsPlaced m y b.temporaries sp k acts
   funclet_placed m y function b sp k j acts c is items l low at list h few near =
       let a = activations_are_at t fs program p m c is items acts k h.base y.locals list
-        h.activation in
+      h.activation in
       let n = few a.values a.number in
       let up = a.low_end in
       let top = a.high_end in
@@ -155,8 +155,13 @@ module _ (t : Functions) (fs : List Funclet) (program : LinearProgram) (p : Imag
         locals_small = omega arith;
         apart = inr (omega arith);
         kept = subst (λ o. KeepsSlot m y o sp h.base) (sym h.some)
-          (record { word_is = h.kept; below_temporaries = omega arith; below_locals = omega arith;
-          in_stack = omega arith; above_frame = omega arith });
+            (record {
+              word_is = h.kept;
+              below_temporaries = omega arith;
+              below_locals = omega arith;
+              in_stack = omega arith;
+              above_frame = omega arith;
+            });
       }
 
 -- ---- what templates hold
@@ -211,21 +216,24 @@ in_stack_slots m y n sp k acts a h count i =
     let high = h.sp_high in
     let base = h.base_low in
     let top = h.base_high in
-    elim i [ inl x ↦ (let l = x.0 in let u = x.1 in (omega arith, omega arith)) | inr
-      x ↦ (let l = x.0 in let u = x.1 in (omega arith, omega arith)) ]
+    elim i [
+      | inl x ↦ (let l = x.0 in let u = x.1 in (omega arith, omega arith))
+      | inr
+          x ↦ (let l = x.0 in let u = x.1 in (omega arith, omega arith))
+    ]
 
 pub holds_of : (globals : List ℕ) (m source : Memory) (y : Layout) (n : Counts) (sp k : ℕ)
     (acts : List Activation) → (h : SlotsPlaced m y n.temporaries sp k acts)
     → length h.values ≡ n.locals → IsBytes m →
-      ((a : ℕ) → STACK_START ≤ a → a < STACK_END → may_write m a ≡ true)
+    ((a : ℕ) → STACK_START ≤ a → a < STACK_END → may_write m a ≡ true)
     → Agrees (is_reserved globals) m source
     → HoldsBody y n (is_reserved globals) sp h.base m (body_in_memory y sp h.base m source)
 holds_of globals m source y n sp k acts h count bytes may agrees =
     holds_body_in_memory y n (is_reserved globals) sp h.base m source bytes
-      (keeps_base m y y.base sp h.base may h.sp_low h.kept)
+    (keeps_base m y y.base sp h.base may h.sp_low h.kept)
     (λ a i. let r = in_stack_slots m y n sp k acts a h count i in may a r.0 r.1)
     (λ a i. let r = in_stack_slots m y n sp k acts a h count i in
-      stack_is_reserved globals a r.0 r.1)
+    stack_is_reserved globals a r.0 r.1)
     (keeps_reserved globals m y y.base sp h.base h.sp_low h.kept)
     agrees
 
@@ -248,14 +256,14 @@ pub local_is : (m : Memory) (y : Layout) (temporaries sp i : ℕ) (acts : List A
     → number_at m.byte 8 (h.base + (y.locals + 8 * i)) ≡ local_of c.store c.frame.activation i
 local_is m y temporaries sp i acts c store h lt =
     let w = word_in m (h.base + y.locals) (h.base + y.locals + 8 * length h.values) h.values i
-      (slice_index h.values i) h.holds (got h.values i lt) in
+    (slice_index h.values i) h.holds (got h.values i lt) in
     let at : h.base + y.locals + 8 * i ≡ h.base + (y.locals + 8 * i) = omega arith in
     let same : linear.locals_of c.store c.frame.activation ≡ h.values =
     ap (λ x. elim (slice_get x c.frame.activation) [ Some locals ↦ locals | None ↦ [] ]) store
-      ∙ ap (λ x. elim x [ Some locals ↦ locals | None ↦ [] ]) h.number in
+    ∙ ap (λ x. elim x [ Some locals ↦ locals | None ↦ [] ]) h.number in
     word_is m (h.base + (y.locals + 8 * i)) (slice_index h.values i)
-      (subst (λ a. word m a ≡ Ok (slice_index h.values i)) at w)
-      ∙ sym (ap (λ x. slice_index x i) same)
+    (subst (λ a. word m a ≡ Ok (slice_index h.values i)) at w)
+    ∙ sym (ap (λ x. slice_index x i) same)
 
 pub temporary_is : (m : Memory) (y : Layout) (sp end i v : ℕ) (ts : List ℕ)
     → HoldsWords m (sp + y.temporaries) end ts → slice_get ts i ≡ Some v
@@ -263,4 +271,4 @@ pub temporary_is : (m : Memory) (y : Layout) (sp end i v : ℕ) (ts : List ℕ)
 temporary_is m y sp end i v ts h e =
     let at : sp + y.temporaries + 8 * i ≡ sp + (y.temporaries + 8 * i) = omega arith in
     word_is m (sp + (y.temporaries + 8 * i)) v
-      (subst (λ a. word m a ≡ Ok v) at (word_in m (sp + y.temporaries) end ts i v h e))
+    (subst (λ a. word m a ≡ Ok v) at (word_in m (sp + y.temporaries) end ts i v h e))

@@ -90,33 +90,33 @@ module _ (t : Functions) (fs : List Funclet) (program : LinearProgram) (p : Imag
   jump_keeps label at =
       let i = instructions.Jump label in
       let near = subst (λ a. IsNear a (p.address c.frame.body label)) (jump_size layout here label)
-        (near_here t fs program p q image s c b counted i at (λ h. h)) in
+      (near_here t fs program p q image s c b counted i at (λ h. h)) in
       one_piece t fs program p q image s c b counted i at (λ h. h) []
-        (whole t fs program p q image s c b counted i at (λ h. h)) s refl
-        (jump_flow here (p.address c.frame.body label) near)
-        (past_none t fs program p q image s c b counted i at (λ h. h))
+      (whole t fs program p q image s c b counted i at (λ h. h)) s refl
+      (jump_flow here (p.address c.frame.body label) near)
+      (past_none t fs program p q image s c b counted i at (λ h. h))
 
   pub jump_if_zero_keeps : (slot : Slot) (label : ℕ)
       → slice_get body.code c.frame.next ≡ Some (instructions.JumpIfZero slot label)
       → Keeping (length (template (links_of p q c.frame.body) layout s.cpu.rip
-        (instructions.JumpIfZero slot label))) s
+      (instructions.JumpIfZero slot label))) s
   jump_if_zero_keeps slot label at =
       let i = instructions.JumpIfZero slot label in
       let links = links_of p q c.frame.body in
       let room = room_here t fs program p q image s c b counted in
       let there = has_slots t fs program p q image roomy s c b counted i at in
       let e : sizes (test_code layout slot) + 6
-        ≡ template_size layout i = sym (jump_if_zero_size layout slot here
-          (p.address c.frame.body label)) ∙ template_sizes links layout here i in
+      ≡ template_size layout i = sym (jump_if_zero_size layout slot here
+      (p.address c.frame.body label)) ∙ template_sizes links layout here i in
       let z : here + template_size layout i ≡ here + sizes (test_code layout slot)
-        + 6 = omega arith in
+      + 6 = omega arith in
       let near = subst (λ a. IsNear a (p.address c.frame.body label)) z
-        (near_here t fs program p q image s c b counted i at (λ h. h)) in
+      (near_here t fs program p q image s c b counted i at (λ h. h)) in
       subst (λ a. Keeping (length (template links layout a i)) s) (sym b.rip)
       (one_piece t fs program p q image s c b counted i at (λ h. h) []
-        (whole t fs program p q image s c b counted i at (λ h. h)) s refl
+      (whole t fs program p q image s c b counted i at (λ h. h)) s refl
       (jump_if_zero_flow layout (counts_of body) (register s.cpu Rsp) base room slot here
-        (p.address c.frame.body label) there near)
+      (p.address c.frame.body label) there near)
       (past_none t fs program p q image s c b counted i at (λ h. h)))
 
   pub landing_keeps : (to : Slot) → slice_get body.code c.frame.next
@@ -126,8 +126,8 @@ module _ (t : Functions) (fs : List Funclet) (program : LinearProgram) (p : Imag
       let room = room_here t fs program p q image s c b counted in
       one_piece t fs program p q image s c b counted i at (λ h. h) [] (keep layout to) s refl
       (keep_flow layout (counts_of body) (register s.cpu Rsp) base room to
-        (has_slots t fs program p q image roomy s c b counted i at))
-        (past_none t fs program p q image s c b counted i at (λ h. h))
+      (has_slots t fs program p q image roomy s c b counted i at))
+      (past_none t fs program p q image s c b counted i at (λ h. h))
 
   pub information_keeps : (to : Slot) (field : Field)
       → slice_get body.code c.frame.next ≡ Some (instructions.Information to field) → IsField field
@@ -136,10 +136,10 @@ module _ (t : Functions) (fs : List Funclet) (program : LinearProgram) (p : Imag
       let i = instructions.Information to field in
       let room = room_here t fs program p q image s c b counted in
       one_piece t fs program p q image s c b counted i at (λ h. h) []
-        (information_code layout to field) s refl
+      (information_code layout to field) s refl
       (information_flow layout (counts_of body) (register s.cpu Rsp) base room to field
-        (has_slots t fs program p q image roomy s c b counted i at) is small)
-        (past_none t fs program p q image s c b counted i at (λ h. h))
+      (has_slots t fs program p q image roomy s c b counted i at) is small)
+      (past_none t fs program p q image s c b counted i at (λ h. h))
 
   -- ---- operations
 
@@ -157,32 +157,37 @@ module _ (t : Functions) (fs : List Funclet) (program : LinearProgram) (p : Imag
 
     -- from where the operands wait, on the source's memory
     module _ (x : State) (view : MachineView) (is : x ≡ machine view x.cpu.rip x.cpu.flags)
-      (past : Past ops x) (rest : view.rest ≡ drop 3 s.cpu.registers)
-      (same : view.memory ≡ s.memory) (keeps : Keeps s x)
+        (past : Past ops x) (rest : view.rest ≡ drop 3 s.cpu.registers)
+        (same : view.memory ≡ s.memory) (keeps : Keeps s x)
         (m n value : ℕ) (source : Memory) (m_small : m < 2 ^ 64) (n_small : n < 2 ^ 64)
-          (waits : HasOperands o m n view) (gives : performed (is_reserved program.globals) o m n
-          c.store.memory ≡ Gives value source) where
+        (waits : HasOperands o m n view) (gives : performed (is_reserved program.globals) o m n
+        c.store.memory ≡ Gives value source) where
       code_there : HasCode view.memory x.cpu.rip (work o)
       code_there =
           let has = subst (λ (k : Memory). HasCode k (here + sizes ops) (work o)) (sym same)
           (piece_there t fs program p q image c.frame.body body c.frame.next here_now
-            b.body.slots.body at (λ h. h) ops (work o) (keep layout to) refl s.memory
-            b.memory.code) in
+          b.body.slots.body at (λ h. h) ops (work o) (keep layout to) refl s.memory
+          b.memory.code) in
           subst (λ a. HasCode view.memory a (work o)) (sym past.rip) has
 
       worked : Worked (frame t fs program p q image roomy s c b counted) o view x.cpu.rip
-        x.cpu.flags value source
+          x.cpu.flags value source
       worked = work_run (frame t fs program p q image roomy s c b counted) o view x.cpu.rip
-        x.cpu.flags (slots t fs program p q image roomy s c b counted) m n value source m_small
-        n_small waits
+          x.cpu.flags (slots t fs program p q image roomy s c b counted) m n value source m_small
+          n_small waits
           (subst (λ (k : Memory). FrameHolds (frame t fs program p q image roomy s c b counted) k
-            (slots t fs program p q image roomy s c b counted)) (sym same)
-            (holds_here t fs program p q image s c b counted)) code_there gives
+          (slots t fs program p q image roomy s c b counted)) (sym same)
+          (holds_here t fs program p q image s c b counted)) code_there gives
 
       abbrev mid : State
-      mid = machine (record { rax = value; rcx = worked.result.yields.rcx;
-        rdx = worked.result.yields.rdx; rest = view.rest; memory = worked.result.after })
-        (x.cpu.rip + sizes (work o)) worked.left
+      mid = machine (record {
+        rax = value;
+        rcx = worked.result.yields.rcx;
+        rdx = worked.result.yields.rdx;
+        rest = view.rest;
+        memory = worked.result.after;
+      })
+          (x.cpu.rip + sizes (work o)) worked.left
 
       comes : Reaches (length (work o)) x mid
       comes = subst (λ (z : State). Reaches (length (work o)) z mid) (sym is) worked.comes
@@ -191,17 +196,17 @@ module _ (t : Functions) (fs : List Funclet) (program : LinearProgram) (p : Imag
       past_work =
           let e = past.rip in
           let sp : register mid.cpu Rsp ≡ register s.cpu Rsp = ap
-            (λ (xs : List ℕ). slice_index xs 1) rest ∙ dropped s.cpu.registers in
+          (λ (xs : List ℕ). slice_index xs 1) rest ∙ dropped s.cpu.registers in
           let kept = keeps_then s x mid keeps (reaches_keeps (length (work o)) x mid comes) in
           let ran = ran_same t fs program p q image s c b counted mid source kept
-            (λ a h. worked.result.own a h ∙ ap (λ (k : Memory). k.byte a) same)
+          (λ a h. worked.result.own a h ∙ ap (λ (k : Memory). k.byte a) same)
           (λ h. worked.result.bytes (subst (λ (k : Memory). (a : ℕ) → k.byte a < 256) (sym same) h))
-            worked.result.agrees sp in
+          worked.result.agrees sp in
           record {
             rip = omega (arith, sizes_append ops (work o));
             registers = kept_by_rest view.rest s.cpu.registers rest;
             is_there = is_after t fs program p q image s c b counted mid _ _ [] ran around.caller
-              around.owner;
+                around.owner;
           }
 
       -- the rest of the template
@@ -210,38 +215,38 @@ module _ (t : Functions) (fs : List Funclet) (program : LinearProgram) (p : Imag
           let room = room_here t fs program p q image s c b counted in
           let there = has_slots t fs program p q image roomy s c b counted here_now at in
           let parts : whole t fs program p q image s c b counted here_now at (λ h. h)
-            ≡ (ops ++ work o) ++ keep layout to = sym
-              (append_assoc ops (work o) (keep layout to)) in
+          ≡ (ops ++ work o) ++ keep layout to = sym
+          (append_assoc ops (work o) (keep layout to)) in
           let rest = rest_of (length (work o)) (length (keep layout to))
-            (length (finish_code layout o to)) x mid u (length-append (work o) (keep layout to))
-            comes r in
+          (length (finish_code layout o to)) x mid u (length-append (work o) (keep layout to))
+          comes r in
           piece_then t fs program p q image s c b counted here_now at (λ h. h) ops (work o)
-            (keep layout to) x mid refl (work_flow o) (keep_some layout to) past comes past_work
+          (keep layout to) x mid refl (work_flow o) (keep_some layout to) past comes past_work
           (one_piece t fs program p q image s c b counted here_now at (λ h. h) (ops ++ work o)
-            (keep layout to) mid parts (keep_flow layout (counts_of body) (register s.cpu Rsp) base
-            room to there.0) past_work u rest ends)
+          (keep layout to) mid parts (keep_flow layout (counts_of body) (register s.cpu Rsp) base
+          room to there.0) past_work u rest ends)
 
     -- from where the instruction begins
     abbrev begun : Begun (frame t fs program p q image roomy s c b counted) o first second
-      (v t fs program p q image roomy s c b counted) s.cpu.rip s.cpu.flags
-      (slots t fs program p q image roomy s c b counted)
+        (v t fs program p q image roomy s c b counted) s.cpu.rip s.cpu.flags
+        (slots t fs program p q image roomy s c b counted)
     begun =
         let there = has_slots t fs program p q image roomy s c b counted here_now at in
         operands_run (frame t fs program p q image roomy s c b counted) o first second
-          (v t fs program p q image roomy s c b counted) s.cpu.rip s.cpu.flags
-          (slots t fs program p q image roomy s c b counted)
+        (v t fs program p q image roomy s c b counted) s.cpu.rip s.cpu.flags
+        (slots t fs program p q image roomy s c b counted)
         (room_here t fs program p q image s c b counted) there.1 there.2
-          (sp_is t fs program p q image roomy s c b counted)
-          (holds_here t fs program p q image s c b counted)
+        (sp_is t fs program p q image roomy s c b counted)
+        (holds_here t fs program p q image s c b counted)
         (code_split s.memory s.cpu.rip ops (finish_code layout o to)
-          (template_here t fs program p q image roomy s c b counted here_now at)).0
+        (template_here t fs program p q image roomy s c b counted here_now at)).0
 
     abbrev fetched : State
     fetched = machine begun.stopped (s.cpu.rip + sizes ops) begun.left
 
     comes_there : Reaches (length ops) s fetched
     comes_there = subst (λ (z : State). Reaches (length ops) z fetched)
-      (sym (same_state t fs program p q image roomy s c b counted)) begun.comes
+        (sym (same_state t fs program p q image roomy s c b counted)) begun.comes
 
     past_operands : Past ops fetched
     past_operands =
@@ -250,41 +255,41 @@ module _ (t : Functions) (fs : List Funclet) (program : LinearProgram) (p : Imag
           rip = omega arith;
           registers = kept_by_rest begun.stopped.rest s.cpu.registers begun.rest;
           is_there = subst (Below t fs program p q image s c b counted) (sym begun.memory)
-            (is_here t fs program p q image s c b counted);
+              (is_here t fs program p q image s c b counted);
         }
 
     -- up to where the operands wait
     pub operands_keep : (u : State) → Reaches (length ops) s u → Past ops u
-      → AllKeep t fs (length ops) s
+        → AllKeep t fs (length ops) s
     operands_keep u r past =
         let there = has_slots t fs program p q image roomy s c b counted here_now at in
         piece_to t fs program p q image s c b counted here_now at (λ h. h) [] ops
-          (finish_code layout o to) s u refl
+        (finish_code layout o to) s u refl
         (operands_flow layout (counts_of body) (register s.cpu Rsp) base
-          (room_here t fs program p q image s c b counted) o first second there.1 there.2)
-          (finish_some layout o to) (past_none t fs program p q image s c b counted here_now at
-          (λ h. h)) r past
+        (room_here t fs program p q image s c b counted) o first second there.1 there.2)
+        (finish_some layout o to) (past_none t fs program p q image s c b counted here_now at
+        (λ h. h)) r past
 
     pub compute_keeps : (value : ℕ) (source : Memory)
-      → performed (is_reserved program.globals) o
+        → performed (is_reserved program.globals) o
         ((slots t fs program p q image roomy s c b counted).slots first)
         ((slots t fs program p q image roomy s c b counted).slots second) c.store.memory
-      ≡ Gives value source
+        ≡ Gives value source
         → Keeping (length (compute_code layout to o first second)) s
     compute_keeps value source gives u r ends =
         let now = slots t fs program p q image roomy s c b counted in
         let held = holds_here t fs program p q image s c b counted in
         let there = has_slots t fs program p q image roomy s c b counted here_now at in
         let rest = rest_of (length ops) (length (finish_code layout o to))
-          (length (compute_code layout to o first second)) s fetched u
-          (length-append ops (finish_code layout o to)) comes_there r in
+        (length (compute_code layout to o first second)) s fetched u
+        (length-append ops (finish_code layout o to)) comes_there r in
         piece_then t fs program p q image s c b counted here_now at (λ h. h) [] ops
-          (finish_code layout o to) s fetched refl
+        (finish_code layout o to) s fetched refl
         (operands_flow layout (counts_of body) (register s.cpu Rsp) base
-          (room_here t fs program p q image s c b counted) o first second there.1 there.2)
-          (finish_some layout o to) (past_none t fs program p q image s c b counted here_now at
-          (λ h. h)) comes_there past_operands
+        (room_here t fs program p q image s c b counted) o first second there.1 there.2)
+        (finish_some layout o to) (past_none t fs program p q image s c b counted here_now at
+        (λ h. h)) comes_there past_operands
         (finish_keeps fetched begun.stopped refl past_operands begun.rest begun.memory
-          (reaches_keeps (length ops) s fetched comes_there) (now.slots first) (now.slots second)
-          value source (held.small first there.1) (held.small second there.2) begun.waits gives u
-          rest ends)
+        (reaches_keeps (length ops) s fetched comes_there) (now.slots first) (now.slots second)
+        value source (held.small first there.1) (held.small second there.2) begun.waits gives u
+        rest ends)

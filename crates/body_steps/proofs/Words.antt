@@ -23,7 +23,7 @@ pub word_is : (m : Memory) (at v : ℕ) → word m at ≡ Ok v → number_at m.b
 word_is m at v e = by (first_refused (may_read m) 8 at) e
   where
     by : (o : Option ℕ) → readable at (access false o (number_at m.byte 8 at)) ≡ Ok v
-      → number_at m.byte 8 at ≡ v
+        → number_at m.byte 8 at ≡ v
     by None e = cc
     by (Some a) e = cc
 
@@ -32,7 +32,7 @@ pub word_of : (m : Memory) (at v : ℕ) → at + 8 < 2 ^ 64
     → word m at ≡ Ok v
 word_of m at v lt may e =
     ap (λ (o : Option ℕ). readable at (access false o (number_at m.byte 8 at)))
-      (all_may (may_read m) 8 at lt may) ∙ ap (λ n. Ok n) e
+    (all_may (may_read m) 8 at lt may) ∙ ap (λ n. Ok n) e
 
 -- the words of a list, one by one
 pub word_in : (m : Memory) (at end : ℕ) (vs : List ℕ) (i v : ℕ) → HoldsWords m at end vs

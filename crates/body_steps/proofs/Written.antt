@@ -48,9 +48,11 @@ got_after xs zero v zero w le e = inr (refl, the_same v w e)
 got_after xs zero v (suc j) w le e = cc
 got_after [] (suc i) v j w le e = absurd (omega arith)
 got_after (x ∷ xs) (suc i) v zero w le e = inl (omega arith, e)
-got_after (x ∷ xs) (suc i) v (suc j) w le e = elim (got_after xs i v j w (omega arith) e)
-    [ inl r ↦ (let a = r.0 in inl (omega arith, r.1)) | inr
-    r ↦ (let a = r.0 in inr (omega arith, r.1)) ]
+got_after (x ∷ xs) (suc i) v (suc j) w le e = elim (got_after xs i v j w (omega arith) e) [
+  | inl r ↦ (let a = r.0 in inl (omega arith, r.1))
+  | inr
+      r ↦ (let a = r.0 in inr (omega arith, r.1))
+]
 
 -- ---- what templates leave
 
@@ -59,10 +61,10 @@ pub local_after : (slots : Slot → ℕ) (values : List ℕ) (to : Slot) (v j : 
     ≡ slice_index (locals_after values to v) j
 local_after slots values (Local x) v j lt e = elim (cases_eq j x) [
   | inl h ↦ ap (λ z. cond z v (slots (Local j))) (eq-eqb j x h)
-  ∙ sym (subst (λ k. slice_index (slice_set values x v) k ≡ v) (sym h)
-    (set_at values x v (omega arith)))
+      ∙ sym (subst (λ k. slice_index (slice_set values x v) k ≡ v) (sym h)
+      (set_at values x v (omega arith)))
   | inr h ↦ ap (λ z. cond z v (slots (Local j))) (ne_eqb j x h) ∙ e
-  ∙ sym (set_beside values x j v h)
+      ∙ sym (set_beside values x j v h)
 ]
 local_after slots values (Temporary i) v j lt e = e
 
@@ -72,7 +74,7 @@ pub temporary_after : (slots : Slot → ℕ) (ts : List ℕ) (to : Slot) (v j w 
 temporary_after slots ts (Local x) v j w fits all e = all j w e
 temporary_after slots ts (Temporary i) v j w fits all e = elim (got_after ts i v j w fits e) [
   | inl r ↦ (let a = r.0 in ap (λ z. cond z v (slots (Temporary j)))
-    (ne_eqb j i (λ h. absurd (omega arith))) ∙ all j w r.1)
+      (ne_eqb j i (λ h. absurd (omega arith))) ∙ all j w r.1)
   | inr r ↦ ap (λ z. cond z v (slots (Temporary j))) (eq-eqb j i r.0) ∙ r.1
 ]
 
@@ -85,5 +87,8 @@ locals_count_after values (Temporary i) v = refl
 pub one_more : (ts : List ℕ) (to : Slot) (v : ℕ) → FitsAfter ts to
     → length (temporaries_after ts to v) ≤ length ts + 1
 one_more ts (Local x) v fits = omega arith
-one_more ts (Temporary i) v fits = omega (arith, length-append (take i ts) (v ∷ []),
-    length-take-le i ts fits)
+one_more ts (Temporary i) v fits = omega (
+  arith,
+  length-append (take i ts) (v ∷ []),
+  length-take-le i ts fits,
+)

@@ -24,23 +24,23 @@ use Rattle.c_syntax.specs.Program.{external_declaration}
 pub function_named : (text : List ℕ) (t : CType) (n : Identifier) (ps : List Parameter)
     (f f' : File')
     → block_of f'.names.entries ≡ with_name (block_of f.names.entries) (spelled text n)
-      (UserFunction f.functions t (parameter_types ps))
+    (UserFunction f.functions t (parameter_types ps))
     → f'.bytes.items ≡ f.bytes.items → f'.functions ≡ f.functions + 1
     → least_of f'.worst ≡ kept (least_of f.worst)
-      (unless_holds (not (is_taken (block_of f.names.entries) (spelled text n))) n.start Duplicate)
+    (unless_holds (not (is_taken (block_of f.names.entries) (spelled text n))) n.start Duplicate)
     → (d : File) → IsFile f d → IsFile f' (named text n
-      (UserFunction d.functions t (parameter_types ps)) d.bytes (d.functions + 1) [] d)
+    (UserFunction d.functions t (parameter_types ps)) d.bytes (d.functions + 1) [] d)
 function_named text t n ps f f' names bytes functions faults d h =
     let duplicate = unless_holds (not (is_taken (block_of f.names.entries) (spelled text n)))
-      n.start Duplicate in
+    n.start Duplicate in
     at_file (λ k. IsFile f' (named text n (UserFunction k.functions t (parameter_types ps)) k.bytes
-      (k.functions + 1) [] k)) f d h
+    (k.functions + 1) [] k)) f d h
     (record {
       scope = names;
       bytes = bytes;
       functions = functions;
       faults = kept_more None (least_of f.worst) (least_of f'.worst) d.faults duplicate h.faults
-        faults ∙ ap (kept None) (sym (append-nil (d.faults ++ duplicate)));
+          faults ∙ ap (kept None) (sym (append-nil (d.faults ++ duplicate)));
     })
 
 -- the file so far, and what it is with the other declarations
@@ -51,10 +51,13 @@ StillFile text list i all f = (k : File) × IsFile f k
 pub file_on : (text : List ℕ) (list : List ExternalDeclaration') (i : ℕ) (x : ExternalDeclaration')
     (all : File) (f f' : File') → i < length list → x ≡ get_or list i x
     → ((d : File) → IsFile f d → IsFile f' (with_external_declaration text (external_declaration x)
-      d)) → StillFile text list i all f → StillFile text list (i + 1) all f'
-file_on text list i x all f f' lt is one h =
-    (with_external_declaration text (external_declaration x) h.0, one h.0 h.1, h.2
-      ∙ ap (λ l. file_of text (map external_declaration l) h.0) (next_of list i x lt is))
+    d)) → StillFile text list i all f → StillFile text list (i + 1) all f'
+file_on text list i x all f f' lt is one h = (
+  with_external_declaration text (external_declaration x) h.0,
+  one h.0 h.1,
+  h.2
+      ∙ ap (λ l. file_of text (map external_declaration l) h.0) (next_of list i x lt is),
+)
 
 pub file_end : (text : List ℕ) (list : List ExternalDeclaration') (i : ℕ) (all : File) (f : File')
     → length list ≤ i → StillFile text list i all f → IsFile f all

@@ -39,10 +39,14 @@ pub function_added : (before after : Progress) (text : List ℕ) (file : Scope) 
     → walk.number ≡ before.number → least_of walk.worst
     ≡ kept (least_of before.worst) (parameter_faults text ps [])
     → Resolves names walk walk' done (resolve_statements body (around text file t) block
-      (numbering walk))
-    → function made ≡ record { name = spelled text n; parameters = sizes_of ps;
-      locals = drop (length ps) walk'.sizes.items; returns = result_size t;
-      body = checked.statements done }
+    (numbering walk))
+    → function made ≡ record {
+      name = spelled text n;
+      parameters = sizes_of ps;
+      locals = drop (length ps) walk'.sizes.items;
+      returns = result_size t;
+      body = checked.statements done;
+    }
     → after.done.items ≡ before.done.items ++ made ∷ [] → after.number ≡ walk'.number
     → after.worst ≡ walk'.worst
     → AddsFunctions before after (function_of text file t n ps body before.number)
@@ -53,22 +57,30 @@ function_added before after text file t n ps body block names walk walk' done ma
     let m = resolve_statements body (around text file t) (with_parameters text ps [] 0) start in
     let r : Resolves names walk walk' done m =
     subst (λ b. Resolves names walk walk' done
-      (resolve_statements body (around text file t) b start)) is
+    (resolve_statements body (around text file t) b start)) is
     (subst (λ k. Resolves names walk walk' done
-      (resolve_statements body (around text file t) block k)) begun resolves) in
-    let whole : checked_program.Function = record { name = spelled text n; parameters = sizes_of ps;
-      locals = drop (length ps) m.counts.sizes; returns = result_size t;
-      body = checked.statements m.done } in
+    (resolve_statements body (around text file t) block k)) begun resolves) in
+    let whole : checked_program.Function = record {
+      name = spelled text n;
+      parameters = sizes_of ps;
+      locals = drop (length ps) m.counts.sizes;
+      returns = result_size t;
+      body = checked.statements m.done;
+    } in
     let same : function made ≡ whole = is_made
-      ∙ (λ i. record { name = spelled text n; parameters = sizes_of ps;
-        locals = drop (length ps) (r.counts i).sizes; returns = result_size t;
-        body = checked.statements (r.done i) }) in
+    ∙ (λ i. record {
+      name = spelled text n;
+      parameters = sizes_of ps;
+      locals = drop (length ps) (r.counts i).sizes;
+      returns = result_size t;
+      body = checked.statements (r.done i);
+    }) in
     record {
       done = ap (map function) pushed ∙ map-append function before.done.items (made ∷ [])
-        ∙ ap (λ f. map function before.done.items ++ f ∷ []) same;
+          ∙ ap (λ f. map function before.done.items ++ f ∷ []) same;
       number = next ∙ ap (λ (k : Numbering). k.number) r.counts;
       faults = kept_more (least_of before.worst) (least_of walk.worst) (least_of after.worst)
-        (parameter_faults text ps []) m.faults parameters (ap least_of worst ∙ r.faults);
+          (parameter_faults text ps []) m.faults parameters (ap least_of worst ∙ r.faults);
     }
 
 -- ---- the first declaration, and the others
@@ -80,7 +92,7 @@ done_parts : (text : List ℕ) (file : Scope) (x : ExternalDeclaration)
     (xs : List ExternalDeclaration) (number : ℕ)
     → (functions_of text file (x ∷ xs) number).done
     ≡ (first_of text file x number).done ++ (functions_of text file xs
-      (first_of text file x number).number).done
+    (first_of text file x number).number).done
 done_parts text file (Globals base gs) xs number = refl
 done_parts text file (Function t n ps body) xs number = refl
 
@@ -88,7 +100,7 @@ faults_parts : (text : List ℕ) (file : Scope) (x : ExternalDeclaration)
     (xs : List ExternalDeclaration) (number : ℕ)
     → (functions_of text file (x ∷ xs) number).faults
     ≡ (first_of text file x number).faults ++
-      (functions_of text file xs (first_of text file x number).number).faults
+    (functions_of text file xs (first_of text file x number).number).faults
 faults_parts text file (Globals base gs) xs number = refl
 faults_parts text file (Function t n ps body) xs number =
     let f = definitions.function_of text file t n ps body number in
@@ -120,7 +132,7 @@ functions_on text file list i x first p p' lt is one h =
     record {
       done =
           ap (λ k. map function p'.done.items ++ (functions_of text file rest k).done) one.number
-            ∙ ap (λ l. l ++ others.done) one.done
+          ∙ ap (λ l. l ++ others.done) one.done
           ∙ append_assoc (map function p.done.items) f.done others.done
           ∙ ap (λ l. map function p.done.items ++ l) (sym (done_parts text file y rest p.number))
           ∙ ap (λ l. map function p.done.items
@@ -128,11 +140,11 @@ functions_on text file list i x first p p' lt is one h =
           ∙ h.done;
       faults =
           ap (λ k. kept (least_of p'.worst) (functions_of text file rest k).faults) one.number
-            ∙ ap (λ w. kept w others.faults) one.faults
+          ∙ ap (λ w. kept w others.faults) one.faults
           ∙ sym (kept_append (least_of p.worst) f.faults others.faults)
           ∙ ap (kept (least_of p.worst)) (sym (faults_parts text file y rest p.number))
           ∙ ap (λ l. kept (least_of p.worst) (functions_of text file (map external_declaration l)
-            p.number).faults) (sym next) ∙ h.faults;
+          p.number).faults) (sym next) ∙ h.faults;
     }
 
 pub functions_done : (text : List ℕ) (file : Scope) (list : List ExternalDeclaration') (i : ℕ)
@@ -141,15 +153,15 @@ pub functions_done : (text : List ℕ) (file : Scope) (list : List ExternalDecla
     → map function p.done.items ≡ (functions_of text file (map external_declaration list) 1).done
 functions_done text file list i first p past h =
     sym (append-nil (map function p.done.items))
-      ∙ ap (λ l. map function p.done.items ++
-        (functions_of text file (map external_declaration l) p.number).done)
-        (sym (drop_all i list past)) ∙ h.done
+    ∙ ap (λ l. map function p.done.items ++
+    (functions_of text file (map external_declaration l) p.number).done)
+    (sym (drop_all i list past)) ∙ h.done
 
 pub functions_faults : (text : List ℕ) (file : Scope) (list : List ExternalDeclaration') (i : ℕ)
     (first : Option FaultAt) (p : Progress) → length list ≤ i
     → StillFunctions text file list i first p
     → least_of p.worst ≡ kept first (functions_of text file (map external_declaration list)
-      1).faults
+    1).faults
 functions_faults text file list i first p past h = ap
     (λ l. kept (least_of p.worst) (functions_of text file (map external_declaration l)
     p.number).faults) (sym (drop_all i list past)) ∙ h.faults

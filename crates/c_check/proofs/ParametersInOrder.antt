@@ -30,7 +30,7 @@ has_is [] n = refl
 has_is (x ∷ rest) n = by (same_bytes x.0 n) (has_is rest n)
   where
     by : (b : Bool) → is_some (meaning_in rest n) ≡ has (names_in rest) n
-      → is_some (cond b (Some x.1) (meaning_in rest n)) ≡ cond b true (has (names_in rest) n)
+        → is_some (cond b (Some x.1) (meaning_in rest n)) ≡ cond b true (has (names_in rest) n)
     by true h = refl
     by false h = h
 
@@ -55,11 +55,11 @@ faults_same text (p ∷ ps) s t e =
     let n = spelled text p.name in
     let scalar = unless_holds (is_scalar p.of) p.name.start TypeClash in
     ap (λ b. unless_holds (not b) p.name.start Duplicate ++ scalar
-      ++ parameter_faults text ps (with_name s n (LocalVariable 0 p.of))) (taken_same s t n e)
+    ++ parameter_faults text ps (with_name s n (LocalVariable 0 p.of))) (taken_same s t n e)
     ∙ ap (λ fs. faults_of_parameter text p t ++ fs)
-      (faults_same text ps (with_name s n (LocalVariable 0 p.of))
-      (with_name t n (LocalVariable 0 p.of)) (with_same s t n (LocalVariable 0 p.of)
-      (LocalVariable 0 p.of) e))
+    (faults_same text ps (with_name s n (LocalVariable 0 p.of))
+    (with_name t n (LocalVariable 0 p.of)) (with_same s t n (LocalVariable 0 p.of)
+    (LocalVariable 0 p.of) e))
 
 -- the faults of parameters where the block has the first one under another number
 faults_numbered : (text : List ℕ) (p : Parameter) (ps : List Parameter) (block : Scope) (k : ℕ)
@@ -68,9 +68,9 @@ faults_numbered : (text : List ℕ) (p : Parameter) (ps : List Parameter) (block
 faults_numbered text p ps block k =
     let n = spelled text p.name in
     ap (λ fs. faults_of_parameter text p block ++ fs)
-      (faults_same text ps (with_name block n (LocalVariable 0 p.of))
-      (with_name block n (LocalVariable k p.of))
-      (with_same block block n (LocalVariable 0 p.of) (LocalVariable k p.of) refl))
+    (faults_same text ps (with_name block n (LocalVariable 0 p.of))
+    (with_name block n (LocalVariable k p.of))
+    (with_same block block n (LocalVariable 0 p.of) (LocalVariable k p.of) refl))
 
 -- ---- the loop over parameters
 
@@ -94,10 +94,10 @@ parameters_on text list i p block block' first w w' next e q h =
     let made = with_name block (spelled text p.name) (LocalVariable i p.of) in
     record {
       names = ap (λ b. with_parameters text rest b (i + 1)) e
-        ∙ ap (λ l. with_parameters text l block i) (sym next) ∙ h.names;
+          ∙ ap (λ l. with_parameters text l block i) (sym next) ∙ h.names;
       faults =
           ap (λ b. kept w' (parameter_faults text rest b)) e
-            ∙ ap (λ k. kept k (parameter_faults text rest made)) q
+          ∙ ap (λ k. kept k (parameter_faults text rest made)) q
           ∙ sym (kept_append w (faults_of_parameter text p block) (parameter_faults text rest made))
           ∙ ap (kept w) (sym (faults_numbered text p rest block i))
           ∙ ap (λ l. kept w (parameter_faults text l block)) (sym next) ∙ h.faults;
@@ -127,7 +127,7 @@ pub sizes_on : (list : List Parameter) (i : ℕ) (p : Parameter) (sizes sizes' :
 sizes_on list i p sizes sizes' lt is e h =
     let rest = sizes_of (drop (i + 1) list) in
     ap (λ k. k ++ rest) e ∙ append_assoc sizes (size_of p.of ∷ []) rest
-      ∙ ap (λ l. sizes ++ sizes_of l) (sym (next_of list i p lt is)) ∙ h
+    ∙ ap (λ l. sizes ++ sizes_of l) (sym (next_of list i p lt is)) ∙ h
 
 pub sizes_end : (list : List Parameter) (i : ℕ) (sizes : List Size) → length list ≤ i
     → sizes ++ sizes_of (drop i list) ≡ sizes_of list → sizes ≡ sizes_of list

@@ -21,7 +21,7 @@ first_place : (list : List ExternalDeclaration') (i : ℕ) (x : ExternalDeclarat
     → place_from list i k ≡ place_of_function (y ∷ map external_declaration (drop (i + 1) list)) k
 first_place list i x y k lt is e =
     ap (λ l. place_of_function (map external_declaration l) k) (next_of list i x lt is)
-      ∙ ap (λ z. place_of_function (z ∷ map external_declaration (drop (i + 1) list)) k) e
+    ∙ ap (λ z. place_of_function (z ∷ map external_declaration (drop (i + 1) list)) k) e
 
 -- the function that is there
 pub place_here : (list : List ExternalDeclaration') (i : ℕ) (x : ExternalDeclaration') (t : CType)
@@ -31,7 +31,7 @@ pub place_here : (list : List ExternalDeclaration') (i : ℕ) (x : ExternalDecla
 place_here list i x t n ps body k lt is e none = sym
     (first_place list i x (Function t n ps body) k lt is e
     ∙ ap (place_of_function (Function t n ps body ∷ map external_declaration (drop (i + 1) list)))
-      none)
+    none)
 
 past : (t : CType) (n : Identifier) (ps : List Parameter) (body : Statements)
     (rest : List ExternalDeclaration) (k : ℕ) → k ≢ 0

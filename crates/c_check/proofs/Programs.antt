@@ -25,7 +25,7 @@ all_kept : (a b c : Option FaultAt) (main file functions : List FaultAt) → a �
     → b ≡ kept a main → c ≡ kept b functions → c ≡ kept None (main ++ file ++ functions)
 all_kept a b c main file functions p q r =
     r ∙ ap (λ k. kept k functions) (q ∙ ap (λ k. kept k main) p
-      ∙ sym (kept_after_other None main file)) ∙ sym (kept_append None (main ++ file) functions)
+    ∙ sym (kept_after_other None main file)) ∙ sym (kept_append None (main ++ file) functions)
 
 -- what is resolved with the names that the code has is what is resolved with those of the
 -- definition
@@ -36,27 +36,27 @@ pub program_resolved : (text : List ℕ) (xs : List ExternalDeclaration) (file :
     → least_of worst ≡ kept (least_of file.worst) (main_in xs (block_of file.names.entries)).faults
     → map function made.done.items ≡ (functions_of text (block_of file.names.entries) xs 1).done
     → least_of made.worst ≡ kept (least_of worst)
-      (functions_of text (block_of file.names.entries) xs 1).faults
+    (functions_of text (block_of file.names.entries) xs 1).faults
     → p ≡ record { functions = made.done; main = main; globals = file.bytes; worst = made.worst }
     → IsResolved p (resolve text xs)
 program_resolved text xs file worst main made p is number main_faults done faults whole =
     let d = file_of text xs empty_file in
     let entry : main ≡ (main_in xs d.scope).number = number
-      ∙ ap (λ names. (main_in xs names).number) is.scope in
+    ∙ ap (λ names. (main_in xs names).number) is.scope in
     let functions : map function made.done.items ≡ (functions_of text d.scope xs 1).done = done
-      ∙ ap (λ names. (functions_of text names xs 1).done) is.scope in
+    ∙ ap (λ names. (functions_of text names xs 1).done) is.scope in
     let first : least_of worst ≡ kept (least_of file.worst)
-      (main_in xs d.scope).faults = main_faults
-      ∙ ap (λ names. kept (least_of file.worst) (main_in xs names).faults) is.scope in
+    (main_in xs d.scope).faults = main_faults
+    ∙ ap (λ names. kept (least_of file.worst) (main_in xs names).faults) is.scope in
     let last : least_of made.worst ≡ kept (least_of worst)
-      (functions_of text d.scope xs 1).faults = faults
-      ∙ ap (λ names. kept (least_of worst) (functions_of text names xs 1).faults) is.scope in
+    (functions_of text d.scope xs 1).faults = faults
+    ∙ ap (λ names. kept (least_of worst) (functions_of text names xs 1).faults) is.scope in
     subst (λ q. IsResolved q (resolve text xs)) (sym whole)
     (record {
       program = λ i. record { functions = functions i; main = entry i; globals = is.bytes i };
       faults = all_kept (least_of file.worst) (least_of worst) (least_of made.worst)
-        (main_in xs d.scope).faults d.faults (functions_of text d.scope xs 1).faults is.faults first
-        last;
+          (main_in xs d.scope).faults d.faults (functions_of text d.scope xs 1).faults is.faults first
+          last;
     })
 
 -- ---- which it is

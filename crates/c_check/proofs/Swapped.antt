@@ -100,31 +100,31 @@ three h f g = kept_after (is_earlier f h) h f g
     ∙ sym (kept_after (is_earlier g h) h g f)
   where
     by : (p q r s : Bool) → is_earlier f h ≡ p → is_earlier g h ≡ q → is_earlier g f ≡ r
-      → is_earlier f g ≡ s
+        → is_earlier f g ≡ s
         → cond (is_earlier f h) (of_two (is_earlier g f) f g) (of_two (is_earlier g h) h g)
         ≡ cond (is_earlier g h) (of_two (is_earlier f g) g f) (of_two (is_earlier f h) h f)
     by true true r s e e' e'' e''' = ap (λ k. cond k (of_two (is_earlier g f) f g)
-      (of_two (is_earlier g h) h g)) e ∙ two f g
-      ∙ sym (ap (λ k. cond k (of_two (is_earlier f g) g f) (of_two (is_earlier f h) h f)) e')
+        (of_two (is_earlier g h) h g)) e ∙ two f g
+        ∙ sym (ap (λ k. cond k (of_two (is_earlier f g) g f) (of_two (is_earlier f h) h f)) e')
     by true false true s e e' e'' e''' =
         absurd (let t = through g.at (rank g.fault) f.at (rank f.fault) h.at (rank h.fault) e'' e in
-          cc)
+        cc)
     by true false false s e e' e'' e''' =
         ap (λ k. cond k (of_two (is_earlier g f) f g) (of_two (is_earlier g h) h g)) e
-          ∙ ap (λ k. of_two k f g) e''
+        ∙ ap (λ k. of_two k f g) e''
         ∙ sym (ap (λ k. cond k (of_two (is_earlier f g) g f) (of_two (is_earlier f h) h f)) e'
         ∙ ap (λ k. of_two k h f) e)
     by false true r true e e' e'' e''' =
         absurd (let t = through f.at (rank f.fault) g.at (rank g.fault) h.at (rank h.fault) e'''
-          e' in cc)
+        e' in cc)
     by false true r false e e' e'' e''' =
         ap (λ k. cond k (of_two (is_earlier g f) f g) (of_two (is_earlier g h) h g)) e
-          ∙ ap (λ k. of_two k h g) e'
+        ∙ ap (λ k. of_two k h g) e'
         ∙ sym (ap (λ k. cond k (of_two (is_earlier f g) g f) (of_two (is_earlier f h) h f)) e'
         ∙ ap (λ k. of_two k g f) e''')
     by false false r s e e' e'' e''' =
         ap (λ k. cond k (of_two (is_earlier g f) f g) (of_two (is_earlier g h) h g)) e
-          ∙ ap (λ k. of_two k h g) e'
+        ∙ ap (λ k. of_two k h g) e'
         ∙ sym (ap (λ k. cond k (of_two (is_earlier f g) g f) (of_two (is_earlier f h) h f)) e'
         ∙ ap (λ k. of_two k h f) e)
 

@@ -81,8 +81,11 @@ pub record StillToPass (s : Names) (w0 : Option FaultAt) (whole : Passed)
 pub none_passed : (s : Names) (w0 : Option FaultAt) (ws : List Wanted') (es : List Expr)
     → StillToPass s w0 (pass_all (map wanted ws) (resolved_all s es)) (Some []) w0 ws es
 unfolding joined onto
-none_passed s w0 ws es = record { found = sym
-    (first_joined (pass_all (map wanted ws) (resolved_all s es)).found); faults = refl }
+none_passed s w0 ws es = record {
+  found = sym
+      (first_joined (pass_all (map wanted ws) (resolved_all s es)).found);
+  faults = refl;
+}
   where
     first_joined : (o : Option nodes.Arguments) → joined (Some []) o ≡ o
     first_joined None = refl
@@ -97,7 +100,7 @@ pub pass_on : (s : Names) (w0 : Option FaultAt) (whole : Passed)
     ≡ (pass (wanted x) (start (expression e)) fs found rest).found)
     → ((first : Option FaultAt) (fs : List FaultAt) (rest : Passed) → w1 ≡ kept first fs
     → kept w2 rest.faults ≡ kept first (pass (wanted x) (start (expression e)) fs found
-      rest).faults)
+    rest).faults)
     → StillToPass s w0 whole done w (x ∷ ws) (e ∷ es)
     → StillToPass s w0 whole (put_after done one) w2 ws es
 pass_on s w0 whole done w w1 w2 x e ws es found one is kept_first puts adds h =
@@ -105,10 +108,10 @@ pass_on s w0 whole done w w1 w2 x e ws es found one is kept_first puts adds h =
     let rest = pass_all (map wanted ws) (resolved_all s es) in
     record {
       found = h.found ∙ ap (joined done) (ap (λ
-        o. (pass (wanted x) (start (expression e)) j.faults o rest).found) (sym is)
-        ∙ sym (puts j.faults rest)) ∙ join_step done one rest.found;
+          o. (pass (wanted x) (start (expression e)) j.faults o rest).found) (sym is)
+          ∙ sym (puts j.faults rest)) ∙ join_step done one rest.found;
       faults = h.faults ∙ ap (λ o. kept w (pass (wanted x) (start (expression e)) j.faults o
-        rest).faults) (sym is) ∙ sym (adds w j.faults rest kept_first);
+          rest).faults) (sym is) ∙ sym (adds w j.faults rest kept_first);
     }
 
 pub all_passed : (s : Names) (w0 : Option FaultAt) (whole : Passed)
@@ -139,8 +142,8 @@ pub faults_on : (s : Names) (so_far w w1 : Option FaultAt) (given : List Expr) (
 faults_on s so_far w w1 given i e lt is k h =
     let rest = faults_of (resolved_all s (drop (i + 1) given)) in
     h ∙ ap (λ l. kept w (faults_of (resolved_all s l))) (next_of given i e lt is)
-      ∙ kept_append w (resolve_expression s (expression e)).faults rest
-      ∙ ap (λ o. kept o rest) (sym k)
+    ∙ kept_append w (resolve_expression s (expression e)).faults rest
+    ∙ ap (λ o. kept o rest) (sym k)
 
 -- one more argument is passed
 pub pass_next : (s : Names) (w0 : Option FaultAt) (whole : Passed)
@@ -154,15 +157,15 @@ pub pass_next : (s : Names) (w0 : Option FaultAt) (whole : Passed)
     ≡ (pass (wanted x) (start (expression e)) fs found rest).found)
     → ((first : Option FaultAt) (fs : List FaultAt) (rest : Passed) → w1 ≡ kept first fs
     → kept w2 rest.faults ≡ kept first (pass (wanted x) (start (expression e)) fs found
-      rest).faults)
+    rest).faults)
     → StillToPass s w0 whole done w (drop i wants) (drop i given)
     → StillToPass s w0 whole (put_after done one) w2 (drop (i + 1) wants) (drop (i + 1) given)
 pass_next s w0 whole done w w1 w2 wants given i x e found one lw xw lg xg is k puts adds h =
     pass_on s w0 whole done w w1 w2 x e (drop (i + 1) wants) (drop (i + 1) given) found one is k
-      puts adds
+    puts adds
     (subst (λ ws. StillToPass s w0 whole done w ws (e ∷ drop (i + 1) given))
-      (next_of wants i x lw xw) (subst (λ es. StillToPass s w0 whole done w (drop i wants) es)
-      (next_of given i e lg xg) h))
+    (next_of wants i x lw xw) (subst (λ es. StillToPass s w0 whole done w (drop i wants) es)
+    (next_of given i e lg xg) h))
 
 pub fused : {A B C : Type 0} (g : B → C) (f : A → B) (o : Option A)
     → option_map (λ x. g (f x)) o ≡ option_map g (option_map f o)
@@ -176,8 +179,8 @@ pub all_passed_at : (s : Names) (w0 : Option FaultAt) (whole : Passed)
     → (option_map nodes.arguments done ≡ whole.found) × (w ≡ kept w0 whole.faults)
 all_passed_at s w0 whole done w wants given i pw pg h =
     all_passed s w0 whole done w (subst (λ k. StillToPass s w0 whole done w k [])
-      (drop_all i wants pw) (subst (λ k. StillToPass s w0 whole done w (drop i wants) k)
-      (drop_all i given pg) h))
+    (drop_all i wants pw) (subst (λ k. StillToPass s w0 whole done w (drop i wants) k)
+    (drop_all i given pg) h))
 
 pub pass_next_to : (s : Names) (w0 : Option FaultAt) (whole : Passed)
     (done done' : Option (List nodes.Expression)) (w w1 w2 : Option FaultAt) (wants : List Wanted')
@@ -191,13 +194,13 @@ pub pass_next_to : (s : Names) (w0 : Option FaultAt) (whole : Passed)
     ≡ (pass (wanted x) (start (expression e)) fs found rest).found)
     → ((first : Option FaultAt) (fs : List FaultAt) (rest : Passed) → w1 ≡ kept first fs
     → kept w2 rest.faults ≡ kept first (pass (wanted x) (start (expression e)) fs found
-      rest).faults)
+    rest).faults)
     → StillToPass s w0 whole done w (drop i wants) (drop i given)
     → StillToPass s w0 whole done' w2 (drop (i + 1) wants) (drop (i + 1) given)
 pass_next_to s w0 whole done done' w w1 w2 wants given i x e found one ed lw xw lg xg is k puts adds
     h =
     subst (λ d. StillToPass s w0 whole d w2 (drop (i + 1) wants) (drop (i + 1) given)) (sym ed)
-      (pass_next s w0 whole done w w1 w2 wants given i x e found one lw xw lg xg is k puts adds h)
+    (pass_next s w0 whole done w w1 w2 wants given i x e found one lw xw lg xg is k puts adds h)
 
 -- ---- calls that have a meaning in some places alone
 
@@ -224,4 +227,4 @@ pub allowed_kept : (b : Bool) (at : ℕ) (f : Fault) (j : ResolvedExpression) (a
     → new ≡ kept first (only_where b at f j).faults
 allowed_kept b at f j a first old new is so adds =
     adds first j.faults so ∙ ap (λ o. kept first (allowed_call b at f j.faults o).faults) is
-      ∙ ap (kept first) (faults_alone b at f j)
+    ∙ ap (kept first) (faults_alone b at f j)

@@ -61,9 +61,9 @@ after_one true true block k n e free taken same = absurd_free (meaning_in block 
     absurd_free (Some x) p = refl
     absurd_free None p =
         absurd (true≢false (sym taken ∙ ap is_some
-          (meaning_append built_ins block k ∙ ap
-          (λ w. option_or (meaning_in built_ins w) (meaning_in block w)) (same_true k n same)
-          ∙ ap (λ o. option_or o (meaning_in block n)) free ∙ p)))
+        (meaning_append built_ins block k ∙ ap
+        (λ w. option_or (meaning_in built_ins w) (meaning_in block w)) (same_true k n same)
+        ∙ ap (λ o. option_or o (meaning_in block n)) free ∙ p)))
 after_one true false block k n e free taken same = sym (or_nothing (meaning_in block n))
 after_one false true block k n e free taken same =
     ap (λ b. cond b (Some e) (meaning_in block n)) same ∙ new (meaning_in block n) refl
@@ -72,15 +72,15 @@ after_one false true block k n e free taken same =
     new None p = refl
     new (Some x) p =
         absurd (true≢false (sym (ap is_some (meaning_append built_ins block k
-          ∙ ap (λ w. option_or (meaning_in built_ins w) (meaning_in block w)) (same_true k n same)
-          ∙ ap (λ o. option_or o (meaning_in block n)) free ∙ p)) ∙ taken))
+        ∙ ap (λ w. option_or (meaning_in built_ins w) (meaning_in block w)) (same_true k n same)
+        ∙ ap (λ o. option_or o (meaning_in block n)) free ∙ p)) ∙ taken))
 after_one false false block k n e free taken same = ap (λ b. cond b (Some e) (meaning_in block n))
     same ∙ sym (or_nothing (meaning_in block n))
 
 pub names_are : (block : Scope) (es : List (Bor (List ℕ) × Entity')) (n : List ℕ)
     → meaning_in built_ins n ≡ None
     → meaning_in (names_after block es) n ≡ option_or (meaning_in block n)
-      (option_map entity (lookup (λ k. pointwise nat_eq n k.now) es))
+    (option_map entity (lookup (λ k. pointwise nat_eq n k.now) es))
 names_are block [] n free = sym (or_nothing (meaning_in block n))
 names_are block (x ∷ es) n free =
     let k : List ℕ = x.0.now in
@@ -88,15 +88,15 @@ names_are block (x ∷ es) n free =
     let rest = option_map entity (lookup (λ k. pointwise nat_eq n k.now) es) in
     names_are (with_name block k e) es n free
     ∙ ap (λ o. option_or o rest) (after_one (is_taken block k) (same_bytes k n) block k n e free
-      refl refl)
+    refl refl)
     ∙ or_assoc (meaning_in block n) (cond (same_bytes k n) (Some e) None) rest
     ∙ ap (option_or (meaning_in block n)) (by (same_bytes k n)
     ∙ ap (λ b. option_map entity (cond b (Some x.1) (lookup (λ k. pointwise nat_eq n k.now) es)))
-      (sym (same_flips n k)))
+    (sym (same_flips n k)))
   where
     by : (b : Bool) → option_or (cond b (Some (entity x.1)) None)
-      (option_map entity (lookup (λ k. pointwise nat_eq n k.now) es))
-      ≡ option_map entity (cond b (Some x.1) (lookup (λ k. pointwise nat_eq n k.now) es))
+        (option_map entity (lookup (λ k. pointwise nat_eq n k.now) es))
+        ≡ option_map entity (cond b (Some x.1) (lookup (λ k. pointwise nat_eq n k.now) es))
     by true = refl
     by false = refl
 
@@ -139,11 +139,11 @@ declared_new es k e free =
     let n : List ℕ = k.now in
     let none = not_some (meaning_in (built_ins ++ block_of es) n) free in
     let both = or_none (meaning_in built_ins n) (meaning_in (block_of es) n)
-      (sym (meaning_append built_ins (block_of es) n) ∙ none) in
+    (sym (meaning_append built_ins (block_of es) n) ∙ none) in
     let absent = nothing_mapped (lookup (λ q. pointwise nat_eq n q.now) es)
-      (sym (block_is es n both.0) ∙ both.1) in
+    (sym (block_is es n both.0) ∙ both.1) in
     ap block_of (insert_entry-absent (λ a b. pointwise nat_eq a.now b.now) k e es
-      (absent_from_lookup (λ q. pointwise nat_eq n q.now) es absent)) ∙ names_push [] es k e
+    (absent_from_lookup (λ q. pointwise nat_eq n q.now) es absent)) ∙ names_push [] es k e
 
 -- a name that isn't the first of a scope means what the others say
 pub absent : (k : List ℕ) (e : Entity) (rest : Scope) (n : List ℕ) → same_bytes k n ≡ false
@@ -169,7 +169,7 @@ no_function n a b c d e = sym (ap (λ x. cond x (Some (BuiltInFunction Put))
     (meaning_in (drop 1 built_in_functions) n)) a
     ∙ ap (λ x. cond x (Some (BuiltInFunction Protect)) (meaning_in (drop 2 built_in_functions) n)) b
     ∙ ap (λ x. cond x (Some (BuiltInFunction RaiseException))
-      (meaning_in (drop 3 built_in_functions) n)) c
+    (meaning_in (drop 3 built_in_functions) n)) c
     ∙ ap (λ x. cond x (Some (CodeFunction)) (meaning_in (drop 4 built_in_functions) n)) d
     ∙ ap (λ x. cond x (Some (AbnormalFunction)) (meaning_in (drop 5 built_in_functions) n)) e)
 
@@ -178,4 +178,4 @@ no_constant n a b c = sym (ap (λ x. cond x (Some (BuiltInConstant 1))
     (meaning_in (drop 1 built_in_constants) n)) a
     ∙ ap (λ x. cond x (Some (BuiltInConstant 0)) (meaning_in (drop 2 built_in_constants) n)) b
     ∙ ap (λ x. cond x (Some (BuiltInConstant 0xFFFFFFFF))
-      (meaning_in (drop 3 built_in_constants) n)) c)
+    (meaning_in (drop 3 built_in_constants) n)) c)

@@ -25,7 +25,7 @@ three : (g f b : FaultAt) (p q : Bool) → is_earlier f g ≡ p → is_earlier b
     → kept_one (kept_one (Some g) f) b ≡ kept_one (Some g) (earlier f (Some b))
 three g f b true true e h =
     let m : is_earlier b g ≡ true = chain b.at (rank b.fault) f.at (rank f.fault) g.at
-      (rank g.fault) h e in
+    (rank g.fault) h e in
     ap (λ k. kept_one (cond k (Some f) (Some g)) b) e ∙ ap (λ k. cond k (Some b) (Some f)) h
     ∙ sym (ap (λ k. kept_one (Some g) (cond k b f)) h ∙ ap (λ k. cond k (Some b) (Some g)) m)
 three g f b true false e h =
@@ -35,7 +35,7 @@ three g f b false true e h = ap (λ k. kept_one (cond k (Some f) (Some g)) b) e
     ∙ sym (ap (λ k. kept_one (Some g) (cond k b f)) h)
 three g f b false false e h =
     let m : is_earlier b g ≡ false = no_chain b.at (rank b.fault) f.at (rank f.fault) g.at
-      (rank g.fault) h e in
+    (rank g.fault) h e in
     ap (λ k. kept_one (cond k (Some f) (Some g)) b) e ∙ ap (λ k. cond k (Some b) (Some g)) m
     ∙ sym (ap (λ k. kept_one (Some g) (cond k b f)) h ∙ ap (λ k. cond k (Some f) (Some g)) e)
 

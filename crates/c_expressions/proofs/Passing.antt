@@ -17,7 +17,7 @@ pub put_is : (fs : List FaultAt) (e : nodes.Expression) (rest : Passed)
 put_is fs e rest = by rest.found
   where
     by : (o : Option nodes.Arguments) → put_before (Some e) o
-      ≡ elim o [ Some es ↦ Some (nodes.Next e es) | None ↦ None ]
+        ≡ elim o [ Some es ↦ Some (nodes.Next e es) | None ↦ None ]
     by None = refl
     by (Some es) = refl
 
@@ -31,8 +31,8 @@ pub clash_kept : (first old w : Option FaultAt) (fs extra more : List FaultAt) �
     → w ≡ kept old extra → kept w more ≡ kept first ((fs ++ extra) ++ more)
 clash_kept first old w fs extra more p q =
     ap (λ k. kept k more) (q ∙ ap (λ k. kept k extra) p)
-      ∙ sym (kept_append first (fs ++ extra) more
-      ∙ ap (λ k. kept k more) (kept_append first fs extra))
+    ∙ sym (kept_append first (fs ++ extra) more
+    ∙ ap (λ k. kept k more) (kept_append first fs extra))
 
 -- ---- one argument, by whether it is what is wanted
 
@@ -47,8 +47,8 @@ pub fits_kept : (first old : Option FaultAt) (w : Wanted) (at : ℕ) (fs : List 
     ≡ kept first (pass w at fs (Some a) rest).faults
 fits_kept first old w at fs a rest e p =
     both_kept first old fs rest.faults p ∙ sym
-      (ap (λ b. kept first (cond b (before fs (passed w a) rest)
-      (spoiled (fs ++ fault_at at TypeClash) rest)).faults) e)
+    (ap (λ b. kept first (cond b (before fs (passed w a) rest)
+    (spoiled (fs ++ fault_at at TypeClash) rest)).faults) e)
 
 pub unfit_kept : (first old new : Option FaultAt) (w : Wanted) (at : ℕ) (fs : List FaultAt)
     (a : TypedNode) (rest : Passed)
@@ -56,15 +56,15 @@ pub unfit_kept : (first old new : Option FaultAt) (w : Wanted) (at : ℕ) (fs : 
     → kept new rest.faults ≡ kept first (pass w at fs (Some a) rest).faults
 unfit_kept first old new w at fs a rest e p q =
     clash_kept first old new fs (fault_at at TypeClash) rest.faults p q
-      ∙ sym (ap (λ b. kept first (cond b (before fs (passed w a) rest)
-        (spoiled (fs ++ fault_at at TypeClash) rest)).faults) e)
+    ∙ sym (ap (λ b. kept first (cond b (before fs (passed w a) rest)
+    (spoiled (fs ++ fault_at at TypeClash) rest)).faults) e)
 
 pub fits_put : (w : Wanted) (at : ℕ) (fs : List FaultAt) (a : TypedNode) (rest : Passed)
     → fits w a ≡ true → put_before (Some (passed w a)) rest.found
     ≡ (pass w at fs (Some a) rest).found
 fits_put w at fs a rest e = put_is fs (passed w a) rest
     ∙ sym (ap (λ b. (cond b (before fs (passed w a) rest)
-      (spoiled (fs ++ fault_at at TypeClash) rest)).found) e)
+    (spoiled (fs ++ fault_at at TypeClash) rest)).found) e)
 
 -- ---- what arguments of a function have to be
 

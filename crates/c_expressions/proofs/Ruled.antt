@@ -34,7 +34,7 @@ pub three : (first w1 w2 w3 w4 : Option FaultAt) (jc ja jb : ResolvedExpression)
 three first w1 w2 w3 w4 jc ja jb rule c a b k1 k2 k3 ec ea eb adds =
     let fs = jc.faults ++ ja.faults ++ jb.faults in
     adds first fs (kept_more first w2 w3 (jc.faults ++ ja.faults) jb.faults
-      (kept_more first w1 w2 jc.faults ja.faults k1 k2) k3)
+    (kept_more first w1 w2 jc.faults ja.faults k1 k2) k3)
     ∙ ap (λ o. kept first (rule fs o a b).faults) ec
     ∙ ap (λ o. kept first (rule fs jc.found o b).faults) ea
     ∙ ap (λ o. kept first (rule fs jc.found ja.found o).faults) eb
@@ -50,7 +50,7 @@ refused_kept first old new b at f fs j e p q = kept_more first old new fs (fault
 pub assign_is : (s : Names) (target value : Expression) (at : ℕ) (o : Option Arithmetic)
     (ja jb : ResolvedExpression)
     → assigning_to s target (assigning_at o at (start value)) o (ja.faults ++ jb.faults) ja.found
-      jb.found ≡ given_that (is_lvalue s target) (start target) NotLvalue (ja.faults ++ jb.faults)
-      (changed o at (start value) ja jb)
+    jb.found ≡ given_that (is_lvalue s target) (start target) NotLvalue (ja.faults ++ jb.faults)
+    (changed o at (start value) ja jb)
 assign_is s target value at None ja jb = refl
 assign_is s target value at (Some o) ja jb = refl

@@ -24,10 +24,10 @@ pub valued : (before after : Least) (found : Option TypedNode) (a : TypedNode) (
     ≡ record { value = v; faults = fs ++ extra }) → Values before after found e rule
 valued before after found a e rule v extra is made added computes =
     let all : (fs : List FaultAt) → rule (resolved found fs)
-      ≡ record { value = v; faults = fs ++ extra } = λ fs. ap (λ o. rule (resolved o fs)) is
-      ∙ computes fs in
+    ≡ record { value = v; faults = fs ++ extra } = λ fs. ap (λ o. rule (resolved o fs)) is
+    ∙ computes fs in
     record {
       value = λ fs. made ∙ sym (ap (λ (r : Value). r.value) (all fs));
       faults = λ first fs p. kept_more first (least_of before) (least_of after) fs extra p added
-        ∙ ap (kept first) (sym (ap (λ (r : Value). r.faults) (all fs)));
+          ∙ ap (kept first) (sym (ap (λ (r : Value). r.faults) (all fs)));
     }

@@ -13,7 +13,7 @@ number_step old zero v h = absurd (h refl)
 number_step old (suc n) v h =
     let e : suc n - 1 ≡ n = omega arith in
     append_assoc old (v % 256 ∷ []) (bytes_of_number (suc n - 1) (v / 256))
-      ∙ ap (λ k. old ++ v % 256 ∷ bytes_of_number k (v / 256)) e
+    ∙ ap (λ k. old ++ v % 256 ∷ bytes_of_number k (v / 256)) e
 
 -- one byte 0 more
 pub zeros_step : (old : List ℕ) (n : ℕ) → n ≢ 0
@@ -31,7 +31,7 @@ pub constant_on : (size : ℕ) (own own' all : List ℕ) (list : List Constant) 
 constant_on size own own' all list i x lt is e h =
     let rest = bytes_of_all size (drop (i + 1) list) in
     ap (λ k. k ++ rest) e ∙ append_assoc own (bytes_of_number size (constant_value x)) rest
-      ∙ ap (λ l. own ++ bytes_of_all size l) (sym (next_of list i x lt is)) ∙ h
+    ∙ ap (λ l. own ++ bytes_of_all size l) (sym (next_of list i x lt is)) ∙ h
 
 pub constants_end : (size : ℕ) (own all : List ℕ) (list : List Constant) (i : ℕ) → length list ≤ i
     → own ++ bytes_of_all size (drop i list) ≡ all → own ≡ all

@@ -25,13 +25,21 @@ on_both A B (Err e) a b = tt
 
 -- the file as the code has it, with these faults
 abbrev pub seen : File' → List FaultAt → File
-seen f fs = record { scope = block_of f.names.entries; bytes = f.bytes.items;
-    functions = f.functions; faults = fs }
+seen f fs = record {
+  scope = block_of f.names.entries;
+  bytes = f.bytes.items;
+  functions = f.functions;
+  faults = fs;
+}
 
 -- what holds of the file as the code has it holds of the one that it is
 pub at_file : (P : File → Type 0) (f : File') (d : File) → IsFile f d → P (seen f d.faults) → P d
-at_file P f d h p = subst P (λ i. record { scope = h.scope i; bytes = h.bytes i;
-    functions = h.functions i; faults = d.faults }) p
+at_file P f d h p = subst P (λ i. record {
+  scope = h.scope i;
+  bytes = h.bytes i;
+  functions = h.functions i;
+  faults = d.faults;
+}) p
 
 -- five parts of the faults of a global
 pub five_kept : (first w0 w1 w2 w3 w4 : Option FaultAt) (fs dup void len own : List FaultAt)
@@ -49,7 +57,7 @@ pub placed : (text : List ℕ) (base : Base) (g : Global') (f f' : File') (d : F
     let block = block_of f.names.entries in
     let own = initial_value of g.length (option_map trees.initialiser g.initialiser) in
     block_of f'.names.entries ≡ with_name block n
-      (global_entity of (first_data + length (padded (bytes_in of) f.bytes.items)) g.length)
+    (global_entity of (first_data + length (padded (bytes_in of) f.bytes.items)) g.length)
     → f'.bytes.items ≡ padded (bytes_in of) f.bytes.items ++ own.bytes
     → f'.functions ≡ f.functions
     → w1 ≡ kept (least_of f.worst) (unless_holds (not (is_taken block n)) g.name.start Duplicate)
@@ -64,12 +72,12 @@ placed text base g f f' d w1 w2 w3 names bytes functions k1 k2 k3 k4 h =
       bytes = bytes;
       functions = functions;
       faults = five_kept None (least_of f.worst) w1 w2 w3 (least_of f'.worst) d.faults
-        (unless_holds (not (is_taken (block_of f.names.entries) (spelled text g.name))) g.name.start
-        Duplicate)
+          (unless_holds (not (is_taken (block_of f.names.entries) (spelled text g.name))) g.name.start
+          Duplicate)
           (unless_holds (is_scalar (record { base = base; pointers = g.pointers })) g.name.start
-            TypeClash) (length_faults g.length)
-            (initial_value (record { base = base; pointers = g.pointers }) g.length
-            (option_map trees.initialiser g.initialiser)).faults h.faults k1 k2 k3 k4;
+          TypeClash) (length_faults g.length)
+          (initial_value (record { base = base; pointers = g.pointers }) g.length
+          (option_map trees.initialiser g.initialiser)).faults h.faults k1 k2 k3 k4;
     })
 
 -- ---- globals, one after another
@@ -85,9 +93,12 @@ pub globals_on : (text : List ℕ) (base : Base) (list : List Global') (i : ℕ)
     → ((d : File) → IsFile f' d → IsFile f'' (with_global text base (trees.global x) d))
     → StillGlobals text base list i f f' → StillGlobals text base list (i + 1) f f''
 globals_on text base list i x f f' f'' lt is one h d hd =
-    let r = h d hd in
-    (with_global text base (trees.global x) r.0, one r.0 r.1, r.2
-      ∙ ap (λ l. with_globals text base (map trees.global l) r.0) (next_of list i x lt is))
+    let r = h d hd in (
+      with_global text base (trees.global x) r.0,
+      one r.0 r.1,
+      r.2
+          ∙ ap (λ l. with_globals text base (map trees.global l) r.0) (next_of list i x lt is),
+    )
 
 pub globals_end : (text : List ℕ) (base : Base) (list : List Global') (i : ℕ) (f f' : File')
     → length list ≤ i → StillGlobals text base list i f f'
@@ -95,4 +106,4 @@ pub globals_end : (text : List ℕ) (base : Base) (list : List Global') (i : ℕ
 globals_end text base list i f f' p h d hd =
     let r = h d hd in
     subst (IsFile f') (sym (r.2 ∙ ap (λ l. with_globals text base (map trees.global l) r.0)
-      (drop_all i list p))) r.1
+    (drop_all i list p))) r.1

@@ -23,16 +23,16 @@ use Rattle.c_syntax.specs.Statement.{Declaring, Evaluating, local}
 pub declaring : (a : Environment) (base : Base) (ls slice : List Local')
     (old block : List (Bor (List ℕ) × Entity')) (w w' : Walk) (b : Beginning)
     → old ≡ [] → slice ≡ ls → b.first ≡ None → Resolves block w w' (map declares b.declared.items)
-      (declare_all a base (map local slice) (block_of old) (numbering w))
+    (declare_all a base (map local slice) (block_of old) (numbering w))
     → IsBeginning block w w' b (resolve_for_initialiser a (Declaring base (map local ls))
-      (numbering w))
+    (numbering w))
 declaring a base ls slice old block w w' b empty same none h =
     let m = declare_all a base (map local ls) [] (numbering w) in
     let own : Resolves block w w' (map declares b.declared.items) m = subst
-      (λ es. Resolves block w w' (map declares b.declared.items)
-      (declare_all a base (map local ls) (block_of es) (numbering w))) empty
+    (λ es. Resolves block w w' (map declares b.declared.items)
+    (declare_all a base (map local ls) (block_of es) (numbering w))) empty
     (subst (λ k. Resolves block w w' (map declares b.declared.items)
-      (declare_all a base (map local k) (block_of old) (numbering w))) same h) in
+    (declare_all a base (map local k) (block_of old) (numbering w))) same h) in
     record {
       declared = sym (only_declared b.declared.items) ∙ ap names_only own.done;
       first = ap (option_map expression) none;
@@ -45,13 +45,18 @@ pub evaluating : (a : Environment) (e : Option Expr) (old : List (Bor (List ℕ)
     (w w' : Walk) (b : Beginning)
     → old ≡ [] → b.declared.items ≡ [] → numbering w' ≡ numbering w
     → MayEvaluate w.worst w'.worst b.first (optional (λ x. any (resolved_at a (block_of old) x))
-      (option_map tree e))
+    (option_map tree e))
     → IsBeginning old w w' b (resolve_for_initialiser a (Evaluating (option_map tree e))
-      (numbering w))
+    (numbering w))
 evaluating a e old w w' b empty none counts h =
     let own : MayEvaluate w.worst w'.worst b.first
-      (optional (λ x. any (resolved_at a [] x)) (option_map tree e)) = subst
-      (λ es. MayEvaluate w.worst w'.worst b.first
-      (optional (λ x. any (resolved_at a (block_of es) x)) (option_map tree e))) empty h in
-    record { declared = ap (map declared) none; first = own.value; counts = counts;
-      block = ap block_of empty; faults = own.faults }
+    (optional (λ x. any (resolved_at a [] x)) (option_map tree e)) = subst
+    (λ es. MayEvaluate w.worst w'.worst b.first
+    (optional (λ x. any (resolved_at a (block_of es) x)) (option_map tree e))) empty h in
+    record {
+      declared = ap (map declared) none;
+      first = own.value;
+      counts = counts;
+      block = ap block_of empty;
+      faults = own.faults;
+    }

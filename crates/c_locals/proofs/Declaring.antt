@@ -47,19 +47,19 @@ pub one_declared : (a : Environment) (base : Base) (whole : ResolvedStatements) 
     (made made' : List Declared') (d : Declared') (ls : List Local') (i : ℕ) (l : Local')
     (block block' : List (Bor (List ℕ) × Entity'))
     → i < length ls → l ≡ get_or ls i l → Resolves block' w w' (declares d ∷ [])
-      (declare a base (local l) (block_of block) (numbering w)) → made' ≡ made ++ d ∷ []
+    (declare a base (local l) (block_of block) (numbering w)) → made' ≡ made ++ d ∷ []
     → StillToDeclare a base whole before made (drop i ls) block w
     → StillToDeclare a base whole before made' (drop (i + 1) ls) block' w'
 one_declared a base whole before w w' made made' d ls i l block block' lt is one more h =
     let ends = drop (i + 1) ls in
     let now : StillToDeclare a base whole before made (l ∷ ends) block w = subst
-      (λ k. StillToDeclare a base whole before made k block w) (next_of ls i l lt is) h in
+    (λ k. StillToDeclare a base whole before made k block w) (next_of ls i l lt is) h in
     subst (λ k. StillToMake whole (least_of before.worst) k (least_of w'.worst)
-      (rest_of a base ends block' w')) (sym (ap (map declares) more
-      ∙ map-append declares made (d ∷ [])))
+    (rest_of a base ends block' w')) (sym (ap (map declares) more
+    ∙ map-append declares made (d ∷ [])))
     (one_made whole (declare a base (local l) (block_of block) (numbering w))
-      (declare_all a base (map local ends)) (least_of before.worst) (least_of w.worst)
-      (least_of w'.worst) (map declares made) (declares d ∷ []) (block_of block') (numbering w')
+    (declare_all a base (map local ends)) (least_of before.worst) (least_of w.worst)
+    (least_of w'.worst) (map declares made) (declares d ∷ []) (block_of block') (numbering w')
     one.done one.counts one.block one.faults now)
 
 pub all_declared : (a : Environment) (base : Base) (whole : ResolvedStatements) (before w : Walk)
@@ -69,9 +69,13 @@ pub all_declared : (a : Environment) (base : Base) (whole : ResolvedStatements) 
     → Resolves block before w (map declares made) whole
 all_declared a base whole before w made ls i block past h =
     let now : StillToDeclare a base whole before made [] block w = subst
-      (λ k. StillToDeclare a base whole before made k block w) (drop_all i ls past) h in
-    record { done = sym (now.done ∙ append-nil (map declares made)); counts = sym now.counts;
-      block = sym now.block; faults = sym now.faults }
+    (λ k. StillToDeclare a base whole before made k block w) (drop_all i ls past) h in
+    record {
+      done = sym (now.done ∙ append-nil (map declares made));
+      counts = sym now.counts;
+      block = sym now.block;
+      faults = sym now.faults;
+    }
 
 -- the declared locals alone
 pub only_declared : (ds : List Declared') → names_only (map declares ds) ≡ map declared ds
@@ -107,34 +111,34 @@ pub declared_local : (a : Environment) (base : Base) (l : Local') (w w' : Walk) 
     → block_of block' ≡ with_name (block_of block) name (LocalVariable n of)
     → w'.sizes.items ≡ w.sizes.items ++ size_of of ∷ [] → w'.number ≡ w.number
     → least_of middle ≡ kept (least_of w.worst)
-      (unless_holds (not (is_taken (block_of block) name)) l.name.start Duplicate
+    (unless_holds (not (is_taken (block_of block) name)) l.name.start Duplicate
     ++ unless_holds (is_scalar of) l.name.start TypeClash)
     → MayEvaluate middle w'.worst v (optional
-      (λ e. to_type of (start e) (resolved_at a (block_of block') e))
-      (option_map tree l.initialiser))
+    (λ e. to_type of (start e) (resolved_at a (block_of block') e))
+    (option_map tree l.initialiser))
     → Resolves block' w w' (declares (record { local = n; value = v }) ∷ [])
-      (declare a base (local l) (block_of block) (numbering w)))
+    (declare a base (local l) (block_of block) (numbering w)))
 declared_local a base l w w' middle n v block block' at named sized numbered checks valued =
     let of : CType = record { base = base; pointers = l.pointers } in
     let name = spelled a.text l.name in
     let is : block_of block' ≡ with_name (block_of block) name
-      (LocalVariable (length w.sizes.items) of) = named
-      ∙ ap (λ k. with_name (block_of block) name (LocalVariable k of)) at in
+    (LocalVariable (length w.sizes.items) of) = named
+    ∙ ap (λ k. with_name (block_of block) name (LocalVariable k of)) at in
     let rule : Scope → Optional = λ s. optional (λ e. to_type of (start e) (resolved_at a s e))
-      (option_map tree l.initialiser) in
+    (option_map tree l.initialiser) in
     let own : MayEvaluate middle w'.worst v (rule
-      (with_name (block_of block) name (LocalVariable (length w.sizes.items) of))) = subst
-      (λ s. MayEvaluate middle w'.worst v (rule s)) is valued in
+    (with_name (block_of block) name (LocalVariable (length w.sizes.items) of))) = subst
+    (λ s. MayEvaluate middle w'.worst v (rule s)) is valued in
     record {
       done = ap (λ k. checked.Declare (record { local = k; value = option_map expression v }) ∷ [])
-        at ∙ ap (λ k. checked.Declare (record { local = length w.sizes.items; value = k }) ∷ [])
-        own.value;
+          at ∙ ap (λ k. checked.Declare (record { local = length w.sizes.items; value = k }) ∷ [])
+          own.value;
       counts = ap (λ k. record { sizes = k; number = w'.number }) sized
-        ∙ ap (λ k. record { sizes = w.sizes.items ++ size_of of ∷ []; number = k }) numbered;
+          ∙ ap (λ k. record { sizes = w.sizes.items ++ size_of of ∷ []; number = k }) numbered;
       block = is;
       faults = kept_more (least_of w.worst) (least_of middle) (least_of w'.worst)
-        (unless_holds (not (is_taken (block_of block) name)) l.name.start Duplicate
-        ++ unless_holds (is_scalar of) l.name.start TypeClash)
+          (unless_holds (not (is_taken (block_of block) name)) l.name.start Duplicate
+          ++ unless_holds (is_scalar of) l.name.start TypeClash)
           (rule (with_name (block_of block) name (LocalVariable (length w.sizes.items) of))).faults
           checks own.faults;
     }

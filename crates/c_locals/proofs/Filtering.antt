@@ -13,7 +13,7 @@ abbrev filter_by : Environment → Scope → Expression → Bool → ℕ → Res
 filter_by a block x same number =
     let v = to_answer (start x) (filter_resolved_at a block x) in
     cond same (record { filter = Always; number = number; faults = [] })
-      (record { filter = Funclet number v.value; number = number + 1; faults = v.faults })
+    (record { filter = Funclet number v.value; number = number + 1; faults = v.faults })
 
 pub always_same : (a : Environment) (block : Scope) (x : Expression) (before : Least)
     → always a block x ≡ true → ResolvesFilter before before None (resolve_filter a block x)
@@ -23,8 +23,8 @@ always_same a block x before same = subst (λ b. ResolvesFilter before before No
 
 pub answered : (a : Environment) (block : Scope) (x : Expression) (before after : Least) (e : Expr)
     → always a block x ≡ false → Evaluates before after e
-      (to_answer (start x) (filter_resolved_at a block x))
+    (to_answer (start x) (filter_resolved_at a block x))
     → ResolvesFilter before after (Some e) (resolve_filter a block x)
 answered a block x before after e same h =
     subst (λ b. ResolvesFilter before after (Some e) (filter_by a block x b)) (sym same)
-      (record { filter = λ n. ap (Funclet n) h.value; number = λ n. refl; faults = λ n. h.faults })
+    (record { filter = λ n. ap (Funclet n) h.value; number = λ n. refl; faults = λ n. h.faults })

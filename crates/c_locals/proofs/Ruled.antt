@@ -23,9 +23,9 @@ pub ruled : (before middle after : Least) (found : Option TypedNode) (j : Resolv
 ruled before middle after found j e rule is first v =
     record {
       value = v.value j.faults ∙ ap (λ o. (rule (record { found = o; faults = j.faults })).value)
-        is;
+          is;
       faults = v.faults (least_of before) j.faults first
-        ∙ ap (λ o. kept (least_of before) (rule (record { found = o; faults = j.faults })).faults)
+          ∙ ap (λ o. kept (least_of before) (rule (record { found = o; faults = j.faults })).faults)
           is;
     }
 
@@ -45,8 +45,10 @@ abbrev returned_by : Environment → Scope → ℕ → Expression → Bool → O
 returned_by a block at x void =
     let j = resolved_at a block x in
     cond void (record { value = None; faults = j.faults ++ fault_at at TypeClash })
-      (record { value = Some (to_type a.returns (start x) j).value;
-      faults = (to_type a.returns (start x) j).faults })
+    (record {
+      value = Some (to_type a.returns (start x) j).value;
+      faults = (to_type a.returns (start x) j).faults;
+    })
 
 pub nothing_returned : (a : Environment) (block : Scope) (at : ℕ) (x : Expression)
     (before after : Least)
@@ -60,7 +62,7 @@ nothing_returned a block at x before after void k = subst
 pub value_returned : (a : Environment) (block : Scope) (at : ℕ) (x : Expression)
     (before after : Least) (e : Expr)
     → is_void a.returns ≡ false → Evaluates before after e
-      (to_type a.returns (start x) (resolved_at a block x))
+    (to_type a.returns (start x) (resolved_at a block x))
     → MayEvaluate before after (Some e) (returned a block at (Some x))
 value_returned a block at x before after e void h = subst
     (λ b. MayEvaluate before after (Some e) (returned_by a block at x b)) (sym void)

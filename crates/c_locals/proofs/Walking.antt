@@ -9,11 +9,11 @@ use Rattle.c_resolved.specs.Statements.{ResolvedStatements, Numbering, follow}
 
 pub record StillToMake (whole : ResolvedStatements) (first : Option FaultAt)
     (made : List checked.Statement) (so_far : Option FaultAt) (rest : ResolvedStatements) : Type 0
-    where
-  pub done : whole.done ≡ made ++ rest.done
-  pub counts : whole.counts ≡ rest.counts
-  pub block : whole.block ≡ rest.block
-  pub faults : kept first whole.faults ≡ kept so_far rest.faults
+  where
+    pub done : whole.done ≡ made ++ rest.done
+    pub counts : whole.counts ≡ rest.counts
+    pub block : whole.block ≡ rest.block
+    pub faults : kept first whole.faults ≡ kept so_far rest.faults
 
 pub nothing_made : (whole : ResolvedStatements) (first : Option FaultAt)
     → StillToMake whole first [] first whole
@@ -29,14 +29,14 @@ pub one_made : (whole m : ResolvedStatements) (more : Scope → Numbering → Re
 one_made whole m more first so_far after made one block counts d c b f h =
     let rest = more m.block m.counts in
     let same : rest ≡ more block counts = ap (λ k. more k m.counts) (sym b)
-      ∙ ap (more block) (sym c) in
+    ∙ ap (more block) (sym c) in
     record {
       done = h.done ∙ sym (append_assoc made m.done rest.done)
-        ∙ ap (λ k. (made ++ k) ++ rest.done) (sym d)
-        ∙ ap (λ (r : ResolvedStatements). (made ++ one) ++ r.done) same;
+          ∙ ap (λ k. (made ++ k) ++ rest.done) (sym d)
+          ∙ ap (λ (r : ResolvedStatements). (made ++ one) ++ r.done) same;
       counts = h.counts ∙ ap (λ (r : ResolvedStatements). r.counts) same;
       block = h.block ∙ ap (λ (r : ResolvedStatements). r.block) same;
       faults = h.faults ∙ kept_append so_far m.faults rest.faults
-        ∙ ap (λ k. kept k rest.faults) (sym f)
-        ∙ ap (λ (r : ResolvedStatements). kept after r.faults) same;
+          ∙ ap (λ k. kept k rest.faults) (sym f)
+          ∙ ap (λ (r : ResolvedStatements). kept after r.faults) same;
     }

@@ -242,11 +242,11 @@ pub scalar : (e : ParseErr) (text : List ℕ) (base : Base) (pointers at : ℕ) 
     → IsPlacedRefusal e (NoLength base pointers at) (HasLength base pointers at) text ts
 scalar e text base pointers at ts w l f (inl h) =
     subst (λ (x : ParseErr). IsPlacedRefusal x (NoLength base pointers at)
-      (HasLength base pointers at) text
+    (HasLength base pointers at) text
     ts) (sym h.0) (scalar_too_far text base pointers at ts w l f h.1)
 scalar e text base pointers at ts w l f (inr h) =
     subst (λ (x : ParseErr). IsPlacedRefusal x (NoLength base pointers at)
-      (HasLength base pointers at) text
+    (HasLength base pointers at) text
     ts) (sym h.0) (scalar_ends text base pointers at ts w l h.1)
 
 -- ---- one global

@@ -58,7 +58,7 @@ head_once base other n m called again ts d e rest end h g =
 
 pub function : (text : List ℕ) (base : Base) (n : ℕ) (called : Identifier) (ps : List Parameter)
     (body : Statements) (ts d rest inner end : List Token)
-      → IsDeclarationHead base n called ts d rest
+    → IsDeclarationHead base n called ts d rest
     → HasPunctuator punctuators.OpenParenthesis rest inner → IsTail text ps body inner end
     → IsExternalDeclaration text (Function (typed base n) called ps body) ts end
 function text base n called ps body ts d rest inner end h o t = record {
@@ -88,7 +88,7 @@ nothing = punctuator punctuators.CloseParenthesis ∷ punctuator punctuators.Ope
 
 pub functions_full : (text : List ℕ) (counts : Counts) (base : Base) (n : ℕ) (called : Identifier)
     (ts d rest inner : List Token) → counts.bytes ≤ 1048576
-      → IsDeclarationHead base n called ts d rest
+    → IsDeclarationHead base n called ts d rest
     → HasPunctuator punctuators.OpenParenthesis rest inner → counts.functions ≡ 0
     → Failed 4 (place text rest) (NoExternalDeclaration counts) (HasExternalDeclaration counts) text
     ts
@@ -177,7 +177,7 @@ no_tail counts k text base n called ts d rest inner h o none (Function t again p
 
 pub in_tail : (text : List ℕ) (counts : Counts) (base : Base) (n : ℕ) (called : Identifier)
     (ts d rest inner : List Token) → counts.bytes ≤ 1048576
-      → IsDeclarationHead base n called ts d rest
+    → IsDeclarationHead base n called ts d rest
     → HasPunctuator punctuators.OpenParenthesis rest inner → (counts.functions ≡ 0 → ⊥)
     → Wraps (NoTail counts.funclets) (HasTail counts.funclets) (NoExternalDeclaration counts)
     (HasExternalDeclaration counts) text inner ts

@@ -91,10 +91,10 @@ no_name text b k ts d a is far s z none =
         is = λ other.
             let rest = name ∷ other in
             following (λ x. (g : List Token) × IsDeclarationHead b k named x g other)
-              (far.front ++ ms.front)
+            (far.front ++ ms.front)
             (name ∷ []) other
             (following (λ x. (g : List Token) × IsDeclarationHead b k named x g other) far.front
-              ms.front rest (
+            ms.front rest (
               ms.front ++ rest,
               record {
                 after_stars = rest;
@@ -160,7 +160,7 @@ has_head n text b k called ts d rest m =
       pointers = k;
       name = called;
       is = λ other. following (λ x. (g : List Token) × IsDeclarationHead b k called x g other)
-        m.front
+          m.front
           m.declared
           other (m.declared ++ other, is_head b k called ts d rest m other);
     }

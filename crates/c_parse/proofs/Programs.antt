@@ -227,7 +227,7 @@ bytes_grow (Function r name ps body ∷ xs) at = bytes_grow xs at
 
 one : (n : ℕ) (text : List ℕ) (counts : Counts) (x : ExternalDeclaration)
     (xs : List ExternalDeclaration) → FitsCounts n text counts (x ∷ xs)
-      → FitsCounts n text counts (x ∷ [])
+    → FitsCounts n text counts (x ∷ [])
 one n text counts (Globals b gs) xs w =
     let a = bytes_grow xs (end_of_globals b gs counts.bytes) in record {
       each = tt;
@@ -262,7 +262,7 @@ stuck n text text' ts rest other found counts xs d a e none h w =
     (subst (λ (z : List ExternalDeclaration). WithinFirst n text' z) r.1 w))
   where
     by : (ys : List ExternalDeclaration) → IsProgram text' ys other → FitsCounts n text' counts ys
-      → ⊥
+        → ⊥
     by [] g f = e g
     by (y ∷ ys) g f = none y g.0 g.1 (one n text' counts y ys f)
 

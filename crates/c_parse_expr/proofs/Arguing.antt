@@ -46,13 +46,18 @@ first_wraps room text ts r c = record {
   split = refl;
   no = λ n text' other a s x. no_first text' n room other
       (firsts.no_punctuator punctuators.CloseParenthesis ts other s c) x;
-  has = λ n text' inner a k h. record { more = close ∷ [];
-      has = one_argument room n text' inner (λ q. r) h };
+  has = λ n text' inner a k h. record {
+    more = close ∷ [];
+    has = one_argument room n text' inner (λ q. r) h;
+  };
 }
 
 has_none : (room n : ℕ) (text : List ℕ) → HasArguments room n text (close ∷ [])
-has_none room n text = record { trees = Done; spells = λ other. (0, (0, refl));
-    low = λ k. omega arith }
+has_none room n text = record {
+  trees = Done;
+  spells = λ other. (0, (0, refl));
+  low = λ k. omega arith;
+}
 
 pub deep_there : (text : List ℕ) (ts : List Token)
     → ((rest : List Token) → HasPunctuator punctuators.CloseParenthesis ts rest → ⊥)
@@ -60,12 +65,17 @@ pub deep_there : (text : List ℕ) (ts : List Token)
 deep_there text ts c b =
     deep_at (NoArguments 0) (HasArguments 0) text ts [] ts refl
     (λ text' other a s. no_place text' other (firsts.no_punctuator punctuators.CloseParenthesis ts
-      other s c))
+    other s c))
     (λ text' a k. record { more = close ∷ []; has = has_none 0 6 text' })
     (λ text' a k.
     let o = b text' k in
-    record { token = o.token; rest = o.rest; more = o.more ++ (close ∷ []); is = o.is;
-      has = one_argument 0 0 text' (o.token ∷ o.more) (λ q. omega arith) o.has })
+    record {
+      token = o.token;
+      rest = o.rest;
+      more = o.more ++ (close ∷ []);
+      is = o.is;
+      has = one_argument 0 0 text' (o.token ∷ o.more) (λ q. omega arith) o.has;
+    })
 
 no_argument : (text : List ℕ) (n room : ℕ) (ts other : List Token) → SameFirst ts other
     → ((rest : List Token) → HasPunctuator punctuators.CloseParenthesis ts rest → ⊥)
@@ -121,31 +131,31 @@ next_wraps room es text ts rest following r h st c low =
     record {
       before = m.front ++ (comma ∷ []);
       split = m.split ∙ ap (λ z. m.front ++ z) c.1.1
-        ∙ sym (append_append m.front (comma ∷ []) following);
+          ∙ sym (append_append m.front (comma ∷ []) following);
       no = λ n text' other a s x.
           subst (λ (z : List Token). NoArguments room n text' z)
-            (sym (append_append m.front (comma ∷ []) other))
+          (sym (append_append m.front (comma ∷ []) other))
           (no_next text' n room es (m.front ++ comma ∷ other) (comma ∷ other) other
-            (m.again text' (comma ∷ other) a) (omega arith) (c.0, (c.1.0, refl)) x);
+          (m.again text' (comma ∷ other) a) (omega arith) (c.0, (c.1.0, refl)) x);
       has = λ n text' inner a k g. record {
         more = close ∷ [];
         has = record {
           trees = arguments (es ++ g.tree ∷ []);
           spells = λ other.
               let q : (((m.front ++ (comma ∷ [])) ++ inner) ++ (close ∷ [])) ++ other
-                ≡ m.front ++ (comma ∷ (inner ++ (close ∷ other))) =
+              ≡ m.front ++ (comma ∷ (inner ++ (close ∷ other))) =
               append_append ((m.front ++ (comma ∷ [])) ++ inner) (close ∷ []) other
-                ∙ append_append (m.front ++ (comma ∷ [])) inner (close ∷ other)
-                ∙ append_append m.front (comma ∷ []) (inner ++ close ∷ other) in
+              ∙ append_append (m.front ++ (comma ∷ [])) inner (close ∷ other)
+              ∙ append_append m.front (comma ∷ []) (inner ++ close ∷ other) in
               let l = listed_after text' es g.tree (m.front ++ (comma ∷ (inner ++ (close ∷ other))))
-                (comma ∷ (inner ++ (close ∷ other))) (inner ++ (close ∷ other)) (close ∷ other)
+              (comma ∷ (inner ++ (close ∷ other))) (inner ++ (close ∷ other)) (close ∷ other)
               (m.again text' (comma ∷ (inner ++ (close ∷ other))) a) (c.0, (c.1.0, refl))
-                (g.derives (close ∷ other)) in
+              (g.derives (close ∷ other)) in
               subst (λ (z : List Token). SpellsArguments text' (arguments (es ++ g.tree ∷ [])) z
-                other) (sym q)
+              other) (sym q)
               (listed_spelled text' (es ++ g.tree ∷ [])
-                (m.front ++ (comma ∷ (inner ++ (close ∷ other)))) (close ∷ other) other l
-                (0, (0, refl)));
+              (m.front ++ (comma ∷ (inner ++ (close ∷ other)))) (close ∷ other) other l
+              (0, (0, refl)));
           low = λ q. let y = g.low q in let z = heights_after es g.tree in omega arith;
         };
       };
@@ -170,9 +180,9 @@ stuck_there room es text ts rest h st n c low =
         trees = arguments es;
         spells = λ other.
             subst (λ (z : List Token). SpellsArguments text' (arguments es) z other)
-              (sym (append_append m.front (close ∷ []) other))
+            (sym (append_append m.front (close ∷ []) other))
             (listed_spelled text' es (m.front ++ (close ∷ other)) (close ∷ other) other
-              (m.again text' (close ∷ other) a) (0, (0, refl)));
+            (m.again text' (close ∷ other) a) (0, (0, refl)));
         low = λ q. low;
       };
     })

@@ -45,7 +45,7 @@ Open at ts rest = IsPunctuator punctuators.OpenParenthesis at ts rest
 pub call_wraps : (l room : ℕ) (x : Identifier) (text : List ℕ) (ts rest b : List Token)
     → IsIdentifier x ts rest → HasPunctuator punctuators.OpenParenthesis rest b
     → Wraps (NoArguments room) (HasArguments room) (NoOperand l room) (HasExpression l room) text b
-      ts
+    ts
 call_wraps l room x text ts rest b i h =
     let name = token kinds.Identifier x.start x.end in
     let paren = token (kinds.Punctuator punctuators.OpenParenthesis) h.0 h.1.0 in
@@ -53,7 +53,7 @@ call_wraps l room x text ts rest b i h =
       before = name ∷ paren ∷ [];
       split = i ∙ ap (λ (z : List Token). name ∷ z) h.1.1;
       no = λ n text' other a s y. no_call text' n l room x (name ∷ paren ∷ other) (paren ∷ other)
-        other refl (h.0, (h.1.0, refl)) y;
+          other refl (h.0, (h.1.0, refl)) y;
       has = λ n text' inner a k g. able_now (HasExpression l room) n text' (name ∷ paren ∷ inner)
           (record {
             tree = Call x g.trees;
@@ -86,17 +86,18 @@ information_wraps l room text ts no_literal no_name no_punctuator = record {
       x
       (λ y. firsts.no_kind (kinds.Punctuator y) ts other s (no_punctuator y));
   has = λ n text' inner a k h. able_now (HasExpression l room) n text' inner
-      (record { tree = Information h.at h.field;
+      (record {
+        tree = Information h.at h.field;
         derives = λ other. record { fits = omega arith; spells = h.spells other };
-        low = λ q. omega arith });
+        low = λ q. omega arith;
+      });
 }
 
 -- ---- operators before an operand
 
 prefixed : (l room n : ℕ) (s : Punctuator) (op : Increment) (at end : ℕ) (text : List ℕ)
     (inner : List Token) → unary ≤ l → (1 ≤ n → 1 ≤ room) → increment_of s ≡ Some op → HasExpression
-    unary (room - 1) n text inner
-    → HasExpression l room n text (token (kinds.Punctuator s) at end ∷ inner)
+    unary (room - 1) n text inner → HasExpression l room n text (token (kinds.Punctuator s) at end ∷ inner)
 prefixed l room n s op at end text inner p r e h =
     let q : s ≡ increment_punctuator op = increment_only op s e in
     record {
@@ -117,8 +118,7 @@ prefixed l room n s op at end text inner p r e h =
 
 unaried : (l room n : ℕ) (s : Punctuator) (op : UnaryOperator) (at end : ℕ) (text : List ℕ)
     (inner : List Token) → unary ≤ l → (1 ≤ n → 1 ≤ room) → unary_of s ≡ Some op → HasExpression
-    cast (room - 1) n text inner
-    → HasExpression l room n text (token (kinds.Punctuator s) at end ∷ inner)
+    cast (room - 1) n text inner → HasExpression l room n text (token (kinds.Punctuator s) at end ∷ inner)
 unaried l room n s op at end text inner p r e h =
     let q : s ≡ unary_punctuator op = unary_only op s e in
     record {
@@ -139,8 +139,7 @@ unaried l room n s op at end text inner p r e h =
 
 pub prefix_wraps : (l room : ℕ) (s : Punctuator) (op : Increment) (at : ℕ) (text : List ℕ)
     (ts rest : List Token) → unary ≤ l → 1 ≤ room → IsPunctuator s at ts rest → increment_of s ≡
-    Some op
-    → Wraps (NoExpression unary (room - 1)) (HasExpression unary (room - 1)) (NoOperand l room)
+    Some op → Wraps (NoExpression unary (room - 1)) (HasExpression unary (room - 1)) (NoOperand l room)
     (HasExpression l room) text rest ts
 prefix_wraps l room s op at text ts rest p r h e = record {
   before = token (kinds.Punctuator s) at h.0 ∷ [];
@@ -168,8 +167,7 @@ unary_wraps l room s op at text ts rest p r h e = record {
 
 -- ---- after `(`
 
-grouped : (l room n at end : ℕ) (text : List ℕ) (inner : List Token)
-    → HasEnclosed punctuators.CloseParenthesis room n text inner
+grouped : (l room n at end : ℕ) (text : List ℕ) (inner : List Token) → HasEnclosed punctuators.CloseParenthesis room n text inner
     → HasExpression l (room + 1) n text (token (kinds.Punctuator punctuators.OpenParenthesis) at end
     ∷ inner)
 grouped l room n at end text inner h = record {
@@ -190,19 +188,18 @@ grouped l room n at end text inner h = record {
 }
 
 pub group_wraps : (l room at : ℕ) (text : List ℕ) (ts rest : List Token) → Open at ts rest
-    → ((cast ≤ l) → NoBase rest)
-    → Wraps (NoneEnclosed punctuators.CloseParenthesis room)
-      (HasEnclosed punctuators.CloseParenthesis room) (NoOperand l (room + 1))
-      (HasExpression l (room + 1)) text rest ts
+    → ((cast ≤ l) → NoBase rest) → Wraps (NoneEnclosed punctuators.CloseParenthesis room)
+    (HasEnclosed punctuators.CloseParenthesis room) (NoOperand l (room + 1))
+    (HasExpression l (room + 1)) text rest ts
 group_wraps l room at text ts rest h b =
     let paren = token (kinds.Punctuator punctuators.OpenParenthesis) at h.0 in
     record {
       before = paren ∷ [];
       split = h.1;
       no = λ n text' other a s x. no_group text' n l room at (paren ∷ other) other (h.0, refl)
-        (λ q. firsts.no_base rest other s (b q)) x;
+          (λ q. firsts.no_base rest other s (b q)) x;
       has = λ n text' inner a k g. able_now (HasExpression l (room + 1)) n text' (paren ∷ inner)
-        (grouped l room n at h.0 text' inner g);
+          (grouped l room n at h.0 text' inner g);
     }
 
 -- the type that is read there is read there with other tokens after it that begin alike
@@ -211,7 +208,7 @@ only_there : (to : CType) (rest mid front other : List Token) → EndsType to re
 only_there to rest mid front other w p s =
     let q : w.front ≡ front = append_cancel_right w.front front mid (sym w.split ∙ p) in
     λ u end t n m. (w.only other s u end (subst (λ (z : List Token). IsType u (z ++ other) end)
-      (sym q) t) n m).1
+    (sym q) t) n m).1
 
 pub cast_wraps : (l room at : ℕ) (to : CType) (text : List ℕ) (ts rest mid after : List Token)
     → cast ≤ l → Open at ts rest → IsType to rest mid → EndsType to rest mid
@@ -225,29 +222,28 @@ cast_wraps l room at to text ts rest mid after p h t w g =
     record {
       before = paren ∷ (m.front ++ (close ∷ []));
       split = h.1 ∙ ap (λ (z : List Token). paren ∷ z)
-        (m.split ∙ ap (λ z. m.front ++ z) g.1.1 ∙ sym (append_append m.front (close ∷ []) after));
+          (m.split ∙ ap (λ z. m.front ++ z) g.1.1 ∙ sym (append_append m.front (close ∷ []) after));
       no = λ n text' other a s x.
           let b = alike_inner text text' (paren ∷ []) rest ts h.1 a in
           subst (λ (z : List Token). NoOperand l (room + 1) n text' (paren ∷ z))
-            (sym (append_append m.front (close ∷ []) other))
+          (sym (append_append m.front (close ∷ []) other))
           (not_cast text' n l room at to (paren ∷ (m.front ++ close ∷ other))
-            (m.front ++ close ∷ other) (close ∷ other) other (h.0, refl)
-            (m.again text' (close ∷ other) b)
+          (m.front ++ close ∷ other) (close ∷ other) other (h.0, refl)
+          (m.again text' (close ∷ other) b)
           (only_there to rest mid m.front (close ∷ other) w m.split
-            (subst (λ (z : List Token). SameFirst z (close ∷ other)) (sym g.1.1) (other, refl)))
-            (g.0, (g.1.0, refl)) x);
+          (subst (λ (z : List Token). SameFirst z (close ∷ other)) (sym g.1.1) (other, refl)))
+          (g.0, (g.1.0, refl)) x);
       has = λ n text' inner a k f. able_now (HasExpression l (room + 1)) n text'
-        (paren ∷ ((m.front ++ (close ∷ [])) ++ inner))
+          (paren ∷ ((m.front ++ (close ∷ [])) ++ inner))
           (record {
             tree = Cast at to f.tree;
             derives = λ other.
                 let b = alike_inner text text' (paren ∷ []) rest ts h.1 a in
                 let e : ((m.front ++ (close ∷ [])) ++ inner) ++ other
-                  ≡ m.front ++ (close ∷ (inner ++ other)) =
-                append_append (m.front ++ (close ∷ [])) inner other
-                  ∙ append_append m.front (close ∷ []) (inner ++ other) in
+                ≡ m.front ++ (close ∷ (inner ++ other)) =
+                append_append (m.front ++ (close ∷ [])) inner other ∙ append_append m.front (close ∷ []) (inner ++ other) in
                 let y = subst (λ (z : List Token). IsType to z (close ∷ (inner ++ other))) (sym e)
-                  (m.again text' (close ∷ (inner ++ other)) b) in
+                (m.again text' (close ∷ (inner ++ other)) b) in
                 record {
                   fits = p;
                   spells = record {
@@ -275,11 +271,11 @@ cast_unclosed l room at to text ts rest mid p h t w x =
     let paren = token (kinds.Punctuator punctuators.OpenParenthesis) at h.0 in
     let close = punctuator_token punctuators.CloseParenthesis in
     unexpected_at (NoOperand l (room + 1)) (HasExpression l (room + 1)) text ts (paren ∷ m.front)
-      mid (h.1 ∙ ap (λ (z : List Token). paren ∷ z) m.split)
+    mid (h.1 ∙ ap (λ (z : List Token). paren ∷ z) m.split)
     (λ text' other a s.
     no_cast text' 0 l room at to (paren ∷ (m.front ++ other)) (m.front ++ other) other (h.0, refl)
-      (m.again text' other (alike_inner text text' (paren ∷ []) rest ts h.1 a))
-      (only_there to rest mid m.front other w m.split s)
+    (m.again text' other (alike_inner text text' (paren ∷ []) rest ts h.1 a))
+    (only_there to rest mid m.front other w m.split s)
     (λ e c end z d st low. firsts.no_punctuator punctuators.CloseParenthesis mid other s x c z))
     (λ text' a k. record {
       more = close ∷ one ∷ [];
@@ -288,8 +284,8 @@ cast_unclosed l room at to text ts rest mid p h t w x =
         derives = λ other.
             let b = alike_inner text text' (paren ∷ []) rest ts h.1 a in
             let y = subst (λ (z : List Token). IsType to z (close ∷ one ∷ other))
-              (sym (append_append m.front (close ∷ one ∷ []) other))
-              (m.again text' (close ∷ one ∷ other) b) in
+            (sym (append_append m.front (close ∷ one ∷ []) other))
+            (m.again text' (close ∷ one ∷ other) b) in
             record {
               fits = p;
               spells = record {
@@ -320,9 +316,9 @@ pub no_operand_there : (l room : ℕ) (s : Punctuator) (at : ℕ) (text : List �
 no_operand_there l room s at text ts rest h x =
     unexpected_at (NoOperand l room) (HasExpression l room) text ts [] ts refl
     (λ text' other q f. let g = subst (λ (z : List Token). SameFirst z other) h.1 f in
-      no_operator text' 0 l room s at other g.0 (h.0, g.1) (λ e. x (Parenthesis e))
-      (none_of (increment_of s) (λ op e. x (Steps op e)))
-      (none_of (unary_of s) (λ op e. x (Operates op e))))
+    no_operator text' 0 l room s at other g.0 (h.0, g.1) (λ e. x (Parenthesis e))
+    (none_of (increment_of s) (λ op e. x (Steps op e)))
+    (none_of (unary_of s) (λ op e. x (Operates op e))))
     (λ text' q k. record { more = one ∷ []; has = has_one l room 6 text' })
 
 abbrev pub shortest : (s : Punctuator) → BeginsOperand s → List Token
@@ -337,11 +333,18 @@ has_shortest l room s (Parenthesis e) at end text p = subst
     (token (kinds.Punctuator z) at end ∷ one ∷ punctuator_token punctuators.CloseParenthesis ∷ []))
     (sym e)
     (loosen l (0 + 1) room text (token (kinds.Punctuator punctuators.OpenParenthesis) at end ∷ one
-      ∷ punctuator_token punctuators.CloseParenthesis ∷ [])
+    ∷ punctuator_token punctuators.CloseParenthesis ∷ [])
     (grouped l 0 0 at end text (one ∷ punctuator_token punctuators.CloseParenthesis ∷ [])
-    (record { tree = one_tree; encloses = λ other.
-      record { mid = punctuator_token punctuators.CloseParenthesis ∷ other; spells = (0, refl);
-      closed = (0, (0, refl)) }; low = λ k. omega arith })))
+    (record {
+      tree = one_tree;
+      encloses = λ other.
+          record {
+            mid = punctuator_token punctuators.CloseParenthesis ∷ other;
+            spells = (0, refl);
+            closed = (0, (0, refl));
+          };
+      low = λ k. omega arith;
+    })))
 has_shortest l room s (Steps op e) at end text p =
     prefixed l room 0 s op at end text (one ∷ []) p (λ k. omega arith) e
     (has_one unary (room - 1) 0 text)
@@ -355,10 +358,15 @@ pub no_room_there : (l : ℕ) (s : Punctuator) (at : ℕ) (text : List ℕ) (ts 
 no_room_there l s at text ts rest p h o =
     deep_at (NoOperand l 0) (HasExpression l 0) text ts [] ts refl
     (λ text' other q f. let g = subst (λ (z : List Token). SameFirst z other) h.1 f in
-      no_room text' l s at other g.0 (h.0, g.1))
+    no_room text' l s at other g.0 (h.0, g.1))
     (λ text' q k. record { more = one ∷ []; has = has_one l 0 6 text' })
-    (λ text' q k. record { token = token (kinds.Punctuator s) at h.0; rest = rest;
-      more = shortest s o; is = h.1; has = has_shortest l 0 s o at h.0 text' p })
+    (λ text' q k. record {
+      token = token (kinds.Punctuator s) at h.0;
+      rest = rest;
+      more = shortest s o;
+      is = h.1;
+      has = has_shortest l 0 s o at h.0 text' p;
+    })
 
 -- only what it leaves after: `(`
 pub only_parenthesis : (s : Punctuator) → BeginsOperand s → increment_of s ≡ None
@@ -369,15 +377,17 @@ only_parenthesis s (Operates op e) a b = let q = sym b ∙ e in absurd cc
 
 -- ---- whether an expression begins with a token
 
-pub name_begins : (start end : ℕ) (rest : List Token)
-    → CanBeginExpression (token kinds.Identifier start end ∷ rest)
+pub name_begins : (start end : ℕ) (rest : List Token) → CanBeginExpression (token kinds.Identifier start end ∷ rest)
 name_begins start end rest = λ text k. record {
   token = token kinds.Identifier start end;
   rest = rest;
   more = [];
   is = refl;
-  has = record { tree = Variable (record { start = start; end = end });
-      derives = λ other. record { fits = omega arith; spells = refl }; low = λ q. omega arith };
+  has = record {
+    tree = Variable (record { start = start; end = end });
+    derives = λ other. record { fits = omega arith; spells = refl };
+    low = λ q. omega arith;
+  };
 }
 
 pub literal_begins : (x : Literal) (start end : ℕ) (rest : List Token)
@@ -387,8 +397,12 @@ literal_begins x start end rest = λ text k. record {
   rest = rest;
   more = [];
   is = refl;
-  has = record { tree = Constant start x; derives = λ other.
-      record { fits = omega arith; spells = (end, refl) }; low = λ q. omega arith };
+  has = record {
+    tree = Constant start x;
+    derives = λ other.
+        record { fits = omega arith; spells = (end, refl) };
+    low = λ q. omega arith;
+  };
 }
 
 pub keyword_begins : (start end : ℕ) (rest : List Token)
@@ -400,9 +414,11 @@ keyword_begins start end rest = λ text k.
       rest = rest;
       more = ends text k introduction;
       is = refl;
-      has = record { tree = Information h.at h.field;
+      has = record {
+        tree = Information h.at h.field;
         derives = λ other. record { fits = omega arith; spells = h.spells other };
-        low = λ q. omega arith };
+        low = λ q. omega arith;
+      };
     }
 
 pub punctuator_begins : (s : Punctuator) (start end : ℕ) (rest : List Token) → BeginsOperand s
@@ -417,8 +433,7 @@ punctuator_begins s start end rest o =
       has = has_shortest assignment 0 s o start end text (omega arith);
     }
 
-pub never_kind : (k : Kind) (start end : ℕ) (rest : List Token) → 5 < kind_class k
-    → NeverBegins (token k start end ∷ rest)
+pub never_kind : (k : Kind) (start end : ℕ) (rest : List Token) → 5 < kind_class k → NeverBegins (token k start end ∷ rest)
 never_kind k start end rest p = λ text other s e after h.
     let a = expression_front text e other after h in
     let b : front other ≡ kind_class k = ap front s.1 in
@@ -430,13 +445,11 @@ never_end = λ text other s e after h.
     let b : front other ≡ 6 = ap front s in
     absurd (omega arith)
 
-pub other_keyword : (k : Keyword) → (k ≡ keywords.GetExceptionInformation → ⊥)
-    → 5 < kind_class (kinds.Keyword k)
+pub other_keyword : (k : Keyword) → (k ≡ keywords.GetExceptionInformation → ⊥) → 5 < kind_class (kinds.Keyword k)
 other_keyword keywords.GetExceptionInformation n = absurd (n refl)
 other_keyword k n = omega arith
 
-pub other_punctuator : (s : Punctuator) → (BeginsOperand s → ⊥)
-    → 5 < kind_class (kinds.Punctuator s)
+pub other_punctuator : (s : Punctuator) → (BeginsOperand s → ⊥) → 5 < kind_class (kinds.Punctuator s)
 other_punctuator punctuators.OpenParenthesis n = absurd (n (Parenthesis refl))
 other_punctuator punctuators.Ampersand n = absurd (n (Operates unary_operators.AddressOf refl))
 other_punctuator punctuators.Plus n = absurd (n (Operates unary_operators.Plus refl))
@@ -472,8 +485,7 @@ steps_by s e = let h = some_of (increment_of s) e in Steps h.0 h.1
 pub operates_by : (s : Punctuator) → is_some (unary_of s) ≡ true → BeginsOperand s
 operates_by s e = let h = some_of (unary_of s) e in Operates h.0 h.1
 
-pub first_is : (ts : List Token) (t : Token) (rest : List Token) → first ts ≡ Some (t, rest)
-    → ts ≡ t ∷ rest
+pub first_is : (ts : List Token) (t : Token) (rest : List Token) → first ts ≡ Some (t, rest) → ts ≡ t ∷ rest
 first_is [] t rest e = absurd cc
 first_is (u ∷ us) t rest e = let q : ◌≡◌ {A = Token × List Token} (u, us) (t, rest) = cc in
     ap (λ (z : Token × List Token). z.0 ∷ z.1) q

@@ -24,9 +24,11 @@ no_operand text w l room ts n e end d s low =
     let b = run_height text x.head x.steps x.after e end x.run in
     let fits = d.fits in
     n x.head x.after
-    (record { derives = record { fits = omega arith; spells = x.spells }; head = x.is_head;
-      closes = closes x.head x.after (run_reach text x.head x.steps x.after e end l x.run d.fits s)
-      })
+    (record {
+      derives = record { fits = omega arith; spells = x.spells };
+      head = x.is_head;
+      closes = closes x.head x.after (run_reach text x.head x.steps x.after e end l x.run d.fits s);
+    })
     (omega arith)
 
 pub no_step : (text : List ℕ) (w l room : ℕ) (left : Expression) (ts rest : List Token)
@@ -36,7 +38,7 @@ no_step text w l room left ts rest h c f n e end d s low =
     let g = passes text l left ts rest e end h.spells h.fits c f d s in
     let k = run_height text (apply left g.step) g.steps g.mid e end g.run in
     n g.step g.mid (record { fits = g.fits; tail = g.tail; closes = g.ends })
-      (λ q. let r = low q in omega arith)
+    (λ q. let r = low q in omega arith)
 
 pub joined : (text : List ℕ) (e : Expression) (s : Step) (ts mid end : List Token)
     → SpellsExpression text e ts mid → rank e ≤ bound s → Tail text s mid end

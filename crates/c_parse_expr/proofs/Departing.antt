@@ -89,15 +89,17 @@ gone p ps text ts n =
     let b = firsts.first_token f.first f.after_first ts other s f.split in
     let same = sym (alike_head text text' f.first ts b.0 b.1 a) in
     n f.first b.0 b.1 (test_again text' text p f.first same f.passes))
-    (λ text' a k. record { more = ends text' k (p ∷ ps);
-      has = record { field = fields.Code; is = ends_are text' k (p ∷ ps) } })
+    (λ text' a k. record {
+      more = ends text' k (p ∷ ps);
+      has = record { field = fields.Code; is = ends_are text' k (p ∷ ps) };
+    })
 
 same_tail : (t u : Token) (xs ys : List Token) → t ∷ xs ≡ u ∷ ys → xs ≡ ys
 same_tail t u xs ys e = cc
 
 there : (p : Piece) (ps : List Piece) (text : List ℕ) (t : Token) (ts rest : List Token)
     → ts ≡ t ∷ rest → Test text p t → Wraps (NoForm ps) (HasForm ps) (NoForm (p ∷ ps))
-      (HasForm (p ∷ ps)) text rest ts
+    (HasForm (p ∷ ps)) text rest ts
 there p ps text t ts rest e h = record {
   before = t ∷ [];
   split = e;
@@ -125,14 +127,18 @@ punctuator_gone s ps text ts n = gone (Mark s) ps text ts
 
 pub punctuator_there : (s : Punctuator) (ps : List Piece) (text : List ℕ) (ts rest : List Token)
     → HasPunctuator s ts rest → Wraps (NoForm ps) (HasForm ps) (NoForm (Mark s ∷ ps))
-      (HasForm (Mark s ∷ ps)) text rest ts
+    (HasForm (Mark s ∷ ps)) text rest ts
 punctuator_there s ps text ts rest h = there (Mark s) ps text (token (kinds.Punctuator s) h.0 h.1.0)
     ts rest h.1.1 refl
 
 pub record_gone : (ps : List Piece) (text : List ℕ) (ts : List Token) → ((rest : List Token) → HasWord text (codes "ExceptionRecord") ts rest → ⊥) → Failed 0 (place text ts) (NoForm (Record ∷ ps)) (HasForm (Record ∷ ps)) text ts
 record_gone ps text ts n = gone Record ps text ts
-    (λ t rest e h. n rest (record { start = t.start; end = t.end }, e
-    ∙ ap (λ z. token z t.start t.end ∷ rest) h.0, h.1))
+    (λ t rest e h. n rest (
+      record { start = t.start; end = t.end },
+      e
+          ∙ ap (λ z. token z t.start t.end ∷ rest) h.0,
+      h.1,
+    ))
 
 pub record_there : (ps : List Piece) (text : List ℕ) (ts rest : List Token) → HasWord text (codes "ExceptionRecord") ts rest → Wraps (NoForm ps) (HasForm ps) (NoForm (Record ∷ ps)) (HasForm (Record ∷ ps)) text rest ts
 record_there ps text ts rest h = there Record ps text (token kinds.Identifier h.0.start h.0.end) ts
@@ -200,8 +206,12 @@ marked : (s : Punctuator) (t : Token) (ts rest : List Token) → ts ≡ t ∷ re
 marked s t ts rest e h = (t.start, (t.end, e ∙ ap (λ z. token z t.start t.end ∷ rest) h))
 
 worded : (text : List ℕ) (t : Token) (ts rest : List Token) → ts ≡ t ∷ rest → Test text Record t → HasWord text (codes "ExceptionRecord") ts rest
-worded text t ts rest e h = (record { start = t.start; end = t.end }, e
-    ∙ ap (λ z. token z t.start t.end ∷ rest) h.0, h.1)
+worded text t ts rest e h = (
+  record { start = t.start; end = t.end },
+  e
+      ∙ ap (λ z. token z t.start t.end ∷ rest) h.0,
+  h.1,
+)
 
 spelled : (text : List ℕ) (at : ℕ) (field : Field) (ts a end : List Token)
     → IsKeyword keywords.GetExceptionInformation at ts a → Form introduction text field a end
@@ -255,8 +265,8 @@ keyword_gone text ts n =
         field = fields.Code;
         spells = λ other.
             spelled text' 0 fields.Code (token (kinds.Keyword keywords.GetExceptionInformation) 0 0
-              ∷ (ends text' k introduction ++ other)) (ends text' k introduction ++ other) other
-                (0, refl) (ends_are text' k introduction other);
+            ∷ (ends text' k introduction ++ other)) (ends text' k introduction ++ other) other
+            (0, refl) (ends_are text' k introduction other);
       };
     })
 
@@ -276,9 +286,12 @@ keyword_there text at ts rest k =
           (subst (λ (z : List Token). Form introduction text' field z end) (sym same)
           (formed text' to field (word ∷ other) end h));
       has = λ n text' inner a z f. able_now HasInformation n text' (word ∷ inner)
-          (record { at = at; field = f.field;
+          (record {
+            at = at;
+            field = f.field;
             spells = λ other. spelled text' at f.field (word ∷ (inner ++ other)) (inner ++ other)
-            other (k.0, refl) (f.is other) });
+                other (k.0, refl) (f.is other);
+          });
     }
 
 -- the shortest reading, by which some expression begins with the keyword
@@ -290,8 +303,8 @@ has_information n text k at end = record {
   field = fields.Code;
   spells = λ other.
       spelled text at fields.Code (token (kinds.Keyword keywords.GetExceptionInformation) at end
-        ∷ (ends text k introduction ++ other)) (ends text k introduction ++ other) other (end, refl)
-          (ends_are text k introduction other);
+      ∷ (ends text k introduction ++ other)) (ends text k introduction ++ other) other (end, refl)
+      (ends_are text k introduction other);
 }
 
 -- ---- fields
@@ -315,9 +328,11 @@ pub nameless : (text : List ℕ) (ts : List Token) → NoField 0 text ts
 nameless text ts x n =
     unexpected_at NoField HasField text ts [] ts refl
     (λ text' other a s. none_again 0 text text' ts other x a s
-      (no_element text' other (firsts.no_word element text text' ts other a s n)))
-    (λ text' a k. record { more = ends text' k [];
-      has = record { field = fields.Code; is = ends_are text' k [] } })
+    (no_element text' other (firsts.no_word element text text' ts other a s n)))
+    (λ text' a k. record {
+      more = ends text' k [];
+      has = record { field = fields.Code; is = ends_are text' k [] };
+    })
 
 first_there : (t : Token) (ts rest other : List Token) → ts ≡ t ∷ rest → SameFirst ts (t ∷ other)
 first_there t ts rest other e = subst (λ (z : List Token). SameFirst z (t ∷ other)) (sym e)
@@ -335,10 +350,10 @@ no_bracket_there text ts a x w n =
     unexpected_at NoField HasField text ts (t ∷ []) a w.1
     (λ text' other l s.
     let v : HasWord text' element (t ∷ other)
-      other = (w.0, refl, sym (alike_head text text' t ts a w.1 l) ∙ w.2) in
+    other = (w.0, refl, sym (alike_head text text' t ts a w.1 l) ∙ w.2) in
     none_again 0 text text' ts (t ∷ other) x l (first_there t ts a other w.1)
-      (no_bracket text' (t ∷ other) other v (firsts.no_punctuator punctuators.OpenBracket a other s
-      n)))
+    (no_bracket text' (t ∷ other) other v (firsts.no_punctuator punctuators.OpenBracket a other s
+    n)))
     (λ text' l k. record {
       more = punctuator_token punctuators.OpenBracket ∷ index_end;
       has = record {
@@ -363,13 +378,13 @@ no_index_there text ts a b x w h n =
     let t = token kinds.Identifier w.0.start w.0.end in
     let u = token (kinds.Punctuator punctuators.OpenBracket) h.0 h.1.0 in
     unexpected_at NoField HasField text ts (t ∷ u ∷ []) b
-      (w.1 ∙ ap (λ (z : List Token). t ∷ z) h.1.1)
+    (w.1 ∙ ap (λ (z : List Token). t ∷ z) h.1.1)
     (λ text' other l s.
     let v : HasWord text' element (t ∷ u ∷ other)
-      (u ∷ other) = (w.0, refl, sym (alike_head text text' t ts a w.1 l) ∙ w.2) in
+    (u ∷ other) = (w.0, refl, sym (alike_head text text' t ts a w.1 l) ∙ w.2) in
     none_again 0 text text' ts (t ∷ u ∷ other) x l (first_there t ts a (u ∷ other) w.1)
     (no_index text' (t ∷ u ∷ other) (u ∷ other) other v (h.0, (h.1.0, refl))
-      (firsts.no_integer b other s n)))
+    (firsts.no_integer b other s n)))
     (λ text' l k. record {
       more = index_end;
       has = record {
@@ -394,13 +409,13 @@ no_close_there text ts a b c value at x w h i =
     let u = token (kinds.Punctuator punctuators.OpenBracket) h.0 h.1.0 in
     let v = token (kinds.Integer value i.0) at i.1.0 in
     unexpected_at NoField HasField text ts (t ∷ u ∷ v ∷ []) c
-      (w.1 ∙ ap (λ (z : List Token). t ∷ z) (h.1.1 ∙ ap (λ (z : List Token). u ∷ z) i.1.1))
+    (w.1 ∙ ap (λ (z : List Token). t ∷ z) (h.1.1 ∙ ap (λ (z : List Token). u ∷ z) i.1.1))
     (λ text' other l s.
     let y : HasWord text' element (t ∷ u ∷ v ∷ other)
-      (u ∷ v ∷ other) = (w.0, refl, sym (alike_head text text' t ts a w.1 l) ∙ w.2) in
+    (u ∷ v ∷ other) = (w.0, refl, sym (alike_head text text' t ts a w.1 l) ∙ w.2) in
     none_again 0 text text' ts (t ∷ u ∷ v ∷ other) x l (first_there t ts a (u ∷ v ∷ other) w.1)
     (no_close text' (t ∷ u ∷ v ∷ other) (u ∷ v ∷ other) (v ∷ other) other value at y
-      (h.0, (h.1.0, refl)) (i.0, (i.1.0, refl))
+    (h.0, (h.1.0, refl)) (i.0, (i.1.0, refl))
     (firsts.no_punctuator punctuators.CloseBracket c other s
     (λ rest g. x (fields.Information value at) rest
     (record {

@@ -19,6 +19,6 @@ absent ts e s at rest h = let q : None ≡ Some (s, at, rest) = e ∙ punctuator
 
 pub front_none : {A : Type 0} (r : Option A) (f : A → Punctuator × ℕ × List Token) (ts : List Token)
     → option_map f r ≡ after_punctuator ts → IfNone r
-      ((s : Punctuator) (at : ℕ) (rest : List Token) → IsPunctuator s at ts rest → ⊥)
+    ((s : Punctuator) (at : ℕ) (rest : List Token) → IsPunctuator s at ts rest → ⊥)
 front_none None f ts e = absent ts e
 front_none (Some x) f ts e = tt

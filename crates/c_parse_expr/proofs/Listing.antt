@@ -131,14 +131,18 @@ more_back : (text : List ℕ) (w room : ℕ) (es : List Expression) (xs : Argume
     (ts rest end : List Token) → AreMoreExpressions text es ts rest → Stops assignment rest →
     SpellsMoreArguments text xs ts end → (1 ≤ w → heights xs ≤ room) → Left text w room rest end
 more_back text w room [] xs ts rest end h s g
-    low = record { others = xs; spells = subst
-    (λ (z : List Token). SpellsMoreArguments text xs z end) h g; low = low }
+    low = record {
+      others = xs;
+      spells = subst
+          (λ (z : List Token). SpellsMoreArguments text xs z end) h g;
+      low = low;
+    }
 more_back text w room (e ∷ es) Done ts rest end h s g low =
     absurd (not_both ts h.after_comma end h.comma g)
 more_back text w room (e ∷ es) (Next x xs) ts rest end h s g low =
     let p = has_same punctuators.Comma ts ts h.after_comma g.after_comma refl h.comma g.comma in
     let q = same_next text e x h.after_comma g.after_comma h.after_element g.after_element p
-      h.element
+    h.element
     (more_stops text es h.after_element rest h.others s) g.element
     (spelled_stops text xs g.after_element end g.others) in
     more_back text w room es xs h.after_element rest end h.others s
@@ -170,7 +174,7 @@ none_left : (text : List ℕ) (w room : ℕ) (xs : Arguments) (rest end : List T
 none_left text w room Done rest end h low n m = n end h
 none_left text w room (Next x xs) rest end h low n m =
     m x h.after_comma h.after_element h.comma h.element
-      (spelled_stops text xs h.after_element end h.others)
+    (spelled_stops text xs h.after_element end h.others)
     (λ k. let a = low k in omega arith)
 
 pub stuck : (text : List ℕ) (w room : ℕ) (es : List Expression) (ts rest : List Token)
@@ -180,7 +184,7 @@ pub stuck : (text : List ℕ) (w room : ℕ) (es : List Expression) (ts rest : L
     → NoArguments room w text ts
 stuck text w room es ts rest h s n m xs end g low =
     let l = listed_back text w room es xs ts rest end h s g low in
-      none_left text w room l.others rest end l.spells l.low n (λ x b c k d z u. m b k)
+    none_left text w room l.others rest end l.spells l.low n (λ x b c k d z u. m b k)
 
 pub no_next : (text : List ℕ) (w room : ℕ) (es : List Expression) (ts rest following : List Token)
     → AreListed text es ts rest → Stops assignment rest

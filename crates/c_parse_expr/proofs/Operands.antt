@@ -97,7 +97,7 @@ none_named text w l room x ts rest n v c (Constant at y) end o low = literal_nam
     (other_kind _ _ at x.start ts end rest o.derives.spells (identifier_kind x ts rest n))
 none_named text w l room x ts rest n v c (Variable y) end o low =
     let q = (name_same x y ts ts rest end refl n o.derives.spells).1 in let p = ap follows q in
-      let k = o.closes in v (omega arith)
+    let k = o.closes in v (omega arith)
 none_named text w l room x ts rest n v c (Information at y) end o low =
     let h = o.derives.spells in
     keyword_not_name (other_kind _ _ at x.start ts h.introduction.after_keyword rest
@@ -137,7 +137,7 @@ no_call text w l room x ts rest b n h a =
     none_named text w l room x ts rest n
     (λ p. let q = call_follows rest b h in absurd (omega arith))
     (λ es d end g s low. a es end (subst (λ (z : List Token). SpellsArguments text es z end)
-      (has_same punctuators.OpenParenthesis rest rest d b refl g h) s) low)
+    (has_same punctuators.OpenParenthesis rest rest d b refl g h) s) low)
 
 -- no `(` is at the front
 positive_sign : (s : Punctuator) → (s ≡ punctuators.OpenParenthesis → ⊥)
@@ -233,7 +233,7 @@ no_operator text w l room s at ts rest n a b c =
     none_signed text w l room s at ts rest n
     (λ e end p x low. a p)
     (λ op e end p d st low. let q : None ≡ Some op = sym b ∙ ap increment_of p
-      ∙ increment_again op in cc)
+    ∙ increment_again op in cc)
     (λ op e end p d st low. let q : None ≡ Some op = sym c ∙ ap unary_of p ∙ unary_again op in cc)
     (λ to e b c end p f t z d st low. a p)
 
@@ -241,10 +241,10 @@ pub no_room : (text : List ℕ) (l : ℕ) (s : Punctuator) (at : ℕ) (ts rest :
     → IsPunctuator s at ts rest → NoOperand l 0 1 text ts
 no_room text l s at ts rest n =
     none_signed text 1 l 0 s at ts rest n (λ e end p x low. let a = low (omega arith) in
-      absurd (omega arith)) (λ op e end p d st low. let a = low (omega arith) in
-      absurd (omega arith)) (λ op e end p d st low. let a = low (omega arith) in
-      absurd (omega arith)) (λ to e b c end p f t z d st low. let a = low (omega arith) in
-      absurd (omega arith))
+    absurd (omega arith)) (λ op e end p d st low. let a = low (omega arith) in
+    absurd (omega arith)) (λ op e end p d st low. let a = low (omega arith) in
+    absurd (omega arith)) (λ to e b c end p f t z d st low. let a = low (omega arith) in
+    absurd (omega arith))
 
 unary_no_increment : (o : UnaryOperator) (op : Increment)
     → increment_of (unary_punctuator o) ≡ Some op → ⊥
@@ -272,7 +272,7 @@ no_prefixed text w l room s op at ts rest n p x =
     (λ e end q y low. not_open s q op p)
     (λ o e end q d st low. x e end d st (λ k. let a = low k in omega arith))
     (λ o e end q d st low. let r : increment_of (unary_punctuator o)
-      ≡ Some op = ap increment_of (sym q) ∙ p in unary_no_increment o op r)
+    ≡ Some op = ap increment_of (sym q) ∙ p in unary_no_increment o op r)
     (λ to e b c end q f t z d st low. not_open s q op p)
 
 pub no_unary : (text : List ℕ) (w l room : ℕ) (s : Punctuator) (op : UnaryOperator) (at : ℕ)
@@ -282,7 +282,7 @@ no_unary text w l room s op at ts rest n p x =
     none_signed text w l room s at ts rest n
     (λ e end q y low. not_open_unary s q op p)
     (λ o e end q d st low. let r : unary_of (increment_punctuator o) ≡ Some op = ap unary_of (sym q)
-      ∙ p in increment_no_unary o op r)
+    ∙ p in increment_no_unary o op r)
     (λ o e end q d st low. x e end d st (λ k. let a = low k in omega arith))
     (λ to e b c end q f t z d st low. not_open_unary s q op p)
 
@@ -304,7 +304,7 @@ none_open text w l room at ts rest n pa ca =
     (λ o e end q d st low. open_no_increment o q)
     (λ o e end q d st low. open_no_unary o q)
     (λ to e b c end q f t z d st low. ca to e b c end f t z d st
-      (λ k. let a = low k in omega arith))
+    (λ k. let a = low k in omega arith))
 
 type_front : (to : CType) (ts rest : List Token) → IsType to ts rest → front ts ≡ 7
 type_front to ts rest t = base_front to.base ts t.0 t.1
@@ -332,8 +332,8 @@ no_cast text w l room at to ts rest mid n t only x =
     none_open text w l room at ts rest n
     (λ e end y low. no_type_inside text to e rest mid end t y)
     (λ u e b c end f g z d st low. x e c end (subst
-      (λ (y : List Token). HasPunctuator punctuators.CloseParenthesis y c)
-      (sym (only u b g (close_base b c z) (close_star b c z))) z) d st low)
+    (λ (y : List Token). HasPunctuator punctuators.CloseParenthesis y c)
+    (sym (only u b g (close_base b c z) (close_star b c z))) z) d st low)
 
 pub not_cast : (text : List ℕ) (w l room at : ℕ) (to : CType) (ts rest mid after : List Token)
     → Open at ts rest → IsType to rest mid → OnlyType rest mid
@@ -350,4 +350,4 @@ pub no_group : (text : List ℕ) (w l room at : ℕ) (ts rest : List Token) → 
     → NoOperand l (room + 1) w text ts
 no_group text w l room at ts rest n b x =
     none_open text w l room at ts rest n (λ e end y low. x e end y low)
-      (λ u e m c end f g z d st low. b f u.base g.0 g.1)
+    (λ u e m c end f g z d st low. b f u.base g.0 g.1)

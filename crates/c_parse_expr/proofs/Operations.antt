@@ -287,11 +287,11 @@ pub is_step : (text : List ℕ) (e : Expression) (o : Operation) (punctuator' : 
 is_step text e o punctuator' at s ts mid end p f h b =
     let q : punctuator' ≡ punctuator o = only o punctuator' p in
     let g : IsPunctuator (punctuator o) at ts mid = subst
-      (λ (z : Punctuator). IsPunctuator z at ts mid) q h in
+    (λ (z : Punctuator). IsPunctuator z at ts mid) q h in
     let i : IsPunctuator (punctuator (operation s)) at ts mid = subst
-      (λ (z : Operation). IsPunctuator (punctuator z) at ts mid) (sym b.operation) g in
+    (λ (z : Operation). IsPunctuator (punctuator z) at ts mid) (sym b.operation) g in
     let j : IsPunctuator (punctuator (operation s)) (place s) ts mid = subst
-      (λ (z : ℕ). IsPunctuator (punctuator (operation s)) z ts mid) (sym b.place) i in
+    (λ (z : ℕ). IsPunctuator (punctuator (operation s)) z ts mid) (sym b.place) i in
     let t = tailed text e s ts end (record { mid = mid; begins = j; following = b.following }) in
     let x : bound (operation s) ≡ bound o = ap bound b.operation in
     let y = same_bound s in
@@ -305,11 +305,13 @@ pub begins_so : (text : List ℕ) (e : Expression) (s : Step) (ts end : List Tok
 begins_so text e s ts end x punctuator' at mid h =
     let b = begun text e s ts end x.tail x.closes in
     let q = punctuator_same punctuator' (punctuator (operation s)) at (place s) ts ts mid b.mid refl
-      h b.begins in
+    h b.begins in
     let y = same_bound s in
-    let f = x.fits in
-    (ap operation_of q.0 ∙ again (operation s), omega arith,
-      subst (λ (z : List Token). AfterPunctuator text s z end) (sym q.2) b.following)
+    let f = x.fits in (
+      ap operation_of q.0 ∙ again (operation s),
+      omega arith,
+      subst (λ (z : List Token). AfterPunctuator text s z end) (sym q.2) b.following,
+    )
 
 pub no_punctuator : (text : List ℕ) (w room : ℕ) (e : Expression) (ts : List Token)
     → ((s : Punctuator) (at : ℕ) (rest : List Token) → IsPunctuator s at ts rest → ⊥)

@@ -68,8 +68,10 @@ deep_at No Has text ts front fault p f g h = record {
 
 pub able_now : (Has : Family) (n : ℕ) (text : List ℕ) (ts : List Token) → Has n text ts
     → Able Has n text ts
-able_now Has n text ts h = record { more = [];
-    has = subst (λ (z : List Token). Has n text z) (sym (append_nothing ts)) h }
+able_now Has n text ts h = record {
+  more = [];
+  has = subst (λ (z : List Token). Has n text z) (sym (append_nothing ts)) h;
+}
 
 -- ---- short ends
 
@@ -83,11 +85,17 @@ abbrev pub punctuator_token : Punctuator → Token
 punctuator_token s = token (kinds.Punctuator s) 0 0
 
 pub has_one : (l room n : ℕ) (text : List ℕ) → HasExpression l room n text (one ∷ [])
-has_one l room n text = record { tree = one_tree;
-    derives = λ other. record { fits = omega arith; spells = (0, refl) }; low = λ k. omega arith }
+has_one l room n text = record {
+  tree = one_tree;
+  derives = λ other. record { fits = omega arith; spells = (0, refl) };
+  low = λ k. omega arith;
+}
 
 -- without the limit of nesting the room is nothing
 pub loosen : (l room other : ℕ) (text : List ℕ) (ts : List Token) → HasExpression l room 0 text ts
     → HasExpression l other 0 text ts
-loosen l room other text ts h = record { tree = h.tree; derives = h.derives;
-    low = λ k. omega arith }
+loosen l room other text ts h = record {
+  tree = h.tree;
+  derives = h.derives;
+  low = λ k. omega arith;
+}

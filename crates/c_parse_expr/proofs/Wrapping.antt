@@ -30,7 +30,7 @@ use Rattle.c_parse_expr.proofs.Placing.{unexpected_at, deep_at, able_now, one, o
 
 pub operand_wraps : (l room : ℕ) (text : List ℕ) (ts : List Token)
     → Wraps (NoOperand l room) (HasExpression l room) (NoExpression l room) (HasExpression l room)
-      text ts ts
+    text ts ts
 operand_wraps l room text ts = record {
   before = [];
   split = refl;
@@ -44,34 +44,41 @@ step_has : (l room f n : ℕ) (left : Expression) (text : List ℕ) (front inner
     → HasExpression l room n text (front ++ inner)
 step_has l room f n left text front inner d p low (inl e) =
     let q : front ++ inner ≡ front = ap (λ z. front ++ z) e ∙ append_nothing front in
-    record { tree = left; derives = λ other. subst (λ (z : List Token). Derives text l left z other)
-      (ap (λ z. z ++ other) (sym q)) (d other); low = λ k. low }
+    record {
+      tree = left;
+      derives = λ other. subst (λ (z : List Token). Derives text l left z other)
+          (ap (λ z. z ++ other) (sym q)) (d other);
+      low = λ k. low;
+    }
 step_has l room f n left text front inner d p low (inr s) = record {
   tree = apply left s.step;
   derives = λ other.
       let q = s.loose in
       subst (λ (z : List Token). Derives text l (apply left s.step) z other)
-        (sym (append_append front inner other))
-      (record { fits = omega arith; spells = joined text left s.step (front ++ (inner ++ other))
-        (inner ++ other) other (d (inner ++ other)).spells s.fits (s.tail other) });
+      (sym (append_append front inner other))
+      (record {
+        fits = omega arith;
+        spells = joined text left s.step (front ++ (inner ++ other))
+            (inner ++ other) other (d (inner ++ other)).spells s.fits (s.tail other);
+      });
   low = s.low;
 }
 
 pub step_wraps : (l room : ℕ) (left : Expression) (text : List ℕ) (ts rest : List Token)
     → Derives text l left ts rest → Closes left rest → follows rest ≤ l → height left ≤ room
     → Wraps (NoStep room left) (HasStep room left (follows rest)) (NoExpression l room)
-      (HasExpression l room) text rest ts
+    (HasExpression l room) text rest ts
 step_wraps l room left text ts rest d c f low =
     let m = moved.derives l left text ts rest d in
     record {
       before = m.front;
       split = m.split;
       no = λ n text' other a s x. no_step text' n l room left (m.front ++ other) other
-        (m.again text' other a) (firsts.closes left rest other s c)
-        (subst (λ n. n ≤ l) (sym (firsts.same_follows rest other s)) f) x;
+          (m.again text' other a) (firsts.closes left rest other s c)
+          (subst (λ n. n ≤ l) (sym (firsts.same_follows rest other s)) f) x;
       has = λ n text' inner a k h. able_now (HasExpression l room) n text' (m.front ++ inner)
-        (step_has l room (follows rest) n left text' m.front inner (λ other. m.again text' other a)
-        f low h);
+          (step_has l room (follows rest) n left text' m.front inner (λ other. m.again text' other a)
+          f low h);
     }
 
 -- ---- an expression and the punctuator that ends it
@@ -91,9 +98,9 @@ enclosed_wraps close room text ts p = record {
       encloses = λ other. record {
         mid = punctuator_token close ∷ other;
         spells = subst (λ (z : List Token). SpellsExpression text' h.tree z
-          (punctuator_token close ∷ other)) (sym
-          (append_append inner (punctuator_token close ∷ []) other))
-          (h.derives (punctuator_token close ∷ other)).spells;
+            (punctuator_token close ∷ other)) (sym
+            (append_append inner (punctuator_token close ∷ []) other))
+            (h.derives (punctuator_token close ∷ other)).spells;
         closed = (0, (0, refl));
       };
       low = h.low;
@@ -118,9 +125,9 @@ unclosed close room e text ts rest p d st n low =
         encloses = λ other. record {
           mid = punctuator_token close ∷ other;
           spells = subst (λ (z : List Token). SpellsExpression text' e z
-            (punctuator_token close ∷ other))
-            (sym (append_append m.front (punctuator_token close ∷ []) other))
-            (m.again text' (punctuator_token close ∷ other) a).spells;
+              (punctuator_token close ∷ other))
+              (sym (append_append m.front (punctuator_token close ∷ []) other))
+              (m.again text' (punctuator_token close ∷ other) a).spells;
           closed = (0, (0, refl));
         };
         low = λ q. low;
@@ -138,7 +145,7 @@ encloses_moves close e text ts rest x = moved.map
 
 pub index_wraps : (room at : ℕ) (text : List ℕ) (ts : List Token)
     → Wraps (NoneEnclosed punctuators.CloseBracket room) (HasEnclosed punctuators.CloseBracket room)
-      (NoneAfterPunctuator room Index) (HasAfterPunctuator room Index at) text ts ts
+    (NoneAfterPunctuator room Index) (HasAfterPunctuator room Index at) text ts ts
 index_wraps room at text ts = record {
   before = [];
   split = refl;
@@ -194,7 +201,7 @@ right_has room infixes.Comma at n text inner h =
 
 pub right_wraps : (room : ℕ) (op : Infix') (at : ℕ) (text : List ℕ) (ts : List Token)
     → Wraps (NoExpression (right op) room) (HasExpression (right op) room)
-      (NoneAfterPunctuator room (Infix op)) (HasAfterPunctuator room (Infix op) at) text ts ts
+    (NoneAfterPunctuator room (Infix op)) (HasAfterPunctuator room (Infix op) at) text ts ts
 right_wraps room op at text ts = record {
   before = [];
   split = refl;
@@ -205,7 +212,7 @@ right_wraps room op at text ts = record {
 
 pub first_branch_wraps : (room at : ℕ) (text : List ℕ) (ts : List Token)
     → Wraps (NoneEnclosed punctuators.Colon room) (HasEnclosed punctuators.Colon room)
-      (NoneAfterPunctuator room Conditional) (HasAfterPunctuator room Conditional at) text ts ts
+    (NoneAfterPunctuator room Conditional) (HasAfterPunctuator room Conditional at) text ts ts
 first_branch_wraps room at text ts = record {
   before = [];
   split = refl;
@@ -218,7 +225,7 @@ first_branch_wraps room at text ts = record {
       tail = λ begin other g.
           let x = h.encloses (one ∷ other) in
           let s = subst (λ (z : List Token). SpellsExpression text' h.tree z x.mid)
-            (sym (append_append inner (one ∷ []) other)) x.spells in
+          (sym (append_append inner (one ∷ []) other)) x.spells in
           record {
             after_operator = one ∷ other;
             operator = record {
@@ -245,16 +252,16 @@ second_branch_wraps room at e text ts mid x low =
       before = m.front;
       split = m.split;
       no = λ n text' other a s y. none_second text' n room e (m.front ++ other) other
-        (m.again text' other a) y;
+          (m.again text' other a) y;
       has = λ n text' inner a k h. able_now (HasAfterPunctuator room Conditional at) n text'
-        (m.front ++ inner)
+          (m.front ++ inner)
           (record {
             step = Choose at e h.tree;
             operation = refl;
             tail = λ begin other g.
                 let y = m.again text' (inner ++ other) a in
                 let s = subst (λ (z : List Token). SpellsExpression text' e z y.mid)
-                  (sym (append_append m.front inner other)) y.spells in
+                (sym (append_append m.front inner other)) y.spells in
                 record {
                   after_operator = inner ++ other;
                   operator = record {
@@ -291,8 +298,12 @@ has_shortest room Index at n text = record {
   };
   low = λ k. omega arith;
 }
-has_shortest room (Postfix op) at n text = record { step = After op at; operation = refl;
-    tail = λ begin other h. h; low = λ k. omega arith }
+has_shortest room (Postfix op) at n text = record {
+  step = After op at;
+  operation = refl;
+  tail = λ begin other h. h;
+  low = λ k. omega arith;
+}
 has_shortest room (Infix op) at n text = right_has room op at n text (one ∷ [])
     (has_one (right op) room n text)
 has_shortest room Conditional at n text = record {
@@ -322,22 +333,27 @@ a_step : (room : ℕ) (e : Expression) (o : Operation) (punctuator' : Punctuator
 a_step room e o punctuator' at end l n text inner f p fits low b =
     let q : punctuator' ≡ punctuator o = only o punctuator' p in
     let tail : (other : List Token) → Tail text b.step
-      (token (kinds.Punctuator punctuator') at end ∷ (inner ++ other)) other =
+    (token (kinds.Punctuator punctuator') at end ∷ (inner ++ other)) other =
     λ other. b.tail (token (kinds.Punctuator punctuator') at end ∷ (inner ++ other)) other
-      (end, ap (λ (z : Punctuator). token (kinds.Punctuator z) at end ∷ (inner ++ other)) q) in
+    (end, ap (λ (z : Punctuator). token (kinds.Punctuator z) at end ∷ (inner ++ other)) q) in
     let r = same_bound b.step in
     let i = ap bound b.operation in
     let j = step_follows text e b.step (token (kinds.Punctuator punctuator') at end ∷ (inner ++ []))
-      [] (tail []) in
+    [] (tail []) in
     let x = applied_height e b.step in
-    inr (record { step = b.step; fits = omega arith; loose = omega arith; tail = tail;
-      low = λ k. let h = low k in let w = b.low k in omega arith })
+    inr (record {
+      step = b.step;
+      fits = omega arith;
+      loose = omega arith;
+      tail = tail;
+      low = λ k. let h = low k in let w = b.low k in omega arith;
+    })
 
 pub after_punctuator_wraps : (room : ℕ) (e : Expression) (punctuator' : Punctuator) (o : Operation)
     (at : ℕ) (text : List ℕ) (ts rest : List Token) → IsPunctuator punctuator' at ts rest
     → operation_of punctuator' ≡ Some o → rank e ≤ bound o → height e < room
     → Wraps (NoneAfterPunctuator (room - 1) o) (HasAfterPunctuator (room - 1) o at) (NoStep room e)
-      (HasStep room e (follows ts)) text rest ts
+    (HasStep room e (follows ts)) text rest ts
 after_punctuator_wraps room e punctuator' o at text ts rest h p fits low = record {
   before = token (kinds.Punctuator punctuator') at h.0 ∷ [];
   split = h.1;
@@ -354,8 +370,8 @@ is_alone : (room : ℕ) (e : Expression) (l : ℕ) (text : List ℕ) (ts : List 
     → Failed 0 (place text ts) (NoStep room e) (HasStep room e l) text ts
 is_alone room e l text ts n =
     unexpected_at (NoStep room e) (HasStep room e l) text ts [] ts refl
-      (λ text' other a s. n other s text') (λ text' a k. able_now (HasStep room e l) 6 text' []
-      (inl refl))
+    (λ text' other a s. n other s text') (λ text' a k. able_now (HasStep room e l) 6 text' []
+    (inl refl))
 
 pub signless : (room : ℕ) (e : Expression) (l : ℕ) (text : List ℕ) (ts : List Token)
     → ((s : Punctuator) (at : ℕ) (rest : List Token) → IsPunctuator s at ts rest → ⊥)
@@ -374,7 +390,7 @@ same_punctuator s at ts rest other h f = let g : SameFirst
 pub no_operator_there : (room : ℕ) (e : Expression) (l : ℕ) (punctuator' : Punctuator) (at : ℕ)
     (text : List ℕ) (ts rest : List Token) → IsPunctuator punctuator' at ts rest
     → operation_of punctuator' ≡ None → Failed 0 (place text ts) (NoStep room e) (HasStep room e l)
-      text ts
+    text ts
 no_operator_there room e l punctuator' at text ts rest h p = is_alone room e l text ts
     (λ other f text'. let g = same_punctuator punctuator' at ts rest other h f in
     no_operation text' 0 room e punctuator' at other g.0 g.1 p)
@@ -401,5 +417,5 @@ high_there room e punctuator' o at text ts rest h p fits high =
       more = shortest o;
       is = h.1;
       has = a_step room e o punctuator' at h.0 (follows ts) 0 text' (shortest o)
-        (sym (ap follows h.1)) p fits (λ q. omega arith) (has_shortest (room - 1) o at 0 text');
+          (sym (ap follows h.1)) p fits (λ q. omega arith) (has_shortest (room - 1) o at 0 text');
     })

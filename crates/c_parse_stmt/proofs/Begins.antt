@@ -149,16 +149,28 @@ expressed_by_punctuator text s at end h = absurd (omega arith)
 expressed_by : (text : List ℕ) → Speaks text → (k : Kind) (at end : ℕ) → kind_class k ≤ 5
     → Expressed text (token k at end)
 expressed_by text s kinds.Identifier at end h =
-    record { more = []; tree = Variable (record { start = at; end = end });
-    derives = λ other. record { fits = omega arith; spells = refl }; over = refl }
+    record {
+      more = [];
+      tree = Variable (record { start = at; end = end });
+      derives = λ other. record { fits = omega arith; spells = refl };
+      over = refl;
+    }
 expressed_by text s (kinds.Keyword k) at end h = expressed_by_keyword text s k at end h
 expressed_by text s (kinds.Reserved r) at end h = absurd (omega arith)
 expressed_by text s (kinds.Integer value type) at end
-    h = record { more = []; tree = Constant at (literals.Integer value type);
-    derives = λ other. record { fits = omega arith; spells = (end, refl) }; over = refl }
+    h = record {
+      more = [];
+      tree = Constant at (literals.Integer value type);
+      derives = λ other. record { fits = omega arith; spells = (end, refl) };
+      over = refl;
+    }
 expressed_by text s (kinds.CharacterConstant value) at end
-    h = record { more = []; tree = Constant at (literals.CharacterConstant value);
-    derives = λ other. record { fits = omega arith; spells = (end, refl) }; over = refl }
+    h = record {
+      more = [];
+      tree = Constant at (literals.CharacterConstant value);
+      derives = λ other. record { fits = omega arith; spells = (end, refl) };
+      over = refl;
+    }
 expressed_by text s (kinds.Punctuator z) at end h = expressed_by_punctuator text z at end h
 
 pub expressed : (text : List ℕ) → Speaks text → (t : Token) → kind_class t.kind ≤ 5
@@ -167,8 +179,12 @@ expressed text s t h = expressed_by text s t.kind t.start t.end h
 
 pub begins_expression : (ts : List Token) → front ts ≤ 5 → BeginsExpression ts
 begins_expression [] h = absurd (omega arith)
-begins_expression (t ∷ ts) h = record { first = t; rest = ts; split = refl;
-    holds = λ text s. expressed text s t h }
+begins_expression (t ∷ ts) h = record {
+  first = t;
+  rest = ts;
+  split = refl;
+  holds = λ text s. expressed text s t h;
+}
 
 pub begins_none : (ts : List Token) → (front ts ≤ 5 → ⊥) → BeginsNoExpression ts
 begins_none ts shut text other same e rest h = let p = front_first ts other same in
@@ -260,8 +276,10 @@ keyword_base : (k : Keyword) (at end : ℕ) (xs : List Token) → keyword_class 
     → (b : Base) × IsBase b (token (kinds.Keyword k) at end ∷ xs) xs
 keyword_base keywords.Char at end xs h = (bases.Char, inl (xs, (at, (end, refl)), refl))
 keyword_base keywords.Int at end xs h = (bases.Int, inl (xs, (at, (end, refl)), refl))
-keyword_base keywords.Long at end xs h = (bases.Int,
-    inr (inr (inr (inl (xs, (at, (end, refl)), refl)))))
+keyword_base keywords.Long at end xs h = (
+  bases.Int,
+  inr (inr (inr (inl (xs, (at, (end, refl)), refl)))),
+)
 keyword_base keywords.Short at end xs h = (bases.Short, inl (xs, (at, (end, refl)), refl))
 keyword_base keywords.Signed at end xs h = (bases.Int, inr (inl (xs, (at, (end, refl)), refl)))
 keyword_base keywords.Unsigned at end xs h = (bases.Unsigned, inl (xs, (at, (end, refl)), refl))

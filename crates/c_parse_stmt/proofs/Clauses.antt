@@ -68,10 +68,10 @@ finished body last at text ts rest x = record {
 pub try_moves : (text : List ℕ) (ts rest : List Token) → IsTry ts rest → Moves Tries text ts rest
 try_moves text ts rest t =
     moves_so (Both (λ s. HasKeyword keywords.Try) (Sig punctuators.OpenBrace)) Tries text ts rest
-      (λ t us end x. (x.mid, x.first, x.second))
+    (λ t us end x. (x.mid, x.first, x.second))
     (both_moves (λ s. HasKeyword keywords.Try) (Sig punctuators.OpenBrace) text ts t.0 rest
-      (has_keyword keywords.Try text ts t.0 t.1)
-      (has_punctuator punctuators.OpenBrace text t.0 rest t.2))
+    (has_keyword keywords.Try text ts t.0 t.1)
+    (has_punctuator punctuators.OpenBrace text t.0 rest t.2))
 
 -- ---- what always ends it
 

@@ -48,14 +48,28 @@ pub record Atom (text : List ℕ) (t : Token) : Type 0 where
 
 atom_by : (text : List ℕ) (k : Kind) (at end : ℕ) → accepts_kind text k at end ≡ true
     → Atom text (token k at end)
-atom_by text kinds.Identifier at end h = record { tree = Variable
-    (record { start = at; end = end }); spells = λ ts. refl; low = refl; rank = refl; yes = h;
-    closes = λ ts f. f refl; class = omega arith }
+atom_by text kinds.Identifier at end h = record {
+  tree = Variable
+      (record { start = at; end = end });
+  spells = λ ts. refl;
+  low = refl;
+  rank = refl;
+  yes = h;
+  closes = λ ts f. f refl;
+  class = omega arith;
+}
 atom_by text (kinds.Keyword k) at end h = absurd cc
 atom_by text (kinds.Reserved r) at end h = absurd cc
 atom_by text (kinds.Integer value type) at end
-    h = record { tree = Constant at (literals.Integer value type); spells = λ ts. (end, refl);
-    low = refl; rank = refl; yes = h; closes = λ ts f. tt; class = omega arith }
+    h = record {
+      tree = Constant at (literals.Integer value type);
+      spells = λ ts. (end, refl);
+      low = refl;
+      rank = refl;
+      yes = h;
+      closes = λ ts f. tt;
+      class = omega arith;
+    }
 atom_by text (kinds.CharacterConstant value) at end h = absurd cc
 atom_by text (kinds.Punctuator s) at end h = absurd cc
 
@@ -251,7 +265,7 @@ call_by : (text : List ℕ) (k : Kind) (at end : ℕ) (u : Token) → k ≡ kind
     → u.kind ≡ kinds.Punctuator punctuators.OpenParenthesis
     → (e : Expression) × (height e ≡ 0) × ((ts : List Token)
     → SpellsExpression text e (token k at end ∷ u ∷ punctuator punctuators.CloseParenthesis ∷ ts)
-      ts)
+    ts)
 call_by text kinds.Identifier at end u n o =
     let close = punctuator punctuators.CloseParenthesis in (
       Call (record { start = at; end = end }) Done,
@@ -273,23 +287,27 @@ goes_call opened closed a [] l k z n f = absurd (omega arith)
 goes_call zero closed a (t ∷ ts) l k z n f = absurd (omega arith)
 goes_call (suc m) (suc c) a (t ∷ ts) l k z n f = absurd (omega arith)
 goes_call (suc m) zero a (t ∷ ts) l k z n f =
-    record { first = t; rest = ts; split = refl;
-    holds = λ text before middle o y c. called text before middle o c }
+    record {
+      first = t;
+      rest = ts;
+      split = refl;
+      holds = λ text before middle o y c. called text before middle o c;
+    }
   where
     called : (text : List ℕ) (before middle : List Token) → AreOpening (suc m) before []
-      → middle ≡ [] → Continued text (before ++ a ∷ middle) t
+        → middle ≡ [] → Continued text (before ++ a ∷ middle) t
     called text before middle o c =
         let more = punctuator punctuators.CloseParenthesis ∷ closing (suc m) in
         let e = call_by text a.kind a.start a.end t n (open_kind t.kind f) in
         let x = enclosed m text e.0 (before ++ a ∷ t ∷ more) (a ∷ t ∷ more) (closing (suc m)) []
-          (opening_again (suc m) before (a ∷ t ∷ more) o) (e.2 (closing (suc m)))
-          (closing_all (suc m)) in
+        (opening_again (suc m) before (a ∷ t ∷ more) o) (e.2 (closing (suc m)))
+        (closing_all (suc m)) in
         let h = x.high in
         let q = e.1 in
         let w = has_condition 1 text (before ++ a ∷ t ∷ more) x.tree x.is (omega arith) in
         let p : before ++ a ∷ t ∷ more ≡ before ++ a ∷ middle ++ t
-          ∷ more = ap (λ (z : List Token). before ++ a ∷ (z ++ t ∷ more)) (sym c)
-          ∙ sym (append_assoc before (a ∷ middle) (t ∷ more)) in
+        ∷ more = ap (λ (z : List Token). before ++ a ∷ (z ++ t ∷ more)) (sym c)
+        ∙ sym (append_assoc before (a ∷ middle) (t ∷ more)) in
         record { more = more; has = subst (λ z. HasCondition 1 text z) p w }
 
 nested_rank : (text : List ℕ) (n : ℕ) (a : Token) (ts rest : List Token) (e : Atom text a)
@@ -309,13 +327,17 @@ pub goes_step : (opened closed : ℕ) (a : Token) (ts : List Token) → closed <
 goes_step opened closed a [] l k g f = absurd (omega arith)
 goes_step zero closed a (t ∷ ts) l k g f = absurd (omega arith)
 goes_step (suc m) closed a (t ∷ ts) l k g f =
-    record { first = t; rest = ts; split = refl;
-    holds = λ text before middle o y c. continued text before middle o (atom text a y) c
-    (stepped t g f) }
+    record {
+      first = t;
+      rest = ts;
+      split = refl;
+      holds = λ text before middle o y c. continued text before middle o (atom text a y) c
+          (stepped t g f);
+    }
   where
     continued : (text : List ℕ) (before middle : List Token) → AreOpening (suc m) before []
-      → Atom text a → AreClosing closed middle [] → Stepped t
-      → Continued text (before ++ a ∷ middle) t
+        → Atom text a → AreClosing closed middle [] → Stepped t
+        → Continued text (before ++ a ∷ middle) t
     continued text before middle o e c s =
         let d = m - closed in
         let end = closing (suc d) in
@@ -323,19 +345,22 @@ goes_step (suc m) closed a (t ∷ ts) l k g f =
         let back = (t ∷ s.more) ++ end in
         let v = a ∷ (middle ++ back) in
         let x = opening_split (suc d) closed (suc m) (before ++ v) v (omega arith)
-          (opening_again (suc m) before v o) in
+        (opening_again (suc m) before v o) in
         let n = nested closed text e.tree x.0 v (middle ++ back) back x.2
-          (e.spells (middle ++ back)) (closing_again closed middle back c) in
+        (e.spells (middle ++ back)) (closing_again closed middle back c) in
         let r = nested_rank text closed a x.0 back e n in
         let q = enclosed d text (s.after n.tree) (before ++ v) x.0 end [] x.1
-          (s.spells text n.tree x.0 end r n.spells) (closing_all (suc d)) in
+        (s.spells text n.tree x.0 end r n.spells) (closing_all (suc d)) in
         let h1 = q.high in
         let h2 = s.high n.tree in
         let h3 = n.high in
         let h4 = e.low in
         let w = has_condition 1 text (before ++ v) q.tree q.is (omega arith) in
-        record { more = more; has = subst (λ z. HasCondition 1 text z)
-          (sym (append_assoc before (a ∷ middle) back)) w }
+        record {
+          more = more;
+          has = subst (λ z. HasCondition 1 text z)
+              (sym (append_assoc before (a ∷ middle) back)) w;
+        }
 
 -- ---- where none does
 
@@ -348,13 +373,13 @@ none_after : (m closed n : ℕ) (a : Token) (text : List ℕ) (before middle oth
 none_after m closed n a text before middle other l o e c bound high f end h low =
     let v = a ∷ (middle ++ other) in
     let p : (before ++ a ∷ middle) ++ other ≡ before
-      ++ v = append_assoc before (a ∷ middle) other in
+    ++ v = append_assoc before (a ∷ middle) other in
     let x = opening_again (suc m) before v o in
     let q = has_same punctuators.OpenParenthesis ((before ++ a ∷ middle) ++ other)
     (before ++ v) h.after_opening x.0 p h.opening x.1 in
     let y = opening_split (m - closed) closed m x.0 v (omega arith) x.2 in
     let z = nested closed text e.tree y.0 v (middle ++ other) other y.2 (e.spells (middle ++ other))
-      (closing_again closed middle other c) in
+    (closing_again closed middle other c) in
     let w = least (m - closed) n text x.0 y.0 y.1 (bound y.0 z)
     (λ k. opening_untyped closed y.0 v y.2 (λ i. let j = e.class in absurd (omega arith))) f
     h.after_inner end (subst (λ (u : List Token). SpellsExpression text f u h.after_inner) q
@@ -380,7 +405,7 @@ stops_after (suc m) closed a ts l lacks f text before middle other o y c same =
     (record { fits = rank_low g; spells = s }) (omega arith)
     (has_stops punctuators.CloseParenthesis end r comma k (omega arith)) in
     absurd (lacks_first punctuators.CloseParenthesis ts other same lacks r
-      (subst (λ (z : List Token). HasPunctuator punctuators.CloseParenthesis z r) (sym u.1) k)))
+    (subst (λ (z : List Token). HasPunctuator punctuators.CloseParenthesis z r) (sym u.1) k)))
     (omega arith)
 
 -- it goes through the operand
@@ -417,7 +442,7 @@ no_call (suc m) closed a ts l f bare text before middle other o y c same =
     let p = follows_first ts other same in
     none_after m closed 65 a text before middle other (omega arith) o e c
     (λ us n g end r s k. let w = through text closed a us other e n (λ z i. absurd (bare z i))
-      (omega arith) g end r s k in absurd (omega (arith, w.1)))
+    (omega arith) g end r s k in absurd (omega (arith, w.1)))
     (omega arith)
 
 pub deep_after : (opened closed : ℕ) (a : Token) (ts : List Token) → closed < opened → 65 ≤ opened
@@ -428,5 +453,5 @@ deep_after (suc m) closed a ts l k f g text before middle other o y c same =
     let p = follows_first ts other same in
     none_after m closed (1 + closed) a text before middle other (omega arith) o e c
     (λ us n x end r s d. let w = through text closed a us other e n (λ z i. omega arith)
-      (omega arith) x end r s d in let h = n.high in omega (arith, w.0))
+    (omega arith) x end r s d in let h = n.high in omega (arith, w.0))
     (omega arith)

@@ -58,7 +58,7 @@ first_back text room whole left n ts rest x is st c none [] end h w = absurd h
 first_back text room whole left n ts rest x is st c none (l ∷ ls) end h w =
     let u = one_local text x l ts ts rest h.0 refl st (locals_stop text ls h.0 end h.2) is h.1 in
     none ls end (subst (λ (z : List Token). AreMoreLocals text ls z end) (sym u.1) h.2)
-      (less n room whole left l ls c w)
+    (less n room whole left l ls c w)
 
 pub begins : (text : List ℕ) (room whole left : ℕ) (ts rest : List Token) (x : Local')
     → IsLocal text (local x) ts rest → Stops assignment rest → height_of (local x).initialiser ≤ 64
@@ -74,7 +74,7 @@ begins text room whole left ts rest x is st low over c =
       statements = omega arith;
       count = c;
       back = λ n text' other a same. first_back text' room whole left n (m.front ++ other) other
-        (local x) (m.again text' other a) (stops_first assignment rest other same st) c;
+          (local x) (m.again text' other a) (stops_first assignment rest other same st) c;
     }
 
 map_snoc : (xs : List Local') (x : Local') (ls : List Local)
@@ -108,7 +108,7 @@ next_back : (text : List ℕ) (room left more n : ℕ) (rest b after : List Toke
     → more + 1 ≡ left → NoMoreLocals room more n text after → NoMoreLocals room left n text rest
 next_back text room left more n rest b after x c is st e none [] end h w = let e : punctuators.Comma
     ≡ punctuators.Semicolon = other_punctuator punctuators.Comma punctuators.Semicolon rest b end c
-      h in cc
+    h in cc
 next_back text room left more n rest b after x c is st e none (l ∷ ls) end h w =
     let p = has_same punctuators.Comma rest rest b h.after_comma refl c h.comma in
     let u = one_local text x l b h.after_comma after h.after_element p st
@@ -124,7 +124,7 @@ pub continues : (text : List ℕ) (room whole left more : ℕ) (ts rest b after 
     → Begun text room whole ts (found ++ x ∷ []) after more
 continues text room whole left more ts rest b after found x d c is st low over e =
     let m = both (has_punctuator punctuators.Comma text rest b c)
-      (local_moves (local x) text b after is) in
+    (local_moves (local x) text b after is) in
     record {
       before = d.before ++ m.front;
       split = d.split ∙ ap (λ z. d.before ++ z) m.split ∙ sym (append_assoc d.before m.front after);
@@ -138,22 +138,22 @@ continues text room whole left more ts rest b after found x d c is st low over e
             others = h;
           }) in
           subst (λ (z : List Local). AreLocals text' z (d.before ++ m.front ++ other) end)
-            (sym (map_snoc found x ls)) (subst
-            (λ (z : List Token). AreLocals text' (map local found ++ local x ∷ ls) z end)
-            (sym (append_assoc d.before m.front other)) f);
+          (sym (map_snoc found x ls)) (subst
+          (λ (z : List Token). AreLocals text' (map local found ++ local x ∷ ls) z end)
+          (sym (append_assoc d.before m.front other)) f);
       expressions = subst (λ (z : List Local). height_of_locals z ≤ 64) (sym (map_more found x))
-        (height_more 64 (map local found) (local x) d.expressions low);
+          (height_more 64 (map local found) (local x) d.expressions low);
       statements = subst (λ (z : List Local). one_over_locals z ≤ room) (sym (map_more found x))
-        (over_more room (map local found) (local x) d.statements over);
+          (over_more room (map local found) (local x) d.statements over);
       count = let p = ap length (map_more found x) in
-        let q = length_more (map local found) (local x) in let f = d.count in omega arith;
+          let q = length_more (map local found) (local x) in let f = d.count in omega arith;
       back = λ n text' other a same none.
           let g = m.again text' other (alike_inner text text' d.before rest ts d.split a) in
           subst (λ (z : List Token). NoLocals room whole n text' z)
-            (sym (append_assoc d.before m.front other))
+          (sym (append_assoc d.before m.front other))
           (d.back n text' (m.front ++ other) a (same_after m.front after rest other m.split same)
-            (next_back text' room left more n (m.front ++ other) g.0 other (local x) g.1 g.2
-            (stops_first assignment after other same st) e none));
+          (next_back text' room left more n (m.front ++ other) g.0 other (local x) g.1 g.2
+          (stops_first assignment after other same st) e none));
     }
 
 pub ends : (text : List ℕ) (room whole left : ℕ) (ts rest end : List Token) (found : List Local')
@@ -162,7 +162,7 @@ pub ends : (text : List ℕ) (room whole left : ℕ) (ts rest end : List Token) 
 ends text room whole left ts rest end found d h =
     subst (λ (z : List Token). AreLocals text (map local found) z end) (sym d.split)
     (subst (λ (z : List Local). AreLocals text z (d.before ++ rest) end)
-      (append-nil (map local found)) (d.forward text rest (alike_same text ts) [] end h))
+    (append-nil (map local found)) (d.forward text rest (alike_same text ts) [] end h))
 
 -- ---- where they fail
 
@@ -189,63 +189,66 @@ full text room whole ts rest b found d c = record {
     has = record {
       trees = map local found;
       are = λ other. subst (λ (z : List Token). AreLocals text' (map local found) z other)
-        (sym (append_assoc d.before (punctuator punctuators.Semicolon ∷ []) other))
-        (closed text room whole 0 ts rest found d text' (punctuator punctuators.Semicolon ∷ other)
-        other a (0, (0, refl)));
-      within = record { expressions = λ k. d.expressions; statements = λ k. d.statements;
-        count = λ k. let e = d.count in omega arith };
+          (sym (append_assoc d.before (punctuator punctuators.Semicolon ∷ []) other))
+          (closed text room whole 0 ts rest found d text' (punctuator punctuators.Semicolon ∷ other)
+          other a (0, (0, refl)));
+      within = record {
+        expressions = λ k. d.expressions;
+        statements = λ k. d.statements;
+        count = λ k. let e = d.count in omega arith;
+      };
     };
   };
   further = λ text' k a speaks e. let z : 1 ≡ k = omega arith in
       subst (λ n. Onward (HasLocals room whole) n text' d.before rest) z (record {
-    token = token (kinds.Punctuator punctuators.Comma) c.0 c.1.0;
-    rest = b;
-    more = name ∷ punctuator punctuators.Semicolon ∷ [];
-    is = c.1.1;
-    has = record {
-      trees = map local found ++ plain ∷ [];
-      are =
-          λ other. subst (λ (z : List Token). AreLocals text'
-          (map local found ++ plain ∷ []) z other)
-          (sym (append_assoc d.before (token (kinds.Punctuator punctuators.Comma) c.0 c.1.0
-          ∷ name ∷ punctuator punctuators.Semicolon ∷ []) other))
-          (d.forward text' (token (kinds.Punctuator punctuators.Comma) c.0 c.1.0
-          ∷ name ∷ punctuator punctuators.Semicolon ∷ other) a (plain ∷ []) other (record {
-            after_comma = _;
-            after_element = punctuator punctuators.Semicolon ∷ other;
-            comma = (c.0, (c.1.0, refl));
-            element = record {
-              after_stars = _;
-              after_name = _;
-              stars = refl;
-              name = refl;
-              initialiser = refl;
-            };
-            others = (0, (0, refl));
-          }));
-      within = record {
-        expressions = λ k. height_more 64 (map local found) plain d.expressions (omega arith);
-        statements = λ k. over_more room (map local found) plain d.statements (omega arith);
-        count = λ k. absurd (omega arith);
-      };
-    };
-  });
+        token = token (kinds.Punctuator punctuators.Comma) c.0 c.1.0;
+        rest = b;
+        more = name ∷ punctuator punctuators.Semicolon ∷ [];
+        is = c.1.1;
+        has = record {
+          trees = map local found ++ plain ∷ [];
+          are =
+              λ other. subst (λ (z : List Token). AreLocals text'
+              (map local found ++ plain ∷ []) z other)
+              (sym (append_assoc d.before (token (kinds.Punctuator punctuators.Comma) c.0 c.1.0
+              ∷ name ∷ punctuator punctuators.Semicolon ∷ []) other))
+              (d.forward text' (token (kinds.Punctuator punctuators.Comma) c.0 c.1.0
+              ∷ name ∷ punctuator punctuators.Semicolon ∷ other) a (plain ∷ []) other (record {
+                after_comma = _;
+                after_element = punctuator punctuators.Semicolon ∷ other;
+                comma = (c.0, (c.1.0, refl));
+                element = record {
+                  after_stars = _;
+                  after_name = _;
+                  stars = refl;
+                  name = refl;
+                  initialiser = refl;
+                };
+                others = (0, (0, refl));
+              }));
+          within = record {
+            expressions = λ k. height_more 64 (map local found) plain d.expressions (omega arith);
+            statements = λ k. over_more room (map local found) plain d.statements (omega arith);
+            count = λ k. absurd (omega arith);
+          };
+        };
+      });
 }
   where
     against : (text' : List ℕ) (other : List Token) → SameFirst rest other
-      → NoMoreLocals room 0 2 text' other
+        → NoMoreLocals room 0 2 text' other
     against text' other same [] end h w = let x = has_first punctuators.Comma rest b other c same in
-      let e : punctuators.Comma ≡ punctuators.Semicolon = other_punctuator punctuators.Comma
-      punctuators.Semicolon other x.0 end x.1 h in cc
+        let e : punctuators.Comma ≡ punctuators.Semicolon = other_punctuator punctuators.Comma
+        punctuators.Semicolon other x.0 end x.1 h in cc
     against text' other same (l ∷ ls) end h w = let n = w.count (omega arith) in
-      absurd (omega arith)
+        absurd (omega arith)
 
 next_none : (text : List ℕ) (room left n : ℕ) (rest b : List Token)
     → HasPunctuator punctuators.Comma rest b → NoLocal room n text b
     → NoMoreLocals room left n text rest
 next_none text room left n rest b c none [] end h w = let e : punctuators.Comma
     ≡ punctuators.Semicolon = other_punctuator punctuators.Comma punctuators.Semicolon rest b end c
-      h in cc
+    h in cc
 next_none text room left n rest b c none (l ∷ ls) end h w =
     let p = has_same punctuators.Comma rest rest h.after_comma b refl h.comma c in
     none l h.after_element (subst (λ (z : List Token). IsLocal text l z h.after_element) p
@@ -262,24 +265,24 @@ no_next text room whole left ts rest b found d c some =
       split = d.split ∙ ap (λ z. d.before ++ z) m.split ∙ sym (append_assoc d.before m.front b);
       no = λ n text' other a same none.
           subst (λ (z : List Token). NoLocals room whole n text' z)
-            (sym (append_assoc d.before m.front other))
+          (sym (append_assoc d.before m.front other))
           (d.back n text' (m.front ++ other) a (same_after m.front b rest other m.split same)
-            (next_none text' room left n (m.front ++ other) other
-            (m.again text' other (alike_inner text text' d.before rest ts d.split a)) none));
+          (next_none text' room left n (m.front ++ other) other
+          (m.again text' other (alike_inner text text' d.before rest ts d.split a)) none));
       has = λ n text' inner a speaks h. record {
         more = punctuator punctuators.Semicolon ∷ [];
         has = record {
           trees = map local found ++ h.tree ∷ [];
           are = λ other.
               let g = m.again text' (inner ++ punctuator punctuators.Semicolon ∷ other)
-                (alike_inner text text' d.before rest ts d.split a) in
+              (alike_inner text text' d.before rest ts d.split a) in
               let p = flat (d.before ++ m.front) inner (punctuator punctuators.Semicolon ∷ []) other
-                ∙ append_assoc d.before m.front
-                  (inner ++ punctuator punctuators.Semicolon ∷ other) in
+              ∙ append_assoc d.before m.front
+              (inner ++ punctuator punctuators.Semicolon ∷ other) in
               subst (λ (z : List Token). AreLocals text' (map local found ++ h.tree ∷ []) z other)
-                (sym p)
+              (sym p)
               (d.forward text' (m.front ++ (inner ++ punctuator punctuators.Semicolon ∷ other)) a
-                (h.tree ∷ []) other (record {
+              (h.tree ∷ []) other (record {
                 after_comma = inner ++ punctuator punctuators.Semicolon ∷ other;
                 after_element = punctuator punctuators.Semicolon ∷ other;
                 comma = g;
@@ -290,7 +293,7 @@ no_next text room whole left ts rest b found d c some =
             expressions = λ k. height_more 64 (map local found) h.tree d.expressions (h.low k);
             statements = λ k. over_more room (map local found) h.tree d.statements (h.over k);
             count = λ k. let e = d.count in let f = length_more (map local found) h.tree in
-              omega arith;
+                omega arith;
           };
         };
       };
@@ -304,7 +307,7 @@ unended_at text room left n rest c s (l ∷ ls) end h w = c h.after_comma h.comm
 pub unended : (text : List ℕ) (room whole left : ℕ) (ts rest : List Token) (found : List Local')
     → Begun text room whole ts found rest left → Lacks punctuators.Comma rest
     → Wraps (NoPunctuator punctuators.Semicolon) (APunctuator punctuators.Semicolon)
-      (NoLocals room whole) (HasLocals room whole) text rest ts
+    (NoLocals room whole) (HasLocals room whole) text rest ts
 unended text room whole left ts rest found d lacks = record {
   before = d.before;
   split = d.split;
@@ -316,10 +319,13 @@ unended text room whole left ts rest found d lacks = record {
     has = record {
       trees = map local found;
       are = λ other. subst (λ (z : List Token). AreLocals text' (map local found) z other)
-        (sym (flat d.before inner [] other)) (closed text room whole left ts rest found d text'
-        (inner ++ other) other a (h other));
-      within = record { expressions = λ k. d.expressions; statements = λ k. d.statements;
-        count = λ k. let e = d.count in omega arith };
+          (sym (flat d.before inner [] other)) (closed text room whole left ts rest found d text'
+          (inner ++ other) other a (h other));
+      within = record {
+        expressions = λ k. d.expressions;
+        statements = λ k. d.statements;
+        count = λ k. let e = d.count in omega arith;
+      };
     };
   };
 }
@@ -334,11 +340,14 @@ no_first text room left ts some = record {
     more = punctuator punctuators.Semicolon ∷ [];
     has = record {
       trees = h.tree ∷ [];
-      are = λ other. (punctuator punctuators.Semicolon ∷ other,
+      are = λ other. (
+        punctuator punctuators.Semicolon ∷ other,
         subst (λ (z : List Token). IsLocal text' h.tree z
-        (punctuator punctuators.Semicolon ∷ other))
-        (sym (append_assoc inner (punctuator punctuators.Semicolon ∷ []) other))
-        (h.is (punctuator punctuators.Semicolon ∷ other)), (0, (0, refl)));
+            (punctuator punctuators.Semicolon ∷ other))
+            (sym (append_assoc inner (punctuator punctuators.Semicolon ∷ []) other))
+            (h.is (punctuator punctuators.Semicolon ∷ other)),
+        (0, (0, refl)),
+      );
       within = record {
         expressions = λ k. let e = h.low k in omega arith;
         statements = λ k. let e = h.over k in omega arith;
@@ -349,8 +358,8 @@ no_first text room left ts some = record {
 }
   where
     against : (n : ℕ) (text' : List ℕ) (other : List Token) → Alike text text' ts
-      → SameFirst ts other → NoLocal room n text' other → NoLocals room left n text' other
+        → SameFirst ts other → NoLocal room n text' other → NoLocals room left n text' other
     against n text' other a same none [] end h w = absurd h
     against n text' other a same none (l ∷ ls) end h w = none l h.0 h.1
-      (locals_stop text' ls h.0 end h.2) (λ k. let e = w.expressions k in omega arith)
-      (λ k. let e = w.statements k in omega arith)
+        (locals_stop text' ls h.0 end h.2) (λ k. let e = w.expressions k in omega arith)
+        (λ k. let e = w.statements k in omega arith)

@@ -37,13 +37,18 @@ assigned ts value rest h e s =
 pub has_first : (s : Punctuator) (ts rest other : List Token) → HasPunctuator s ts rest
     → SameFirst ts other → (end : List Token) × HasPunctuator s other end
 has_first s [] rest other h same = absurd cc
-has_first s (t ∷ ts) rest other h same = (same.0,
-    subst (λ (z : List Token). HasPunctuator s z same.0) (sym same.1)
-    (has_elsewhere s t ts same.0 rest h))
+has_first s (t ∷ ts) rest other h same = (
+  same.0,
+  subst (λ (z : List Token). HasPunctuator s z same.0) (sym same.1)
+      (has_elsewhere s t ts same.0 rest h),
+)
 
 unassigned : (room n : ℕ) (text : List ℕ) → Able (HasInitialiser room) n text []
-unassigned room n text = record { more = []; has =
-    record { tree = None; is = λ other. refl; low = λ k. omega arith; over = λ k. omega arith } }
+unassigned room n text = record {
+  more = [];
+  has =
+      record { tree = None; is = λ other. refl; low = λ k. omega arith; over = λ k. omega arith };
+}
 
 pub no_room : (text : List ℕ) (ts value : List Token) → HasPunctuator punctuators.Assign ts value
     → Failed 1 (place text ts) (NoInitialiser 0) (HasInitialiser 0) text ts
@@ -56,27 +61,31 @@ no_room text ts value h = record {
   able = λ text' a k. unassigned 0 6 text';
   further = λ text' k a speaks e. let z : 0 ≡ k = omega arith in
       subst (λ n. Onward (HasInitialiser 0) n text' [] ts) z (record {
-    token = token (kinds.Punctuator punctuators.Assign) h.0 h.1.0;
-    rest = value;
-    more = begins.name ∷ [];
-    is = h.1.1;
-    has = record { tree = Some variable; is = λ other.
-      (_, (h.0, (h.1.0, refl)), record { fits = omega arith; spells = refl });
-      low = λ k. absurd (omega arith); over = λ k. absurd (omega arith) };
-  });
+        token = token (kinds.Punctuator punctuators.Assign) h.0 h.1.0;
+        rest = value;
+        more = begins.name ∷ [];
+        is = h.1.1;
+        has = record {
+          tree = Some variable;
+          is = λ other.
+              (_, (h.0, (h.1.0, refl)), record { fits = omega arith; spells = refl });
+          low = λ k. absurd (omega arith);
+          over = λ k. absurd (omega arith);
+        };
+      });
 }
   where
     against : (text' : List ℕ) (other : List Token) → Alike text text' ts → SameFirst ts other
-      → NoInitialiser 0 1 text' other
+        → NoInitialiser 0 1 text' other
     against text' other a same None end g st low over = let x = has_first punctuators.Assign ts
-      value other h same in assigned other x.0 end x.1 g st
+        value other h same in assigned other x.0 end x.1 g st
     against text' other a same (Some e) end g st low over = let x = over (omega arith) in
-      absurd (omega arith)
+        absurd (omega arith)
 
 pub in_initialiser : (text : List ℕ) (room : ℕ) (ts value : List Token)
     → HasPunctuator punctuators.Assign ts value → 1 ≤ room
     → Wraps (NoExpression assignment 64) (HasExpression assignment 64) (NoInitialiser room)
-      (HasInitialiser room) text value ts
+    (HasInitialiser room) text value ts
 in_initialiser text room ts value h some = record {
   before = m.front;
   split = m.split;
@@ -86,8 +95,11 @@ in_initialiser text room ts value h some = record {
     has = record {
       tree = Some x.tree;
       is = λ other. subst (λ (z : List Token). IsInitialiser text' (Some x.tree) z other)
-        (sym (flat m.front inner [] other)) (inner ++ other, m.again text' (inner ++ other) a,
-        x.derives other);
+          (sym (flat m.front inner [] other)) (
+            inner ++ other,
+            m.again text' (inner ++ other) a,
+            x.derives other,
+          );
       low = x.low;
       over = λ k. some;
     };
@@ -98,28 +110,28 @@ in_initialiser text room ts value h some = record {
     m = has_punctuator punctuators.Assign text ts value h
 
     against : (n : ℕ) (text' : List ℕ) (other : List Token) → Alike text text' ts
-      → SameFirst value other → NoExpression assignment 64 n text' other
-      → NoInitialiser room n text' (m.front ++ other)
+        → SameFirst value other → NoExpression assignment 64 n text' other
+        → NoInitialiser room n text' (m.front ++ other)
     against n text' other a same none None end g st low over = assigned (m.front ++ other) other end
-      (m.again text' other a) g st
+        (m.again text' other a) g st
     against n text' other a same none (Some e) end g st low over =
         let p = has_same punctuators.Assign (m.front ++ other) (m.front ++ other) g.0 other refl g.1
-          (m.again text' other a) in
+        (m.again text' other a) in
         none e end (subst (λ (x : List Token). Derives text' assignment e x end) p g.2) st low
 
 pub operator_after : (text : List ℕ) (room : ℕ) (ts : List Token) → follows ts ≤ assignment
     → Lacks punctuators.Assign ts → Failed 0 (place text ts) (NoInitialiser room)
-      (HasInitialiser room) text ts
+    (HasInitialiser room) text ts
 operator_after text room ts l none = missing (NoInitialiser room) (HasInitialiser room) text ts []
     ts refl against (λ text' a k. unassigned room 6 text')
   where
     against : (text' : List ℕ) (other : List Token) → Alike text text' ts → SameFirst ts other
-      → NoInitialiser room 0 text' other
+        → NoInitialiser room 0 text' other
     against text' other a same None end h st low over =
         let p = first_keeps (λ z. follows ts ≡ follows z) (λ t xs ys n. n) ts other same refl in
         let q = ap follows h in absurd (omega arith)
     against text' other a same (Some e) end h st low over = lacks_first punctuators.Assign ts other
-      same none h.0 h.1
+        same none h.0 h.1
 
 -- ---- one local
 

@@ -44,13 +44,29 @@ record Shape (text : List ℕ) (e : Expression) (ts rest : List Token) : Type 0 
 
 shape : (text : List ℕ) (e : Expression) (ts rest : List Token) → accepts text e ≡ true
     → SpellsExpression text e ts rest → Shape text e ts rest
-shape text (Constant at (literals.Integer value type)) ts rest y
-    s = record { n = 0; high = refl; mid = ts; opening = refl;
-    atom = token (kinds.Integer value type) at s.0; following = rest; is = s.1; yes = y;
-    closing = refl }
-shape text (Variable named) ts rest y s = record { n = 0; high = refl; mid = ts; opening = refl;
-    atom = token kinds.Identifier named.start named.end; following = rest; is = s; yes = y;
-    closing = refl }
+shape text (Constant at (literals.Integer value type)) ts rest y s =
+    record {
+      n = 0;
+      high = refl;
+      mid = ts;
+      opening = refl;
+      atom = token (kinds.Integer value type) at s.0;
+      following = rest;
+      is = s.1;
+      yes = y;
+      closing = refl;
+    }
+shape text (Variable named) ts rest y s = record {
+  n = 0;
+  high = refl;
+  mid = ts;
+  opening = refl;
+  atom = token kinds.Identifier named.start named.end;
+  following = rest;
+  is = s;
+  yes = y;
+  closing = refl;
+}
 shape text (Parentheses at e) ts rest y s =
     let x = shape text e s.after_opening s.after_inner y s.inner in
     let h = x.high in
@@ -82,20 +98,33 @@ pub has_filter : (text : List ℕ) (ts : List Token) (e : Expression) → IsCond
 has_filter text ts e h low y =
     let m = condition e text ts [] h in
     let p : ts ≡ m.front = m.split ∙ append-nil m.front in
-    record { tree = e; is = λ other. subst (λ (z : List Token). IsCondition text e (z ++ other)
-      other) (sym p) (m.again text other (alike_same text ts)); low = λ k. low;
-      count = λ k. let q = ap numbers_of y in omega arith }
+    record {
+      tree = e;
+      is = λ other. subst (λ (z : List Token). IsCondition text e (z ++ other)
+          other) (sym p) (m.again text other (alike_same text ts));
+      low = λ k. low;
+      count = λ k. let q = ap numbers_of y in omega arith;
+    }
 
 from_condition : (text : List ℕ) (ts : List Token) → HasCondition 1 text ts → HasFilter 0 5 text ts
-from_condition text ts c = record { tree = c.tree; is = c.is; low = λ k. c.low (omega arith);
-    count = λ k. absurd (omega arith) }
+from_condition text ts c = record {
+  tree = c.tree;
+  is = c.is;
+  low = λ k. c.low (omega arith);
+  count = λ k. absurd (omega arith);
+}
 
 onward : (text : List ℕ) (before fault rest : List Token) (t : Token) (k : ℕ) → 6 ≡ suc k
     → fault ≡ t ∷ rest → Continued text before t → Onward (HasFilter 0) k text before fault
 onward text before fault rest t k e is c = let z : 5 ≡ k = omega arith in
     subst (λ n. Onward (HasFilter 0) n text before fault) z
-    (record { token = t; rest = rest; more = c.more; is = is;
-    has = from_condition text (before ++ t ∷ c.more) c.has })
+    (record {
+      token = t;
+      rest = rest;
+      more = c.more;
+      is = is;
+      has = from_condition text (before ++ t ∷ c.more) c.has;
+    })
 
 -- ---- without a parenthesis
 
@@ -139,25 +168,28 @@ opening_alone : (n : ℕ) (text : List ℕ) (ts rest : List Token) (h : AreOpeni
 opening_alone n text ts rest h =
     let m = opening_moves n text ts rest h in
     subst (λ (z : List Token). AreOpening n z []) (append-nil m.front)
-      (m.again text [] (alike_same text ts))
+    (m.again text [] (alike_same text ts))
 
 closing_alone : (n : ℕ) (text : List ℕ) (ts rest : List Token) (h : AreClosing n ts rest)
     → AreClosing n (closing_moves n text ts rest h).front []
 closing_alone n text ts rest h =
     let m = closing_moves n text ts rest h in
     subst (λ (z : List Token). AreClosing n z []) (append-nil m.front)
-      (m.again text [] (alike_same text ts))
+    (m.again text [] (alike_same text ts))
 
 able_inside : (n : ℕ) (text : List ℕ) (before : List Token) → 1 ≤ n → n ≤ 65
     → AreOpening n before [] → Able (HasFilter 0) 6 text before
 able_inside zero text before l k h = absurd (omega arith)
 able_inside (suc n) text before l k h =
     let x = enclosed n text (Constant 0 (literals.Integer 1 integers.Int))
-      (before ++ one ∷ closing (suc n)) (one ∷ closing (suc n)) (closing (suc n)) []
-      (opening_again (suc n) before (one ∷ closing (suc n)) h) (0, refl) (closing_all (suc n)) in
+    (before ++ one ∷ closing (suc n)) (one ∷ closing (suc n)) (closing (suc n)) []
+    (opening_again (suc n) before (one ∷ closing (suc n)) h) (0, refl) (closing_all (suc n)) in
     let q = x.high in
-    record { more = one ∷ closing (suc n); has = has_filter text (before ++ one ∷ closing (suc n))
-      x.tree x.is (omega arith) (x.same text) }
+    record {
+      more = one ∷ closing (suc n);
+      has = has_filter text (before ++ one ∷ closing (suc n))
+          x.tree x.is (omega arith) (x.same text);
+    }
 
 -- the next token doesn't accept
 abbrev Refuses : List ℕ → List Token → Type 0
@@ -171,7 +203,7 @@ refuses_first text text' (u ∷ us) other a same no_one t rest e y =
     let q : u ∷ same.0 ≡ t ∷ rest = sym same.1 ∙ e in
     let p : t ≡ u = cc in
     no_one u us refl (accepts_alike text text' u a.0
-      ∙ ap (λ (z : Token). accepts_alone text' z) (sym p) ∙ y)
+    ∙ ap (λ (z : Token). accepts_alone text' z) (sym p) ∙ y)
 
 none_accepts : (n : ℕ) (text : List ℕ) (ts rest : List Token) → n ≤ 65 → AreOpening n ts rest
     → (n < 65 → Lacks punctuators.OpenParenthesis rest) → Refuses text rest → NoFilter 0 6 text ts
@@ -197,11 +229,11 @@ continues_inside n text ts rest l k h lacks no_one g =
       split = m.split;
       located = refl;
       against = λ text' other a same. none_accepts n text' (m.front ++ other) other k
-        (m.again text' other a) (λ d. lacks_first punctuators.OpenParenthesis rest other same
-        (lacks d)) (refuses_first text text' rest other (alike_after text' m a) same no_one);
+          (m.again text' other a) (λ d. lacks_first punctuators.OpenParenthesis rest other same
+          (lacks d)) (refuses_first text text' rest other (alike_after text' m a) same no_one);
       able = λ text' a s. able_inside n text' m.front l k o;
       further = λ text' j a s e. onward text' m.front rest g.rest g.first j e g.split
-        (g.holds text' m.front s o);
+          (g.holds text' m.front s o);
     }
 
 pub departs_inside : (n : ℕ) (text : List ℕ) (ts rest : List Token) → 1 ≤ n → n ≤ 65
@@ -227,14 +259,17 @@ able_after (suc n) c text t before middle l k h y g =
     let more = closing (suc n - c) in
     let v = middle ++ more in
     let z = closing_both c (suc n - c) (suc n) v more [] (omega arith)
-      (closing_again c middle more g) (closing_all (suc n - c)) in
+    (closing_again c middle more g) (closing_all (suc n - c)) in
     let x = enclosed n text e.tree (before ++ t ∷ v) (t ∷ v) v []
-      (opening_again (suc n) before (t ∷ v) h) (e.spells v) z in
+    (opening_again (suc n) before (t ∷ v) h) (e.spells v) z in
     let q = x.high in
     let w = e.low in
-    record { more = more; has = subst (λ (u : List Token). HasFilter 0 6 text u)
-      (sym (append_assoc before (t ∷ middle) more))
-      (has_filter text (before ++ t ∷ v) x.tree x.is (omega arith) (x.same text ∙ e.yes)) }
+    record {
+      more = more;
+      has = subst (λ (u : List Token). HasFilter 0 6 text u)
+          (sym (append_assoc before (t ∷ middle) more))
+          (has_filter text (before ++ t ∷ v) x.tree x.is (omega arith) (x.same text ∙ e.yes));
+    }
 
 none_closes : (n c : ℕ) (text : List ℕ) (t : Token) (ts mid following rest : List Token) → c < n
     → n ≤ 65 → AreOpening n ts mid → mid ≡ t ∷ following → accepts_alone text t ≡ true
@@ -271,12 +306,12 @@ parts n c text t ts mid following rest h is good g =
       before = i.front;
       middle = u.front;
       split = i.split ∙ ap (λ (z : List Token). i.front ++ z)
-        (is ∙ ap (λ (z : List Token). t ∷ z) u.split)
-        ∙ sym (append_assoc i.front (t ∷ u.front) rest);
+          (is ∙ ap (λ (z : List Token). t ∷ z) u.split)
+          ∙ sym (append_assoc i.front (t ∷ u.front) rest);
       opening = opening_alone n text ts mid h;
       closing = closing_alone c text following rest g;
       accepts = λ text' a. sym (accepts_alike text text' t
-        (subst (λ (z : List Token). Alike text text' z) is (alike_after text' i a)).0) ∙ good;
+          (subst (λ (z : List Token). Alike text text' z) is (alike_after text' i a)).0) ∙ good;
     }
 
 against_after : (n c : ℕ) (text : List ℕ) (t : Token) (before middle other : List Token) → c < n
@@ -285,8 +320,8 @@ against_after : (n c : ℕ) (text : List ℕ) (t : Token) (before middle other :
 against_after n c text t before middle other l k o good u lacks =
     let v = t ∷ (middle ++ other) in
     subst (λ (z : List Token). NoFilter 0 6 text z) (sym (append_assoc before (t ∷ middle) other))
-      (none_closes n c text t (before ++ v) v (middle ++ other) other l k
-      (opening_again n before v o) refl good (closing_again c middle other u) lacks)
+    (none_closes n c text t (before ++ v) v (middle ++ other) other l k
+    (opening_again n before v o) refl good (closing_again c middle other u) lacks)
 
 pub failed_after : (n c : ℕ) (text : List ℕ) (t : Token) (ts mid following rest : List Token)
     → c < n → n ≤ 65 → AreOpening n ts mid → mid ≡ t ∷ following → accepts_alone text t ≡ true
@@ -300,12 +335,12 @@ failed_after n c text t ts mid following rest l k h is good g lacks f =
       split = x.split;
       located = refl;
       against = λ text' other a same. against_after n c text' t x.before x.middle other l k
-        x.opening (x.accepts text' a) x.closing
-        (lacks_first punctuators.CloseParenthesis rest other same lacks);
+          x.opening (x.accepts text' a) x.closing
+          (lacks_first punctuators.CloseParenthesis rest other same lacks);
       able = λ text' a s. able_after n c text' t x.before x.middle l k x.opening (x.accepts text' a)
-        x.closing;
+          x.closing;
       further = λ text' j a s e. onward text' (x.before ++ t ∷ x.middle) rest f.rest f.first j e
-        f.split (f.holds text' x.before x.middle x.opening (x.accepts text' a) x.closing);
+          f.split (f.holds text' x.before x.middle x.opening (x.accepts text' a) x.closing);
     }
 
 pub departs_after : (n c : ℕ) (text : List ℕ) (t : Token) (ts mid following rest : List Token)
@@ -317,9 +352,9 @@ departs_after n c text t ts mid following rest l k h is good g f =
       front = x.before ++ t ∷ x.middle;
       split = x.split;
       able = λ text' a s. able_after n c text' t x.before x.middle l k x.opening (x.accepts text' a)
-        x.closing;
+          x.closing;
       none = λ text' other a same. f text' x.before x.middle other x.opening (x.accepts text' a)
-        x.closing same;
+          x.closing same;
     }
 
 -- as many closing ones: such a filter is there
@@ -330,8 +365,8 @@ whole zero text t ts mid following rest l k h is good g none = absurd (omega ari
 whole (suc n) text t ts mid following rest l k h is good g none =
     let e = atom text t good in
     let x = enclosed n text e.tree ts mid following rest h
-      (subst (λ (z : List Token). SpellsExpression text e.tree z following) (sym is)
-      (e.spells following)) g in
+    (subst (λ (z : List Token). SpellsExpression text e.tree z following) (sym is)
+    (e.spells following)) g in
     let q = x.high in
     let w = e.low in
     let y = ap numbers_of (x.same text ∙ e.yes) in

@@ -38,7 +38,7 @@ same_after before ts ts' other e same = subst (λ (z : List Token). SameFirst z 
 
 pub unopened : (text : List ℕ) (ts : List Token)
     → Wraps (NoPunctuator punctuators.OpenParenthesis) (APunctuator punctuators.OpenParenthesis)
-      NoCondition HasCondition text ts ts
+    NoCondition HasCondition text ts ts
 unopened text ts = record {
   before = [];
   split = refl;
@@ -88,7 +88,7 @@ in_condition text ts a o =
                 after_opening = inner ++ punctuator punctuators.CloseParenthesis ∷ other;
                 after_inner = punctuator punctuators.CloseParenthesis ∷ other;
                 opening = m.again text' (inner ++ punctuator punctuators.CloseParenthesis ∷ other)
-                  k;
+                    k;
                 inner = h.derives (punctuator punctuators.CloseParenthesis ∷ other);
                 closing = (0, (0, refl));
               });
@@ -112,16 +112,16 @@ unclosed_at text e ts a b n o d s none f end h low =
 pub unclosed : (text : List ℕ) (e : Expression) (ts a b : List Token)
     → HasPunctuator punctuators.OpenParenthesis ts a → Derives text comma e a b → Stops comma b
     → height e ≤ 64 → Wraps (NoPunctuator punctuators.CloseParenthesis)
-      (APunctuator punctuators.CloseParenthesis) NoCondition HasCondition text b ts
+    (APunctuator punctuators.CloseParenthesis) NoCondition HasCondition text b ts
 unclosed text e ts a b o d s low =
     let m = both (has_punctuator punctuators.OpenParenthesis text ts a o)
-      (derives comma e text a b d) in
+    (derives comma e text a b d) in
     record {
       before = m.front;
       split = m.split;
       no = λ n text' other k same none. let g = m.again text' other k in
-        unclosed_at text' e (m.front ++ other) g.0 other n g.1 g.2
-        (stops_first comma b other same s) none;
+          unclosed_at text' e (m.front ++ other) g.0 other n g.1 g.2
+          (stops_first comma b other same s) none;
       has = λ n text' inner k speaks h. record {
         more = [];
         has = record {
@@ -146,7 +146,7 @@ unclosed text e ts a b o d s low =
 pub no_expression : (text : List ℕ) (s : Punctuator) (room : ℕ) (ts : List Token)
     → comma < punctuator_follows s → Lacks s ts → 1 ≤ room
     → Wraps (NoExpression comma 64) (HasExpression comma 64) (NoneUpTo s room) (HasUpTo s room) text
-      ts ts
+    ts ts
 no_expression text s room ts l lacks some = record {
   before = [];
   split = refl;
@@ -155,10 +155,13 @@ no_expression text s room ts l lacks some = record {
     more = punctuator s ∷ [];
     has = record {
       tree = Some h.tree;
-      is = λ other. (punctuator s ∷ other, subst
-        (λ (z : List Token). Derives text' comma h.tree z (punctuator s ∷ other))
-        (sym (append_assoc inner (punctuator s ∷ []) other)) (h.derives (punctuator s ∷ other)),
-        (0, (0, refl)));
+      is = λ other. (
+        punctuator s ∷ other,
+        subst
+            (λ (z : List Token). Derives text' comma h.tree z (punctuator s ∷ other))
+            (sym (append_assoc inner (punctuator s ∷ []) other)) (h.derives (punctuator s ∷ other)),
+        (0, (0, refl)),
+      );
       low = h.low;
       over = λ k. some;
     };
@@ -166,11 +169,11 @@ no_expression text s room ts l lacks some = record {
 }
   where
     against : (n : ℕ) (text' : List ℕ) (other : List Token) → Alike text text' ts
-      → SameFirst ts other → NoExpression comma 64 n text' other → NoneUpTo s room n text' other
+        → SameFirst ts other → NoExpression comma 64 n text' other → NoneUpTo s room n text' other
     against n text' other a same nothing None end h low over = lacks_first s ts other same lacks end
-      (subst (λ (x : List Token). HasPunctuator s x end) (sym h.1) h.2)
+        (subst (λ (x : List Token). HasPunctuator s x end) (sym h.1) h.2)
     against n text' other a same nothing (Some e) end h low over = nothing e h.0 h.1
-      (has_stops s h.0 end comma h.2 l) low
+        (has_stops s h.0 end comma h.2 l) low
 
 unended_at : (text : List ℕ) (s : Punctuator) (room : ℕ) (e : Expression) (ts b : List Token)
     (n : ℕ) → comma < punctuator_follows s → Lacks s ts → Derives text comma e ts b → Stops comma b
@@ -184,22 +187,26 @@ unended_at text s room e ts b n l none d st lacks (Some f) end h low over =
 pub unended : (text : List ℕ) (s : Punctuator) (room : ℕ) (e : Expression) (ts b : List Token)
     → comma < punctuator_follows s → Lacks s ts → Derives text comma e ts b → Stops comma b
     → height e ≤ 64 → 1 ≤ room → Wraps (NoPunctuator s) (APunctuator s) (NoneUpTo s room)
-      (HasUpTo s room) text b ts
+    (HasUpTo s room) text b ts
 unended text s room e ts b l lacks d st low some =
     let m = derives comma e text ts b d in
     record {
       before = m.front;
       split = m.split;
       no = λ n text' other k same none. unended_at text' s room e (m.front ++ other) other n l
-        (lacks_first s ts (m.front ++ other) (same_after m.front b ts other m.split same) lacks)
-        (m.again text' other k) (stops_first comma b other same st) none;
+          (lacks_first s ts (m.front ++ other) (same_after m.front b ts other m.split same) lacks)
+          (m.again text' other k) (stops_first comma b other same st) none;
       has = λ n text' inner k speaks h. record {
         more = [];
         has = record {
           tree = Some e;
-          is = λ other. (inner ++ other, subst
-            (λ (z : List Token). Derives text' comma e z (inner ++ other))
-            (sym (flat m.front inner [] other)) (m.again text' (inner ++ other) k), h other);
+          is = λ other. (
+            inner ++ other,
+            subst
+                (λ (z : List Token). Derives text' comma e z (inner ++ other))
+                (sym (flat m.front inner [] other)) (m.again text' (inner ++ other) k),
+            h other,
+          );
           low = λ k. low;
           over = λ k. some;
         };

@@ -32,7 +32,7 @@ in_filter text funclets ts some = record {
     has = record {
       tree = h.tree;
       is = λ other. subst (λ (z : List Token). IsCondition text' h.tree z other)
-        (sym (append_assoc inner [] other)) (h.is other);
+          (sym (append_assoc inner [] other)) (h.is other);
       low = h.low;
       count = λ k. let x = numbers_low (accepts text' h.tree) in omega arith;
     };
@@ -47,7 +47,7 @@ pub no_other : (text : List ℕ) (e : Expression) (ts rest : List Token) → IsC
 no_other text e ts rest is no_one f end h low n =
     let u = condition text e f ts ts rest end refl is h in
     let a : numbers_of (accepts text f) ≡ 1 = ap (λ (x : Expression). numbers_of (accepts text x))
-      (sym u.0) ∙ ap numbers_of no_one in
+    (sym u.0) ∙ ap numbers_of no_one in
     let b = n (omega arith) in
     absurd (omega arith)
 
@@ -56,7 +56,7 @@ failed_none : (kind at : ℕ) (text : List ℕ) (ts : List Token)
     → Failed kind at NoCondition HasCondition text ts → NoFilter 0 6 text ts
 failed_none kind at text ts d f end h low count =
     d.against text d.fault (alike_same text ts) (first_same d.fault) f end
-      (subst (λ (z : List Token). IsCondition text f z end) d.split h) (λ k. low (omega arith))
+    (subst (λ (z : List Token). IsCondition text f z end) d.split h) (λ k. low (omega arith))
 
 pub placed_none : (e : ParseErr) (text : List ℕ) (ts : List Token) → (e ≡ Memory → ⊥)
     → IsPlacedRefusal e NoCondition HasCondition text ts → NoFilter 0 6 text ts
@@ -108,24 +108,24 @@ stay_able kind at text ts rest f d text' a s (later z zs p q) =
     let x = d.able text' a s in
     let other = z ∷ (zs ++ x.more) in
     let e : d.front ++ x.more ++ [] ≡ f.front
-      ++ (z ∷ (zs ++ x.more) ++ []) = ap (λ (w : List Token). w ++ x.more ++ []) p
-      ∙ ap (λ (w : List Token). w ++ []) (append_assoc f.front (z ∷ zs) x.more)
-      ∙ append_assoc f.front other [] in
+    ++ (z ∷ (zs ++ x.more) ++ []) = ap (λ (w : List Token). w ++ x.more ++ []) p
+    ∙ ap (λ (w : List Token). w ++ []) (append_assoc f.front (z ∷ zs) x.more)
+    ∙ append_assoc f.front other [] in
     absurd (f.against text' (other ++ []) a (subst (λ (w : List Token). SameFirst w (other ++ []))
-      (sym q) (_, refl)) x.has.tree [] (subst
-      (λ (w : List Token). IsCondition text' x.has.tree w []) e (x.has.is []))
-      (λ k. x.has.low (omega arith)))
+    (sym q) (_, refl)) x.has.tree [] (subst
+    (λ (w : List Token). IsCondition text' x.has.tree w []) e (x.has.is []))
+    (λ k. x.has.low (omega arith)))
 stay_able kind at text ts rest f d text' a s (sooner z zs p q) =
     let x = f.able text' a s in
     let other = z ∷ (zs ++ x.more) in
     let e : f.front ++ x.more ++ [] ≡ d.front
-      ++ (z ∷ (zs ++ x.more) ++ []) = ap (λ (w : List Token). w ++ x.more ++ []) p
-      ∙ ap (λ (w : List Token). w ++ []) (append_assoc d.front (z ∷ zs) x.more)
-      ∙ append_assoc d.front other [] in
+    ++ (z ∷ (zs ++ x.more) ++ []) = ap (λ (w : List Token). w ++ x.more ++ []) p
+    ∙ ap (λ (w : List Token). w ++ []) (append_assoc d.front (z ∷ zs) x.more)
+    ∙ append_assoc d.front other [] in
     absurd (d.none text' (other ++ []) a (subst (λ (w : List Token). SameFirst w (other ++ []))
-      (sym q) (_, refl)) x.has.tree [] (subst
-      (λ (w : List Token). IsCondition text' x.has.tree w []) e (x.has.is []))
-      (λ k. x.has.low (omega arith)))
+    (sym q) (_, refl)) x.has.tree [] (subst
+    (λ (w : List Token). IsCondition text' x.has.tree w []) e (x.has.is []))
+    (λ k. x.has.low (omega arith)))
 
 stays : (kind at : ℕ) (text : List ℕ) (ts rest : List Token) → kind ≤ 6 → Departs text ts rest
     → Failed kind at NoCondition HasCondition text ts
@@ -140,9 +140,18 @@ stays kind at text ts rest l d f = record {
       (cut f.front d.front f.fault rest (sym f.split ∙ d.split));
   further = λ text' k a s e.
       let x = f.further text' k a s e in
-      record { token = x.token; rest = x.rest; more = x.more; is = x.is;
-        has = record { tree = x.has.tree; is = x.has.is; low = x.has.low;
-        count = λ j. absurd (omega arith) } };
+      record {
+        token = x.token;
+        rest = x.rest;
+        more = x.more;
+        is = x.is;
+        has = record {
+          tree = x.has.tree;
+          is = x.has.is;
+          low = x.has.low;
+          count = λ j. absurd (omega arith);
+        };
+      };
 }
 
 number_low : (what : Count) → order (Number what) ≤ 6

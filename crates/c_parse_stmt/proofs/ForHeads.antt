@@ -28,27 +28,31 @@ use Rattle.c_parse_stmt.proofs.Heading.{Key, Sig, UpTo, key_moves, semicolon, Em
 
 pub for_open : (room at : ℕ) (left : Left) (text : List ℕ) (ts a : List Token) → 1 ≤ room
     → IsKeyword keywords.For at ts a → Wraps (NoPunctuator punctuators.OpenParenthesis)
-      (APunctuator punctuators.OpenParenthesis) (NoStatement room left) (HasStatement room left)
-      text a ts
+    (APunctuator punctuators.OpenParenthesis) (NoStatement room left) (HasStatement room left)
+    text a ts
 for_open room at left text ts a o k =
     key_wraps keywords.For at room left (NoPunctuator punctuators.OpenParenthesis)
-      (APunctuator punctuators.OpenParenthesis) text ts a k
-      (λ n text' other none. no_for_open n text' room at left other none)
+    (APunctuator punctuators.OpenParenthesis) text ts a k
+    (λ n text' other none. no_for_open n text' room at left other none)
     (λ n text' inner end has. record {
       more = for1;
       has = record {
         tree = For at (Evaluating None) None None (Evaluate None);
         is = λ other.
             let y = both_fixed (Sig punctuators.OpenParenthesis) For1 text' inner for1 has
-              (is_for1 text') other in let x = y.second in
+            (is_for1 text') other in let x = y.second in
             for_item text' at (Evaluating None) None None (Evaluate None)
-              (token (kinds.Keyword keywords.For) at end ∷ (inner ++ for1) ++ other)
-              ((inner ++ for1) ++ other) y.mid x.mid x.second.mid x.second.second.mid other
-              (end, refl) y.first x.first x.second.first x.second.second.first refl
-              x.second.second.second;
+            (token (kinds.Keyword keywords.For) at end ∷ (inner ++ for1) ++ other)
+            ((inner ++ for1) ++ other) y.mid x.mid x.second.mid x.second.second.mid other
+            (end, refl) y.first x.first x.second.first x.second.second.first refl
+            x.second.second.second;
         statement = refl;
-        within = record { statements = λ i. omega arith; expressions = λ i. omega arith;
-          locals = λ i. omega arith; funclets = λ i. omega arith };
+        within = record {
+          statements = λ i. omega arith;
+          expressions = λ i. omega arith;
+          locals = λ i. omega arith;
+          funclets = λ i. omega arith;
+        };
       };
     })
 
@@ -89,28 +93,32 @@ for_condition_moves at f c text ts a b d g k o h u = both_moves (ForFirst at f)
 pub for_initialiser : (room at : ℕ) (left : Left) (text : List ℕ) (ts a b : List Token) → 1 ≤ room
     → IsKeyword keywords.For at ts a → HasPunctuator punctuators.OpenParenthesis a b
     → Wraps (NoForInitialiser left.locals) (HasForInitialiser left.locals) (NoStatement room left)
-      (HasStatement room left) text b ts
+    (HasStatement room left) text b ts
 for_initialiser room at left text ts a b o k s =
     wraps (ForOpen at) (NoForInitialiser left.locals) (HasForInitialiser left.locals)
-      (NoStatement room left) (HasStatement room left) text ts b (for_open_moves at text ts a b k s)
+    (NoStatement room left) (HasStatement room left) text ts b (for_open_moves at text ts a b k s)
     (λ n text' all other h e r none. no_for_initialiser n text' room at left r.mid other r.second
-      none all r.first)
+    none all r.first)
     (λ n text' front inner h r has. record {
       more = for2;
       has = record {
         tree = For at has.tree None None (Evaluate None);
         is = λ other.
             let w = both_fixed (ForFirst at has.tree) For2 text' (front ++ inner) for2
-              (both_fixed (ForOpen at) (λ t. IsForInitialiser t has.tree) text' front inner r
-              has.is) (is_for2 text') other in
+            (both_fixed (ForOpen at) (λ t. IsForInitialiser t has.tree) text' front inner r
+            has.is) (is_for2 text') other in
             let x = w.first in let y = w.second in
             for_item text' at has.tree None None (Evaluate None)
-              (((front ++ inner) ++ for2) ++ other) x.first.mid x.mid w.mid y.mid y.second.mid other
-              x.first.first x.first.second x.second y.first y.second.first refl y.second.second;
+            (((front ++ inner) ++ for2) ++ other) x.first.mid x.mid w.mid y.mid y.second.mid other
+            x.first.first x.first.second x.second y.first y.second.first refl y.second.second;
         statement = refl;
-        within = record { statements = λ i. omega arith; expressions = λ i. let b = has.low i in
-          omega arith; locals = λ i. let b = has.count i in omega arith;
-          funclets = λ i. omega arith };
+        within = record {
+          statements = λ i. omega arith;
+          expressions = λ i. let b = has.low i in
+              omega arith;
+          locals = λ i. let b = has.count i in omega arith;
+          funclets = λ i. omega arith;
+        };
       };
     })
 
@@ -127,28 +135,33 @@ pub for_condition : (room at : ℕ) (left mid : Left) (f : ForInitialiser) (text
     → height_of_for_initialiser f ≤ 64 → mid.locals + locals_of_for_initialiser f ≡ left.locals
     → mid.funclets ≡ left.funclets →
     Wraps (NoneUpTo punctuators.Semicolon 1) (HasUpTo punctuators.Semicolon 1)
-      (NoStatement room left) (HasStatement room left) text d ts
+    (NoStatement room left) (HasStatement room left) text d ts
 for_condition room at left mid f text ts a b d o k s u low l m =
     wraps (ForFirst at f) (NoneUpTo punctuators.Semicolon 1) (HasUpTo punctuators.Semicolon 1)
-      (NoStatement room left) (HasStatement room left) text ts d
-      (for_first_moves at f text ts a b d k s u)
+    (NoStatement room left) (HasStatement room left) text ts d
+    (for_first_moves at f text ts a b d k s u)
     (λ n text' all other h e r none. no_for_condition n text' room at left mid f r.first.mid r.mid
-      other (started at text' left mid f all other r low l m) none all r.first.first)
+    other (started at text' left mid f all other r low l m) none all r.first.first)
     (λ n text' front inner h r has. record {
       more = for3;
       has = record {
         tree = For at f has.tree None (Evaluate None);
         is = λ other.
             let w = both_fixed (ForCondition at f has.tree) For3 text' (front ++ inner) for3
-              (both_fixed (ForFirst at f) (UpTo punctuators.Semicolon has.tree) text' front inner r
-              has.is) (is_for3 text') other in
+            (both_fixed (ForFirst at f) (UpTo punctuators.Semicolon has.tree) text' front inner r
+            has.is) (is_for3 text') other in
             let x = w.first in let y = w.second in
             for_item text' at f has.tree None (Evaluate None) (((front ++ inner) ++ for3) ++ other)
-              x.first.first.mid x.first.mid x.mid w.mid y.mid other x.first.first.first
-              x.first.first.second x.first.second x.second y.first refl y.second;
+            x.first.first.mid x.first.mid x.mid w.mid y.mid other x.first.first.first
+            x.first.first.second x.first.second x.second y.first refl y.second;
         statement = refl;
-        within = record { statements = λ i. omega arith; expressions = λ i. let b = has.low i in
-          omega arith; locals = λ i. omega arith; funclets = λ i. omega arith };
+        within = record {
+          statements = λ i. omega arith;
+          expressions = λ i. let b = has.low i in
+              omega arith;
+          locals = λ i. omega arith;
+          funclets = λ i. omega arith;
+        };
       };
     })
 
@@ -158,30 +171,35 @@ pub for_next : (room at : ℕ) (left mid : Left) (f : ForInitialiser) (c : Optio
     → height_of_for_initialiser f ≤ 64 → mid.locals + locals_of_for_initialiser f ≡ left.locals
     → mid.funclets ≡ left.funclets → IsUpTo text punctuators.Semicolon c d g → height_of c ≤ 64 →
     Wraps (NoneUpTo punctuators.CloseParenthesis 1) (HasUpTo punctuators.CloseParenthesis 1)
-      (NoStatement room left) (HasStatement room left) text g ts
+    (NoStatement room left) (HasStatement room left) text g ts
 for_next room at left mid f c text ts a b d g o k s u low l m v low' =
     wraps (ForCondition at f c) (NoneUpTo punctuators.CloseParenthesis 1)
-      (HasUpTo punctuators.CloseParenthesis 1) (NoStatement room left) (HasStatement room left) text
-      ts g (for_condition_moves at f c text ts a b d g k s u v)
+    (HasUpTo punctuators.CloseParenthesis 1) (NoStatement room left) (HasStatement room left) text
+    ts g (for_condition_moves at f c text ts a b d g k s u v)
     (λ n text' all other h e r none. no_for_next n text' room at left mid f c r.first.first.mid
-      r.first.mid r.mid other (started at text' left mid f all r.mid r.first low l m) r.second none
-      all r.first.first.first)
+    r.first.mid r.mid other (started at text' left mid f all r.mid r.first low l m) r.second none
+    all r.first.first.first)
     (λ n text' front inner h r has. record {
       more = semicolon;
       has = record {
         tree = For at f c has.tree (Evaluate None);
         is = λ other.
             let w = both_fixed (ForHead at f c has.tree) Empties text' (front ++ inner) semicolon
-              (both_fixed (ForCondition at f c) (UpTo punctuators.CloseParenthesis has.tree) text'
-              front inner r has.is) (is_empty text') other in
+            (both_fixed (ForCondition at f c) (UpTo punctuators.CloseParenthesis has.tree) text'
+            front inner r has.is) (is_empty text') other in
             let x = w.first in
             for_item text' at f c has.tree (Evaluate None)
-              (((front ++ inner) ++ semicolon) ++ other) x.first.first.first.mid x.first.first.mid
-              x.first.mid x.mid w.mid other x.first.first.first.first x.first.first.first.second
-              x.first.first.second x.first.second x.second refl w.second;
+            (((front ++ inner) ++ semicolon) ++ other) x.first.first.first.mid x.first.first.mid
+            x.first.mid x.mid w.mid other x.first.first.first.first x.first.first.first.second
+            x.first.first.second x.first.second x.second refl w.second;
         statement = refl;
-        within = record { statements = λ i. omega arith; expressions = λ i. let b = has.low i in
-          omega arith; locals = λ i. omega arith; funclets = λ i. omega arith };
+        within = record {
+          statements = λ i. omega arith;
+          expressions = λ i. let b = has.low i in
+              omega arith;
+          locals = λ i. omega arith;
+          funclets = λ i. omega arith;
+        };
       };
     })
 
@@ -189,28 +207,35 @@ for_next room at left mid f c text ts a b d g o k s u low l m v low' =
 
 pub evaluation : (room : ℕ) (left : Left) (text : List ℕ) (ts : List Token)
     → Wraps (NoneUpTo punctuators.Semicolon room) (HasUpTo punctuators.Semicolon room)
-      (NoEvaluation room left) (HasEvaluation room left) text ts ts
+    (NoEvaluation room left) (HasEvaluation room left) text ts ts
 evaluation room left text ts = record {
   before = [];
   split = refl;
   no = λ n text' other h e none. no_evaluation n text' room left other none;
   has = λ n text' inner h k has. able_now (HasEvaluation room left) n text' inner
-      (record { tree = has.tree; is = has.is;
-      within = record { statements = has.over; expressions = has.low; locals = λ i. omega arith;
-      funclets = λ i. omega arith } });
+      (record {
+        tree = has.tree;
+        is = has.is;
+        within = record {
+          statements = has.over;
+          expressions = has.low;
+          locals = λ i. omega arith;
+          funclets = λ i. omega arith;
+        };
+      });
 }
 
 evaluation_wraps : (room : ℕ) (left : Left) (text : List ℕ) (ts : List Token)
     → Lacks punctuators.OpenBrace ts → ((k : Keyword) (rest : List Token) → HasKeyword k ts rest
     → Plain k) → Wraps (NoEvaluation room left) (HasEvaluation room left) (NoStatement room left)
-      (HasStatement room left) text ts ts
+    (HasStatement room left) text ts ts
 evaluation_wraps room left text ts o p = record {
   before = [];
   split = refl;
   no = λ n text' other h e none.
       only_evaluations n text' room left other (no_punctuator punctuators.OpenBrace ts other e o)
       (λ k rest i. let q = first_kind (kinds.Keyword k) i.0 other ts rest (first_back ts other e)
-        i.1 in p k q.0 (i.0, q.1)) none;
+      i.1 in p k q.0 (i.0, q.1)) none;
   has = λ n text' inner h k has. able_now (HasStatement room left) n text' inner
       (record { tree = Evaluate has.tree; is = has.is; statement = refl; within = has.within });
 }
@@ -218,17 +243,17 @@ evaluation_wraps room left text ts o p = record {
 -- no statement but one of an expression begins with the keyword
 pub evaluation_after : (room at : ℕ) (left : Left) (k : Keyword) (text : List ℕ) (ts a : List Token)
     → IsKeyword k at ts a → Plain k → Wraps (NoEvaluation room left) (HasEvaluation room left)
-      (NoStatement room left) (HasStatement room left) text ts ts
+    (NoStatement room left) (HasStatement room left) text ts ts
 evaluation_after room at left k text ts a is p =
     evaluation_wraps room left text ts
     (λ rest h. let q = kind_same (kinds.Punctuator punctuators.OpenBrace) (kinds.Keyword k) h.0 at
-      ts ts rest a refl h.1 is in let e : kinds.Punctuator punctuators.OpenBrace
-      ≡ kinds.Keyword k = q.0 in cc)
+    ts ts rest a refl h.1 is in let e : kinds.Punctuator punctuators.OpenBrace
+    ≡ kinds.Keyword k = q.0 in cc)
     (λ j rest h. subst Plain (sym (keyword_same j k ts ts rest a refl h (at, is)).0) p)
 
 pub evaluation_alone : (room : ℕ) (left : Left) (text : List ℕ) (ts : List Token)
     → Lacks punctuators.OpenBrace ts → ((k : Keyword) (rest : List Token) → HasKeyword k ts rest
     → ⊥) → Wraps (NoEvaluation room left) (HasEvaluation room left) (NoStatement room left)
-      (HasStatement room left) text ts ts
+    (HasStatement room left) text ts ts
 evaluation_alone room left text ts o none = evaluation_wraps room left text ts o
     (λ k rest h. absurd (none k rest h))

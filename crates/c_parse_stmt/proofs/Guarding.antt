@@ -55,14 +55,14 @@ guard_able zero left n text body front h w r = record {
   has = record {
     tree = TryFinally body 0 Empty;
     is = λ other. finished body Empty 0 text ((front ++ finally) ++ other) other
-      (both_fixed (Guard body) (Finally 0 Empty) text front finally r (is_finally text 0 0) other);
+        (both_fixed (Guard body) (Finally 0 Empty) text front finally r (is_finally text 0 0) other);
     statement = refl;
     within = record {
       statements = λ i. let a = w.statements i in omega arith;
       expressions = λ i. let a = w.expressions i in omega arith;
       locals = λ i. let a = w.locals i in omega arith;
       funclets = λ i. let b = bare text body (w.statements (omega arith)) in
-        omega (arith, length-append {A = ℕ});
+          omega (arith, length-append {A = ℕ});
     };
   };
 }
@@ -71,8 +71,8 @@ guard_able (suc room) left n text body front h w r = record {
   has = record {
     tree = TryExcept body 0 unit Empty;
     is = λ other. excepted body Empty 0 unit text ((front ++ except) ++ other) other
-      (both_fixed (Guard body) (Except 0 unit Empty) text front except r (is_except text 0 0)
-      other);
+        (both_fixed (Guard body) (Except 0 unit Empty) text front except r (is_except text 0 0)
+        other);
     statement = refl;
     within = record {
       statements = λ i. let a = w.statements i in omega arith;
@@ -92,32 +92,36 @@ no_open room left n text ts none ss end h w = none h.after_brace h.brace
 pub try_open : (room at : ℕ) (left : Left) (text : List ℕ) (ts a : List Token)
     → 1 ≤ room + left.funclets → IsKeyword keywords.Try at ts a
     → Wraps (NoPunctuator punctuators.OpenBrace) (APunctuator punctuators.OpenBrace)
-      (NoStatement room left) (HasStatement room left) text a ts
+    (NoStatement room left) (HasStatement room left) text a ts
 try_open room at left text ts a o k =
     key_wraps keywords.Try at room left (NoPunctuator punctuators.OpenBrace)
-      (APunctuator punctuators.OpenBrace) text ts a k
-      (λ n text' other none. no_try_body n text' room at left other
-      (no_open room left n text' other none))
+    (APunctuator punctuators.OpenBrace) text ts a k
+    (λ n text' other none. no_try_body n text' room at left other
+    (no_open room left n text' other none))
     (λ n text' inner end has.
     let front = token (kinds.Keyword keywords.Try) at end ∷ inner in
     able_more (HasStatement room left) n text' front brace
     (guard_able room left n text' Empty (front ++ brace) o
-      (record { statements = λ i. omega arith; expressions = λ i. omega arith;
-      locals = λ i. omega arith; funclets = λ i. omega arith })
+    (record {
+      statements = λ i. omega arith;
+      expressions = λ i. omega arith;
+      locals = λ i. omega arith;
+      funclets = λ i. omega arith;
+    })
     (both_fixed Tries (Items Empty) text' front brace
-      (λ other. (inner ++ other, (at, (end, refl)), has other)) (is_brace text'))))
+    (λ other. (inner ++ other, (at, (end, refl)), has other)) (is_brace text'))))
 
 pub try_body : (room : ℕ) (left : Left) (text : List ℕ) (ts rest : List Token)
     → 1 ≤ room + left.funclets → IsTry ts rest
     → Wraps (NoBlockItems room left) (HasBlockItems room left) (NoStatement room left)
-      (HasStatement room left) text rest ts
+    (HasStatement room left) text rest ts
 try_body room left text ts rest o t =
     wraps Tries (NoBlockItems room left) (HasBlockItems room left) (NoStatement room left)
-      (HasStatement room left) text ts rest (try_moves text ts rest t)
+    (HasStatement room left) text ts rest (try_moves text ts rest t)
     (λ n text' all other h e r none. no_try_body n text' room r.1.0 left r.0
-      (no_braced n text' room left r.0 other r.2 none) all r.1.1)
+    (no_braced n text' room left r.0 other r.2 none) all r.1.1)
     (λ n text' front inner h r has. guard_able room left n text' has.trees (front ++ inner) o
-      has.within (both_fixed Tries (Items has.trees) text' front inner r has.are))
+    has.within (both_fixed Tries (Items has.trees) text' front inner r has.are))
 
 -- ---- after the first block
 
@@ -134,17 +138,25 @@ pub taken_moved : (room : ℕ) (whole left : Left) (body : Statements) (text tex
 taken_moved room whole left body text text' ts rest h g =
     let m = try_moves text ts g.mid g.is in
     let e = ap (λ (x : List ℕ). length x) (same_funclets body text text' g.mid rest g.are
-      (alike_inner text text' m.front g.mid ts m.split h)) in
+    (alike_inner text text' m.front g.mid ts m.split h)) in
     let t = g.taken in let f = t.funclets in
-    record { statements = t.statements; expressions = t.expressions; locals = t.locals;
-      funclets = omega arith }
+    record {
+      statements = t.statements;
+      expressions = t.expressions;
+      locals = t.locals;
+      funclets = omega arith;
+    }
 
 pub all_within : (n room : ℕ) (whole left : Left) (body : Statements) (text : List ℕ)
     → AllTaken text room whole left body → AllWithin n text room whole body
 all_within n room whole left body text t =
     let l = t.locals in let f = t.funclets in
-    record { statements = λ i. t.statements; expressions = λ i. t.expressions;
-      locals = λ i. omega arith; funclets = λ i. omega arith }
+    record {
+      statements = λ i. t.statements;
+      expressions = λ i. t.expressions;
+      locals = λ i. omega arith;
+      funclets = λ i. omega arith;
+    }
 
 pub braced : (body : Statements) (text : List ℕ) (ts rest : List Token)
     (r : Guard body text ts rest) → IsBraced text body r.first.0 rest
@@ -164,25 +176,25 @@ pub unguarded_fails : (room : ℕ) (whole left : Left) (body : Statements) (text
     Failed 0 (place text rest) (NoStatement room whole) (HasStatement room whole) text ts
 unguarded_fails room whole left body text ts rest g x y =
     failed (Guard body) 0 (NoStatement room whole) (HasStatement room whole) text ts rest
-      (guard_moves room whole left body text ts rest g)
+    (guard_moves room whole left body text ts rest g)
     (λ text' all other h e r. unguarded 0 text' room r.first.1.0 whole body r.first.0 other
-      (braced body text' all other r) (no_keyword keywords.Except rest other e x)
-      (no_keyword keywords.Finally rest other e y) all r.first.1.1)
+    (braced body text' all other r) (no_keyword keywords.Except rest other e x)
+    (no_keyword keywords.Finally rest other e y) all r.first.1.1)
     (λ text' front h r. guard_stays 6 room whole left body text text' ts rest front h g r)
     (λ text' k front h r e. absurd (omega arith))
 
 pub except_too_deep : (room at : ℕ) (whole left : Left) (body : Statements) (text : List ℕ)
     (ts rest j : List Token) → room ≡ 0 → Guards text room whole left body ts rest
     → IsKeyword keywords.Except at rest j → Failed 1 at (NoStatement room whole)
-      (HasStatement room whole) text ts
+    (HasStatement room whole) text ts
 except_too_deep room at whole left body text ts rest j z g key =
     subst (λ (x : ℕ). Failed 1 x (NoStatement room whole) (HasStatement room whole) text ts)
-      (sym (kind_place (kinds.Keyword keywords.Except) at text rest j key))
+    (sym (kind_place (kinds.Keyword keywords.Except) at text rest j key))
     (failed (Guard body) 1 (NoStatement room whole) (HasStatement room whole) text ts rest
-      (guard_moves room whole left body text ts rest g)
+    (guard_moves room whole left body text ts rest g)
     (λ text' all other h e r. let q = first_kind (kinds.Keyword keywords.Except) at rest other j e
-      key in no_except_room 1 text' room r.first.1.0 at whole body r.first.0 other q.0 (omega arith)
-      z (braced body text' all other r) q.1 all r.first.1.1)
+    key in no_except_room 1 text' room r.first.1.0 at whole body r.first.0 other q.0 (omega arith)
+    z (braced body text' all other r) q.1 all r.first.1.1)
     (λ text' front h r. guard_stays 6 room whole left body text text' ts rest front h g r)
     (λ text' k front h r e. record {
       token = token (kinds.Keyword keywords.Except) at key.0;
@@ -192,32 +204,36 @@ except_too_deep room at whole left body text ts rest j z g key =
       has = record {
         tree = TryExcept body at unit Empty;
         is = λ other. excepted body Empty at unit text'
-          ((front ++ token (kinds.Keyword keywords.Except) at key.0 ∷ unit_braces) ++ other) other
-          (both_fixed (Guard body) (Except at unit Empty) text' front
-          (token (kinds.Keyword keywords.Except) at key.0 ∷ unit_braces) r
-          (is_except text' at key.0) other);
+            ((front ++ token (kinds.Keyword keywords.Except) at key.0 ∷ unit_braces) ++ other) other
+            (both_fixed (Guard body) (Except at unit Empty) text' front
+            (token (kinds.Keyword keywords.Except) at key.0 ∷ unit_braces) r
+            (is_except text' at key.0) other);
         statement = refl;
-        within = record { statements = λ i. omega arith; expressions = λ i. omega arith;
-          locals = λ i. omega arith; funclets = λ i. omega arith };
+        within = record {
+          statements = λ i. omega arith;
+          expressions = λ i. omega arith;
+          locals = λ i. omega arith;
+          funclets = λ i. omega arith;
+        };
       };
     }))
 
 pub finally_too_many : (room at : ℕ) (whole left : Left) (body : Statements) (text : List ℕ)
     (ts rest j : List Token) → left.funclets ≡ 0 → Guards text room whole left body ts rest
     → IsKeyword keywords.Finally at rest j → Failed 6 at (NoStatement room whole)
-      (HasStatement room whole) text ts
+    (HasStatement room whole) text ts
 finally_too_many room at whole left body text ts rest j z g key =
     subst (λ (x : ℕ). Failed 6 x (NoStatement room whole) (HasStatement room whole) text ts)
-      (sym (kind_place (kinds.Keyword keywords.Finally) at text rest j key))
+    (sym (kind_place (kinds.Keyword keywords.Finally) at text rest j key))
     (failed (Guard body) 6 (NoStatement room whole) (HasStatement room whole) text ts rest
-      (guard_moves room whole left body text ts rest g)
+    (guard_moves room whole left body text ts rest g)
     (λ text' all other h e r. let q = first_kind (kinds.Keyword keywords.Finally) at rest other j e
-      key in no_finally_left 6 text' room r.first.1.0 at whole left body r.first.0 other q.0
-      (braced body text' all other r) (taken_moved room whole left body text text' ts rest h g) q.1
-      (omega arith) z all r.first.1.1)
+    key in no_finally_left 6 text' room r.first.1.0 at whole left body r.first.0 other q.0
+    (braced body text' all other r) (taken_moved room whole left body text text' ts rest h g) q.1
+    (omega arith) z all r.first.1.1)
     (λ text' front h r. guard_stays 6 room whole left body text text' ts rest front h g r)
     (λ text' k front h r e. let w = all_within k room whole left body text'
-      (taken_moved room whole left body text text' ts rest h g) in
+    (taken_moved room whole left body text text' ts rest h g) in
     record {
       token = token (kinds.Keyword keywords.Finally) at key.0;
       rest = j;
@@ -226,14 +242,17 @@ finally_too_many room at whole left body text ts rest j z g key =
       has = record {
         tree = TryFinally body at Empty;
         is = λ other. finished body Empty at text'
-          ((front ++ token (kinds.Keyword keywords.Finally) at key.0 ∷ braces) ++ other) other
-          (both_fixed (Guard body) (Finally at Empty) text' front
-          (token (kinds.Keyword keywords.Finally) at key.0 ∷ braces) r (is_finally text' at key.0)
-          other);
+            ((front ++ token (kinds.Keyword keywords.Finally) at key.0 ∷ braces) ++ other) other
+            (both_fixed (Guard body) (Finally at Empty) text' front
+            (token (kinds.Keyword keywords.Finally) at key.0 ∷ braces) r (is_finally text' at key.0)
+            other);
         statement = refl;
-        within = record { statements = λ i. let a = w.statements i in omega arith;
+        within = record {
+          statements = λ i. let a = w.statements i in omega arith;
           expressions = λ i. let a = w.expressions i in omega arith;
-          locals = λ i. let a = w.locals i in omega arith; funclets = λ i. omega arith };
+          locals = λ i. let a = w.locals i in omega arith;
+          funclets = λ i. omega arith;
+        };
       };
     }))
 
@@ -290,14 +309,14 @@ filtered body at f last text ts rest c w end o i = excepted body last at f text 
 pub filter_fails : (room at : ℕ) (whole left : Left) (body : Statements) (text : List ℕ)
     (ts rest j : List Token) → 1 ≤ room → Guards text room whole left body ts rest
     → IsKeyword keywords.Except at rest j → Wraps (NoFilter left.funclets) (HasFilter left.funclets)
-      (NoStatement room whole) (HasStatement room whole) text j ts
+    (NoStatement room whole) (HasStatement room whole) text j ts
 filter_fails room at whole left body text ts rest j o g k =
     wraps (Excepting body at) (NoFilter left.funclets) (HasFilter left.funclets)
-      (NoStatement room whole) (HasStatement room whole) text ts j
-      (excepting_moves room at whole left body text ts rest j g k)
+    (NoStatement room whole) (HasStatement room whole) text ts j
+    (excepting_moves room at whole left body text ts rest j g k)
     (λ n text' all other h e r none. no_filter n text' room r.first.first.1.0 at whole left body
-      r.first.first.0 r.mid other (braced body text' all r.mid r.first)
-      (taken_moved room whole left body text text' ts rest h g) r.second none all r.first.first.1.1)
+    r.first.first.0 r.mid other (braced body text' all r.mid r.first)
+    (taken_moved room whole left body text text' ts rest h g) r.second none all r.first.first.1.1)
     (λ n text' front inner h r has. record {
       more = braces;
       has =
@@ -307,8 +326,8 @@ filter_fails room at whole left body text ts rest j o g k =
             tree = TryExcept body at has.tree Empty;
             is = λ other.
                 let x = both_fixed (Filtering body at has.tree) Braces text' (front ++ inner) braces
-                  (both_fixed (Excepting body at) (Condition has.tree) text' front inner r has.is)
-                  (is_braces text') other in
+                (both_fixed (Excepting body at) (Condition has.tree) text' front inner r has.is)
+                (is_braces text') other in
                 filtered body at has.tree Empty text'
                 (((front ++ inner) ++ braces) ++ other) x.mid x.second.after_brace x.first other
                 x.second.brace x.second.items;
@@ -318,8 +337,8 @@ filter_fails room at whole left body text ts rest j o g k =
               expressions = λ i. let a = w.expressions i in let b = has.low i in omega arith;
               locals = λ i. let a = w.locals i in omega arith;
               funclets = λ i. let a = t.funclets in let b = has.count i in
-                let c = number_length (accepts text' has.tree) at in
-                omega (arith, length-append {A = ℕ});
+                  let c = number_length (accepts text' has.tree) at in
+                  omega (arith, length-append {A = ℕ});
             };
           };
     })
@@ -329,18 +348,18 @@ pub except_open : (room at : ℕ) (whole left next : Left) (body : Statements) (
     → IsKeyword keywords.Except at rest j → IsCondition text f j c → height f ≤ 64
     → next.funclets + numbers_of (accepts text f) ≡ left.funclets → next.locals ≡ left.locals →
     Wraps (NoPunctuator punctuators.OpenBrace) (APunctuator punctuators.OpenBrace)
-      (NoStatement room whole) (HasStatement room whole) text c ts
+    (NoStatement room whole) (HasStatement room whole) text c ts
 except_open room at whole left next body f text ts rest j c o g k is low fu lo =
     wraps (Filtering body at f) (NoPunctuator punctuators.OpenBrace)
-      (APunctuator punctuators.OpenBrace) (NoStatement room whole) (HasStatement room whole) text ts
-      c (filtering_moves room at whole left body f text ts rest j c g k is)
+    (APunctuator punctuators.OpenBrace) (NoStatement room whole) (HasStatement room whole) text ts
+    c (filtering_moves room at whole left body f text ts rest j c g k is)
     (λ n text' all other h e r none.
     let x = r.first.first in
     no_handler n text' room x.first.1.0 at whole left next body f x.first.0 r.first.mid r.mid other
-      (braced body text' all r.first.mid x) (taken_moved room whole left body text text' ts rest h
-      g) r.first.second r.second
+    (braced body text' all r.first.mid x) (taken_moved room whole left body text text' ts rest h
+    g) r.first.second r.second
     (filter_moved room at whole left next body f text text' ts rest j c h g k is fu) lo
-      (no_open room next n text' other none) all x.first.1.1)
+    (no_open room next n text' other none) all x.first.1.1)
     (λ n text' front inner h r has. record {
       more = brace;
       has =
@@ -351,18 +370,18 @@ except_open room at whole left next body f text ts rest j c o g k is low fu lo =
             tree = TryExcept body at f Empty;
             is = λ other.
                 let x = both_fixed (Both (Filtering body at f) (Sig punctuators.OpenBrace))
-                  (Items Empty) text' (front ++ inner) brace
-                  (both_fixed (Filtering body at f) (Sig punctuators.OpenBrace) text' front inner r
-                  has) (is_brace text') other in
+                (Items Empty) text' (front ++ inner) brace
+                (both_fixed (Filtering body at f) (Sig punctuators.OpenBrace) text' front inner r
+                has) (is_brace text') other in
                 filtered body at f Empty text' (((front ++ inner) ++ brace) ++ other) x.first.mid
-                  x.mid x.first.first other x.first.second x.second;
+                x.mid x.first.first other x.first.second x.second;
             statement = refl;
             within = record {
               statements = λ i. let a = w.statements i in omega arith;
               expressions = λ i. let a = w.expressions i in omega arith;
               locals = λ i. let a = w.locals i in omega arith;
               funclets = λ i. let a = t.funclets in let d = number_length (accepts text' f) at in
-                omega (arith, length-append {A = ℕ});
+                  omega (arith, length-append {A = ℕ});
             };
           };
     })
@@ -387,17 +406,17 @@ pub finally_open : (room at : ℕ) (whole left next : Left) (body : Statements) 
     → IsKeyword keywords.Finally at rest j → next.funclets + 1 ≡ left.funclets
     → next.locals ≡ left.locals →
     Wraps (NoPunctuator punctuators.OpenBrace) (APunctuator punctuators.OpenBrace)
-      (NoStatement room whole) (HasStatement room whole) text j ts
+    (NoStatement room whole) (HasStatement room whole) text j ts
 finally_open room at whole left next body text ts rest j g k fu lo =
     wraps (Finishing body at) (NoPunctuator punctuators.OpenBrace)
-      (APunctuator punctuators.OpenBrace) (NoStatement room whole) (HasStatement room whole) text ts
-      j (both_moves (Guard body) (Key keywords.Finally at) text ts rest j
-      (guard_moves room whole left body text ts rest g)
-      (key_moves keywords.Finally at text rest j k))
+    (APunctuator punctuators.OpenBrace) (NoStatement room whole) (HasStatement room whole) text ts
+    j (both_moves (Guard body) (Key keywords.Finally at) text ts rest j
+    (guard_moves room whole left body text ts rest g)
+    (key_moves keywords.Finally at text rest j k))
     (λ n text' all other h e r none. no_last n text' room r.first.first.1.0 at whole left next body
-      r.first.first.0 r.mid other (braced body text' all r.mid r.first)
-      (taken_moved room whole left body text text' ts rest h g) r.second fu lo
-      (no_open room next n text' other none) all r.first.first.1.1)
+    r.first.first.0 r.mid other (braced body text' all r.mid r.first)
+    (taken_moved room whole left body text text' ts rest h g) r.second fu lo
+    (no_open room next n text' other none) all r.first.first.1.1)
     (λ n text' front inner h r has. record {
       more = brace;
       has =
@@ -407,11 +426,11 @@ finally_open room at whole left next body text ts rest j g k fu lo =
             tree = TryFinally body at Empty;
             is = λ other.
                 let x = both_fixed (Both (Finishing body at) (Sig punctuators.OpenBrace))
-                  (Items Empty) text' (front ++ inner) brace
-                  (both_fixed (Finishing body at) (Sig punctuators.OpenBrace) text' front inner r
-                  has) (is_brace text') other in
+                (Items Empty) text' (front ++ inner) brace
+                (both_fixed (Finishing body at) (Sig punctuators.OpenBrace) text' front inner r
+                has) (is_brace text') other in
                 finished_so body at Empty text' (((front ++ inner) ++ brace) ++ other) x.first.mid
-                  x.mid x.first.first other x.first.second x.second;
+                x.mid x.first.first other x.first.second x.second;
             statement = refl;
             within = record {
               statements = λ i. let a = w.statements i in omega arith;

@@ -37,8 +37,7 @@ Condition e text = IsCondition text e
 abbrev pub UpTo : Punctuator → Option Expression → List ℕ → List Token → List Token → Type 0
 UpTo s e text = IsUpTo text s e
 
-abbrev pub key_moves : (k : Keyword) (at : ℕ) (text : List ℕ) (ts rest : List Token)
-    → IsKeyword k at ts rest → Moves (Key k at) text ts rest
+abbrev pub key_moves : (k : Keyword) (at : ℕ) (text : List ℕ) (ts rest : List Token) → IsKeyword k at ts rest → Moves (Key k at) text ts rest
 key_moves k at text ts rest h = kind (kinds.Keyword k) at text ts rest h
 
 -- ---- the least statement
@@ -51,17 +50,26 @@ abbrev pub Empties : List ℕ → List Token → List Token → Type 0
 Empties text = IsBlockItem text (Evaluate None)
 
 pub is_empty : (text : List ℕ) → Fixed Empties text semicolon
-is_empty text other = (punctuator punctuators.Semicolon ∷ other, refl,
-    a_punctuator punctuators.Semicolon other)
+is_empty text other = (
+  punctuator punctuators.Semicolon ∷ other,
+  refl,
+  a_punctuator punctuators.Semicolon other,
+)
 
-pub least : (room : ℕ) (left : Left) (n : ℕ) (text : List ℕ)
-    → HasStatement room left n text semicolon
-least room left n text = record { tree = Evaluate None; is = is_empty text; statement = refl;
-    within = record { statements = λ i. omega arith; expressions = λ i. omega arith;
-    locals = λ i. omega arith; funclets = λ i. omega arith } }
+pub least : (room : ℕ) (left : Left) (n : ℕ) (text : List ℕ) → HasStatement room left n text semicolon
+least room left n text = record {
+  tree = Evaluate None;
+  is = is_empty text;
+  statement = refl;
+  within = record {
+    statements = λ i. omega arith;
+    expressions = λ i. omega arith;
+    locals = λ i. omega arith;
+    funclets = λ i. omega arith;
+  };
+}
 
-pub any_able : (room : ℕ) (left : Left) (n : ℕ) (text : List ℕ)
-    → Able (HasStatement room left) n text []
+pub any_able : (room : ℕ) (left : Left) (n : ℕ) (text : List ℕ) → Able (HasStatement room left) n text []
 any_able room left n text = record { more = semicolon; has = least room left n text }
 
 -- ---- `(1)`
@@ -88,13 +96,10 @@ is_unit text other = record {
 -- ---- at the keyword itself
 
 -- a limit excludes what the keyword begins
-pub at_keyword : (k : Keyword) (at kind room : ℕ) (left : Left) (text : List ℕ) (ts a : List Token)
-    → IsKeyword k at ts a →
-    ((text' : List ℕ) → (all more : List Token) → IsKeyword k at all more
-      → NoStatement room left kind text' all) →
-    ((text' : List ℕ) (n end : ℕ) → kind ≡ suc n
-      → (more : List Token) × HasStatement room left n text'
-        (token (kinds.Keyword k) at end ∷ more)) →
+pub at_keyword : (k : Keyword) (at kind room : ℕ) (left : Left) (text : List ℕ) (ts a : List Token) → IsKeyword k at ts a →
+    ((text' : List ℕ) → (all more : List Token) → IsKeyword k at all more → NoStatement room left kind text' all) →
+    ((text' : List ℕ) (n end : ℕ) → kind ≡ suc n → (more : List Token) × HasStatement room left n text'
+    (token (kinds.Keyword k) at end ∷ more)) →
     Failed kind at (NoStatement room left) (HasStatement room left) text ts
 at_keyword k at kind room left text ts a key excludes go = record {
   front = [];
@@ -105,16 +110,20 @@ at_keyword k at kind room left text ts a key excludes go = record {
       excludes text' other q.0 q.1;
   able = λ text' h s. any_able room left 6 text';
   further = λ text' n h s e. let m = go text' n key.0 e in
-      record { token = token (kinds.Keyword k) at key.0; rest = a; more = m.0; is = key.1;
-      has = m.1 };
+      record {
+        token = token (kinds.Keyword k) at key.0;
+        rest = a;
+        more = m.0;
+        is = key.1;
+        has = m.1;
+      };
 }
 
-pub if_too_deep : (room at : ℕ) (left : Left) (text : List ℕ) (ts a : List Token) → room ≡ 0
-    → IsKeyword keywords.If at ts a → Failed 1 at (NoStatement room left) (HasStatement room left)
-      text ts
+pub if_too_deep : (room at : ℕ) (left : Left) (text : List ℕ) (ts a : List Token) → room ≡ 0 → IsKeyword keywords.If at ts a → Failed 1 at (NoStatement room left) (HasStatement room left)
+    text ts
 if_too_deep room at left text ts a z k =
     at_keyword keywords.If at 1 room left text ts a k
-      (λ text' all more key. no_if_room 1 text' room at left more (omega arith) z all key)
+    (λ text' all more key. no_if_room 1 text' room at left more (omega arith) z all key)
     (λ text' n end e. (
       in_parentheses ++ semicolon,
       record {
@@ -127,17 +136,20 @@ if_too_deep room at left text ts a z k =
           body = record { no_declaration = refl; item = is_empty text' other };
         };
         statement = refl;
-        within = record { statements = λ i. omega arith; expressions = λ i. omega arith;
-          locals = λ i. omega arith; funclets = λ i. omega arith };
+        within = record {
+          statements = λ i. omega arith;
+          expressions = λ i. omega arith;
+          locals = λ i. omega arith;
+          funclets = λ i. omega arith;
+        };
       },
     ))
 
-pub while_too_deep : (room at : ℕ) (left : Left) (text : List ℕ) (ts a : List Token) → room ≡ 0
-    → IsKeyword keywords.While at ts a → Failed 1 at (NoStatement room left)
-      (HasStatement room left) text ts
+pub while_too_deep : (room at : ℕ) (left : Left) (text : List ℕ) (ts a : List Token) → room ≡ 0 → IsKeyword keywords.While at ts a → Failed 1 at (NoStatement room left)
+    (HasStatement room left) text ts
 while_too_deep room at left text ts a z k =
     at_keyword keywords.While at 1 room left text ts a k
-      (λ text' all more key. no_while_room 1 text' room at left more (omega arith) z all key)
+    (λ text' all more key. no_while_room 1 text' room at left more (omega arith) z all key)
     (λ text' n end e. (
       in_parentheses ++ semicolon,
       record {
@@ -150,8 +162,12 @@ while_too_deep room at left text ts a z k =
           body = record { no_declaration = refl; item = is_empty text' other };
         };
         statement = refl;
-        within = record { statements = λ i. omega arith; expressions = λ i. omega arith;
-          locals = λ i. omega arith; funclets = λ i. omega arith };
+        within = record {
+          statements = λ i. omega arith;
+          expressions = λ i. omega arith;
+          locals = λ i. omega arith;
+          funclets = λ i. omega arith;
+        };
       },
     ))
 
@@ -161,10 +177,10 @@ while_end = word keywords.While ∷ in_parentheses ++ semicolon
 
 pub do_too_deep : (room at : ℕ) (left : Left) (text : List ℕ) (ts a : List Token) → room ≡ 0
     → IsKeyword keywords.Do at ts a → Failed 1 at (NoStatement room left) (HasStatement room left)
-      text ts
+    text ts
 do_too_deep room at left text ts a z k =
     at_keyword keywords.Do at 1 room left text ts a k
-      (λ text' all more key. no_do_room 1 text' room at left more (omega arith) z all key)
+    (λ text' all more key. no_do_room 1 text' room at left more (omega arith) z all key)
     (λ text' n end e. (
       semicolon ++ while_end,
       record {
@@ -181,17 +197,19 @@ do_too_deep room at left text ts a z k =
           semicolon = a_punctuator punctuators.Semicolon other;
         };
         statement = refl;
-        within = record { statements = λ i. omega arith; expressions = λ i. omega arith;
-          locals = λ i. omega arith; funclets = λ i. omega arith };
+        within = record {
+          statements = λ i. omega arith;
+          expressions = λ i. omega arith;
+          locals = λ i. omega arith;
+          funclets = λ i. omega arith;
+        };
       },
     ))
 
 pub for_item : (text : List ℕ) (at : ℕ) (f : ForInitialiser) (c n : Option Expression)
-    (s : Statement) (ts a b d g i rest : List Token) → IsKeyword keywords.For at ts a
-    → HasPunctuator punctuators.OpenParenthesis a b → IsForInitialiser text f b d
+    (s : Statement) (ts a b d g i rest : List Token) → IsKeyword keywords.For at ts a → HasPunctuator punctuators.OpenParenthesis a b → IsForInitialiser text f b d
     → IsUpTo text punctuators.Semicolon c d g → IsUpTo text punctuators.CloseParenthesis n g i
-    → IsFalse (is_declaration s) → IsBlockItem text s i rest
-    → IsBlockItem text (For at f c n s) ts rest
+    → IsFalse (is_declaration s) → IsBlockItem text s i rest → IsBlockItem text (For at f c n s) ts rest
 for_item text at f c n s ts a b d g i rest k o h u v z t = record {
   after_head = i;
   head = record {
@@ -231,39 +249,49 @@ abbrev pub for1 : List Token
 for1 = punctuator punctuators.Semicolon ∷ for2
 
 pub is_for3 : (text : List ℕ) → Fixed For3 text for3
-is_for3 text other = record { mid = semicolon ++ other;
-    first = (for3 ++ other, refl, a_punctuator punctuators.CloseParenthesis (semicolon ++ other));
-    second = is_empty text other }
+is_for3 text other = record {
+  mid = semicolon ++ other;
+  first = (for3 ++ other, refl, a_punctuator punctuators.CloseParenthesis (semicolon ++ other));
+  second = is_empty text other;
+}
 
 pub is_for2 : (text : List ℕ) → Fixed For2 text for2
-is_for2 text other = record { mid = for3 ++ other;
-    first = (for2 ++ other, refl, a_punctuator punctuators.Semicolon (for3 ++ other));
-    second = is_for3 text other }
+is_for2 text other = record {
+  mid = for3 ++ other;
+  first = (for2 ++ other, refl, a_punctuator punctuators.Semicolon (for3 ++ other));
+  second = is_for3 text other;
+}
 
 pub is_for1 : (text : List ℕ) → Fixed For1 text for1
-is_for1 text other = record { mid = for2 ++ other;
-    first = (for1 ++ other, refl, a_punctuator punctuators.Semicolon (for2 ++ other));
-    second = is_for2 text other }
+is_for1 text other = record {
+  mid = for2 ++ other;
+  first = (for1 ++ other, refl, a_punctuator punctuators.Semicolon (for2 ++ other));
+  second = is_for2 text other;
+}
 
 pub for_too_deep : (room at : ℕ) (left : Left) (text : List ℕ) (ts a : List Token) → room ≡ 0
     → IsKeyword keywords.For at ts a → Failed 1 at (NoStatement room left) (HasStatement room left)
-      text ts
+    text ts
 for_too_deep room at left text ts a z k =
     at_keyword keywords.For at 1 room left text ts a k
-      (λ text' all more key. no_for_room 1 text' room at left more (omega arith) z all key)
+    (λ text' all more key. no_for_room 1 text' room at left more (omega arith) z all key)
     (λ text' n end e. (
       punctuator punctuators.OpenParenthesis ∷ for1,
       record {
         tree = For at (Evaluating None) None None (Evaluate None);
         is = λ other. let x = is_for1 text' other in
-          for_item text' at (Evaluating None) None None (Evaluate None) _
-          (punctuator punctuators.OpenParenthesis ∷ for1 ++ other) (for1 ++ other) x.mid
-          x.second.mid x.second.second.mid other (end, refl)
-          (a_punctuator punctuators.OpenParenthesis (for1 ++ other)) x.first x.second.first
-          x.second.second.first refl x.second.second.second;
+            for_item text' at (Evaluating None) None None (Evaluate None) _
+            (punctuator punctuators.OpenParenthesis ∷ for1 ++ other) (for1 ++ other) x.mid
+            x.second.mid x.second.second.mid other (end, refl)
+            (a_punctuator punctuators.OpenParenthesis (for1 ++ other)) x.first x.second.first
+            x.second.second.first refl x.second.second.second;
         statement = refl;
-        within = record { statements = λ i. omega arith; expressions = λ i. omega arith;
-          locals = λ i. omega arith; funclets = λ i. omega arith };
+        within = record {
+          statements = λ i. omega arith;
+          expressions = λ i. omega arith;
+          locals = λ i. omega arith;
+          funclets = λ i. omega arith;
+        };
       },
     ))
 
@@ -276,11 +304,10 @@ abbrev pub finally : List Token
 finally = word keywords.Finally ∷ braces
 
 pub try_too_many : (room at : ℕ) (left : Left) (text : List ℕ) (ts a : List Token) → room ≡ 0
-    → left.funclets ≡ 0 → IsKeyword keywords.Try at ts a
-    → Failed 6 at (NoStatement room left) (HasStatement room left) text ts
+    → left.funclets ≡ 0 → IsKeyword keywords.Try at ts a → Failed 6 at (NoStatement room left) (HasStatement room left) text ts
 try_too_many room at left text ts a z y k =
     at_keyword keywords.Try at 6 room left text ts a k
-      (λ text' all more key. no_try 6 text' room at left more (omega arith) z y all key)
+    (λ text' all more key. no_try 6 text' room at left more (omega arith) z y all key)
     (λ text' n end e. (
       braces ++ finally,
       record {
@@ -305,8 +332,12 @@ try_too_many room at left text ts a z y k =
           };
         };
         statement = refl;
-        within = record { statements = λ i. omega arith; expressions = λ i. omega arith;
-          locals = λ i. omega arith; funclets = λ i. omega arith };
+        within = record {
+          statements = λ i. omega arith;
+          expressions = λ i. omega arith;
+          locals = λ i. omega arith;
+          funclets = λ i. omega arith;
+        };
       },
     ))
 
@@ -314,10 +345,8 @@ try_too_many room at left text ts a z y k =
 
 pub key_wraps : (k : Keyword) (at room : ℕ) (left : Left) (No Has : Family) (text : List ℕ)
     (ts a : List Token) → IsKeyword k at ts a →
-    ((n : ℕ) (text' : List ℕ) (other : List Token) → No n text' other
-      → AfterKeyword k at other (NoStatement room left n text')) →
-    ((n : ℕ) (text' : List ℕ) (inner : List Token) (end : ℕ) → Has n text' inner
-      → Able (HasStatement room left) n text' (token (kinds.Keyword k) at end ∷ inner)) →
+    ((n : ℕ) (text' : List ℕ) (other : List Token) → No n text' other → AfterKeyword k at other (NoStatement room left n text')) →
+    ((n : ℕ) (text' : List ℕ) (inner : List Token) (end : ℕ) → Has n text' inner → Able (HasStatement room left) n text' (token (kinds.Keyword k) at end ∷ inner)) →
     Wraps No Has (NoStatement room left) (HasStatement room left) text a ts
 key_wraps k at room left No Has text ts a key f g = record {
   before = token (kinds.Keyword k) at key.0 ∷ [];
@@ -329,10 +358,10 @@ key_wraps k at room left No Has text ts a key f g = record {
 
 pub while_condition : (room at : ℕ) (left : Left) (text : List ℕ) (ts a : List Token) → 1 ≤ room
     → IsKeyword keywords.While at ts a → Wraps NoCondition HasCondition (NoStatement room left)
-      (HasStatement room left) text a ts
+    (HasStatement room left) text a ts
 while_condition room at left text ts a o k =
     key_wraps keywords.While at room left NoCondition HasCondition text ts a k
-      (λ n text' other none. no_while_condition n text' room at left other none)
+    (λ n text' other none. no_while_condition n text' room at left other none)
     (λ n text' inner end has. record {
       more = semicolon;
       has = record {
@@ -348,17 +377,21 @@ while_condition room at left text ts a o k =
               body = record { no_declaration = refl; item = x.second };
             };
         statement = refl;
-        within = record { statements = λ i. omega arith; expressions = λ i. let b = has.low i in
-          omega arith; locals = λ i. omega arith; funclets = λ i. omega arith };
+        within = record {
+          statements = λ i. omega arith;
+          expressions = λ i. let b = has.low i in
+              omega arith;
+          locals = λ i. omega arith;
+          funclets = λ i. omega arith;
+        };
       };
     })
 
-pub if_condition : (room at : ℕ) (left : Left) (text : List ℕ) (ts a : List Token) → 1 ≤ room
-    → IsKeyword keywords.If at ts a → Wraps NoCondition HasCondition (NoStatement room left)
-      (HasStatement room left) text a ts
+pub if_condition : (room at : ℕ) (left : Left) (text : List ℕ) (ts a : List Token) → 1 ≤ room → IsKeyword keywords.If at ts a → Wraps NoCondition HasCondition (NoStatement room left)
+    (HasStatement room left) text a ts
 if_condition room at left text ts a o k =
     key_wraps keywords.If at room left NoCondition HasCondition text ts a k
-      (λ n text' other none. no_if_condition n text' room at left other none)
+    (λ n text' other none. no_if_condition n text' room at left other none)
     (λ n text' inner end has. record {
       more = semicolon;
       has = record {
@@ -374,72 +407,89 @@ if_condition room at left text ts a o k =
               body = record { no_declaration = refl; item = x.second };
             };
         statement = refl;
-        within = record { statements = λ i. omega arith; expressions = λ i. let b = has.low i in
-          omega arith; locals = λ i. omega arith; funclets = λ i. omega arith };
+        within = record {
+          statements = λ i. omega arith;
+          expressions = λ i. let b = has.low i in
+              omega arith;
+          locals = λ i. omega arith;
+          funclets = λ i. omega arith;
+        };
       };
     })
 
-pub return_value : (room at : ℕ) (left : Left) (text : List ℕ) (ts a : List Token)
-    → IsKeyword keywords.Return at ts a → Wraps (NoneUpTo punctuators.Semicolon room)
-      (HasUpTo punctuators.Semicolon room) (NoStatement room left) (HasStatement room left) text a
-      ts
+pub return_value : (room at : ℕ) (left : Left) (text : List ℕ) (ts a : List Token) → IsKeyword keywords.Return at ts a → Wraps (NoneUpTo punctuators.Semicolon room)
+    (HasUpTo punctuators.Semicolon room) (NoStatement room left) (HasStatement room left) text a
+    ts
 return_value room at left text ts a k =
     key_wraps keywords.Return at room left (NoneUpTo punctuators.Semicolon room)
-      (HasUpTo punctuators.Semicolon room) text ts a k
-      (λ n text' other none. no_return n text' room at left other none)
+    (HasUpTo punctuators.Semicolon room) text ts a k
+    (λ n text' other none. no_return n text' room at left other none)
     (λ n text' inner end has. able_now (HasStatement room left) n text'
-      (token (kinds.Keyword keywords.Return) at end ∷ inner) (record {
+    (token (kinds.Keyword keywords.Return) at end ∷ inner) (record {
       tree = Return at has.tree;
       is = λ other. (inner ++ other, (end, refl), has.is other);
       statement = refl;
-      within = record { statements = has.over; expressions = has.low; locals = λ i. omega arith;
-        funclets = λ i. omega arith };
+      within = record {
+        statements = has.over;
+        expressions = has.low;
+        locals = λ i. omega arith;
+        funclets = λ i. omega arith;
+      };
     }))
 
-pub break_end : (room at : ℕ) (left : Left) (text : List ℕ) (ts a : List Token)
-    → IsKeyword keywords.Break at ts a → Wraps (NoPunctuator punctuators.Semicolon)
-      (APunctuator punctuators.Semicolon) (NoStatement room left) (HasStatement room left) text a ts
+pub break_end : (room at : ℕ) (left : Left) (text : List ℕ) (ts a : List Token) → IsKeyword keywords.Break at ts a → Wraps (NoPunctuator punctuators.Semicolon)
+    (APunctuator punctuators.Semicolon) (NoStatement room left) (HasStatement room left) text a ts
 break_end room at left text ts a k =
     key_wraps keywords.Break at room left (NoPunctuator punctuators.Semicolon)
-      (APunctuator punctuators.Semicolon) text ts a k
-      (λ n text' other none all key. no_break n text' room at left all other key none)
+    (APunctuator punctuators.Semicolon) text ts a k
+    (λ n text' other none all key. no_break n text' room at left all other key none)
     (λ n text' inner end has. able_now (HasStatement room left) n text'
-      (token (kinds.Keyword keywords.Break) at end ∷ inner) (record {
+    (token (kinds.Keyword keywords.Break) at end ∷ inner) (record {
       tree = Break at;
       is = λ other. (inner ++ other, (end, refl), has other);
       statement = refl;
-      within = record { statements = λ i. omega arith; expressions = λ i. omega arith;
-        locals = λ i. omega arith; funclets = λ i. omega arith };
+      within = record {
+        statements = λ i. omega arith;
+        expressions = λ i. omega arith;
+        locals = λ i. omega arith;
+        funclets = λ i. omega arith;
+      };
     }))
 
-pub continue_end : (room at : ℕ) (left : Left) (text : List ℕ) (ts a : List Token)
-    → IsKeyword keywords.Continue at ts a → Wraps (NoPunctuator punctuators.Semicolon)
-      (APunctuator punctuators.Semicolon) (NoStatement room left) (HasStatement room left) text a ts
+pub continue_end : (room at : ℕ) (left : Left) (text : List ℕ) (ts a : List Token) → IsKeyword keywords.Continue at ts a → Wraps (NoPunctuator punctuators.Semicolon)
+    (APunctuator punctuators.Semicolon) (NoStatement room left) (HasStatement room left) text a ts
 continue_end room at left text ts a k =
     key_wraps keywords.Continue at room left (NoPunctuator punctuators.Semicolon)
-      (APunctuator punctuators.Semicolon) text ts a k
-      (λ n text' other none all key. no_continue n text' room at left all other key none)
+    (APunctuator punctuators.Semicolon) text ts a k
+    (λ n text' other none all key. no_continue n text' room at left all other key none)
     (λ n text' inner end has. able_now (HasStatement room left) n text'
-      (token (kinds.Keyword keywords.Continue) at end ∷ inner) (record {
+    (token (kinds.Keyword keywords.Continue) at end ∷ inner) (record {
       tree = Continue at;
       is = λ other. (inner ++ other, (end, refl), has other);
       statement = refl;
-      within = record { statements = λ i. omega arith; expressions = λ i. omega arith;
-        locals = λ i. omega arith; funclets = λ i. omega arith };
+      within = record {
+        statements = λ i. omega arith;
+        expressions = λ i. omega arith;
+        locals = λ i. omega arith;
+        funclets = λ i. omega arith;
+      };
     }))
 
-pub leave_end : (room at : ℕ) (left : Left) (text : List ℕ) (ts a : List Token)
-    → IsKeyword keywords.Leave at ts a → Wraps (NoPunctuator punctuators.Semicolon)
-      (APunctuator punctuators.Semicolon) (NoStatement room left) (HasStatement room left) text a ts
+pub leave_end : (room at : ℕ) (left : Left) (text : List ℕ) (ts a : List Token) → IsKeyword keywords.Leave at ts a → Wraps (NoPunctuator punctuators.Semicolon)
+    (APunctuator punctuators.Semicolon) (NoStatement room left) (HasStatement room left) text a ts
 leave_end room at left text ts a k =
     key_wraps keywords.Leave at room left (NoPunctuator punctuators.Semicolon)
-      (APunctuator punctuators.Semicolon) text ts a k
-      (λ n text' other none all key. no_leave n text' room at left all other key none)
+    (APunctuator punctuators.Semicolon) text ts a k
+    (λ n text' other none all key. no_leave n text' room at left all other key none)
     (λ n text' inner end has. able_now (HasStatement room left) n text'
-      (token (kinds.Keyword keywords.Leave) at end ∷ inner) (record {
+    (token (kinds.Keyword keywords.Leave) at end ∷ inner) (record {
       tree = Leave at;
       is = λ other. (inner ++ other, (end, refl), has other);
       statement = refl;
-      within = record { statements = λ i. omega arith; expressions = λ i. omega arith;
-        locals = λ i. omega arith; funclets = λ i. omega arith };
+      within = record {
+        statements = λ i. omega arith;
+        expressions = λ i. omega arith;
+        locals = λ i. omega arith;
+        funclets = λ i. omega arith;
+      };
     }))

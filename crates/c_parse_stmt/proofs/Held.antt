@@ -57,9 +57,16 @@ counted text room less left after s ts rest n r = by (kind s)
         let t = r.taken in
         let a = t.statements in
         let q = o (statements_over s) in
-        record { is = r.is; closed = r.closed;
-          taken = record { statements = omega arith; expressions = t.expressions; locals = t.locals;
-          funclets = t.funclets } }
+        record {
+          is = r.is;
+          closed = r.closed;
+          taken = record {
+            statements = omega arith;
+            expressions = t.expressions;
+            locals = t.locals;
+            funclets = t.funclets;
+          };
+        }
 
 no_counted : (limits : ℕ) (text : List ℕ) (room less : ℕ) (left : Left) (ts : List Token)
     → less + 1 ≡ room → NoBase ts → NoStatement less left limits text ts
@@ -68,10 +75,14 @@ no_counted limits text room less left ts n b none s end h c w = by (kind s)
   where
     by : Kind s → ⊥
     by (declares d ls e) = let g : IsDeclaration text d ls ts end = subst
-      (λ (x : Statement). IsBlockItem text x ts end) e h in b d g.0 g.1
+        (λ (x : Statement). IsBlockItem text x ts end) e h in b d g.0 g.1
     by (counts d o) = let q = o (statements_over s) in
-      none s end h d c (record { statements = λ i. let a = w.statements i in omega arith;
-      expressions = w.expressions; locals = w.locals; funclets = w.funclets })
+        none s end h d c (record {
+          statements = λ i. let a = w.statements i in omega arith;
+          expressions = w.expressions;
+          locals = w.locals;
+          funclets = w.funclets;
+        })
 
 more_over : (n room less over whole : ℕ) → less + 1 ≡ room → whole ≡ 1 + over
     → (1 ≤ n → over ≤ less) → 1 ≤ n → whole ≤ room
@@ -80,7 +91,7 @@ more_over n room less over whole m q f i = let a = f i in omega arith
 -- a statement is as an item, one deeper
 pub statement_item : (room less : ℕ) (left : Left) (text : List ℕ) (ts : List Token)
     → less + 1 ≡ room → NoBase ts → Wraps (NoStatement less left) (HasStatement less left)
-      (NoBlockItem room left) (HasBlockItem room left) text ts ts
+    (NoBlockItem room left) (HasBlockItem room left) text ts ts
 statement_item room less left text ts m b = record {
   before = [];
   split = refl;
@@ -91,16 +102,20 @@ statement_item room less left text ts m b = record {
 }
   where
     by : (n : ℕ) (text' : List ℕ) (inner : List Token) (has : HasStatement less left n text' inner)
-      → Kind has.tree → AnItem room left n text' inner
+        → Kind has.tree → AnItem room left n text' inner
     by n text' inner has (declares d ls e) = absurd
-      (both (is_declaration has.tree) has.statement (ap is_declaration e))
+        (both (is_declaration has.tree) has.statement (ap is_declaration e))
     by n text' inner has (counts d o) = record {
       tree = has.tree;
       is = has.is;
-      within = record { statements = more_over n room less (statements_over has.tree)
-        (over_block_item has.tree (statements_over has.tree)) m (o (statements_over has.tree))
-        has.within.statements; expressions = has.within.expressions; locals = has.within.locals;
-        funclets = has.within.funclets };
+      within = record {
+        statements = more_over n room less (statements_over has.tree)
+            (over_block_item has.tree (statements_over has.tree)) m (o (statements_over has.tree))
+            has.within.statements;
+        expressions = has.within.expressions;
+        locals = has.within.locals;
+        funclets = has.within.funclets;
+      };
     }
 
 pub declared : (text : List ℕ) (room : ℕ) (left after : Left) (b : Base) (ls : List Local)
@@ -108,8 +123,11 @@ pub declared : (text : List ℕ) (room : ℕ) (left after : Left) (b : Base) (ls
     → one_over_locals ls ≤ room → after.locals + length ls ≡ left.locals
     → after.funclets ≡ left.funclets → ReadsBlockItem text room left after (Declare b ls) ts rest
 declared text room left after b ls ts rest is low over n
-    f = record { is = is; closed = λ t. absurd cc;
-    taken = record { statements = over; expressions = low; locals = n; funclets = omega arith } }
+    f = record {
+      is = is;
+      closed = λ t. absurd cc;
+      taken = record { statements = over; expressions = low; locals = n; funclets = omega arith };
+    }
 
 class_one : (s : Statement) → item_class s ≡ 1 → (b : Base) × (ls : List Local) × (s ≡ Declare b ls)
 class_one (Declare b ls) h = (b, ls, refl)
@@ -121,27 +139,37 @@ no_declared : (limits : ℕ) (text : List ℕ) (room : ℕ) (left : Left) (ts : 
 no_declared limits text room left ts typed none s end h c w =
     let q = class_one s (sym (item_begins text s ts end h) ∙ typed) in
     let g : IsDeclaration text q.0 q.1 ts end = subst (λ (x : Statement). IsBlockItem text x ts end)
-      q.2 h in
+    q.2 h in
     let v : Within limits text (over_block_item (Declare q.0 q.1)
-      (statements_over (Declare q.0 q.1))) room left (Declare q.0 q.1) = subst
-      (λ (x : Statement). Within limits text (over_block_item x (statements_over x)) room left x)
-      q.2 w in
-    none q.0 q.1 end g (record { expressions = v.expressions; statements = v.statements;
-      count = v.locals })
+    (statements_over (Declare q.0 q.1))) room left (Declare q.0 q.1) = subst
+    (λ (x : Statement). Within limits text (over_block_item x (statements_over x)) room left x)
+    q.2 w in
+    none q.0 q.1 end g (record {
+      expressions = v.expressions;
+      statements = v.statements;
+      count = v.locals;
+    })
 
 declared_item : (room : ℕ) (left : Left) (n : ℕ) (text : List ℕ) (ts : List Token)
     → HasDeclaration room left.locals n text ts → HasBlockItem room left n text ts
 declared_item room left n text ts (inl e) = inl e
 declared_item room left n text ts (inr d) = inr
-    (record { tree = Declare d.base d.trees; is = d.is;
-    within = record { statements = d.within.statements; expressions = d.within.expressions;
-    locals = d.within.count; funclets = λ i. omega arith } })
+    (record {
+      tree = Declare d.base d.trees;
+      is = d.is;
+      within = record {
+        statements = d.within.statements;
+        expressions = d.within.expressions;
+        locals = d.within.count;
+        funclets = λ i. omega arith;
+      };
+    })
 
 -- a declaration is as an item
 pub declaration_item : (room : ℕ) (left : Left) (d : Base) (text : List ℕ)
     (ts following : List Token) → IsBase d ts following
     → Wraps (NoDeclaration room left.locals) (HasDeclaration room left.locals)
-      (NoBlockItem room left) (HasBlockItem room left) text ts ts
+    (NoBlockItem room left) (HasBlockItem room left) text ts ts
 declaration_item room left d text ts following is = record {
   before = [];
   split = refl;
@@ -176,14 +204,16 @@ pub record Held (text : List ℕ) (room : ℕ) (whole : Left) (ts : List Token) 
     (rest : List Token) (left : Left) : Type 0 where
   pub forward : (ss : Statements) (end : List Token) (after : Left) → AreBlockItems text ss rest end
       → AllTaken text room left after ss → Given text room whole after
-        (before (map statement found) ss) ts end
+      (before (map statement found) ss) ts end
   pub wraps : Wraps (NoBlockItems room left) (HasBlockItems room left) (NoBlockItems room whole)
       (HasBlockItems room whole) text rest ts
 
 pub start : (text : List ℕ) (room : ℕ) (whole : Left) (ts : List Token)
     → Held text room whole ts [] ts whole
-start text room whole ts = record { forward = λ ss end after h t. (h, t);
-    wraps = wraps_same (NoBlockItems room whole) (HasBlockItems room whole) text ts }
+start text room whole ts = record {
+  forward = λ ss end after h t. (h, t);
+  wraps = wraps_same (NoBlockItems room whole) (HasBlockItems room whole) text ts;
+}
 
 one_more : (text : List ℕ) (room : ℕ) (left less after : Left) (s : Statement)
     (rest following : List Token) (ss : Statements)
@@ -193,8 +223,12 @@ one_more text room left less after s rest following ss r t =
     let k = r.taken in
     let a = k.statements in let b = k.expressions in let c = k.locals in let d = k.funclets in
     let e = t.statements in let f = t.expressions in let g = t.locals in let h = t.funclets in
-    record { statements = omega arith; expressions = omega arith; locals = omega arith;
-      funclets = omega (arith, length-append {A = ℕ}) }
+    record {
+      statements = omega arith;
+      expressions = omega arith;
+      locals = omega arith;
+      funclets = omega (arith, length-append {A = ℕ});
+    }
 
 one_back : (limits : ℕ) (text : List ℕ) (room : ℕ) (left less : Left) (s : Statement)
     (rest following : List Token) → ReadsBlockItem text room left less s rest following
@@ -204,15 +238,19 @@ one_back limits text room left less s rest following r none Empty end h w = absu
     let o = class_low s in omega arith)
 one_back limits text room left less s rest following r none (Then z zs) end h w =
     let u = one_statement text s z rest following h.0 r.is h.1 r.closed
-      (λ t. items_else text zs h.0 end h.2) in
+    (λ t. items_else text zs h.0 end h.2) in
     let k = r.taken in
     let c = k.locals in let d = k.funclets in
     let m = ap locals u.0 in
     let n = ap (λ (x : Statement). length (numbered text x)) u.0 in
     none zs end (subst (λ (x : List Token). AreBlockItems text zs x end) (sym u.1) h.2)
-      (record { statements = λ i. let a = w.statements i in omega arith;
-      expressions = λ i. let a = w.expressions i in omega arith; locals = λ i. let a = w.locals i in
-      omega arith; funclets = λ i. let a = w.funclets i in omega (arith, length-append {A = ℕ}) })
+    (record {
+      statements = λ i. let a = w.statements i in omega arith;
+      expressions = λ i. let a = w.expressions i in omega arith;
+      locals = λ i. let a = w.locals i in
+          omega arith;
+      funclets = λ i. let a = w.funclets i in omega (arith, length-append {A = ℕ});
+    })
 
 item_moved : (text text' : List ℕ) (room : ℕ) (left less : Left) (s : Statement)
     (ts rest all other : List Token) → Alike text text' ts
@@ -221,28 +259,36 @@ item_moved : (text text' : List ℕ) (room : ℕ) (left less : Left) (s : Statem
 item_moved text text' room left less s ts rest all other h r i c =
     let e = ap (λ (x : List ℕ). length x) (same_funclets s text text' ts rest r.is h) in
     let t = r.taken in let f = t.funclets in
-    record { is = i; closed = c; taken = record { statements = t.statements;
-      expressions = t.expressions; locals = t.locals; funclets = omega arith } }
+    record {
+      is = i;
+      closed = c;
+      taken = record {
+        statements = t.statements;
+        expressions = t.expressions;
+        locals = t.locals;
+        funclets = omega arith;
+      };
+    }
 
 -- after an item
 more_items : (room : ℕ) (left less : Left) (s : Statement) (text : List ℕ)
     (rest following : List Token) → ReadsBlockItem text room left less s rest following
     → Wraps (NoBlockItems room less) (HasBlockItems room less) (NoBlockItems room left)
-      (HasBlockItems room left) text following rest
+    (HasBlockItems room left) text following rest
 more_items room left less s text rest following r =
     wraps (Item s) (NoBlockItems room less) (HasBlockItems room less) (NoBlockItems room left)
-      (HasBlockItems room left) text rest following (item_moves s text rest following r.is)
+    (HasBlockItems room left) text rest following (item_moves s text rest following r.is)
     (λ n text' all other h e i none. one_back n text' room left less s all other
-      (item_moved text text' room left less s rest following all other h r i
-      (closed s following other e r.closed)) none)
+    (item_moved text text' room left less s rest following all other h r i
+    (closed s following other e r.closed)) none)
     (λ n text' front inner h i has. able_now (HasBlockItems room left) n text' (front ++ inner) (
     let e = ap (λ (x : List ℕ). length x) (same_funclets s text text' rest following r.is h) in
     let t = r.taken in let t0 = t.statements in let t1 = t.expressions in let t2 = t.locals in
-      let t3 = t.funclets in
+    let t3 = t.funclets in
     record {
       trees = Then s has.trees;
       are = λ other. let x = both_fixed (Item s) (Items has.trees) text' front inner i has.are
-        other in (x.mid, x.first, x.second);
+          other in (x.mid, x.first, x.second);
       within = record {
         statements = λ i. let a = has.within.statements i in omega arith;
         expressions = λ i. let a = has.within.expressions i in omega arith;
@@ -265,8 +311,12 @@ continues text room whole left less ts rest following found x d r = record {
 }
 
 nothing : (text : List ℕ) (room : ℕ) (left : Left) → AllTaken text room left left Empty
-nothing text room left = record { statements = omega arith; expressions = omega arith;
-    locals = omega arith; funclets = omega arith }
+nothing text room left = record {
+  statements = omega arith;
+  expressions = omega arith;
+  locals = omega arith;
+  funclets = omega arith;
+}
 
 pub ends : (text : List ℕ) (room : ℕ) (whole left : Left) (ts rest end : List Token)
     (found : List Stmt) → Held text room whole ts found rest left
@@ -282,24 +332,37 @@ stuck : (limits : ℕ) (text : List ℕ) (room : ℕ) (left : Left) (rest : List
 stuck limits text room left rest l none Empty end h w = l end h
 stuck limits text room left rest l none (Then s ss) end h w =
     none s h.0 h.1 (λ t. items_else text ss h.0 end h.2)
-      (record { statements = λ i. let a = w.statements i in omega arith;
-      expressions = λ i. let a = w.expressions i in omega arith; locals = λ i. let a = w.locals i in
-      omega arith; funclets = λ i. let a = w.funclets i in omega (arith, length-append {A = ℕ}) })
+    (record {
+      statements = λ i. let a = w.statements i in omega arith;
+      expressions = λ i. let a = w.expressions i in omega arith;
+      locals = λ i. let a = w.locals i in
+          omega arith;
+      funclets = λ i. let a = w.funclets i in omega (arith, length-append {A = ℕ});
+    })
 
 one_item : (room : ℕ) (left : Left) (n : ℕ) (text : List ℕ) (ts : List Token)
     → HasBlockItem room left n text ts → Able (HasBlockItems room left) n text ts
-one_item room left n text ts (inl e) = record { more = brace;
-    has = record { trees = Empty; are = λ other. subst
-    (λ (x : List Token). HasPunctuator punctuators.CloseBrace ((x ++ brace) ++ other) other) (sym e)
-    (a_punctuator punctuators.CloseBrace other);
-    within = record { statements = λ i. omega arith; expressions = λ i. omega arith;
-    locals = λ i. omega arith; funclets = λ i. omega arith } } }
+one_item room left n text ts (inl e) = record {
+  more = brace;
+  has = record {
+    trees = Empty;
+    are = λ other. subst
+        (λ (x : List Token). HasPunctuator punctuators.CloseBrace ((x ++ brace) ++ other) other) (sym e)
+        (a_punctuator punctuators.CloseBrace other);
+    within = record {
+      statements = λ i. omega arith;
+      expressions = λ i. omega arith;
+      locals = λ i. omega arith;
+      funclets = λ i. omega arith;
+    };
+  };
+}
 one_item room left n text ts (inr has) = record {
   more = brace;
   has = record {
     trees = Then has.tree Empty;
     are = λ other. let x = both_fixed (Item has.tree) (Items Empty) text ts brace has.is
-      (is_brace text) other in (x.mid, x.first, x.second);
+        (is_brace text) other in (x.mid, x.first, x.second);
     within = record {
       statements = λ i. let a = has.within.statements i in omega arith;
       expressions = λ i. let a = has.within.expressions i in omega arith;
@@ -311,7 +374,7 @@ one_item room left n text ts (inr has) = record {
 
 item_items : (room : ℕ) (left : Left) (text : List ℕ) (rest : List Token)
     → Lacks punctuators.CloseBrace rest → Wraps (NoBlockItem room left) (HasBlockItem room left)
-      (NoBlockItems room left) (HasBlockItems room left) text rest rest
+    (NoBlockItems room left) (HasBlockItems room left) text rest rest
 item_items room left text rest l = record {
   before = [];
   split = refl;
@@ -324,7 +387,7 @@ item_items room left text rest l = record {
 pub item_fails : (text : List ℕ) (room : ℕ) (whole left : Left) (ts rest : List Token)
     (found : List Stmt) → Held text room whole ts found rest left
     → Lacks punctuators.CloseBrace rest → Wraps (NoBlockItem room left) (HasBlockItem room left)
-      (NoBlockItems room whole) (HasBlockItems room whole) text rest ts
+    (NoBlockItems room whole) (HasBlockItems room whole) text rest ts
 item_fails text room whole left ts rest found d l = wraps_wraps (NoBlockItem room left)
     (HasBlockItem room left) (NoBlockItems room left) (HasBlockItems room left)
     (NoBlockItems room whole) (HasBlockItems room whole) text rest rest ts
@@ -335,32 +398,36 @@ item_fails text room whole left ts rest found d l = wraps_wraps (NoBlockItem roo
 block_items : (room : ℕ) (left : Left) (text : List ℕ) (ts a : List Token)
     → HasPunctuator punctuators.OpenBrace ts a
     → Wraps (NoBlockItems room left) (HasBlockItems room left) (NoStatement room left)
-      (HasStatement room left) text a ts
+    (HasStatement room left) text a ts
 block_items room left text ts a o =
     wraps (Sig punctuators.OpenBrace) (NoBlockItems room left) (HasBlockItems room left)
-      (NoStatement room left) (HasStatement room left) text ts a
-      (has_punctuator punctuators.OpenBrace text ts a o)
+    (NoStatement room left) (HasStatement room left) text ts a
+    (has_punctuator punctuators.OpenBrace text ts a o)
     (λ n text' all other h e i none. no_block n text' room left all other i none)
     (λ n text' front inner h i has. able_now (HasStatement room left) n text' (front ++ inner)
-      (record {
+    (record {
       tree = Block has.trees;
       is = λ other. let x = both_fixed (Sig punctuators.OpenBrace) (Items has.trees) text' front
-        inner i has.are other in
+          inner i has.are other in
           record { after_brace = x.mid; brace = x.first; items = x.second };
       statement = refl;
-      within = record { statements = has.within.statements; expressions = has.within.expressions;
-        locals = has.within.locals; funclets = has.within.funclets };
+      within = record {
+        statements = has.within.statements;
+        expressions = has.within.expressions;
+        locals = has.within.locals;
+        funclets = has.within.funclets;
+      };
     }))
 
 pub block_fails : (text : List ℕ) (room : ℕ) (left after : Left) (o : Opening)
     (ts rest : List Token) → Opens text room left after o ts rest → o ≡ openings.Block
     → Wraps (NoBlockItems room after) (HasBlockItems room after) (NoStatement room left)
-      (HasStatement room left) text rest ts
+    (HasStatement room left) text rest ts
 block_fails text room left after o ts rest i e =
     let q : Opens text room left after openings.Block ts rest = subst
-      (λ (x : Opening). Opens text room left after x ts rest) e i in
+    (λ (x : Opening). Opens text room left after x ts rest) e i in
     subst (λ (x : Left). Wraps (NoBlockItems room x) (HasBlockItems room x) (NoStatement room left)
-      (HasStatement room left) text rest ts) (sym q.0) (block_items room left text ts rest q.1)
+    (HasStatement room left) text rest ts) (sym q.0) (block_items room left text ts rest q.1)
 
 -- a brace, and what the block holds: the block is a statement
 pub block_found : (text : List ℕ) (room : ℕ) (left between after : Left) (o : Opening)
@@ -369,10 +436,10 @@ pub block_found : (text : List ℕ) (room : ℕ) (left between after : Left) (o 
     → IsStatementWithin text room left after (Block ss) ts rest
 block_found text room left between after o ss ts a rest i e are t =
     let q : Opens text room left between openings.Block ts a = subst
-      (λ (x : Opening). Opens text room left between x ts a) e i in
+    (λ (x : Opening). Opens text room left between x ts a) e i in
     let same : between ≡ left = q.0 in
     let k : AllTaken text room left after ss = subst (λ (x : Left). AllTaken text room x after ss)
-      same t in
+    same t in
     record {
       is = record { after_brace = a; brace = q.1; items = are };
       statement = refl;

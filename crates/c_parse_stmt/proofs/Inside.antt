@@ -45,14 +45,14 @@ pub head_moves : (h : Head) (text : List ℕ) (ts rest : List Token) → IsState
     → Moves (Headed h) text ts rest
 head_moves (heads.If at c) text ts rest h =
     moves_so (Both (Key keywords.If at) (Condition (expression c))) (Headed (heads.If at c)) text ts
-      rest (λ t us end x. (x.mid, x.first, x.second))
+    rest (λ t us end x. (x.mid, x.first, x.second))
     (both_moves (Key keywords.If at) (Condition (expression c)) text ts h.0 rest
-      (key_moves keywords.If at text ts h.0 h.1) (condition (expression c) text h.0 rest h.2))
+    (key_moves keywords.If at text ts h.0 h.1) (condition (expression c) text h.0 rest h.2))
 head_moves (heads.While at c) text ts rest h =
     moves_so (Both (Key keywords.While at) (Condition (expression c))) (Headed (heads.While at c))
-      text ts rest (λ t us end x. (x.mid, x.first, x.second))
+    text ts rest (λ t us end x. (x.mid, x.first, x.second))
     (both_moves (Key keywords.While at) (Condition (expression c)) text ts h.0 rest
-      (key_moves keywords.While at text ts h.0 h.1) (condition (expression c) text h.0 rest h.2))
+    (key_moves keywords.While at text ts h.0 h.1) (condition (expression c) text h.0 rest h.2))
 head_moves heads.Do text ts rest h = has_keyword keywords.Do text ts rest h
 head_moves (heads.For at f c n) text ts rest h =
     statements.for_head at (first f) (option_map expression c)
@@ -81,9 +81,17 @@ pub reads_moved : (text text' : List ℕ) (room : ℕ) (left after : Left) (s : 
 reads_moved text text' room left after s ts rest all other h r i c =
     let e = ap (λ (x : List ℕ). length x) (same_funclets s text text' ts rest r.is h) in
     let t = r.taken in let f = t.funclets in
-    record { is = i; statement = r.statement; closed = c;
-      taken = record { statements = t.statements; expressions = t.expressions; locals = t.locals;
-      funclets = omega arith } }
+    record {
+      is = i;
+      statement = r.statement;
+      closed = c;
+      taken = record {
+        statements = t.statements;
+        expressions = t.expressions;
+        locals = t.locals;
+        funclets = omega arith;
+      };
+    }
 
 -- ---- what ends a `do`
 
@@ -112,13 +120,13 @@ no_inner : (h : Head) (n : ℕ) (text : List ℕ) (room less : ℕ) (whole left 
     → NoStatement room whole n text all
 no_inner (heads.If at c) n text room less whole left all other m h w l f none =
     no_then n text room less at whole (expression c) h.0 other m h.2
-      (none_from n text less left whole other (same_left left whole (omega arith) f) none) all h.1
+    (none_from n text less left whole other (same_left left whole (omega arith) f) none) all h.1
 no_inner (heads.While at c) n text room less whole left all other m h w l f none =
     no_while_body n text room less at whole (expression c) h.0 other m h.2
-      (none_from n text less left whole other (same_left left whole (omega arith) f) none) all h.1
+    (none_from n text less left whole other (same_left left whole (omega arith) f) none) all h.1
 no_inner heads.Do n text room less whole left all other m h w l f none =
     no_do_body n text room less h.0 whole other m
-      (none_from n text less left whole other (same_left left whole (omega arith) f) none) all h.1
+    (none_from n text less left whole other (same_left left whole (omega arith) f) none) all h.1
 no_inner (heads.For at g c e) n text room less whole left all other m h w l f none =
     no_for_body n text room less at whole left (first g) (option_map expression c)
     (option_map expression e) h.after_keyword h.after_opening h.after_first h.after_condition other
@@ -137,49 +145,53 @@ has_inner : (h : Head) (n : ℕ) (text : List ℕ) (room less : ℕ) (whole left
     → Able (HasStatement room whole) n text (front ++ inner)
 has_inner (heads.If at c) n text room less whole left front inner m w l f r has = able_now
     (HasStatement room whole) n text (front ++ inner) (record {
-  tree = If at (expression c) has.tree;
-  is = λ other.
-      let x = both_fixed (Headed (heads.If at c)) (Item has.tree) text front inner r has.is other in
-      record {
-        after_keyword = x.first.0;
-        after_condition = x.mid;
-        keyword = x.first.1;
-        condition = x.first.2;
-        body = record { no_declaration = has.statement; item = x.second };
+      tree = If at (expression c) has.tree;
+      is = λ other.
+          let x = both_fixed (Headed (heads.If at c)) (Item has.tree) text front inner r has.is other in
+          record {
+            after_keyword = x.first.0;
+            after_condition = x.mid;
+            keyword = x.first.1;
+            condition = x.first.2;
+            body = record { no_declaration = has.statement; item = x.second };
+          };
+      statement = refl;
+      within = record {
+        statements = λ i. let a = has.within.statements i in omega arith;
+        expressions = λ i. let a = has.within.expressions i in omega arith;
+        locals = λ i. let a = has.within.locals i in omega arith;
+        funclets = λ i. let a = has.within.funclets i in omega arith;
       };
-  statement = refl;
-  within = record { statements = λ i. let a = has.within.statements i in omega arith;
-      expressions = λ i. let a = has.within.expressions i in omega arith;
-      locals = λ i. let a = has.within.locals i in omega arith;
-      funclets = λ i. let a = has.within.funclets i in omega arith };
-})
+    })
 has_inner (heads.While at c) n text room less whole left front inner m w l f r has = able_now
     (HasStatement room whole) n text (front ++ inner) (record {
-  tree = While at (expression c) has.tree;
-  is = λ other.
-      let x = both_fixed (Headed (heads.While at c))
-      (Item has.tree) text front inner r has.is other in
-      record {
-        after_keyword = x.first.0;
-        after_condition = x.mid;
-        keyword = x.first.1;
-        condition = x.first.2;
-        body = record { no_declaration = has.statement; item = x.second };
+      tree = While at (expression c) has.tree;
+      is = λ other.
+          let x = both_fixed (Headed (heads.While at c))
+          (Item has.tree) text front inner r has.is other in
+          record {
+            after_keyword = x.first.0;
+            after_condition = x.mid;
+            keyword = x.first.1;
+            condition = x.first.2;
+            body = record { no_declaration = has.statement; item = x.second };
+          };
+      statement = refl;
+      within = record {
+        statements = λ i. let a = has.within.statements i in omega arith;
+        expressions = λ i. let a = has.within.expressions i in omega arith;
+        locals = λ i. let a = has.within.locals i in omega arith;
+        funclets = λ i. let a = has.within.funclets i in omega arith;
       };
-  statement = refl;
-  within = record { statements = λ i. let a = has.within.statements i in omega arith;
-      expressions = λ i. let a = has.within.expressions i in omega arith;
-      locals = λ i. let a = has.within.locals i in omega arith;
-      funclets = λ i. let a = has.within.funclets i in omega arith };
-})
+    })
 has_inner heads.Do n text room less whole left front inner m w l f r has = record {
   more = while_end;
   has = record {
     tree = DoWhile has.tree 0 unit;
     is = λ other.
         let x = both_fixed (Both (Headed heads.Do) (Item has.tree)) WhileEnd text (front ++ inner)
-          while_end (both_fixed (Headed heads.Do) (Item has.tree) text front inner r has.is)
-          (is_while_end text) other in let y = x.second in
+        while_end (both_fixed (Headed heads.Do) (Item has.tree) text front inner r has.is)
+        (is_while_end text) other in let y = x.second in
         record {
           after_do = x.first.mid;
           after_body = x.mid;
@@ -192,39 +204,43 @@ has_inner heads.Do n text room less whole left front inner m w l f r has = recor
           semicolon = y.semicolon;
         };
     statement = refl;
-    within = record { statements = λ i. let a = has.within.statements i in omega arith;
+    within = record {
+      statements = λ i. let a = has.within.statements i in omega arith;
       expressions = λ i. let a = has.within.expressions i in omega arith;
       locals = λ i. let a = has.within.locals i in omega arith;
-      funclets = λ i. let a = has.within.funclets i in omega arith };
+      funclets = λ i. let a = has.within.funclets i in omega arith;
+    };
   };
 }
 has_inner (heads.For at g c e) n text room less whole left front inner m w l f r has = able_now
     (HasStatement room whole) n text (front ++ inner) (record {
-  tree = For at (first g) (option_map expression c) (option_map expression e) has.tree;
-  is = λ other.
-      let x = both_fixed (Headed (heads.For at g c e)) (Item has.tree) text front inner r has.is
-        other in let y = x.first in
-      for_item text at (first g) (option_map expression c) (option_map expression e) has.tree
-      ((front ++ inner) ++ other) y.after_keyword y.after_opening y.after_first y.after_condition
-      x.mid other y.keyword y.opening y.first y.condition y.next has.statement x.second;
-  statement = refl;
-  within = record { statements = λ i. let a = has.within.statements i in omega arith;
-      expressions = λ i. let a = has.within.expressions i in omega arith;
-      locals = λ i. let a = has.within.locals i in omega arith;
-      funclets = λ i. let a = has.within.funclets i in omega arith };
-})
+      tree = For at (first g) (option_map expression c) (option_map expression e) has.tree;
+      is = λ other.
+          let x = both_fixed (Headed (heads.For at g c e)) (Item has.tree) text front inner r has.is
+          other in let y = x.first in
+          for_item text at (first g) (option_map expression c) (option_map expression e) has.tree
+          ((front ++ inner) ++ other) y.after_keyword y.after_opening y.after_first y.after_condition
+          x.mid other y.keyword y.opening y.first y.condition y.next has.statement x.second;
+      statement = refl;
+      within = record {
+        statements = λ i. let a = has.within.statements i in omega arith;
+        expressions = λ i. let a = has.within.expressions i in omega arith;
+        locals = λ i. let a = has.within.locals i in omega arith;
+        funclets = λ i. let a = has.within.funclets i in omega arith;
+      };
+    })
 
 pub inner_fails : (h : Head) (room less : ℕ) (whole left : Left) (text : List ℕ)
     (ts rest : List Token) → less + 1 ≡ room → Heads text room whole left h ts rest
     → Wraps (NoStatement less left) (HasStatement less left) (NoStatement room whole)
-      (HasStatement room whole) text rest ts
+    (HasStatement room whole) text rest ts
 inner_fails h room less whole left text ts rest m g =
     wraps (Headed h) (NoStatement less left) (HasStatement less left) (NoStatement room whole)
-      (HasStatement room whole) text ts rest (head_moves h text ts rest g.is)
+    (HasStatement room whole) text ts rest (head_moves h text ts rest g.is)
     (λ n text' all other k e r none. no_inner h n text' room less whole left all other m r g.low
-      g.locals g.funclets none)
+    g.locals g.funclets none)
     (λ n text' front inner k r has. has_inner h n text' room less whole left front inner m g.low
-      g.locals g.funclets r has)
+    g.locals g.funclets r has)
 
 -- ---- after the first statement
 
@@ -244,7 +260,7 @@ pub inner_reads : (room : ℕ) (whole left : Left) (h : Head) (s : Statement) (t
 inner_reads room whole left h s text text' ts rest all mid other g k i c =
     let m = head_moves h text ts g.mid g.head.is in
     reads_moved text text' g.less g.between left s g.mid rest mid other
-      (alike_inner text text' m.front g.mid ts m.split k) g.inner i c
+    (alike_inner text text' m.front g.mid ts m.split k) g.inner i c
 
 -- ---- `else`
 
@@ -254,34 +270,34 @@ Else at c s = Both (Inner (heads.If at c) s) (λ t. HasKeyword keywords.Else)
 pub else_fails : (at room : ℕ) (whole left : Left) (c : Expr) (s : Statement) (text : List ℕ)
     (ts rest j : List Token) (g : Holds text room whole left (heads.If at c) s ts rest)
     → HasKeyword keywords.Else rest j → Wraps (NoStatement g.less left) (HasStatement g.less left)
-      (NoStatement room whole) (HasStatement room whole) text j ts
+    (NoStatement room whole) (HasStatement room whole) text j ts
 else_fails at room whole left c s text ts rest j g els =
     let l = g.head.locals in
     let p = same_left g.between whole (omega arith) g.head.funclets in
     wraps (Else at c s) (NoStatement g.less left) (HasStatement g.less left)
-      (NoStatement room whole) (HasStatement room whole) text ts j
+    (NoStatement room whole) (HasStatement room whole) text ts j
     (both_moves (Inner (heads.If at c) s) (λ t. HasKeyword keywords.Else) text ts rest j
-      (inner_moves (heads.If at c) s text ts g.mid rest g.head.is g.inner.is)
-      (has_keyword keywords.Else text rest j els))
+    (inner_moves (heads.If at c) s text ts g.mid rest g.head.is g.inner.is)
+    (has_keyword keywords.Else text rest j els))
     (λ n text' all other k e r none.
     let x = r.first.first in
     let d = reads_from text' g.less g.between whole left s r.first.mid r.mid p
-      (inner_reads room whole left (heads.If at c) s text text' ts rest all r.first.mid r.mid g k
-      r.first.second (absent s r.mid (not_dangling (dangles s) (λ i. g.inner.closed i j els)))) in
+    (inner_reads room whole left (heads.If at c) s text text' ts rest all r.first.mid r.mid g k
+    r.first.second (absent s r.mid (not_dangling (dangles s) (λ i. g.inner.closed i j els)))) in
     no_otherwise n text' room g.less at whole left (expression c) s x.0 r.first.mid r.mid other
-      g.more x.2 d r.second none all x.1)
+    g.more x.2 d r.second none all x.1)
     (λ n text' front inner k r has. able_now (HasStatement room whole) n text' (front ++ inner) (
     let m = head_moves (heads.If at c) text ts g.mid g.head.is in
     let d = ap (λ (x : List ℕ). length x) (same_funclets s text text' g.mid rest g.inner.is
-      (alike_inner text text' m.front g.mid ts m.split k)) in
+    (alike_inner text text' m.front g.mid ts m.split k)) in
     let t = g.inner.taken in let t0 = t.statements in let t1 = t.expressions in let t2 = t.locals in
-      let t3 = t.funclets in
+    let t3 = t.funclets in
     let h0 = g.head.low in let h1 = g.head.funclets in let h2 = g.more in
     record {
       tree = IfElse at (expression c) s has.tree;
       is = λ other.
           let x = both_fixed (Else at c s) (Item has.tree) text' front inner r has.is other in
-            let y = x.first.first.first in
+          let y = x.first.first.first in
           record {
             after_if = y.0;
             after_condition = x.first.first.mid;
@@ -313,8 +329,8 @@ else_found at room whole left after c s z text ts rest j end g els r =
     let p = same_left g.between whole (omega arith) g.head.funclets in
     let i = g.head.is in
     if_else_found text room g.less at whole left after (expression c) s z i.0 g.mid rest j end
-      g.more i.2 g.head.low (reads_from text g.less g.between whole left s g.mid rest p g.inner) els
-      r ts i.1
+    g.more i.2 g.head.low (reads_from text g.less g.between whole left s g.mid rest p g.inner) els
+    r ts i.1
 
 -- ---- without another statement
 
@@ -326,7 +342,7 @@ if_ends at room whole left c s text ts rest g els =
     let p = same_left g.between whole (omega arith) g.head.funclets in
     let i = g.head.is in
     if_found text room g.less at whole left (expression c) s i.0 g.mid rest g.more i.2 g.head.low
-      (reads_from text g.less g.between whole left s g.mid rest p g.inner) els ts i.1
+    (reads_from text g.less g.between whole left s g.mid rest p g.inner) els ts i.1
 
 pub while_ends : (at room : ℕ) (whole left : Left) (c : Expr) (s : Statement) (text : List ℕ)
     (ts rest : List Token) → Holds text room whole left (heads.While at c) s ts rest
@@ -336,13 +352,13 @@ while_ends at room whole left c s text ts rest g =
     let p = same_left g.between whole (omega arith) g.head.funclets in
     let i = g.head.is in
     while_found text room g.less at whole left (expression c) s i.0 g.mid rest g.more i.2 g.head.low
-      (reads_from text g.less g.between whole left s g.mid rest p g.inner) ts i.1
+    (reads_from text g.less g.between whole left s g.mid rest p g.inner) ts i.1
 
 pub for_ends : (at room : ℕ) (whole left : Left) (f : ForInitialiser) (c n : Option Expr)
     (s : Statement) (text : List ℕ) (ts rest : List Token)
     → Holds text room whole left (heads.For at f c n) s ts rest
     → IsStatementWithin text room whole left (For at (first f) (option_map expression c)
-      (option_map expression n) s) ts rest
+    (option_map expression n) s) ts rest
 for_ends at room whole left f c n s text ts rest g =
     let i = g.head.is in let low = g.head.low in
     for_found text room g.less at whole g.between left (first f) (option_map expression c)
@@ -369,14 +385,14 @@ pub otherwise_fails : (text : List ℕ) (room less at : ℕ) (whole left after :
     → less + 1 ≡ room → Heads text room whole left h ts mid
     → IsStatementWithin text less left after s mid rest → Ends text h s z rest j
     → z ≡ endings.Else at c t → Wraps (NoStatement less after) (HasStatement less after)
-      (NoStatement room whole) (HasStatement room whole) text j ts
+    (NoStatement room whole) (HasStatement room whole) text j ts
 otherwise_fails text room less at whole left after h c t s z ts mid rest j m g r i e =
     let q : Ends text h s (endings.Else at c t) rest j = subst
-      (λ (x : Ending). Ends text h s x rest j) e i in
+    (λ (x : Ending). Ends text h s x rest j) e i in
     let g' : Heads text room whole left (heads.If at c) ts mid = subst
-      (λ (x : Head). Heads text room whole left x ts mid) q.0 g in
+    (λ (x : Head). Heads text room whole left x ts mid) q.0 g in
     else_fails at room whole after c s text ts rest j
-      (holds text room less whole left after (heads.If at c) s ts mid rest m g' r) q.2
+    (holds text room less whole left after (heads.If at c) s ts mid rest m g' r) q.2
 
 pub otherwise_found : (text : List ℕ) (room less at : ℕ) (whole left after last : Left) (h : Head)
     (c : Expr) (t : Stmt) (s y : Statement) (z : Ending) (ts mid rest j end : List Token)
@@ -386,13 +402,13 @@ pub otherwise_found : (text : List ℕ) (room less at : ℕ) (whole left after l
     → IsStatementWithin text room whole last (IfElse at (expression c) (statement t) y) ts end
 otherwise_found text room less at whole left after last h c t s y z ts mid rest j end m g r i e d =
     let q : Ends text h s (endings.Else at c t) rest j = subst
-      (λ (x : Ending). Ends text h s x rest j) e i in
+    (λ (x : Ending). Ends text h s x rest j) e i in
     let g' : Heads text room whole left (heads.If at c) ts mid = subst
-      (λ (x : Head). Heads text room whole left x ts mid) q.0 g in
+    (λ (x : Head). Heads text room whole left x ts mid) q.0 g in
     subst (λ (x : Statement). IsStatementWithin text room whole last (IfElse at (expression c) x y)
-      ts end) (sym q.1)
+    ts end) (sym q.1)
     (else_found at room whole after last c s y text ts rest j end
-      (holds text room less whole left after (heads.If at c) s ts mid rest m g' r) q.2 d)
+    (holds text room less whole left after (heads.If at c) s ts mid rest m g' r) q.2 d)
 
 pub whole_found : (text : List ℕ) (room less : ℕ) (whole left after : Left) (h : Head) (made : Stmt)
     (s : Statement) (z : Ending) (ts mid rest end : List Token) → less + 1 ≡ room
@@ -401,7 +417,7 @@ pub whole_found : (text : List ℕ) (room less : ℕ) (whole left after : Left) 
     → IsStatementWithin text room whole after (statement made) ts end
 whole_found text room less whole left after h made s z ts mid rest end m g r i e =
     let q : Ends text h s (endings.Whole made) rest end = subst
-      (λ (x : Ending). Ends text h s x rest end) e i in
+    (λ (x : Ending). Ends text h s x rest end) e i in
     q room whole after ts (holds text room less whole left after h s ts mid rest m g r)
 
 pub holds_as : (text : List ℕ) (room : ℕ) (left after : Left) (h k : Head) (s : Statement)

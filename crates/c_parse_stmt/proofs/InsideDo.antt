@@ -37,7 +37,7 @@ do_ends room p whole left s c text ts rest d e end g k is low semi =
     let q = same_left g.between whole (omega arith) g.head.funclets in
     let i = g.head.is in
     do_found text room g.less i.0 p whole left s c g.mid rest d e end g.more
-      (reads_from text g.less g.between whole left s g.mid rest q g.inner) k is low semi ts i.1
+    (reads_from text g.less g.between whole left s g.mid rest q g.inner) k is low semi ts i.1
 
 do_reads : (room : ℕ) (whole left : Left) (s : Statement) (text text' : List ℕ)
     (ts rest all other : List Token) (g : Holds text room whole left heads.Do s ts rest)
@@ -47,7 +47,7 @@ do_reads room whole left s text text' ts rest all other g k r c =
     let l = g.head.locals in
     let q = same_left g.between whole (omega arith) g.head.funclets in
     reads_from text' g.less g.between whole left s r.mid other q
-      (inner_reads room whole left heads.Do s text text' ts rest all r.mid other g k r.second c)
+    (inner_reads room whole left heads.Do s text text' ts rest all r.mid other g k r.second c)
 
 do_within : (n room : ℕ) (whole left : Left) (s : Statement) (c : Expression) (at : ℕ)
     (text text' : List ℕ) (ts rest : List Token) → Holds text room whole left heads.Do s ts rest
@@ -56,12 +56,16 @@ do_within : (n room : ℕ) (whole left : Left) (s : Statement) (c : Expression) 
 do_within n room whole left s c at text text' ts rest g k low =
     let m = head_moves heads.Do text ts g.mid g.head.is in
     let d = ap (λ (x : List ℕ). length x) (same_funclets s text text' g.mid rest g.inner.is
-      (alike_inner text text' m.front g.mid ts m.split k)) in
+    (alike_inner text text' m.front g.mid ts m.split k)) in
     let t = g.inner.taken in let t0 = t.statements in let t1 = t.expressions in let t2 = t.locals in
-      let t3 = t.funclets in
+    let t3 = t.funclets in
     let h0 = g.head.locals in let h1 = g.head.funclets in let h2 = g.more in
-    record { statements = λ i. omega arith; expressions = λ i. let a = low i in omega arith;
-      locals = λ i. omega arith; funclets = λ i. omega arith }
+    record {
+      statements = λ i. omega arith;
+      expressions = λ i. let a = low i in omega arith;
+      locals = λ i. omega arith;
+      funclets = λ i. omega arith;
+    }
 
 do_moves : (room : ℕ) (whole left : Left) (s : Statement) (text : List ℕ) (ts rest : List Token)
     → Holds text room whole left heads.Do s ts rest → Moves (Inner heads.Do s) text ts rest
@@ -74,18 +78,18 @@ pub do_unended : (room : ℕ) (whole left : Left) (s : Statement) (text : List �
     → Failed 0 (place text rest) (NoStatement room whole) (HasStatement room whole) text ts
 do_unended room whole left s text ts rest g none =
     failed (Inner heads.Do s) 0 (NoStatement room whole) (HasStatement room whole) text ts rest
-      (do_moves room whole left s text ts rest g)
+    (do_moves room whole left s text ts rest g)
     (λ text' all other k e r. no_do_while 0 text' room g.less r.first.0 whole left s r.mid other
-      (do_reads room whole left s text text' ts rest all other g k r
-      (closed s rest other e g.inner.closed)) (no_keyword keywords.While rest other e none) all
-      r.first.1)
+    (do_reads room whole left s text text' ts rest all other g k r
+    (closed s rest other e g.inner.closed)) (no_keyword keywords.While rest other e none) all
+    r.first.1)
     (λ text' front k r. record {
       more = while_end;
       has = record {
         tree = DoWhile s 0 unit;
         is = λ other.
             let x = both_fixed (Inner heads.Do s) WhileEnd text' front while_end r
-              (is_while_end text') other in let y = x.second in
+            (is_while_end text') other in let y = x.second in
             record {
               after_do = x.first.mid;
               after_body = x.mid;
@@ -143,23 +147,23 @@ whiles_moves room p whole left s text ts rest d g k = both_moves (Inner heads.Do
 pub do_condition : (room p : ℕ) (whole left : Left) (s : Statement) (text : List ℕ)
     (ts rest d : List Token) → Holds text room whole left heads.Do s ts rest
     → IsKeyword keywords.While p rest d → Wraps NoCondition HasCondition (NoStatement room whole)
-      (HasStatement room whole) text d ts
+    (HasStatement room whole) text d ts
 do_condition room p whole left s text ts rest d g key =
     wraps (DoWhiles s p) NoCondition HasCondition (NoStatement room whole) (HasStatement room whole)
-      text ts d (whiles_moves room p whole left s text ts rest d g key)
+    text ts d (whiles_moves room p whole left s text ts rest d g key)
     (λ n text' all other k e r none.
     let x = r.first in
     no_do_condition n text' room g.less x.first.0 p whole left s x.mid r.mid other
-      (do_reads room whole left s text text' ts rest all r.mid g k x
-      (before_while s p r.mid other r.second)) r.second none all x.first.1)
+    (do_reads room whole left s text text' ts rest all r.mid g k x
+    (before_while s p r.mid other r.second)) r.second none all x.first.1)
     (λ n text' front inner k r has. record {
       more = semicolon;
       has = record {
         tree = DoWhile s p has.tree;
         is = λ other. do_item s p has.tree text' (((front ++ inner) ++ semicolon) ++ other) other
-          g.inner.statement (both_fixed (DoCondition s p has.tree) (Sig punctuators.Semicolon) text'
-          (front ++ inner) semicolon (both_fixed (DoWhiles s p) (Condition has.tree) text' front
-          inner r has.is) (λ o. a_punctuator punctuators.Semicolon o) other);
+            g.inner.statement (both_fixed (DoCondition s p has.tree) (Sig punctuators.Semicolon) text'
+            (front ++ inner) semicolon (both_fixed (DoWhiles s p) (Condition has.tree) text' front
+            inner r has.is) (λ o. a_punctuator punctuators.Semicolon o) other);
         statement = refl;
         within = do_within n room whole left s has.tree p text text' ts rest g k has.low;
       };
@@ -169,24 +173,24 @@ pub do_semicolon : (room p : ℕ) (whole left : Left) (s : Statement) (c : Expre
     (ts rest d e : List Token) → Holds text room whole left heads.Do s ts rest
     → IsKeyword keywords.While p rest d → IsCondition text c d e → height c ≤ 64
     → Wraps (NoPunctuator punctuators.Semicolon) (APunctuator punctuators.Semicolon)
-      (NoStatement room whole) (HasStatement room whole) text e ts
+    (NoStatement room whole) (HasStatement room whole) text e ts
 do_semicolon room p whole left s c text ts rest d f g key is low =
     wraps (DoCondition s p c) (NoPunctuator punctuators.Semicolon)
-      (APunctuator punctuators.Semicolon) (NoStatement room whole) (HasStatement room whole) text ts
-      f
+    (APunctuator punctuators.Semicolon) (NoStatement room whole) (HasStatement room whole) text ts
+    f
     (both_moves (DoWhiles s p) (Condition c) text ts d f
-      (whiles_moves room p whole left s text ts rest d g key) (condition c text d f is))
+    (whiles_moves room p whole left s text ts rest d g key) (condition c text d f is))
     (λ n text' all other k e r none.
     let x = r.first.first in
     no_do_end n text' room g.less x.first.0 p whole left s c x.mid r.first.mid r.mid other
-      (do_reads room whole left s text text' ts rest all r.first.mid g k x
-      (before_while s p r.first.mid r.mid r.first.second)) r.first.second r.second none all
-      x.first.1)
+    (do_reads room whole left s text text' ts rest all r.first.mid g k x
+    (before_while s p r.first.mid r.mid r.first.second)) r.first.second r.second none all
+    x.first.1)
     (λ n text' front inner k r has. able_now (HasStatement room whole) n text' (front ++ inner)
-      (record {
+    (record {
       tree = DoWhile s p c;
       is = λ other. do_item s p c text' ((front ++ inner) ++ other) other g.inner.statement
-        (both_fixed (DoCondition s p c) (Sig punctuators.Semicolon) text' front inner r has other);
+          (both_fixed (DoCondition s p c) (Sig punctuators.Semicolon) text' front inner r has other);
       statement = refl;
       within = do_within n room whole left s c p text text' ts rest g k (λ i. low);
     }))

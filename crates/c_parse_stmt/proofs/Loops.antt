@@ -23,7 +23,7 @@ pub while_found : (text : List ℕ) (room less at : ℕ) (left after : Left) (c 
     (z : Statement) (a b rest : List Token) → less + 1 ≡ room → IsCondition text c a b
     → height c ≤ 64 → IsStatementWithin text less left after z b rest
     → AfterKeyword keywords.While at a (λ ts. IsStatementWithin text room left after (While at c z)
-      ts rest)
+    ts rest)
 while_found text room less at left after c z a b rest n is low r ts k =
     let t = r.taken in let o = t.statements in let x = t.expressions in
     record {
@@ -54,7 +54,7 @@ no_while_room limits text room at left a i n ts k s end h d c w =
 
 pub no_while_condition : (limits : ℕ) (text : List ℕ) (room at : ℕ) (left : Left) (a : List Token)
     → NoCondition limits text a → AfterKeyword keywords.While at a
-      (NoStatement room left limits text)
+    (NoStatement room left limits text)
 no_while_condition limits text room at left a none ts k s end h d c w =
     let t = after_while text at s ts a end k h in
     let v = fits limits text room left s (While at t.condition t.body) t.same w in
@@ -64,7 +64,7 @@ no_while_condition limits text room at left a none ts k s end h d c w =
 pub no_while_body : (limits : ℕ) (text : List ℕ) (room less at : ℕ) (left : Left) (e : Expression)
     (a b : List Token) → less + 1 ≡ room → IsCondition text e a b
     → NoStatement less left limits text b → AfterKeyword keywords.While at a
-      (NoStatement room left limits text)
+    (NoStatement room left limits text)
 no_while_body limits text room less at left e a b n is none ts k s end h d c w =
     let t = after_while text at s ts a end k h in
     let v = fits limits text room left s (While at t.condition t.body) t.same w in
@@ -146,7 +146,7 @@ pub do_found : (text : List ℕ) (room less at p : ℕ) (left after : Left) (z :
     → IsStatementWithin text less left after z a b → IsKeyword keywords.While p b d
     → IsCondition text c d e → height c ≤ 64 → HasPunctuator punctuators.Semicolon e rest
     → AfterKeyword keywords.Do at a (λ ts. IsStatementWithin text room left after (DoWhile z p c) ts
-      rest)
+    rest)
 do_found text room less at p left after z c a b d e rest n r kw is low semi ts k =
     let t = r.taken in let o = t.statements in let x = t.expressions in
     record {
@@ -183,7 +183,7 @@ no_for_room limits text room at left a i n ts k s end h d c w =
 
 pub no_for_open : (limits : ℕ) (text : List ℕ) (room at : ℕ) (left : Left) (a : List Token)
     → Lacks punctuators.OpenParenthesis a → AfterKeyword keywords.For at a
-      (NoStatement room left limits text)
+    (NoStatement room left limits text)
 no_for_open limits text room at left a none ts k s end h d c w =
     let t = after_for text at s ts a end k h in
     none t.after_opening t.opening
@@ -279,10 +279,10 @@ pub for_found : (text : List ℕ) (room less at : ℕ) (left mid after : Left) (
     → IsUpTo text punctuators.CloseParenthesis n g j → height_of n ≤ 64
     → IsStatementWithin text less mid after z j rest
     → AfterKeyword keywords.For at a (λ ts. IsStatementWithin text room left after (For at f m n z)
-      ts rest)
+    ts rest)
 for_found text room less at left mid after f m n z a b e g j rest i st is low is' low' r ts k =
     let t = r.taken in let o = t.statements in let x = t.expressions in let l = t.locals in
-      let u = t.funclets in
+    let u = t.funclets in
     let y = st.low in let v = st.locals in let v' = st.funclets in
     record {
       is = record {
@@ -302,6 +302,10 @@ for_found text room less at left mid after f m n z a b e g j rest i st is low is
       };
       statement = refl;
       closed = r.closed;
-      taken = record { statements = omega arith; expressions = omega arith; locals = omega arith;
-        funclets = omega arith };
+      taken = record {
+        statements = omega arith;
+        expressions = omega arith;
+        locals = omega arith;
+        funclets = omega arith;
+      };
     }

@@ -29,8 +29,12 @@ opening_moves (suc n) text ts rest h = map (both
 
 opening_suc : (n : ℕ) (ts rest after : List Token) → AreOpening n ts rest
     → HasPunctuator punctuators.OpenParenthesis rest after → AreOpening (suc n) ts after
-opening_suc zero ts rest after h s = (after, subst
-    (λ (z : List Token). HasPunctuator punctuators.OpenParenthesis z after) (sym h) s, refl)
+opening_suc zero ts rest after h s = (
+  after,
+  subst
+      (λ (z : List Token). HasPunctuator punctuators.OpenParenthesis z after) (sym h) s,
+  refl,
+)
 opening_suc (suc n) ts rest after h s = (h.0, h.1, opening_suc n h.0 rest after h.2 s)
 
 pub opening_more : (n : ℕ) (ts rest after : List Token) → AreOpening n ts rest
@@ -45,7 +49,7 @@ opening_again n before other h =
     let m = opening_moves n [] before [] h in
     let p : before ≡ m.front = m.split ∙ append-nil m.front in
     subst (λ (z : List Token). AreOpening n (z ++ other) other) (sym p)
-      (m.again [] other (alike_same [] before))
+    (m.again [] other (alike_same [] before))
 
 -- the first of them, and the others
 pub opening_split : (a b c : ℕ) (ts rest : List Token) → a + b ≡ c → AreOpening c ts rest
@@ -73,7 +77,7 @@ opening_once zero (suc a) (suc b) ts us rest end p h g x y l k = absurd (omega a
 opening_once (suc most) (suc a) (suc b) ts us rest end p h g x y l k =
     let q = has_same punctuators.OpenParenthesis ts us h.0 g.0 p h.1 g.1 in
     let r = opening_once most a b h.0 g.0 rest end q h.2 g.2 x (λ d. y (omega arith)) (omega arith)
-      (omega arith) in
+    (omega arith) in
     (ap (λ (z : ℕ). suc z) r.0, r.1)
 
 -- ---- closing ones
@@ -90,7 +94,7 @@ closing_again n before other h =
     let m = closing_moves n [] before [] h in
     let p : before ≡ m.front = m.split ∙ append-nil m.front in
     subst (λ (z : List Token). AreClosing n (z ++ other) other) (sym p)
-      (m.again [] other (alike_same [] before))
+    (m.again [] other (alike_same [] before))
 
 -- so many
 abbrev pub closing : ℕ → List Token
@@ -100,8 +104,11 @@ closing (suc n) = punctuator punctuators.CloseParenthesis ∷ closing n
 closing_first : (n : ℕ) (ts mid rest : List Token)
     → HasPunctuator punctuators.CloseParenthesis ts mid → AreClosing n mid rest
     → AreClosing (suc n) ts rest
-closing_first zero ts mid rest s h = (ts, refl,
-    subst (λ (z : List Token). HasPunctuator punctuators.CloseParenthesis ts z) h s)
+closing_first zero ts mid rest s h = (
+  ts,
+  refl,
+  subst (λ (z : List Token). HasPunctuator punctuators.CloseParenthesis ts z) h s,
+)
 closing_first (suc n) ts mid rest s h = (h.0, closing_first n ts mid h.0 s h.1, h.2)
 
 pub closing_is : (n : ℕ) (other : List Token) → AreClosing n (closing n ++ other) other
@@ -129,7 +136,7 @@ pub closing_next : (a b : ℕ) (ts us rest end : List Token) → ts ≡ us → A
 closing_next a zero ts us rest end p h g l x = absurd (omega arith)
 closing_next a (suc b) ts us rest end p h g l x = elim (cases_order a b) [
   | inl e ↦ x end (subst (λ (z : List Token). HasPunctuator punctuators.CloseParenthesis z end)
-    (closing_same b us ts g.0 rest (sym p) g.1 (subst (λ n. AreClosing n ts rest) e h)) g.2)
+      (closing_same b us ts g.0 rest (sym p) g.1 (subst (λ n. AreClosing n ts rest) e h)) g.2)
   | inr (inl k) ↦ closing_next a b ts us rest g.0 p h g.1 k x
   | inr (inr k) ↦ absurd (omega arith)
 ]

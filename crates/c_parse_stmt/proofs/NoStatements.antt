@@ -43,7 +43,7 @@ first_is : (ts other : List Token) (z : Token) (rest : List Token) → SameFirst
 first_is [] other z rest same p = let e : [] ≡ z ∷ rest = sym same ∙ p in absurd cc
 first_is (t ∷ ts) other z rest same p =
     let e : t ∷ same.0 ≡ z ∷ rest = sym same.1 ∙ p in let q : t ≡ z = cc in
-      (ts, ap (λ (x : Token). x ∷ ts) q)
+    (ts, ap (λ (x : Token). x ∷ ts) q)
 
 -- `;` is not the first token
 abbrev pub NoSemicolon : List Token → Type 0
@@ -60,44 +60,44 @@ by_case ts text other (Evaluate (Some e)) rest none class semicolon same h d = n
 by_case ts text other (Evaluate None) rest none class semicolon same h d =
     let z = h.2 in
     let f = first_is ts other (token (kinds.Punctuator punctuators.Semicolon) z.0 z.1.0) rest same
-      (h.1 ∙ z.1.1) in
+    (h.1 ∙ z.1.1) in
     semicolon (token (kinds.Punctuator punctuators.Semicolon) z.0 z.1.0) f.0 f.1 refl
 by_case ts text other (Block ss) rest none class semicolon same h d =
     let c = item_begins text (Block ss) other rest h in let b = same_begins ts other same in
-      class (omega arith) (omega arith)
+    class (omega arith) (omega arith)
 by_case ts text other (If at c s) rest none class semicolon same h d =
     let c = item_begins text (If at c s) other rest h in let b = same_begins ts other same in
-      class (omega arith) (omega arith)
+    class (omega arith) (omega arith)
 by_case ts text other (IfElse at c s t) rest none class semicolon same h d =
     let c = item_begins text (IfElse at c s t) other rest h in let b = same_begins ts other same in
-      class (omega arith) (omega arith)
+    class (omega arith) (omega arith)
 by_case ts text other (While at c s) rest none class semicolon same h d =
     let c = item_begins text (While at c s) other rest h in let b = same_begins ts other same in
-      class (omega arith) (omega arith)
+    class (omega arith) (omega arith)
 by_case ts text other (DoWhile s at c) rest none class semicolon same h d =
     let c = item_begins text (DoWhile s at c) other rest h in let b = same_begins ts other same in
-      class (omega arith) (omega arith)
+    class (omega arith) (omega arith)
 by_case ts text other (For at f c n s) rest none class semicolon same h d =
     let c = item_begins text (For at f c n s) other rest h in let b = same_begins ts other same in
-      class (omega arith) (omega arith)
+    class (omega arith) (omega arith)
 by_case ts text other (Return at e) rest none class semicolon same h d =
     let c = item_begins text (Return at e) other rest h in let b = same_begins ts other same in
-      class (omega arith) (omega arith)
+    class (omega arith) (omega arith)
 by_case ts text other (Break at) rest none class semicolon same h d =
     let c = item_begins text (Break at) other rest h in let b = same_begins ts other same in
-      class (omega arith) (omega arith)
+    class (omega arith) (omega arith)
 by_case ts text other (Continue at) rest none class semicolon same h d =
     let c = item_begins text (Continue at) other rest h in let b = same_begins ts other same in
-      class (omega arith) (omega arith)
+    class (omega arith) (omega arith)
 by_case ts text other (Leave at) rest none class semicolon same h d =
     let c = item_begins text (Leave at) other rest h in let b = same_begins ts other same in
-      class (omega arith) (omega arith)
+    class (omega arith) (omega arith)
 by_case ts text other (TryExcept body at f handler) rest none class semicolon same h d =
     let c = item_begins text (TryExcept body at f handler) other rest h in
-      let b = same_begins ts other same in class (omega arith) (omega arith)
+    let b = same_begins ts other same in class (omega arith) (omega arith)
 by_case ts text other (TryFinally body at last) rest none class semicolon same h d =
     let c = item_begins text (TryFinally body at last) other rest h in
-      let b = same_begins ts other same in class (omega arith) (omega arith)
+    let b = same_begins ts other same in class (omega arith) (omega arith)
 
 -- no expression begins with the first token, which is neither `;` nor one that begins a statement
 pub no_statement : (ts : List Token) → BeginsNoExpression ts → (2 ≤ begins ts → begins ts ≤ 11 → ⊥)

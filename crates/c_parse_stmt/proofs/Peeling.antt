@@ -41,11 +41,11 @@ inner_head : (text : List ℕ) (n : ℕ) (ts y : List Token)
     → HasPunctuator punctuators.CloseParenthesis rest r → n ≤ height e)
     → (h : Expression) (after : List Token) → IsOperandAlone h → SpellsExpression text h ts after
     → suc n ≤ height h
-inner_head text n ts y o bare f (Constant at (literals.Integer value type)) after i
-    s = let p = has_front punctuators.OpenParenthesis ts y o in let q = ap front s.1 in
+inner_head text n ts y o bare f (Constant at (literals.Integer value type)) after i s =
+    let p = has_front punctuators.OpenParenthesis ts y o in let q = ap front s.1 in
     absurd (omega arith)
-inner_head text n ts y o bare f (Constant at (literals.CharacterConstant value)) after i
-    s = let p = has_front punctuators.OpenParenthesis ts y o in let q = ap front s.1 in
+inner_head text n ts y o bare f (Constant at (literals.CharacterConstant value)) after i s =
+    let p = has_front punctuators.OpenParenthesis ts y o in let q = ap front s.1 in
     absurd (omega arith)
 inner_head text n ts y o bare f (Variable named) after i s = let p = has_front
     punctuators.OpenParenthesis ts y o in let q = ap front s in absurd (omega arith)
@@ -88,8 +88,8 @@ least (suc m) n text ts v h f bare e rest r s c =
     let k = run_height text x.head x.steps x.after e rest x.run in
     let g = opening_untyped m h.0 v h.2 (bare (omega arith)) in
     let q = inner_head text (m + n) ts h.0 h.1 g
-      (λ a b d u w. least m n text h.0 v h.2 f (λ l. bare (omega arith)) a b d u w) x.head x.after
-      x.is_head x.spells in
+    (λ a b d u w. least m n text h.0 v h.2 f (λ l. bare (omega arith)) a b d u w) x.head x.after
+    x.is_head x.spells in
     omega arith
 
 -- ---- by the first token
@@ -140,8 +140,12 @@ pub has_condition : (n : ℕ) (text : List ℕ) (ts : List Token) (e : Expressio
 has_condition n text ts e h low =
     let m = condition e text ts [] h in
     let p : ts ≡ m.front = m.split ∙ append-nil m.front in
-    record { tree = e; is = λ other. subst (λ (z : List Token). IsCondition text e (z ++ other)
-      other) (sym p) (m.again text other (alike_same text ts)); low = λ k. low }
+    record {
+      tree = e;
+      is = λ other. subst (λ (z : List Token). IsCondition text e (z ++ other)
+          other) (sym p) (m.again text other (alike_same text ts));
+      low = λ k. low;
+    }
 
 -- after the condition's own parenthesis
 pub none_inside : (m n : ℕ) (text : List ℕ) (before other : List Token)
@@ -165,7 +169,7 @@ no_type zero ts l free none text before other o same = absurd (omega arith)
 no_type (suc m) ts l free none text before other o same =
     none_inside m 65 text before other o
     (λ e rest r s c. absurd (free text other same e rest
-      (record { fits = rank_low e; spells = s })))
+    (record { fits = rank_low e; spells = s })))
     (λ k g. untyped ts (none (omega arith)) (front_first ts other same ∙ g))
     (omega arith)
 
@@ -186,40 +190,50 @@ closing_all n = subst (λ (z : List Token). AreClosing n z []) (append-nil (clos
 pub goes : (opened : ℕ) (ts : List Token) → 1 ≤ opened → opened ≤ 65 → BeginsExpression ts
     → opened + first_over ts ≤ 65 → ContinuesInside opened ts
 goes zero ts l k b d = absurd (omega arith)
-goes (suc m) ts l k b d = record { first = b.first; rest = b.rest; split = b.split;
-    holds = λ text before speaks o. continued text before o (b.holds text speaks) }
+goes (suc m) ts l k b d = record {
+  first = b.first;
+  rest = b.rest;
+  split = b.split;
+  holds = λ text before speaks o. continued text before o (b.holds text speaks);
+}
   where
     continued : (text : List ℕ) (before : List Token) → AreOpening (suc m) before []
-      → Expressed text b.first → Continued text before b.first
+        → Expressed text b.first → Continued text before b.first
     continued text before o x =
         let q : first_over ts ≡ over_first b.first.kind = ap first_over b.split in
         let h = x.over in
         let n = enclosed m text x.tree (before ++ b.first ∷ (x.more ++ closing (suc m)))
-          (b.first ∷ (x.more ++ closing (suc m))) (closing (suc m)) []
-          (opening_again (suc m) before (b.first ∷ (x.more ++ closing (suc m))) o)
-          (x.derives (closing (suc m))).spells (closing_all (suc m)) in
+        (b.first ∷ (x.more ++ closing (suc m))) (closing (suc m)) []
+        (opening_again (suc m) before (b.first ∷ (x.more ++ closing (suc m))) o)
+        (x.derives (closing (suc m))).spells (closing_all (suc m)) in
         let w = n.high in
-        record { more = x.more ++ closing (suc m);
+        record {
+          more = x.more ++ closing (suc m);
           has = has_condition 1 text (before ++ b.first ∷ (x.more ++ closing (suc m))) n.tree n.is
-          (omega arith) }
+              (omega arith);
+        }
 
 pub goes_type : (opened : ℕ) (ts : List Token) → 2 ≤ opened → opened ≤ 65 → front ts ≡ 7
     → ContinuesInside opened ts
 goes_type opened [] l k h = absurd (omega arith)
 goes_type zero (t ∷ ts) l k h = absurd (omega arith)
 goes_type (suc zero) (t ∷ ts) l k h = absurd (omega arith)
-goes_type (suc (suc n)) (t ∷ ts) l k h = record { first = t; rest = ts; split = refl;
-    holds = λ text before speaks o. continued text before o }
+goes_type (suc (suc n)) (t ∷ ts) l k h = record {
+  first = t;
+  rest = ts;
+  split = refl;
+  holds = λ text before speaks o. continued text before o;
+}
   where
     continued : (text : List ℕ) (before : List Token) → AreOpening (suc (suc n)) before []
-      → Continued text before t
+        → Continued text before t
     continued text before o =
         let more = punctuator punctuators.CloseParenthesis ∷ name ∷ closing (suc n) in
         let b = base_at t more h in
         let x = opening_split (suc n) 1 (suc (suc n)) (before ++ t ∷ more) (t ∷ more) (omega arith)
-          (opening_again (suc (suc n)) before (t ∷ more) o) in
+        (opening_again (suc (suc n)) before (t ∷ more) o) in
         let c = enclosed n text (Cast x.2.1.0 (record { base = b.0; pointers = 0 }) variable)
-          (before ++ t ∷ more) x.0 (closing (suc n)) [] x.1
+        (before ++ t ∷ more) x.0 (closing (suc n)) [] x.1
         (record {
           after_operator = name ∷ closing (suc n);
           operator = record {
@@ -233,8 +247,11 @@ goes_type (suc (suc n)) (t ∷ ts) l k h = record { first = t; rest = ts; split 
         })
         (closing_all (suc n)) in
         let w = c.high in
-        record { more = more; has = has_condition 1 text (before ++ t ∷ more) c.tree c.is
-          (omega arith) }
+        record {
+          more = more;
+          has = has_condition 1 text (before ++ t ∷ more) c.tree c.is
+              (omega arith);
+        }
 
 kind_low : (k : Kind) → over_first k ≤ 1
 kind_low kinds.Identifier = omega arith

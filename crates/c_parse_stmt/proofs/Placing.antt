@@ -55,12 +55,21 @@ pub missing : (No Has : Family) (text : List ℕ) (ts before fault : List Token)
     → ((text' : List ℕ) → Alike text text' ts → Speaks text' → Able Has 6 text' before)
     → Failed 0 (place text fault) No Has text ts
 missing No Has text ts before fault split against
-    able = record { front = before; fault = fault; split = split; located = refl; against = against;
-    able = able; further = λ text' k a s e. absurd (omega arith) }
+    able = record {
+      front = before;
+      fault = fault;
+      split = split;
+      located = refl;
+      against = against;
+      able = able;
+      further = λ text' k a s e. absurd (omega arith);
+    }
 
 pub no_punctuator : (s : Punctuator) (text : List ℕ) (ts : List Token) → Lacks s ts
     → Failed 0 (place text ts) (NoPunctuator s) (APunctuator s) text ts
 no_punctuator s text ts none = missing (NoPunctuator s) (APunctuator s) text ts [] ts refl
     (λ text' other a same. lacks_first s ts other same none)
-    (λ text' a k. record { more = token (kinds.Punctuator s) 0 0 ∷ [];
-    has = λ other. (0, (0, refl)) })
+    (λ text' a k. record {
+      more = token (kinds.Punctuator s) 0 0 ∷ [];
+      has = λ other. (0, (0, refl));
+    })

@@ -20,9 +20,15 @@ use Rattle.c_parse_stmt.proofs.Placing.{Lacks, lacks_first, missing}
 -- ---- an expression up to a punctuator
 
 nothing : (s : Punctuator) (n : ℕ) (text : List ℕ) → Able (HasUpTo s 0) n text []
-nothing s n text = record { more = punctuator s ∷ [];
-    has = record { tree = None; is = λ other. (punctuator s ∷ other, refl, (0, (0, refl)));
-    low = λ k. omega arith; over = λ k. omega arith } }
+nothing s n text = record {
+  more = punctuator s ∷ [];
+  has = record {
+    tree = None;
+    is = λ other. (punctuator s ∷ other, refl, (0, (0, refl)));
+    low = λ k. omega arith;
+    over = λ k. omega arith;
+  };
+}
 
 pub no_expression : (s : Punctuator) (text : List ℕ) (ts : List Token) → Lacks s ts
     → BeginsNoExpression ts → Failed 0 (place text ts) (NoneUpTo s 0) (HasUpTo s 0) text ts
@@ -30,18 +36,27 @@ no_expression s text ts lacks free = missing (NoneUpTo s 0) (HasUpTo s 0) text t
     (against text) (λ text' a k. nothing s 6 text')
   where
     against : (text text' : List ℕ) (other : List Token) → Alike text text' ts → SameFirst ts other
-      → NoneUpTo s 0 0 text' other
+        → NoneUpTo s 0 0 text' other
     against text text' other a same None end h low over = lacks_first s ts other same lacks end
-      (subst (λ (z : List Token). HasPunctuator s z end) (sym h.1) h.2)
+        (subst (λ (z : List Token). HasPunctuator s z end) (sym h.1) h.2)
     against text text' other a same (Some e) end h low over = free text' other same e h.0 h.1
 
 evaluated : (s : Punctuator) (text : List ℕ) (t : Token) → Expressed text t
     → (more : List Token) × HasUpTo s 0 0 text (t ∷ more)
-evaluated s text t x = (x.more ++ punctuator s ∷ [],
-    record { tree = Some x.tree; is = λ other.
-    (punctuator s ∷ other, subst (λ z. Derives text comma x.tree (t ∷ z) (punctuator s ∷ other))
-    (sym (append_assoc x.more (punctuator s ∷ []) other)) (x.derives (punctuator s ∷ other)),
-    (0, (0, refl))); low = λ k. absurd (omega arith); over = λ k. absurd (omega arith) })
+evaluated s text t x = (
+  x.more ++ punctuator s ∷ [],
+  record {
+    tree = Some x.tree;
+    is = λ other. (
+      punctuator s ∷ other,
+      subst (λ z. Derives text comma x.tree (t ∷ z) (punctuator s ∷ other))
+          (sym (append_assoc x.more (punctuator s ∷ []) other)) (x.derives (punctuator s ∷ other)),
+      (0, (0, refl)),
+    );
+    low = λ k. absurd (omega arith);
+    over = λ k. absurd (omega arith);
+  },
+)
 
 pub deep_expression : (s : Punctuator) (text : List ℕ) (ts : List Token) → Lacks s ts
     → BeginsExpression ts → Failed 1 (place text ts) (NoneUpTo s 0) (HasUpTo s 0) text ts
@@ -58,11 +73,11 @@ deep_expression s text ts lacks b = record {
 }
   where
     against : (text' : List ℕ) (other : List Token) → Alike text text' ts → SameFirst ts other
-      → NoneUpTo s 0 1 text' other
+        → NoneUpTo s 0 1 text' other
     against text' other a same None end h low over = lacks_first s ts other same lacks end
-      (subst (λ (z : List Token). HasPunctuator s z end) (sym h.1) h.2)
+        (subst (λ (z : List Token). HasPunctuator s z end) (sym h.1) h.2)
     against text' other a same (Some e) end h low over = let q = over (omega arith) in
-      absurd (omega arith)
+        absurd (omega arith)
 
 -- ---- a statement
 
@@ -77,23 +92,32 @@ room_for s n d = omega arith
 
 pub no_statement : (left : Left) (text : List ℕ) (ts : List Token) → NoBase ts
     → BeginsNoStatement ts → Failed 0 (place text ts) (NoBlockItem 0 left) (HasBlockItem 0 left)
-      text ts
+    text ts
 no_statement left text ts none free =
     missing (NoBlockItem 0 left) (HasBlockItem 0 left) text ts [] ts refl
     (λ text' other a same s end h c w. free text' other same s end h
-      (undeclared text' s other end h (base_first ts other same none)))
+    (undeclared text' s other end h (base_first ts other same none)))
     (λ text' a k. record { more = []; has = inl refl })
 
 stated : (left : Left) (text : List ℕ) (t : Token) → Stated text t
     → (more : List Token) × HasBlockItem 0 left 0 text (t ∷ more)
-stated left text t x = (x.more, inr (record { tree = x.tree; is = x.is;
-    within = record { statements = λ k. absurd (omega arith);
-    expressions = λ k. absurd (omega arith); locals = λ k. absurd (omega arith);
-    funclets = λ k. absurd (omega arith) } }))
+stated left text t x = (
+  x.more,
+  inr (record {
+    tree = x.tree;
+    is = x.is;
+    within = record {
+      statements = λ k. absurd (omega arith);
+      expressions = λ k. absurd (omega arith);
+      locals = λ k. absurd (omega arith);
+      funclets = λ k. absurd (omega arith);
+    };
+  }),
+)
 
 pub deep_statement : (left : Left) (text : List ℕ) (ts : List Token) → NoBase ts
     → BeginsStatement ts → Failed 1 (place text ts) (NoBlockItem 0 left) (HasBlockItem 0 left) text
-      ts
+    ts
 deep_statement left text ts none b = record {
   front = [];
   fault = ts;

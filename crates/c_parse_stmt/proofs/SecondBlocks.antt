@@ -45,10 +45,10 @@ clause_moves (clauses.Except at f) text ts rest h =
     (has_punctuator punctuators.OpenBrace text h.after_filter rest h.brace))
 clause_moves (clauses.Finally at) text ts rest h =
     moves_so (Both (Key keywords.Finally at) (Sig punctuators.OpenBrace))
-      (λ t. IsClause t (clauses.Finally at)) text ts rest (λ t us end x. (x.mid, x.first, x.second))
+    (λ t. IsClause t (clauses.Finally at)) text ts rest (λ t us end x. (x.mid, x.first, x.second))
     (both_moves (Key keywords.Finally at) (Sig punctuators.OpenBrace) text ts h.0 rest
-      (key_moves keywords.Finally at text ts h.0 h.1)
-      (has_punctuator punctuators.OpenBrace text h.0 rest h.2))
+    (key_moves keywords.Finally at text ts h.0 h.1)
+    (has_punctuator punctuators.OpenBrace text h.0 rest h.2))
 
 abbrev pub Clausing : Statements → Clause → List ℕ → List Token → List Token → Type 0
 Clausing body c = Both (Guard body) (λ t. IsClause t c)
@@ -64,11 +64,11 @@ pub last_block : (room : ℕ) (whole left next : Left) (body : Statements) (c : 
     (text : List ℕ) (ts rest j : List Token) → Guards text room whole left body ts rest
     → ClauseIsTaken text room left next c rest j
     → Wraps (NoBlockItems room next) (HasBlockItems room next) (NoStatement room whole)
-      (HasStatement room whole) text j ts
+    (HasStatement room whole) text j ts
 last_block room whole left next body (clauses.Except at f) text ts rest j g c =
     wraps (Clausing body (clauses.Except at f)) (NoBlockItems room next) (HasBlockItems room next)
-      (NoStatement room whole) (HasStatement room whole) text ts j
-      (clausing_moves room whole left body (clauses.Except at f) text ts rest j g c.is)
+    (NoStatement room whole) (HasStatement room whole) text ts j
+    (clausing_moves room whole left body (clauses.Except at f) text ts rest j g c.is)
     (λ n text' all other h e r none.
     let x = r.first in
     no_handler n text' room x.first.1.0 at whole left next body
@@ -89,7 +89,7 @@ last_block room whole left next body (clauses.Except at f) text ts rest j g c =
       tree = TryExcept body at (expression f) has.trees;
       is = λ other.
           let x = both_fixed (Clausing body (clauses.Except at f)) (Items has.trees) text' front
-            inner r has.are other in let z = x.first.second in
+          inner r has.are other in let z = x.first.second in
           excepted body has.trees at (expression f) text' ((front ++ inner) ++ other) other
           (record {
             mid = x.first.mid;
@@ -108,20 +108,20 @@ last_block room whole left next body (clauses.Except at f) text ts rest j g c =
         expressions = λ i. let a = t.expressions in let b = has.within.expressions i in omega arith;
         locals = λ i. let a = t.locals in let b = has.within.locals i in omega arith;
         funclets = λ i. let a = t.funclets in let b = has.within.funclets i in
-          let d = number_length (accepts text' (expression f)) at in
-          omega (arith, length-append {A = ℕ});
+            let d = number_length (accepts text' (expression f)) at in
+            omega (arith, length-append {A = ℕ});
       };
     }))
 last_block room whole left next body (clauses.Finally at) text ts rest j g c =
     wraps (Clausing body (clauses.Finally at)) (NoBlockItems room next) (HasBlockItems room next)
-      (NoStatement room whole) (HasStatement room whole) text ts j
-      (clausing_moves room whole left body (clauses.Finally at) text ts rest j g c.is)
+    (NoStatement room whole) (HasStatement room whole) text ts j
+    (clausing_moves room whole left body (clauses.Finally at) text ts rest j g c.is)
     (λ n text' all other h e r none.
     let x = r.first in
     no_last n text' room x.first.1.0 at whole left next body x.first.0 r.mid r.second.0
-      (braced body text' all r.mid x) (taken_moved room whole left body text text' ts rest h g)
-      r.second.1 c.funclets c.locals (no_braced n text' room next r.second.0 other r.second.2 none)
-      all x.first.1.1)
+    (braced body text' all r.mid x) (taken_moved room whole left body text text' ts rest h g)
+    r.second.1 c.funclets c.locals (no_braced n text' room next r.second.0 other r.second.2 none)
+    all x.first.1.1)
     (λ n text' front inner h r has. able_now (HasStatement room whole) n text' (front ++ inner) (
     let t = taken_moved room whole left body text text' ts rest h g in
     let l = c.locals in let q = c.funclets in
@@ -129,7 +129,7 @@ last_block room whole left next body (clauses.Finally at) text ts rest j g c =
       tree = TryFinally body at has.trees;
       is = λ other.
           let x = both_fixed (Clausing body (clauses.Finally at)) (Items has.trees) text' front
-            inner r has.are other in let z = x.first.second in
+          inner r has.are other in let z = x.first.second in
           finished body has.trees at text' ((front ++ inner) ++ other) other (record {
             mid = x.first.mid;
             first = x.first.first;
@@ -141,7 +141,7 @@ last_block room whole left next body (clauses.Finally at) text ts rest j g c =
         expressions = λ i. let a = t.expressions in let b = has.within.expressions i in omega arith;
         locals = λ i. let a = t.locals in let b = has.within.locals i in omega arith;
         funclets = λ i. let a = t.funclets in let b = has.within.funclets i in
-          omega (arith, length-append {A = ℕ});
+            omega (arith, length-append {A = ℕ});
       };
     }))
 
@@ -149,7 +149,7 @@ pub guarded_found : (room : ℕ) (whole left next after : Left) (body last : Sta
     (text : List ℕ) (ts rest j end : List Token) → Guards text room whole left body ts rest
     → ClauseIsTaken text room left next c rest j → AreBlockItems text last j end
     → AllTaken text room next after last → IsStatementWithin text room whole after
-      (with_clause body c last) ts end
+    (with_clause body c last) ts end
 guarded_found room whole left next after body last (clauses.Except at f) text ts rest j end g c are
     t =
     except_found text room g.is.1.0 at whole left next after body last

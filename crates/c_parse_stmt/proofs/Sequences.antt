@@ -61,9 +61,12 @@ Fixed R text ts = (other : List Token) → R text (ts ++ other) other
 
 pub both_fixed : (R S : Relation) (text : List ℕ) (xs ys : List Token) → Fixed R text xs
     → Fixed S text ys → Fixed (Both R S) text (xs ++ ys)
-both_fixed R S text xs ys r s other = record { mid = ys ++ other;
-    first = subst (λ (z : List Token). R text z (ys ++ other)) (sym (append_append xs ys other))
-    (r (ys ++ other)); second = s other }
+both_fixed R S text xs ys r s other = record {
+  mid = ys ++ other;
+  first = subst (λ (z : List Token). R text z (ys ++ other)) (sym (append_append xs ys other))
+      (r (ys ++ other));
+  second = s other;
+}
 
 pub both_moves : (R S : Relation) (text : List ℕ) (ts a rest : List Token) → Moves R text ts a
     → Moves S text a rest → Moves (Both R S) text ts rest
@@ -71,17 +74,22 @@ both_moves R S text ts a rest m n = record {
   front = m.front ++ n.front;
   split = m.split ∙ ap (λ (z : List Token). m.front ++ z) n.split
       ∙ sym (append_append m.front n.front rest);
-  again = λ text' other h. record { mid = n.front ++ other;
-      first = subst (λ (z : List Token). R text' z (n.front ++ other))
-      (sym (append_append m.front n.front other)) (m.again text' (n.front ++ other) h);
-      second = n.again text' other (alike_inner text text' m.front a ts m.split h) };
+  again = λ text' other h. record {
+    mid = n.front ++ other;
+    first = subst (λ (z : List Token). R text' z (n.front ++ other))
+        (sym (append_append m.front n.front other)) (m.again text' (n.front ++ other) h);
+    second = n.again text' other (alike_inner text text' m.front a ts m.split h);
+  };
 }
 
 pub moves_so : (R S : Relation) (text : List ℕ) (ts rest : List Token)
     → ((text' : List ℕ) (us end : List Token) → R text' us end → S text' us end)
     → Moves R text ts rest → Moves S text ts rest
-moves_so R S text ts rest f m = record { front = m.front; split = m.split;
-    again = λ text' other h. f text' (m.front ++ other) other (m.again text' other h) }
+moves_so R S text ts rest f m = record {
+  front = m.front;
+  split = m.split;
+  again = λ text' other h. f text' (m.front ++ other) other (m.again text' other h);
+}
 
 -- nothing is before
 abbrev pub Same : Relation
@@ -94,20 +102,24 @@ same_moves text ts = record { front = []; split = refl; again = λ text' other h
 
 pub able_now : (Has : Family) (n : ℕ) (text : List ℕ) (ts : List Token) → Has n text ts
     → Able Has n text ts
-able_now Has n text ts h = record { more = [];
-    has = subst (λ (z : List Token). Has n text z) (sym (append_nothing ts)) h }
+able_now Has n text ts h = record {
+  more = [];
+  has = subst (λ (z : List Token). Has n text z) (sym (append_nothing ts)) h;
+}
 
 pub able_more : (Has : Family) (n : ℕ) (text : List ℕ) (xs ys : List Token)
     → Able Has n text (xs ++ ys) → Able Has n text xs
-able_more Has n text xs ys a = record { more = ys ++ a.more;
-    has = subst (λ (z : List Token). Has n text z) (append_append xs ys a.more) a.has }
+able_more Has n text xs ys a = record {
+  more = ys ++ a.more;
+  has = subst (λ (z : List Token). Has n text z) (append_append xs ys a.more) a.has;
+}
 
 pub wraps : (R : Relation) (No Has No' Has' : Family) (text : List ℕ) (ts rest : List Token)
     → Moves R text ts rest →
     ((n : ℕ) (text' : List ℕ) (all other : List Token) → Alike text text' ts → SameFirst rest other
-      → R text' all other → No n text' other → No' n text' all) →
+    → R text' all other → No n text' other → No' n text' all) →
     ((n : ℕ) (text' : List ℕ) (front inner : List Token) → Alike text text' ts → Fixed R text' front
-      → Has n text' inner → Able Has' n text' (front ++ inner)) →
+    → Has n text' inner → Able Has' n text' (front ++ inner)) →
     Wraps No Has No' Has' text rest ts
 wraps R No Has No' Has' text ts rest m f g = record {
   before = m.front;
@@ -127,27 +139,31 @@ wraps_wraps A B A' B' A'' B'' text ts ts' ts'' v w = record {
   no = λ n text' other h s none.
       subst (λ (z : List Token). A'' n text' z) (sym (append_append w.before v.before other))
       (w.no n text' (v.before ++ other) h (subst
-        (λ (z : List Token). SameFirst z (v.before ++ other)) (sym v.split)
-        (first_after v.before ts other s))
+      (λ (z : List Token). SameFirst z (v.before ++ other)) (sym v.split)
+      (first_after v.before ts other s))
       (v.no n text' other (alike_inner text text' w.before ts' ts'' w.split h) s none));
   has = λ n text' inner h k has.
       let a = v.has n text' inner (alike_inner text text' w.before ts' ts'' w.split h) k has in
       let b = w.has n text' ((v.before ++ inner) ++ a.more) h k a.has in
       let e : w.before ++ ((v.before ++ inner) ++ a.more)
-        ≡ ((w.before ++ v.before) ++ inner) ++ a.more = ap (λ (z : List Token). w.before ++ z)
-          (append_append v.before inner a.more)
-        ∙ sym (append_append w.before v.before (inner ++ a.more))
-        ∙ sym (append_append (w.before ++ v.before) inner a.more) in
+      ≡ ((w.before ++ v.before) ++ inner) ++ a.more = ap (λ (z : List Token). w.before ++ z)
+      (append_append v.before inner a.more)
+      ∙ sym (append_append w.before v.before (inner ++ a.more))
+      ∙ sym (append_append (w.before ++ v.before) inner a.more) in
       let q : (w.before ++ ((v.before ++ inner) ++ a.more)) ++ b.more
-        ≡ ((w.before ++ v.before) ++ inner) ++ (a.more ++ b.more) = ap
-          (λ (z : List Token). z ++ b.more) e
-        ∙ append_append ((w.before ++ v.before) ++ inner) a.more b.more in
+      ≡ ((w.before ++ v.before) ++ inner) ++ (a.more ++ b.more) = ap
+      (λ (z : List Token). z ++ b.more) e
+      ∙ append_append ((w.before ++ v.before) ++ inner) a.more b.more in
       record { more = a.more ++ b.more; has = subst (λ (z : List Token). B'' n text' z) q b.has };
 }
 
 pub wraps_same : (A B : Family) (text : List ℕ) (ts : List Token) → Wraps A B A B text ts ts
-wraps_same A B text ts = record { before = []; split = refl; no = λ n text' other h s none. none;
-    has = λ n text' inner h k has. able_now B n text' inner has }
+wraps_same A B text ts = record {
+  before = [];
+  split = refl;
+  no = λ n text' other h s none. none;
+  has = λ n text' inner h k has. able_now B n text' inner has;
+}
 
 -- ---- a failure after a phrase
 
@@ -155,11 +171,11 @@ wraps_same A B text ts = record { before = []; split = refl; no = λ n text' oth
 pub failed : (R : Relation) (kind : ℕ) (No Has : Family) (text : List ℕ) (ts rest : List Token)
     → Moves R text ts rest →
     ((text' : List ℕ) (all other : List Token) → Alike text text' ts → SameFirst rest other
-      → R text' all other → No kind text' all) →
+    → R text' all other → No kind text' all) →
     ((text' : List ℕ) (front : List Token) → Alike text text' ts → Fixed R text' front
-      → Able Has 6 text' front) →
+    → Able Has 6 text' front) →
     ((text' : List ℕ) (k : ℕ) (front : List Token) → Alike text text' ts → Fixed R text' front
-      → kind ≡ suc k → Onward Has k text' front rest) →
+    → kind ≡ suc k → Onward Has k text' front rest) →
     Failed kind (place text rest) No Has text ts
 failed R kind No Has text ts rest m f g o = record {
   front = m.front;

@@ -51,14 +51,14 @@ full text room ts following b is = record {
     m = base b text ts following is
 
     against : (text' : List ℕ) (other : List Token) → Alike text text' ts → SameFirst ts other
-      → NoDeclaration room 0 2 text' other
+        → NoDeclaration room 0 2 text' other
     against text' other a same c [] end h w = absurd h.2
     against text' other a same c (l ∷ ls) end h w = let n = w.count (omega arith) in
-      absurd (omega arith)
+        absurd (omega arith)
 
     onward : (text' : List ℕ) (before : List Token) → ts ≡ before ++ following
-      → ((other : List Token) → IsBase b (before ++ other) other)
-      → Onward (HasDeclaration room 0) 1 text' [] ts
+        → ((other : List Token) → IsBase b (before ++ other) other)
+        → Onward (HasDeclaration room 0) 1 text' [] ts
     onward text' [] e f = let p = base_front b [] [] (f []) in absurd (omega arith)
     onward text' (t ∷ before) e f = record {
       token = t;
@@ -85,15 +85,18 @@ full text room ts following b is = record {
                 (0, (0, refl)),
               ),
             );
-        within = record { expressions = λ k. omega arith; statements = λ k. omega arith;
-          count = λ k. absurd (omega arith) };
+        within = record {
+          expressions = λ k. omega arith;
+          statements = λ k. omega arith;
+          count = λ k. absurd (omega arith);
+        };
       });
     }
 
 pub no_locals : (text : List ℕ) (room left : ℕ) (ts following : List Token) (b : Base)
     → IsBase b ts following → EndsBase b ts following
     → Wraps (NoLocals room left) (HasLocals room left) (NoDeclaration room left)
-      (HasDeclaration room left) text following ts
+    (HasDeclaration room left) text following ts
 no_locals text room left ts following b is ends =
     let m = base b text ts following is in
     record {
@@ -110,8 +113,8 @@ no_locals text room left ts following b is ends =
           is = λ other.
               let p = append_cancel_right ends.front m.front following (sym ends.split ∙ m.split) in
               subst (λ (z : List Token). IsDeclaration text' b h.trees z other)
-                (sym (flat ends.front inner [] other ∙ ap (λ z. z ++ (inner ++ other)) p))
-                (inner ++ other, m.again text' (inner ++ other) a, h.are other);
+              (sym (flat ends.front inner [] other ∙ ap (λ z. z ++ (inner ++ other)) p))
+              (inner ++ other, m.again text' (inner ++ other) a, h.are other);
           within = h.within;
         });
       };
@@ -136,17 +139,21 @@ first_has : (left n : ℕ) (text : List ℕ) (ts : List Token) → HasDeclaratio
     → Able (HasForInitialiser left) n text ts
 first_has left n text ts (inl e) = subst (λ z. Able (HasForInitialiser left) n text z) (sym e)
     (record {
-  more = punctuator punctuators.Semicolon ∷ [];
-  has = record { tree = Evaluating None; is = λ other.
-      (punctuator punctuators.Semicolon ∷ other, refl, (0, (0, refl))); low = λ k. omega arith;
-      count = λ k. omega arith };
-})
+      more = punctuator punctuators.Semicolon ∷ [];
+      has = record {
+        tree = Evaluating None;
+        is = λ other.
+            (punctuator punctuators.Semicolon ∷ other, refl, (0, (0, refl)));
+        low = λ k. omega arith;
+        count = λ k. omega arith;
+      };
+    })
 first_has left n text ts (inr d) = record {
   more = [];
   has = record {
     tree = Declaring d.base d.trees;
     is = λ other. subst (λ (z : List Token). IsForInitialiser text (Declaring d.base d.trees) z
-      other) (sym (append_assoc ts [] other)) (d.is other);
+        other) (sym (append_assoc ts [] other)) (d.is other);
     low = d.within.expressions;
     count = d.within.count;
   };
@@ -154,15 +161,19 @@ first_has left n text ts (inr d) = record {
 
 pub no_declaration : (text : List ℕ) (left : ℕ) (ts following : List Token) (b : Base)
     → IsBase b ts following → Wraps (NoDeclaration 1 left) (HasDeclaration 1 left)
-      (NoForInitialiser left) (HasForInitialiser left) text ts ts
-no_declaration text left ts following b is = record { before = []; split = refl; no = against;
-    has = λ n text' inner a speaks h. first_has left n text' inner h }
+    (NoForInitialiser left) (HasForInitialiser left) text ts ts
+no_declaration text left ts following b is = record {
+  before = [];
+  split = refl;
+  no = against;
+  has = λ n text' inner a speaks h. first_has left n text' inner h;
+}
   where
     against : (n : ℕ) (text' : List ℕ) (other : List Token) → Alike text text' ts
-      → SameFirst ts other → NoDeclaration 1 left n text' other
-      → NoForInitialiser left n text' other
+        → SameFirst ts other → NoDeclaration 1 left n text' other
+        → NoForInitialiser left n text' other
     against n text' other a same none (Declaring d ls) end h low count = none d ls end h
-      (record { expressions = low; statements = λ k. one_at_most ls; count = count })
+        (record { expressions = low; statements = λ k. one_at_most ls; count = count })
     against n text' other a same none (Evaluating e) end h low count =
         let p = base_front b ts following is in
         let q = front_first ts other same in
@@ -171,7 +182,7 @@ no_declaration text left ts following b is = record { before = []; split = refl;
 
 pub no_optional : (text : List ℕ) (left : ℕ) (ts : List Token) → NoBase ts
     → Wraps (NoneUpTo punctuators.Semicolon 1) (HasUpTo punctuators.Semicolon 1)
-      (NoForInitialiser left) (HasForInitialiser left) text ts ts
+    (NoForInitialiser left) (HasForInitialiser left) text ts ts
 no_optional text left ts none = record {
   before = [];
   split = refl;
@@ -181,7 +192,7 @@ no_optional text left ts none = record {
     has = record {
       tree = Evaluating h.tree;
       is = λ other. subst (λ (z : List Token). IsForInitialiser text' (Evaluating h.tree) z other)
-        (sym (append_assoc inner [] other)) (h.is other);
+          (sym (append_assoc inner [] other)) (h.is other);
       low = h.low;
       count = λ k. omega arith;
     };
@@ -189,9 +200,9 @@ no_optional text left ts none = record {
 }
   where
     against : (n : ℕ) (text' : List ℕ) (other : List Token) → Alike text text' ts
-      → SameFirst ts other → NoneUpTo punctuators.Semicolon 1 n text' other
-      → NoForInitialiser left n text' other
+        → SameFirst ts other → NoneUpTo punctuators.Semicolon 1 n text' other
+        → NoForInitialiser left n text' other
     against n text' other a same nothing (Declaring d ls) end h low count = absurd
-      (base_first ts other same none d h.0 h.1)
+        (base_first ts other same none d h.0 h.1)
     against n text' other a same nothing (Evaluating e) end h low count = nothing e end h low
-      (λ k. some_at_most e)
+        (λ k. some_at_most e)

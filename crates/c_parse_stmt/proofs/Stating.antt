@@ -42,11 +42,19 @@ empty text other = (_, refl, (0, (0, refl)))
 stated_by_keyword : (text : List ℕ) (k : Keyword) (at end : ℕ) → 2 ≤ keyword_begins k
     → keyword_begins k ≤ 11 → Stated text (token (kinds.Keyword k) at end)
 stated_by_keyword text keywords.Break at end h
-    l = record { more = punctuator punctuators.Semicolon ∷ []; tree = Break at;
-    is = λ other. (_, (end, refl), (0, (0, refl))); statement = refl }
+    l = record {
+      more = punctuator punctuators.Semicolon ∷ [];
+      tree = Break at;
+      is = λ other. (_, (end, refl), (0, (0, refl)));
+      statement = refl;
+    }
 stated_by_keyword text keywords.Continue at end h
-    l = record { more = punctuator punctuators.Semicolon ∷ []; tree = Continue at;
-    is = λ other. (_, (end, refl), (0, (0, refl))); statement = refl }
+    l = record {
+      more = punctuator punctuators.Semicolon ∷ [];
+      tree = Continue at;
+      is = λ other. (_, (end, refl), (0, (0, refl)));
+      statement = refl;
+    }
 stated_by_keyword text keywords.Do at end h l = record {
   more =
       punctuator punctuators.Semicolon ∷ keyword keywords.While
@@ -136,8 +144,12 @@ stated_by_keyword text keywords.Try at end h l = record {
   statement = refl;
 }
 stated_by_keyword text keywords.Leave at end h
-    l = record { more = punctuator punctuators.Semicolon ∷ []; tree = Leave at;
-    is = λ other. (_, (end, refl), (0, (0, refl))); statement = refl }
+    l = record {
+      more = punctuator punctuators.Semicolon ∷ [];
+      tree = Leave at;
+      is = λ other. (_, (end, refl), (0, (0, refl)));
+      statement = refl;
+    }
 stated_by_keyword text k at end h l = absurd (omega arith)
 
 stated_by_punctuator : (text : List ℕ) (s : Punctuator) (at end : ℕ) → 2 ≤ punctuator_begins s
@@ -161,34 +173,53 @@ stated_by text (kinds.Punctuator s) at end h l = stated_by_punctuator text s at 
 
 pub begins_statement : (ts : List Token) → 2 ≤ begins ts → begins ts ≤ 11 → BeginsStatement ts
 begins_statement [] h l = absurd (omega arith)
-begins_statement (t ∷ ts) h l = record { first = t; rest = ts; split = refl;
-    holds = λ text s. stated_by text t.kind t.start t.end h l }
+begins_statement (t ∷ ts) h l = record {
+  first = t;
+  rest = ts;
+  split = refl;
+  holds = λ text s. stated_by text t.kind t.start t.end h l;
+}
 
 alone : (text : List ℕ) (k : Kind) (at end : ℕ) → k ≡ kinds.Punctuator punctuators.Semicolon
     → Stated text (token k at end)
 alone text k at end e = subst (λ (z : Kind). Stated text (token z at end)) (sym e)
-    (record { more = []; tree = Evaluate None; is = λ other. (_, refl, (at, (end, refl)));
-    statement = refl })
+    (record {
+      more = [];
+      tree = Evaluate None;
+      is = λ other. (_, refl, (at, (end, refl)));
+      statement = refl;
+    })
 
 pub begins_empty : (ts rest : List Token) (t : Token) → ts ≡ t ∷ rest
     → t.kind ≡ kinds.Punctuator punctuators.Semicolon → BeginsStatement ts
-begins_empty ts rest t e q = record { first = t; rest = rest; split = e;
-    holds = λ text s. alone text t.kind t.start t.end q }
+begins_empty ts rest t e q = record {
+  first = t;
+  rest = rest;
+  split = e;
+  holds = λ text s. alone text t.kind t.start t.end q;
+}
 
 evaluated : (text : List ℕ) (t : Token) → Expressed text t → Stated text t
 evaluated text t x = record {
   more = x.more ++ punctuator punctuators.Semicolon ∷ [];
   tree = Evaluate (Some x.tree);
-  is = λ other. (punctuator punctuators.Semicolon ∷ other,
-      subst (λ z. Derives text comma x.tree (t ∷ z) (punctuator punctuators.Semicolon ∷ other))
-      (sym (append_assoc x.more (punctuator punctuators.Semicolon ∷ []) other))
-      (x.derives (punctuator punctuators.Semicolon ∷ other)), (0, (0, refl)));
+  is = λ other. (
+    punctuator punctuators.Semicolon ∷ other,
+    subst (λ z. Derives text comma x.tree (t ∷ z) (punctuator punctuators.Semicolon ∷ other))
+        (sym (append_assoc x.more (punctuator punctuators.Semicolon ∷ []) other))
+        (x.derives (punctuator punctuators.Semicolon ∷ other)),
+    (0, (0, refl)),
+  );
   statement = refl;
 }
 
 pub begins_evaluation : (ts : List Token) → BeginsExpression ts → BeginsStatement ts
-begins_evaluation ts h = record { first = h.first; rest = h.rest; split = h.split;
-    holds = λ text s. evaluated text h.first (h.holds text s) }
+begins_evaluation ts h = record {
+  first = h.first;
+  rest = h.rest;
+  split = h.split;
+  holds = λ text s. evaluated text h.first (h.holds text s);
+}
 
 -- ---- by the token that was found at the front
 

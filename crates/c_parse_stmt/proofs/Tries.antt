@@ -36,7 +36,7 @@ number_length false at = refl
 
 pub no_try : (limits : ℕ) (text : List ℕ) (room at : ℕ) (left : Left) (a : List Token) → 6 ≤ limits
     → room ≡ 0 → left.funclets ≡ 0 → AfterKeyword keywords.Try at a
-      (NoStatement room left limits text)
+    (NoStatement room left limits text)
 no_try limits text room at left a i n m ts k s end h d c w = by (after_try text at s ts a end k h)
   where
     by : (AfterExcept text s a end ⊎ AfterFinally text s a end) → ⊥
@@ -51,7 +51,7 @@ no_try limits text room at left a i n m ts k s end h d c w = by (after_try text 
 
 pub no_try_body : (limits : ℕ) (text : List ℕ) (room at : ℕ) (left : Left) (a : List Token)
     → NoneBraced room left limits text a → AfterKeyword keywords.Try at a
-      (NoStatement room left limits text)
+    (NoStatement room left limits text)
 no_try_body limits text room at left a none ts k s end h d c w = by
     (after_try text at s ts a end k h)
   where
@@ -92,7 +92,7 @@ not_except text body p s a b j end is kw t =
 pub no_except_room : (limits : ℕ) (text : List ℕ) (room at p : ℕ) (left : Left) (body : Statements)
     (a b j : List Token) → 1 ≤ limits → room ≡ 0 → IsBraced text body a b
     → IsKeyword keywords.Except p b j → AfterKeyword keywords.Try at a
-      (NoStatement room left limits text)
+    (NoStatement room left limits text)
 no_except_room limits text room at p left body a b j i n is kw ts k s end h d c w = by
     (after_try text at s ts a end k h)
   where
@@ -128,9 +128,10 @@ pub no_handler : (limits : ℕ) (text : List ℕ) (room at p : ℕ) (left mid ne
     → AllTaken text room left mid body → IsKeyword keywords.Except p b j → IsCondition text f j g
     → next.funclets + numbers_of (accepts text f) ≡ mid.funclets → next.locals ≡ mid.locals
     → NoneBraced room next limits text g → AfterKeyword keywords.Try at a
-      (NoStatement room left limits text)
+    (NoStatement room left limits text)
 no_handler limits text room at p left mid next body f a b j g is tk kw cn nx ny none ts k s end h d
-    c w = by (after_try text at s ts a end k h)
+    c w =
+    by (after_try text at s ts a end k h)
   where
     by : (AfterExcept text s a end ⊎ AfterFinally text s a end) → ⊥
     by (inl t) =
@@ -158,12 +159,12 @@ pub except_found : (text : List ℕ) (room at p : ℕ) (left mid next after : Le
     → IsCondition text f j g → height f ≤ 64 → next.funclets + numbers_of (accepts text f)
     ≡ mid.funclets → next.locals ≡ mid.locals → IsBraced text handler g rest
     → AllTaken text room next after handler → AfterKeyword keywords.Try at a
-      (λ ts. IsStatementWithin text room left after (TryExcept body p f handler) ts rest)
+    (λ ts. IsStatementWithin text room left after (TryExcept body p f handler) ts rest)
 except_found text room at p left mid next after body handler f a b j g rest n is tk kw cn low nx ny
     is' tk' ts k =
     let o = tk.statements in let x = tk.expressions in let l = tk.locals in let m = tk.funclets in
     let o' = tk'.statements in let x' = tk'.expressions in let l' = tk'.locals in
-      let m' = tk'.funclets in
+    let m' = tk'.funclets in
     let y = number_length (accepts text f) p in
     record {
       is = record {
@@ -179,8 +180,12 @@ except_found text room at p left mid next after body handler f a b j g rest n is
       };
       statement = refl;
       closed = λ i. absurd cc;
-      taken = record { statements = omega arith; expressions = omega arith; locals = omega arith;
-        funclets = omega (arith, length-append {A = ℕ}) };
+      taken = record {
+        statements = omega arith;
+        expressions = omega arith;
+        locals = omega arith;
+        funclets = omega (arith, length-append {A = ℕ});
+      };
     }
 
 pub unguarded : (limits : ℕ) (text : List ℕ) (room at : ℕ) (left : Left) (body : Statements)
@@ -222,7 +227,7 @@ pub no_last : (limits : ℕ) (text : List ℕ) (room at p : ℕ) (left mid next 
     → AllTaken text room left mid body → IsKeyword keywords.Finally p b j
     → next.funclets + 1 ≡ mid.funclets → next.locals ≡ mid.locals
     → NoneBraced room next limits text j → AfterKeyword keywords.Try at a
-      (NoStatement room left limits text)
+    (NoStatement room left limits text)
 no_last limits text room at p left mid next body a b j is tk kw nx ny none ts k s end h d c w = by
     (after_try text at s ts a end k h)
   where
@@ -248,11 +253,11 @@ pub finally_found : (text : List ℕ) (room at p : ℕ) (left mid next after : L
     → AllTaken text room left mid body → IsKeyword keywords.Finally p b j
     → next.funclets + 1 ≡ mid.funclets → next.locals ≡ mid.locals → IsBraced text last j rest
     → AllTaken text room next after last → AfterKeyword keywords.Try at a
-      (λ ts. IsStatementWithin text room left after (TryFinally body p last) ts rest)
+    (λ ts. IsStatementWithin text room left after (TryFinally body p last) ts rest)
 finally_found text room at p left mid next after body last a b j rest is tk kw nx ny is' tk' ts k =
     let o = tk.statements in let x = tk.expressions in let l = tk.locals in let m = tk.funclets in
     let o' = tk'.statements in let x' = tk'.expressions in let l' = tk'.locals in
-      let m' = tk'.funclets in
+    let m' = tk'.funclets in
     record {
       is = record {
         after_try = a;
@@ -265,8 +270,12 @@ finally_found text room at p left mid next after body last a b j rest is tk kw n
       };
       statement = refl;
       closed = λ i. absurd cc;
-      taken = record { statements = omega arith; expressions = omega arith; locals = omega arith;
-        funclets = omega (arith, length-append {A = ℕ}) };
+      taken = record {
+        statements = omega arith;
+        expressions = omega arith;
+        locals = omega arith;
+        funclets = omega (arith, length-append {A = ℕ});
+      };
     }
 
 pub no_braced : (limits : ℕ) (text : List ℕ) (room : ℕ) (left : Left) (ts a : List Token)

@@ -75,7 +75,7 @@ no_if_condition limits text room at left a none ts k s end h d c w = by
 pub no_then : (limits : ℕ) (text : List ℕ) (room less at : ℕ) (left : Left) (e : Expression)
     (a b : List Token) → less + 1 ≡ room → IsCondition text e a b
     → NoStatement less left limits text b → AfterKeyword keywords.If at a
-      (NoStatement room left limits text)
+    (NoStatement room left limits text)
 no_then limits text room less at left e a b n is none ts k s end h d c w = by
     (after_if text at s ts a end k h)
   where
@@ -142,7 +142,7 @@ pub if_found : (text : List ℕ) (room less at : ℕ) (left after : Left) (c : E
     (z : Statement) (a b rest : List Token) → less + 1 ≡ room → IsCondition text c a b
     → height c ≤ 64 → IsStatementWithin text less left after z b rest → NoElse rest
     → AfterKeyword keywords.If at a (λ ts. IsStatementWithin text room left after (If at c z) ts
-      rest)
+    rest)
 if_found text room less at left after c z a b rest n is low r f ts k =
     let t = r.taken in let o = t.statements in let x = t.expressions in
     record {
@@ -172,12 +172,12 @@ pub if_else_found : (text : List ℕ) (room less at : ℕ) (left mid after : Lef
     → height c ≤ 64 → IsStatementWithin text less left mid z b d → HasKeyword keywords.Else d e
     → IsStatementWithin text less mid after y e rest
     → AfterKeyword keywords.If at a (λ ts. IsStatementWithin text room left after (IfElse at c z y)
-      ts rest)
+    ts rest)
 if_else_found text room less at left mid after c z y a b d e rest n is low r els q ts k =
     let t = r.taken in let o = t.statements in let x = t.expressions in let l = t.locals in
-      let m = t.funclets in
+    let m = t.funclets in
     let u = q.taken in let o' = u.statements in let x' = u.expressions in let l' = u.locals in
-      let m' = u.funclets in
+    let m' = u.funclets in
     record {
       is = record {
         after_if = a;
@@ -193,8 +193,12 @@ if_else_found text room less at left mid after c z y a b d e rest n is low r els
       };
       statement = refl;
       closed = q.closed;
-      taken = record { statements = omega arith; expressions = omega arith; locals = omega arith;
-        funclets = omega (arith, length-append {A = ℕ}) };
+      taken = record {
+        statements = omega arith;
+        expressions = omega arith;
+        locals = omega arith;
+        funclets = omega (arith, length-append {A = ℕ});
+      };
     }
 
 -- ---- expressions, `return` and jumps
@@ -209,9 +213,17 @@ pub evaluated : (text : List ℕ) (room : ℕ) (left : Left) (e : Option Express
     (ts rest : List Token) → IsUpTo text punctuators.Semicolon e ts rest → height_of e ≤ 64
     → one_over e ≤ room → IsStatementWithin text room left left (Evaluate e) ts rest
 evaluated text room left e ts rest is low over =
-    record { is = is; statement = refl; closed = λ i. absurd cc;
-    taken = record { statements = over; expressions = low; locals = omega arith;
-    funclets = omega arith } }
+    record {
+      is = is;
+      statement = refl;
+      closed = λ i. absurd cc;
+      taken = record {
+        statements = over;
+        expressions = low;
+        locals = omega arith;
+        funclets = omega arith;
+      };
+    }
 
 pub no_evaluation : (limits : ℕ) (text : List ℕ) (room : ℕ) (left : Left) (ts : List Token)
     → NoneUpTo punctuators.Semicolon room limits text ts → NoEvaluation room left limits text ts
@@ -220,7 +232,7 @@ no_evaluation limits text room left ts none e end h w = none e end h w.expressio
 pub returned : (text : List ℕ) (room at : ℕ) (left : Left) (e : Option Expression)
     (a rest : List Token) → IsUpTo text punctuators.Semicolon e a rest → height_of e ≤ 64
     → one_over e ≤ room → AfterKeyword keywords.Return at a
-      (λ ts. IsStatementWithin text room left left (Return at e) ts rest)
+    (λ ts. IsStatementWithin text room left left (Return at e) ts rest)
 returned text room at left e a rest is low over ts k = record {
   is = (a, k, is);
   statement = refl;
@@ -244,23 +256,47 @@ no_return limits text room at left a none ts k s end h d c w =
 pub broken : (text : List ℕ) (room at : ℕ) (left : Left) (ts a rest : List Token)
     → IsKeyword keywords.Break at ts a → HasPunctuator punctuators.Semicolon a rest
     → IsStatementWithin text room left left (Break at) ts rest
-broken text room at left ts a rest k h = record { is = (a, k, h); statement = refl;
-    closed = λ i. absurd cc; taken = record { statements = omega arith; expressions = omega arith;
-    locals = omega arith; funclets = omega arith } }
+broken text room at left ts a rest k h = record {
+  is = (a, k, h);
+  statement = refl;
+  closed = λ i. absurd cc;
+  taken = record {
+    statements = omega arith;
+    expressions = omega arith;
+    locals = omega arith;
+    funclets = omega arith;
+  };
+}
 
 pub continued : (text : List ℕ) (room at : ℕ) (left : Left) (ts a rest : List Token)
     → IsKeyword keywords.Continue at ts a → HasPunctuator punctuators.Semicolon a rest
     → IsStatementWithin text room left left (Continue at) ts rest
-continued text room at left ts a rest k h = record { is = (a, k, h); statement = refl;
-    closed = λ i. absurd cc; taken = record { statements = omega arith; expressions = omega arith;
-    locals = omega arith; funclets = omega arith } }
+continued text room at left ts a rest k h = record {
+  is = (a, k, h);
+  statement = refl;
+  closed = λ i. absurd cc;
+  taken = record {
+    statements = omega arith;
+    expressions = omega arith;
+    locals = omega arith;
+    funclets = omega arith;
+  };
+}
 
 pub left_by : (text : List ℕ) (room at : ℕ) (left : Left) (ts a rest : List Token)
     → IsKeyword keywords.Leave at ts a → HasPunctuator punctuators.Semicolon a rest
     → IsStatementWithin text room left left (Leave at) ts rest
-left_by text room at left ts a rest k h = record { is = (a, k, h); statement = refl;
-    closed = λ i. absurd cc; taken = record { statements = omega arith; expressions = omega arith;
-    locals = omega arith; funclets = omega arith } }
+left_by text room at left ts a rest k h = record {
+  is = (a, k, h);
+  statement = refl;
+  closed = λ i. absurd cc;
+  taken = record {
+    statements = omega arith;
+    expressions = omega arith;
+    locals = omega arith;
+    funclets = omega arith;
+  };
+}
 
 pub no_break : (limits : ℕ) (text : List ℕ) (room at : ℕ) (left : Left) (ts a : List Token)
     → IsKeyword keywords.Break at ts a → Lacks punctuators.Semicolon a
@@ -304,8 +340,12 @@ pub no_block : (limits : ℕ) (text : List ℕ) (room : ℕ) (left : Left) (ts a
 no_block limits text room left ts a o none s end h d c w =
     let t = after_brace text s ts a end o h in
     let v = fits limits text room left s (Block t.0) t.1 w in
-    none t.0 end t.2 (record { statements = v.statements; expressions = v.expressions;
-      locals = v.locals; funclets = v.funclets })
+    none t.0 end t.2 (record {
+      statements = v.statements;
+      expressions = v.expressions;
+      locals = v.locals;
+      funclets = v.funclets;
+    })
 
 -- ---- other first tokens
 

@@ -24,8 +24,10 @@ BranchesIf (Some t) a b = AreBranches t a b
 
 scalar_branches : (t : CType) (a b : TypedNode) → is_scalar t ≡ true → is_scalar a.type ≡ true
     → is_scalar b.type ≡ true → AreBranches t a b
-scalar_branches t a b s p q = record { scalar = λ v. (p, q);
-    void = λ v. absurd (clash (is_void t) s v) }
+scalar_branches t a b s p q = record {
+  scalar = λ v. (p, q);
+  void = λ v. absurd (clash (is_void t) s v);
+}
   where
     clash : (v : Bool) → not v ≡ true → v ≡ true → ⊥
     clash true s v = absurd (cc)
@@ -47,7 +49,7 @@ other_scalar : (S : TypingContext) (a b : TypedNode) → IsGood S b → is_point
 other_scalar S a b h p e = by_same (same_type a.type b.type) refl b.zero refl e
   where
     by_same : (x : Bool) → same_type a.type b.type ≡ x → (z : Bool) → b.zero ≡ z → (x || z) ≡ true
-      → is_scalar b.type ≡ true
+        → is_scalar b.type ≡ true
     by_same true s z y e = pointer_scalar b.type (same_type_pointer a.type b.type s p)
     by_same false s true y e = h.zero y
     by_same false s false y e = absurd (cc)
@@ -62,27 +64,29 @@ branches S a b g h =
     let p = and_left (is_integer u) (is_integer v) e in
     let q = and_right (is_integer u) (is_integer v) e in
     scalar_branches (common u v) a b (common_scalar u v p q) (integer_scalar u p)
-      (integer_scalar v q))
+    (integer_scalar v q))
     (λ n. if_branches a b (is_void u && is_void v) _ _
-    (λ e. record { scalar = λ f. absurd (cc);
-      void = λ t. (and_left (is_void u) (is_void v) e, and_right (is_void u) (is_void v) e) })
+    (λ e. record {
+      scalar = λ f. absurd (cc);
+      void = λ t. (and_left (is_void u) (is_void v) e, and_right (is_void u) (is_void v) e);
+    })
     (λ n. if_branches a b (is_pointer u && (same_type u v || b.zero)) _ _
     (λ e.
     let p = and_left (is_pointer u) (same_type u v || b.zero) e in
     let s = pointer_scalar u p in
     scalar_branches u a b s s (other_scalar S a b h p
-      (and_right (is_pointer u) (same_type u v || b.zero) e)))
+    (and_right (is_pointer u) (same_type u v || b.zero) e)))
     (λ n. if_branches a b (is_pointer v && a.zero) _ _
     (λ e.
     let s = pointer_scalar v (and_left (is_pointer v) a.zero e) in
     scalar_branches v a b s (g.zero (and_right (is_pointer v) a.zero e)) s)
     (λ n. if_branches a b (is_pointer u && is_pointer v && (is_void_pointer u || is_void_pointer v))
-      _ _
+    _ _
     (λ e.
     let p = and_left (is_pointer u && is_pointer v) (is_void_pointer u || is_void_pointer v) e in
     scalar_branches void_pointer a b refl (pointer_scalar u
-      (and_left (is_pointer u) (is_pointer v) p))
-      (pointer_scalar v (and_right (is_pointer u) (is_pointer v) p)))
+    (and_left (is_pointer u) (is_pointer v) p))
+    (pointer_scalar v (and_right (is_pointer u) (is_pointer v) p)))
     (λ n. tt)))))
 
 void_branch : (S : TypingContext) (a : TypedNode) → IsGood S a → is_void a.type ≡ true
@@ -98,15 +102,15 @@ chosen_good S c a b t f g h s r = by_void (is_void t) refl
     condition = as_is_has S c f s
 
     by_void : (x : Bool) → is_void t ≡ x → IsGood S
-      (typed t (nodes.Conditional (as_is c) (if x then as_is a else as_type t a)
-      (if x then as_is b else as_type t b)))
+        (typed t (nodes.Conditional (as_is c) (if x then as_is a else as_type t a)
+        (if x then as_is b else as_type t b)))
     by_void true v =
         let p = void_branch S a g (r.void v).0 in
         let q = void_branch S b h (r.void v).1 in
         record {
           sound =
               and_true (and_true (and_true (and_true condition.sound (as_is_sound S a g))
-                (as_is_sound S b h)) (has_number S (as_is c) (size_of c.type) condition))
+              (as_is_sound S b h)) (has_number S (as_is c) (size_of c.type) condition))
               (ap (λ o. same_sizes o (expression_size S (as_is b))) p ∙ ap (same_sizes None) q);
           sized = p ∙ sym (void_size t v);
           zero = λ z. absurd (cc);
@@ -115,11 +119,11 @@ chosen_good S c a b t f g h s r = by_void (is_void t) refl
         let p = as_type_has S a t g (r.scalar v).0 in
         let q = as_type_has S b t h (r.scalar v).1 in
         typed_good S t (nodes.Conditional (as_is c) (as_type t a) (as_type t b))
-          (void_not_scalar t v)
+        (void_not_scalar t v)
         (and_true (and_true (and_true (and_true condition.sound p.sound) q.sound)
-          (has_number S (as_is c) (size_of c.type) condition))
+        (has_number S (as_is c) (size_of c.type) condition))
         (alike_sizes (expression_size S (as_type t a)) (expression_size S (as_type t b)) (size_of t)
-          p.size q.size))
+        p.size q.size))
         p.size
 
 chosen_if : (S : TypingContext) (c a b : TypedNode) (o : Option CType) → IsGood S c → IsGood S a
@@ -134,5 +138,8 @@ conditional_good S c a b f g h = if_good S (is_scalar c.type) _ _
 
 pub comma_good : (S : TypingContext) (a b : TypedNode) → IsGood S a → IsGood S b
     → GoodIf S (comma_of a b)
-comma_good S a b g h = record { sound = and_true (as_is_sound S a g) (as_is_sound S b h);
-    sized = h.sized; zero = λ z. absurd (cc) }
+comma_good S a b g h = record {
+  sound = and_true (as_is_sound S a g) (as_is_sound S b h);
+  sized = h.sized;
+  zero = λ z. absurd (cc);
+}

@@ -65,20 +65,20 @@ and_right false b h = absurd (cc)
 same_type_width : (a b : CType) → same_type a b ≡ true → width_of a ≡ width_of b
 same_type_width a b h =
     let pointers : nat_eq a.pointers b.pointers
-      ≡ true = and_left (nat_eq a.pointers b.pointers) (same_base a.base b.base) h in
+    ≡ true = and_left (nat_eq a.pointers b.pointers) (same_base a.base b.base) h in
     let bases : same_base a.base b.base ≡ true = and_right (nat_eq a.pointers b.pointers)
-      (same_base a.base b.base) h in
+    (same_base a.base b.base) h in
     let alike : a.pointers ≡ b.pointers = eqb-true a.pointers b.pointers pointers in
     ap (λ k. if nat_lt 0 k then W64 else base_width a.base) alike
-      ∙ ap (λ w. if nat_lt 0 b.pointers then W64 else w)
-        (ap base_width (same_base_is a.base b.base bases))
+    ∙ ap (λ w. if nat_lt 0 b.pointers then W64 else w)
+    (ap base_width (same_base_is a.base b.base bases))
 
 pub conversion_makes : (a b : CType) → Makes (conversion a b) (width_of a) (width_of b)
 conversion_makes a b = by_same (same_type a b) refl
   where
     by_same : (x : Bool) → same_type a b ≡ x → Makes
-      (if x then Kept else to_width (width_of a) (sort_of a) (width_of b) (sort_of b)) (width_of a)
-      (width_of b)
+        (if x then Kept else to_width (width_of a) (sort_of a) (width_of b) (sort_of b)) (width_of a)
+        (width_of b)
     by_same true e = kept_makes (width_of a) (width_of b) (same_type_width a b e)
     by_same false e = to_width_makes (width_of a) (sort_of a) (width_of b) (sort_of b)
 

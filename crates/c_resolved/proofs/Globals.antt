@@ -139,17 +139,17 @@ global_holds text base g file none =
     let t = type_of_global base g in
     let b = initial_value t g.length g.initialiser in
     let duplicate = unless_holds (not (is_taken file.scope (spelled text g.name))) g.name.start
-      Duplicate in
+    Duplicate in
     let own = unless_holds (is_scalar t) g.name.start TypeClash ++ length_faults g.length
-      ++ b.faults in
+    ++ b.faults in
     let apart = none_in_both (file.faults ++ duplicate) own none in
     let inner = none_in_both (unless_holds (is_scalar t) g.name.start TypeClash
-      ++ length_faults g.length) b.faults apart.1 in
+    ++ length_faults g.length) b.faults apart.1 in
     record {
       before = (none_in_both file.faults duplicate apart.0).0;
       scalar = holds (is_scalar t) g.name.start TypeClash
-        (none_in_both (unless_holds (is_scalar t) g.name.start TypeClash) (length_faults g.length)
-        inner.0).0;
+          (none_in_both (unless_holds (is_scalar t) g.name.start TypeClash) (length_faults g.length)
+          inner.0).0;
     }
 
 global_length : (text : List ℕ) (base : Base) (g : Global) (file : File)
@@ -161,12 +161,12 @@ global_length text base g file h =
     let same = same_size base g.pointers h in
     let before = padded (bytes_in t) file.bytes in
     let aligned_before : length before ≡ aligned (length file.bytes) (size base g.pointers) = ap
-      (λ n. length (padded n file.bytes)) same
-      ∙ padded_aligned (size base g.pointers) (is_bytes base g.pointers h) file.bytes in
+    (λ n. length (padded n file.bytes)) same
+    ∙ padded_aligned (size base g.pointers) (is_bytes base g.pointers h) file.bytes in
     length-append before (initial_value t g.length g.initialiser).bytes
     ∙ ap (λ n. n + length (initial_value t g.length g.initialiser).bytes) aligned_before
     ∙ ap (λ n. aligned (length file.bytes) (size base g.pointers) + n)
-      (initial_length t g.length g.initialiser ∙ ap (λ n. n * elements g.length) same)
+    (initial_length t g.length g.initialiser ∙ ap (λ n. n * elements g.length) same)
 
 global_grows : (text : List ℕ) (base : Base) (g : Global) (file : File)
     → length file.bytes ≤ length (padded (bytes_in (type_of_global base g)) file.bytes)
@@ -179,7 +179,7 @@ global_fits_after : (text : List ℕ) (base : Base) (g : Global) (file : File)
 global_fits_after text base g file =
     let t = type_of_global base g in
     let e = length-append (padded (bytes_in t) file.bytes)
-      (initial_value t g.length g.initialiser).bytes in
+    (initial_value t g.length g.initialiser).bytes in
     omega arith
 
 below_top : (n : ℕ) → n ≤ 1048576 → nat_lt (first_data + n) (2 ^ 64) ≡ true
@@ -200,8 +200,8 @@ global_fits fs zs text base g file s h fit =
     let n = length (padded (bytes_in t) file.bytes) in
     let e = global_fits_after text base g file in
     with_name_fits fs zs file.scope (spelled text g.name)
-      (global_entity t (first_data + n) g.length) fit
-      (global_entity_fits fs zs t n g.length (omega arith) s)
+    (global_entity t (first_data + n) g.length) fit
+    (global_entity_fits fs zs t n g.length (omega arith) s)
 
 -- ---- globals of one declaration
 
@@ -220,7 +220,7 @@ globals_length text base (g ∷ gs) file none =
     let next = with_global text base g file in
     let h = global_holds text base g file (globals_before text base gs next none) in
     globals_length text base gs next none ∙ ap (end_of_globals base gs)
-      (global_length text base g file h.scalar)
+    (global_length text base g file h.scalar)
 
 globals_grow : (text : List ℕ) (base : Base) (gs : List Global) (file : File)
     → length file.bytes ≤ length (with_globals text base gs file).bytes
@@ -241,7 +241,7 @@ globals_fit fs zs text base (g ∷ gs) file none h fit =
     let holds = global_holds text base g file (globals_before text base gs next none) in
     let grown = globals_grow text base gs next in
     globals_fit fs zs text base gs next none h
-      (global_fits fs zs text base g file holds.scalar (omega arith) fit)
+    (global_fits fs zs text base g file holds.scalar (omega arith) fit)
 
 -- ---- the file
 
@@ -265,7 +265,7 @@ file_length text [] file none = refl
 file_length text (Globals base gs ∷ xs) file none =
     let next = with_globals text base gs file in
     file_length text xs next none ∙ ap (bytes_from xs)
-      (globals_length text base gs file (file_before text xs next none))
+    (globals_length text base gs file (file_before text xs next none))
 file_length text (Function t n ps body ∷ xs) file none = file_length text xs
     (with_external_declaration text (Function t n ps body) file) none
 
@@ -301,10 +301,10 @@ file_fits fs zs text (Globals base gs ∷ xs) file none h from fit =
     let next = with_globals text base gs file in
     let grown = file_grows text xs next in
     file_fits fs zs text xs next none h (subst (λ k. FunctionsFrom fs k xs)
-      (sym (same_functions text base gs file)) from)
+    (sym (same_functions text base gs file)) from)
     (globals_fit fs zs text base gs file (file_before text xs next none) (omega arith) fit)
 file_fits fs zs text (Function t n ps body ∷ xs) file none h from fit =
     file_fits fs zs text xs (with_external_declaration text (Function t n ps body) file) none h
-      from.1
+    from.1
     (with_name_fits fs zs file.scope (spelled text n)
-      (UserFunction file.functions t (parameter_types ps)) fit from.0)
+    (UserFunction file.functions t (parameter_types ps)) fit from.0)

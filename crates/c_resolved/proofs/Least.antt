@@ -20,7 +20,7 @@ earlier_is f g h = by_parts (or_cases (nat_lt f.at g.at)
     (nat_eq f.at g.at && nat_lt (rank f.fault) (rank g.fault)) h)
   where
     by_parts : (nat_lt f.at g.at ≡ true) ⊎ ((nat_eq f.at g.at
-      && nat_lt (rank f.fault) (rank g.fault)) ≡ true) → IsNoLater f g
+        && nat_lt (rank f.fault) (rank g.fault)) ≡ true) → IsNoLater f g
     by_parts (inl p) = inl (ltb-true f.at g.at p)
     by_parts (inr p) =
         let parts = and_parts (nat_eq f.at g.at) (nat_lt (rank f.fault) (rank g.fault)) p in
@@ -30,14 +30,14 @@ earlier_is f g h = by_parts (or_cases (nat_lt f.at g.at)
 not_earlier : (f g : FaultAt) → is_earlier f g ≡ false → IsNoLater g f
 not_earlier f g h =
     let parts = or_parts (nat_lt f.at g.at) (nat_eq f.at g.at
-      && nat_lt (rank f.fault) (rank g.fault)) h in
+    && nat_lt (rank f.fault) (rank g.fault)) h in
     let place = ltb-false f.at g.at parts.0 in
     by_rule place (and_cases (nat_eq f.at g.at) (nat_lt (rank f.fault) (rank g.fault)) parts.1)
-      (cases_order f.at g.at)
+    (cases_order f.at g.at)
   where
     by_rule : g.at ≤ f.at → (nat_eq f.at g.at ≡ false)
-      ⊎ (nat_lt (rank f.fault) (rank g.fault) ≡ false)
-      → (f.at ≡ g.at) ⊎ ((f.at < g.at) ⊎ (g.at < f.at)) → IsNoLater g f
+        ⊎ (nat_lt (rank f.fault) (rank g.fault) ≡ false)
+        → (f.at ≡ g.at) ⊎ ((f.at < g.at) ⊎ (g.at < f.at)) → IsNoLater g f
     by_rule place (inl p) (inl e) = absurd (eqb-false f.at g.at p e)
     by_rule place (inr p) (inl e) = inr (sym e, ltb-false (rank f.fault) (rank g.fault) p)
     by_rule place q (inr (inl e)) = absurd (omega arith)
@@ -48,7 +48,7 @@ alone f fs e = record { among = (0, refl); first = first }
   where
     nothing : (i : ℕ) (g : FaultAt) → slice_get fs i ≡ Some g → ⊥
     nothing i g h = let none : slice_get {X = FaultAt} [] i
-      ≡ Some g = subst (λ xs. slice_get xs i ≡ Some g) e h in absurd (cc)
+        ≡ Some g = subst (λ xs. slice_get xs i ≡ Some g) e h in absurd (cc)
 
     first : (i : ℕ) (g : FaultAt) → slice_get (f ∷ fs) i ≡ Some g → IsNoLater f g
     first zero g h = let same : f ≡ g = cc in subst (IsNoLater f) same (itself f)
@@ -59,7 +59,7 @@ with_one : (f b : FaultAt) (fs : List FaultAt) → IsLeast fs b
 with_one f b fs l = by_order (is_earlier b f) refl
   where
     following : IsNoLater b f → (i : ℕ) (g : FaultAt) → slice_get (f ∷ fs) i ≡ Some g
-      → IsNoLater b g
+        → IsNoLater b g
     following p zero g h = let same : f ≡ g = cc in subst (IsNoLater b) same p
     following p (suc i) g h = l.first i g h
 
@@ -68,8 +68,10 @@ with_one f b fs l = by_order (is_earlier b f) refl
     before p (suc i) g h = through f b g p (l.first i g h)
 
     by_order : (x : Bool) → is_earlier b f ≡ x → IsLeast (f ∷ fs) (if x then b else f)
-    by_order true e = record { among = (suc l.among.0, l.among.1);
-      first = following (earlier_is b f e) }
+    by_order true e = record {
+      among = (suc l.among.0, l.among.1);
+      first = following (earlier_is b f e);
+    }
     by_order false e = record { among = (0, refl); first = before (not_earlier b f e) }
 
 pub least_is_reported : LeastIsReported
@@ -77,6 +79,6 @@ least_is_reported [] = refl
 least_is_reported (f ∷ fs) = by_rest (least fs) (least_is_reported fs)
   where
     by_rest : (o : Option FaultAt) → MatchOption o (fs ≡ []) (IsLeast fs)
-      → IsLeast (f ∷ fs) (earlier f o)
+        → IsLeast (f ∷ fs) (earlier f o)
     by_rest None e = alone f fs e
     by_rest (Some b) l = with_one f b fs l

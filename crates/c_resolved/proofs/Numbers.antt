@@ -64,12 +64,22 @@ counted_as n p ns ms l r k j c e f g =
     }
 
 pub none_counted : (n : Numbering) (k : ℕ) → Counted n n [] 0 k
-none_counted n k = record { front = front_itself n.sizes; sizes = omega arith; up = refl;
-    number = omega arith; within = omega arith }
+none_counted n k = record {
+  front = front_itself n.sizes;
+  sizes = omega arith;
+  up = refl;
+  number = omega arith;
+  within = omega arith;
+}
 
 one_counted : (n : Numbering) → Counted n (with_number n (n.number + 1)) (n.number ∷ []) 0 1
-one_counted n = record { front = front_itself n.sizes; sizes = omega arith;
-    up = ap (λ b. b && true) (eq-eqb n.number n.number refl); number = refl; within = omega arith }
+one_counted n = record {
+  front = front_itself n.sizes;
+  sizes = omega arith;
+  up = ap (λ b. b && true) (eq-eqb n.number n.number refl);
+  number = refl;
+  within = omega arith;
+}
 
 pub count_up_append : (a : ℕ) (xs ys : List ℕ) → count_up a xs ≡ true
     → count_up (a + length xs) ys ≡ true → count_up a (xs ++ ys) ≡ true
@@ -80,7 +90,7 @@ count_up_append a (x ∷ xs) ys h k =
     let e : a + suc (length xs) ≡ (a + 1) + length xs = omega arith in
     let first = and_parts (nat_eq x a) (count_up (a + 1) xs) h in
     and_from (nat_eq x a) (count_up (a + 1) (xs ++ ys)) first.0
-      (count_up_append (a + 1) xs ys first.1 (subst (λ y. count_up y ys ≡ true) e k))
+    (count_up_append (a + 1) xs ys first.1 (subst (λ y. count_up y ys ≡ true) e k))
 
 pub then_counted : (n m p : Numbering) (xs ys : List ℕ) (l r k j : ℕ) → Counted n m xs l k
     → Counted m p ys r j → Counted n p (xs ++ ys) (l + r) (k + j)
@@ -99,8 +109,13 @@ then_counted n m p xs ys l r k j c d =
 declare_counted : (a : Environment) (base : Base) (l : Local) (block : Scope) (n : Numbering)
     → Counted n (declare a base l block n).counts [] 1 0
 declare_counted a base l block n =
-    record { front = (size_of (record { base = base; pointers = l.pointers }) ∷ [], refl);
-      sizes = length-append n.sizes _; up = refl; number = omega arith; within = omega arith }
+    record {
+      front = (size_of (record { base = base; pointers = l.pointers }) ∷ [], refl);
+      sizes = length-append n.sizes _;
+      up = refl;
+      number = omega arith;
+      within = omega arith;
+    }
 
 -- what a resolved declaration counts
 abbrev MadeCounted : Numbering → ResolvedStatements → ℕ → ℕ → Type 0
@@ -115,7 +130,7 @@ declare_all_counted a base (l ∷ ls) block n =
     let ns = funclets (checked.statements rest.done) in
     counted_as n rest.counts ns ns (1 + length ls) (suc (length ls)) 0 0
     (then_counted n m.counts rest.counts [] ns 1 (length ls) 0 0 (declare_counted a base l block n)
-      (declare_all_counted a base ls m.block m.counts)) refl (omega arith) (omega arith)
+    (declare_all_counted a base ls m.block m.counts)) refl (omega arith) (omega arith)
 
 no_numbers : (a : Environment) (base : Base) (ls : List Local) (block : Scope) (n : Numbering)
     → funclets (checked.statements (declare_all a base ls block n).done) ≡ []
@@ -143,8 +158,8 @@ if_both P false x y p q = q refl
 
 filter_counted : (a : Environment) (block : Scope) (f : Expression) (n : Numbering) (at : ℕ)
     → Counted n (with_number n (resolve_filter a block f n.number).number)
-      (filter_funclet (resolve_filter a block f n.number).filter) 0
-      (length (cond (accepts a.text f) [] (at ∷ [])))
+    (filter_funclet (resolve_filter a block f n.number).filter) 0
+    (length (cond (accepts a.text f) [] (at ∷ [])))
 filter_counted a block f n at = if_both {A = ResolvedFilter}
     (λ r. Counted n (with_number n r.number) (filter_funclet r.filter) 0
     (length (cond (accepts a.text f) [] (at ∷ [])))) (always a block f) _ _
@@ -152,7 +167,7 @@ filter_counted a block f n at = if_both {A = ResolvedFilter}
     by_accepts (accepts a.text f) refl e
   where
     by_accepts : (x : Bool) → accepts a.text f ≡ x → always a block f ≡ false
-      → Counted n (with_number n (n.number + 1)) (n.number ∷ []) 0 (length (cond x [] (at ∷ [])))
+        → Counted n (with_number n (n.number + 1)) (n.number ∷ []) 0 (length (cond x [] (at ∷ [])))
     by_accepts true h e = absurd (both_ways (always a block f) e (accepting_always a block f h))
     by_accepts false h e = one_counted n
 
@@ -185,7 +200,7 @@ for_initialiser_counted : (a : Environment) (f : ForInitialiser) (n : Numbering)
 for_initialiser_counted a (Declaring base ls) n =
     let m = declare_all a base ls [] n in
     counted_as n m.counts (funclets (checked.statements m.done)) [] (length ls) (length ls) 0 0
-      (declare_all_counted a base ls [] n) (no_numbers a base ls [] n) refl (omega arith)
+    (declare_all_counted a base ls [] n) (no_numbers a base ls [] n) refl (omega arith)
 for_initialiser_counted a (Evaluating e) n = none_counted n 0
 
 mutual
@@ -195,14 +210,14 @@ mutual
   statement_counted (statements.Block ss) a block n =
       let m = resolve_statements ss (inside a block) [] n in
       enclosed_counted n m.counts (funclets (checked.statements m.done))
-        (funclets (checked.statements m.done)) _ _ (statements_counted ss (inside a block) [] n)
-        refl
+      (funclets (checked.statements m.done)) _ _ (statements_counted ss (inside a block) [] n)
+      refl
   statement_counted (statements.Evaluate e) a block n = none_counted n 0
   statement_counted (statements.If at c s) a block n =
       let here = inside a block in
       let m = resolve_statement s here [] n in
       enclosed_counted n m.counts (funclets_in (only m.done)) (funclets (checked.statements m.done))
-        _ _ (statement_counted s here [] n) (only_numbers s here [] n)
+      _ _ (statement_counted s here [] n) (only_numbers s here [] n)
   statement_counted (statements.IfElse at c s t) a block n =
       let here = inside a block in
       let m = resolve_statement s here [] n in
@@ -210,35 +225,35 @@ mutual
       let xs = funclets (checked.statements m.done) in
       let ys = funclets (checked.statements k.done) in
       let e : funclets_in (only m.done) ++ funclets_in (only k.done)
-        ≡ xs ++ ys = ap (λ w. w ++ funclets_in (only k.done)) (only_numbers s here [] n)
-        ∙ ap (λ w. xs ++ w) (only_numbers t here [] m.counts) in
+      ≡ xs ++ ys = ap (λ w. w ++ funclets_in (only k.done)) (only_numbers s here [] n)
+      ∙ ap (λ w. xs ++ w) (only_numbers t here [] m.counts) in
       let c = then_counted n m.counts k.counts xs ys _ _ _ _ (statement_counted s here [] n)
-        (statement_counted t here [] m.counts) in
+      (statement_counted t here [] m.counts) in
       let bound = length-append (numbered a.text s) (numbered a.text t) in
       enclosed_counted n k.counts (funclets_in (only m.done) ++ funclets_in (only k.done))
-        (xs ++ ys) _ _ (counted_as n k.counts (xs ++ ys) (xs ++ ys) _ _ _ _ c refl refl
-        (omega arith)) e
+      (xs ++ ys) _ _ (counted_as n k.counts (xs ++ ys) (xs ++ ys) _ _ _ _ c refl refl
+      (omega arith)) e
   statement_counted (statements.While at c s) a block n =
       let here = record (inside a block) { loop = Near } in
       let m = resolve_statement s here [] n in
       enclosed_counted n m.counts (funclets_in (only m.done)) (funclets (checked.statements m.done))
-        _ _ (statement_counted s here [] n) (only_numbers s here [] n)
+      _ _ (statement_counted s here [] n) (only_numbers s here [] n)
   statement_counted (statements.DoWhile s at c) a block n =
       let here = record (inside a block) { loop = Near } in
       let m = resolve_statement s here [] n in
       enclosed_counted n m.counts (funclets_in (only m.done)) (funclets (checked.statements m.done))
-        _ _ (statement_counted s here [] n) (only_numbers s here [] n)
+      _ _ (statement_counted s here [] n) (only_numbers s here [] n)
   statement_counted (statements.For at f c next s) a block n =
       let b = resolve_for_initialiser (inside a block) f n in
       let here = record (inside (inside a block) b.resolved.block) { loop = Near } in
       let m = resolve_statement s here [] b.resolved.counts in
       let xs = funclets (checked.statements m.done) in
       let c = then_counted n b.resolved.counts m.counts [] xs _ _ 0 _
-        (for_initialiser_counted (inside a block) f n)
-        (statement_counted s here [] b.resolved.counts) in
+      (for_initialiser_counted (inside a block) f n)
+      (statement_counted s here [] b.resolved.counts) in
       enclosed_counted n m.counts (funclets_in (only m.done)) xs _ _
-        (counted_as n m.counts xs xs _ _ _ _ c refl refl (omega arith))
-        (only_numbers s here [] b.resolved.counts)
+      (counted_as n m.counts xs xs _ _ _ _ c refl refl (omega arith))
+      (only_numbers s here [] b.resolved.counts)
   statement_counted (statements.Return at e) a block n = none_counted n 0
   statement_counted (statements.Break at) a block n = none_counted n 0
   statement_counted (statements.Continue at) a block n = none_counted n 0
@@ -253,42 +268,46 @@ mutual
       let ys = filter_funclet q.filter in
       let zs = funclets (checked.statements k.done) in
       let c = then_counted n m.counts after xs ys _ _ _ _
-        (statements_counted body (record here { body = Near }) [] n)
-        (filter_counted a block f m.counts at) in
+      (statements_counted body (record here { body = Near }) [] n)
+      (filter_counted a block f m.counts at) in
       let d = then_counted n after k.counts (xs ++ ys) zs _ _ _ _ c
-        (statements_counted handler (record here { code = true }) [] after) in
+      (statements_counted handler (record here { code = true }) [] after) in
       let v = cond (accepts a.text f) [] (at ∷ []) in
       let first = length-append (funclets_of_all a.text body) v in
       let second = length-append (funclets_of_all a.text body ++ v)
-        (funclets_of_all a.text handler) in
+      (funclets_of_all a.text handler) in
       enclosed_counted n k.counts (xs ++ ys ++ zs) (xs ++ ys ++ zs) _ _
-        (counted_as n k.counts (xs ++ ys ++ zs) (xs ++ ys ++ zs) _ _ _ _ d refl (omega arith)
-        (omega arith)) refl
+      (counted_as n k.counts (xs ++ ys ++ zs) (xs ++ ys ++ zs) _ _ _ _ d refl (omega arith)
+      (omega arith)) refl
   statement_counted (statements.TryFinally body at last) a block n =
       let here = inside a block in
       let m = resolve_statements body (record here { body = Near }) [] n in
       let after = with_number m.counts (m.counts.number + 1) in
-      let there = record here { loop = past_finally a.loop; body = past_finally a.body;
-        function = Beyond; abnormal = true } in
+      let there = record here {
+        loop = past_finally a.loop;
+        body = past_finally a.body;
+        function = Beyond;
+        abnormal = true;
+      } in
       let k = resolve_statements last there [] after in
       let xs = funclets (checked.statements m.done) in
       let zs = funclets (checked.statements k.done) in
       let c = then_counted n m.counts after xs (m.counts.number ∷ []) _ _ _ _
-        (statements_counted body (record here { body = Near }) [] n) (one_counted m.counts) in
+      (statements_counted body (record here { body = Near }) [] n) (one_counted m.counts) in
       let d = then_counted n after k.counts (xs ++ m.counts.number ∷ []) zs _ _ _ _ c
-        (statements_counted last there [] after) in
+      (statements_counted last there [] after) in
       let first = length-append (funclets_of_all a.text body) (at ∷ []) in
       let second = length-append (funclets_of_all a.text body ++ at ∷ [])
-        (funclets_of_all a.text last) in
+      (funclets_of_all a.text last) in
       let e : xs ++ m.counts.number ∷ [] ++ zs
-        ≡ xs ++ m.counts.number ∷ zs = append_assoc xs (m.counts.number ∷ []) zs in
+      ≡ xs ++ m.counts.number ∷ zs = append_assoc xs (m.counts.number ∷ []) zs in
       enclosed_counted n k.counts (xs ++ m.counts.number ∷ zs) (xs ++ m.counts.number ∷ zs) _ _
-        (counted_as n k.counts (xs ++ m.counts.number ∷ [] ++ zs) (xs ++ m.counts.number ∷ zs) _ _ _
-        _ d e (omega arith) (omega arith)) refl
+      (counted_as n k.counts (xs ++ m.counts.number ∷ [] ++ zs) (xs ++ m.counts.number ∷ zs) _ _ _
+      _ d e (omega arith) (omega arith)) refl
 
   pub statements_counted : (ss : Statements) (a : Environment) (block : Scope) (n : Numbering)
       → MadeCounted n (resolve_statements ss a block n) (limits.locals_of_all ss)
-        (length (funclets_of_all a.text ss))
+      (length (funclets_of_all a.text ss))
   statements_counted statements.Empty a block n = none_counted n 0
   statements_counted (statements.Then s ss) a block n =
       let m = resolve_statement s a block n in
@@ -297,7 +316,7 @@ mutual
       let ys = funclets (checked.statements rest.done) in
       let bound = length-append (numbered a.text s) (funclets_of_all a.text ss) in
       counted_as n rest.counts (xs ++ ys) (funclets (checked.statements (m.done ++ rest.done))) _ _
-        _ _
+      _ _
       (then_counted n m.counts rest.counts xs ys _ _ _ _ (statement_counted s a block n)
-        (statements_counted ss a m.block m.counts)) (numbers_append m.done rest.done) refl
-        (omega arith)
+      (statements_counted ss a m.block m.counts)) (numbers_append m.done rest.done) refl
+      (omega arith)

@@ -58,8 +58,11 @@ if_good S false x y h k = k refl
 -- a node that is sound and of its type's size
 pub typed_good : (S : TypingContext) (t : CType) (n : Node) → is_scalar t ≡ true
     → node_sound S n ≡ true → node_size S n ≡ Some (size_of t) → IsGood S (typed t n)
-typed_good S t n h sound size = record { sound = sound; sized = size ∙ sym (scalar_size t h);
-    zero = λ z. h }
+typed_good S t n h sound size = record {
+  sound = sound;
+  sized = size ∙ sym (scalar_size t h);
+  zero = λ z. h;
+}
 
 -- one of a pointer's size
 pub pointer_good : (S : TypingContext) (t : CType) (n : Node) → is_pointer t ≡ true
@@ -79,7 +82,7 @@ converted_has : (S : TypingContext) (n : Node) (c : Conversion) (from to : Size)
 converted_has S n c from to sound size can after =
     record {
       sound = ap (λ b. b && can_convert c (node_size S n)) sound ∙ ap (λ z. can_convert c z) size
-        ∙ can;
+          ∙ can;
       size = ap (λ z. size_after c z) size ∙ after;
     }
 
@@ -93,14 +96,14 @@ pub as_type_has : (S : TypingContext) (a : TypedNode) (t : CType) → IsGood S a
 as_type_has S a t g h =
     let m = conversion_makes a.type t in
     converted_has S a.node (conversion a.type t) (size_of a.type) (size_of t) g.sound
-      (good_size S a g h) m.0 m.1
+    (good_size S a g h) m.0 m.1
 
 pub as_index_has : (S : TypingContext) (p : CType) (a : TypedNode) → IsGood S a
     → is_scalar a.type ≡ true → HasSize S (as_index p a) sizes.Long
 as_index_has S p a g h =
     let m = scaled_makes a.type (bytes_in (pointed p)) in
     converted_has S a.node (scaled a.type (bytes_in (pointed p))) (size_of a.type) sizes.Long
-      g.sound (good_size S a g h) m.0 m.1
+    g.sound (good_size S a g h) m.0 m.1
 
 pub resized : (S : TypingContext) (e : Expression) (y z : Size) → y ≡ z → HasSize S e y
     → HasSize S e z
@@ -137,8 +140,8 @@ pub binary_has : (S : TypingContext) (o : Operation) (e f : Expression) (x y z :
     → (node_sound S (nodes.Binary o e f) ≡ true) × (node_size S (nodes.Binary o e f) ≡ Some z)
 binary_has S o e f x y z p q h =
     let size : takes o (expression_size S e) (expression_size S f)
-      ≡ Some z = ap (λ v. takes o v (expression_size S f)) p.size
-      ∙ ap (λ v. takes o (Some x) v) q.size ∙ h in
+    ≡ Some z = ap (λ v. takes o v (expression_size S f)) p.size
+    ∙ ap (λ v. takes o (Some x) v) q.size ∙ h in
     (and_true (and_true p.sound q.sound) (ap is_number size), size)
 
 -- ---- lvalues

@@ -121,17 +121,17 @@ rule_of_two : (S : TypingContext) (at : ℕ) (rule : TypedNode → TypedNode →
     → IsSettled S (rule_2 at rule (a.faults ++ b.faults) a.found b.found)
 rule_of_two S at rule a b g h r =
     rule_2_settled S at rule (a.faults ++ b.faults) a.found b.found
-      (found_before S a.found a.faults b.faults g) (found_after S b.found a.faults b.faults h) r
+    (found_before S a.found a.faults b.faults g) (found_after S b.found a.faults b.faults h) r
 
 -- ---- what names mean
 
 -- a function of this number with this result and these parameters
 pub record FunctionFits (functions : List Function) (k : ℕ) (t : CType) (ps : List CType) : Type 0
-    where
-  pub function : Function
-  pub there : slice_get functions k ≡ Some function
-  pub takes : function.parameters ≡ map size_of ps
-  pub gives : function.returns ≡ result_size t
+  where
+    pub function : Function
+    pub there : slice_get functions k ≡ Some function
+    pub takes : function.parameters ≡ map size_of ps
+    pub gives : function.returns ≡ result_size t
 
 abbrev pub EntityFits : List Function → List Size → Entity → Type 0
 EntityFits fs zs (LocalVariable x t) = (slice_get zs x ≡ Some (size_of t)) × (is_scalar t ≡ true)
@@ -198,8 +198,8 @@ field_settled S record_fields.Count h = typed_good S unsigned
     (nodes.Information fields.NumberParameters) refl h refl
 field_settled S (record_fields.Information k at) h =
     given_that_settled S (nat_le k 14) at TypeClash [] _
-      (λ e. typed_good S (plain UnsignedLongLong)
-      (nodes.Information (fields.ExceptionInformation k)) refl h refl)
+    (λ e. typed_good S (plain UnsignedLongLong)
+    (nodes.Information (fields.ExceptionInformation k)) refl h refl)
 
 -- ---- what `&` is applied to
 
@@ -228,8 +228,8 @@ element_in_memory at fs None p = tt
 element_in_memory at fs (Some a) None = tt
 element_in_memory at fs (Some a) (Some i) = ruled_in_memory at TypeClash fs (element_of a i)
     (only_if_in_memory (is_sized_pointer a.type && is_integer i.type)
-      (typed (pointed a.type) (nodes.Read (nodes.Element (access_of (pointed a.type)) (as_is a)
-      (as_index a.type i)))) refl)
+    (typed (pointed a.type) (nodes.Read (nodes.Element (access_of (pointed a.type)) (as_is a)
+    (as_index a.type i)))) refl)
 
 indirection_in_memory : (at : ℕ) (fs : List FaultAt) (o : Option TypedNode)
     → FoundInMemory (rule_1 at (unary_of unary.Indirection) fs o).found
@@ -237,8 +237,8 @@ indirection_in_memory at fs None = tt
 indirection_in_memory at fs (Some a) = ruled_in_memory at TypeClash fs
     (unary_of unary.Indirection a)
     (only_if_in_memory (is_sized_pointer a.type)
-      (typed (pointed a.type) (nodes.Read (nodes.Indirection (access_of (pointed a.type))
-      (as_is a)))) refl)
+    (typed (pointed a.type) (nodes.Read (nodes.Indirection (access_of (pointed a.type))
+    (as_is a)))) refl)
 
 in_memory : (s : Names) (e : Expression) → is_addressable s e ≡ true
     → FoundInMemory (resolve_expression s e).found
@@ -307,12 +307,12 @@ pass_settled S w at fs None rest zs g p = fault_before fs rest.faults g
 pass_settled S w at fs (Some a) rest zs g p = by_fit (fits w a) refl
   where
     by_fit : (x : Bool) → fits w a ≡ x → PassedOr S (wanted_size w ∷ zs)
-      (if x then before fs (passed w a) rest else spoiled (fs ++ fault_at at TypeClash) rest).found
-      (if x then before fs (passed w a) rest else spoiled (fs ++ fault_at at TypeClash) rest).faults
+        (if x then before fs (passed w a) rest else spoiled (fs ++ fault_at at TypeClash) rest).found
+        (if x then before fs (passed w a) rest else spoiled (fs ++ fault_at at TypeClash) rest).faults
     by_fit true e = before_settled S (passed w a) (wanted_size w) zs fs rest.found rest.faults
-      (passed_has S w a g e) p
+        (passed_has S w a g e) p
     by_fit false e = fault_before (fs ++ fault_at at TypeClash) rest.faults
-      (fault_after fs (fault_at at TypeClash) tt)
+        (fault_after fs (fault_at at TypeClash) tt)
 
 abbrev pub AllSettled : TypingContext → List Argument → Type 0
 AllSettled S [] = Unit {0}
@@ -327,7 +327,7 @@ pass_all_settled S (w ∷ ws) [] e g = absurd (omega arith)
 pass_all_settled S (w ∷ ws) (a ∷ more) e g =
     let same : length ws ≡ length more = omega arith in
     pass_settled S w a.at a.resolved.faults a.resolved.found (pass_all ws more) (map wanted_size ws)
-      g.0 (pass_all_settled S ws more same g.1)
+    g.0 (pass_all_settled S ws more same g.1)
 
 called_settled : (S : TypingContext) (t : CType) (make : Arguments → nodes.Node) (zs : List Size)
     (o : Option Arguments) (fs : List FaultAt) → PassedOr S zs o fs
@@ -343,10 +343,10 @@ call_with_settled : (S : TypingContext) (at : ℕ) (ws : List Wanted) (t : CType
     → IsSettled S (call_with at ws t make args)
 call_with_settled S at ws t make args g h =
     given_that_settled S (nat_eq (length ws) (length args)) at ArgCount (faults_of args)
-      (called t make (pass_all ws args)) λ e.
+    (called t make (pass_all ws args)) λ e.
     let passed_all = pass_all ws args in
     called_settled S t make (map wanted_size ws) passed_all.found passed_all.faults
-      (pass_all_settled S ws args (eqb-true (length ws) (length args) e) g) h
+    (pass_all_settled S ws args (eqb-true (length ws) (length args) e) g) h
 
 wanted_types : (ps : List CType) → map wanted_size (map OfType ps) ≡ map size_of ps
 wanted_types [] = refl
@@ -361,8 +361,8 @@ user_good S f t ps es fit p q =
       sound =
           and_true p
           (ap (λ o. call_fits o (argument_sizes S es)) fit.there
-            ∙ ap (λ zs. are_sizes zs (argument_sizes S es)) (fit.takes ∙ sym (wanted_types ps))
-            ∙ q);
+          ∙ ap (λ zs. are_sizes zs (argument_sizes S es)) (fit.takes ∙ sym (wanted_types ps))
+          ∙ q);
       sized = ap sound.result_size fit.there ∙ fit.gives;
       zero = λ z. absurd (cc);
     }
@@ -371,10 +371,16 @@ built_in_good : (S : TypingContext) (k : BuiltIn) (es : Arguments) → arguments
     → are_sizes (map wanted_size (built_in_wants k)) (argument_sizes S es) ≡ true
     → IsGood S (typed (built_in_result k) (nodes.CallBuiltIn k es))
 built_in_good S Put es p q = record { sound = and_true p q; sized = refl; zero = λ z. absurd (cc) }
-built_in_good S Protect es p q = record { sound = and_true p q; sized = refl;
-    zero = λ z. absurd (cc) }
-built_in_good S RaiseException es p q = record { sound = and_true p q; sized = refl;
-    zero = λ z. absurd (cc) }
+built_in_good S Protect es p q = record {
+  sound = and_true p q;
+  sized = refl;
+  zero = λ z. absurd (cc);
+}
+built_in_good S RaiseException es p q = record {
+  sound = and_true p q;
+  sized = refl;
+  zero = λ z. absurd (cc);
+}
 
 -- a call that has a meaning in some places alone, whose node has no arguments
 only_where_settled : (S : TypingContext) (b : Bool) (at : ℕ) (f : Fault) (ws : List Wanted)
@@ -384,7 +390,7 @@ only_where_settled : (S : TypingContext) (b : Bool) (at : ℕ) (f : Fault) (ws :
 only_where_settled S b at f ws t n args g h =
     let r = call_with at ws t (λ es. n) args in
     given_that_settled S b at f r.faults r λ e. call_with_settled S at ws t (λ es. n) args g
-      (λ es p q. h e)
+    (λ es p q. h e)
 
 call_settled : (S : TypingContext) (s : Names) → NamesFit S s
     → (at : ℕ) (e : Option Entity) (args : List Argument) → MeaningFits S.functions S.sizes e
@@ -396,10 +402,10 @@ call_settled S s fit at (Some (BuiltInFunction k)) args h g = call_with_settled 
     (λ es p q. built_in_good S k es p q)
 call_settled S s fit at (Some CodeFunction) args h g =
     only_where_settled S s.code at CodeOutsideFilter [] unsigned nodes.ExceptionCode args
-      g λ e. typed_good S unsigned nodes.ExceptionCode refl (fit.code e) refl
+    g λ e. typed_good S unsigned nodes.ExceptionCode refl (fit.code e) refl
 call_settled S s fit at (Some AbnormalFunction) args h g =
     only_where_settled S s.abnormal at AbnormalOutsideFinally [] int nodes.AbnormalTermination args
-      g λ e. typed_good S int nodes.AbnormalTermination refl (fit.abnormal e) refl
+    g λ e. typed_good S int nodes.AbnormalTermination refl (fit.abnormal e) refl
 call_settled S s fit at other args h g = tt
 
 -- ---- expressions
@@ -415,22 +421,22 @@ changed_settled S (Some o) at value_at a b g h = rule_of_two S at (compound_assi
 incremented_settled : (S : TypingContext) (lvalue : Bool) (first at : ℕ) (m : Fixity)
     (o : Increment) (j : ResolvedExpression) → IsSettled S j
     → IsSettled S (given_that lvalue first NotLvalue j.faults
-      (rule_1 at (incremented m o) j.faults j.found))
+    (rule_1 at (incremented m o) j.faults j.found))
 incremented_settled S lvalue first at m o j g =
     given_that_settled S lvalue first NotLvalue j.faults
-      (rule_1 at (incremented m o) j.faults j.found) λ e. rule_1_settled S at (incremented m o)
-      j.faults j.found g (incremented_good S m o)
+    (rule_1 at (incremented m o) j.faults j.found) λ e. rule_1_settled S at (incremented m o)
+    j.faults j.found g (incremented_good S m o)
 
 conditional_settled : (S : TypingContext) (at : ℕ) (c a b : ResolvedExpression) → IsSettled S c
     → IsSettled S a → IsSettled S b
     → IsSettled S (rule_3 at conditional_of (c.faults ++ a.faults ++ b.faults) c.found a.found
-      b.found)
+    b.found)
 conditional_settled S at c a b f g h =
     rule_3_settled S at conditional_of (c.faults ++ a.faults ++ b.faults) c.found a.found b.found
     (found_before S c.found (c.faults ++ a.faults) b.faults
-      (found_before S c.found c.faults a.faults f))
+    (found_before S c.found c.faults a.faults f))
     (found_before S a.found (c.faults ++ a.faults) b.faults
-      (found_after S a.found c.faults a.faults g))
+    (found_after S a.found c.faults a.faults g))
     (found_after S b.found (c.faults ++ a.faults) b.faults h) (conditional_good S)
 
 mutual
@@ -452,7 +458,7 @@ mutual
   settled S s fit (trees.Unary at o e) =
       let j = resolve_expression s e in
       given_that_settled S (operand_is_lvalue o s e) (start e) NotLvalue j.faults
-        (rule_1 at (unary_of o) j.faults j.found)
+      (rule_1 at (unary_of o) j.faults j.found)
       (λ h. unary_settled S at o j.faults j.found (settled S s fit e) (addressable s o e h))
   settled S s fit (trees.Cast at t e) = rule_1_settled S at (cast_of t)
       (resolve_expression s e).faults (resolve_expression s e).found (settled S s fit e)
@@ -461,12 +467,12 @@ mutual
       (resolve_expression s b) (settled S s fit a) (settled S s fit b) (binary_good S o)
   settled S s fit (trees.Conditional c at a b) =
       conditional_settled S at (resolve_expression s c) (resolve_expression s a)
-        (resolve_expression s b) (settled S s fit c) (settled S s fit a) (settled S s fit b)
+      (resolve_expression s b) (settled S s fit c) (settled S s fit a) (settled S s fit b)
   settled S s fit (trees.Assign a at o b) =
       let x = resolve_expression s a in
       let y = resolve_expression s b in
       given_that_settled S (is_lvalue s a) (start a) NotLvalue (x.faults ++ y.faults)
-        (changed o at (start b) x y)
+      (changed o at (start b) x y)
       (λ h. changed_settled S o at (start b) x y (settled S s fit a) (settled S s fit b))
   settled S s fit (trees.Comma a at b) = rule_of_two S at comma_of (resolve_expression s a)
       (resolve_expression s b) (settled S s fit a) (settled S s fit b) (comma_good S)

@@ -71,10 +71,16 @@ right_has : (S : TypingContext) (o : Arithmetic) (t : CType) (b : TypedNode) →
     → is_scalar b.type ≡ true → (x : Bool) → is_shift o ≡ x
     → (y : Size) × HasSize S (if x then as_is b else as_type t b) y
     × (takes (operation_in o t) (Some (size_of t)) (Some y) ≡ Some (size_of t))
-right_has S o t b g h true e = (size_of b.type, as_is_has S b g h,
-    takes_shift o (sort_of t) (size_of t) (size_of b.type) e)
-right_has S o t b g h false e = (size_of t, as_type_has S b t g h,
-    takes_alike o (sort_of t) (size_of t))
+right_has S o t b g h true e = (
+  size_of b.type,
+  as_is_has S b g h,
+  takes_shift o (sort_of t) (size_of t) (size_of b.type) e,
+)
+right_has S o t b g h false e = (
+  size_of t,
+  as_type_has S b t g h,
+  takes_alike o (sort_of t) (size_of t),
+)
 
 working_scalar : (o : Arithmetic) (a b : CType) → is_integer a ≡ true → is_integer b ≡ true
     → is_scalar (working_type o a b) ≡ true
@@ -89,14 +95,14 @@ pub integers_good : (S : TypingContext) (o : Arithmetic) (a b : TypedNode) → I
 integers_good S o a b g h =
     let t = working_type o a.type b.type in
     only_if_good S (is_integer a.type && is_integer b.type)
-      (typed t (nodes.Binary (operation_in o t) (as_type t a) (right_operand o t b))) λ e.
+    (typed t (nodes.Binary (operation_in o t) (as_type t a) (right_operand o t b))) λ e.
     let p = and_left (is_integer a.type) (is_integer b.type) e in
     let q = and_right (is_integer a.type) (is_integer b.type) e in
     let r = right_has S o t b h (integer_scalar b.type q) (is_shift o) refl in
     let n = binary_has S (operation_in o t) (as_type t a) (right_operand o t b) (size_of t) r.0
-      (size_of t) (as_type_has S a t g (integer_scalar a.type p)) r.1 r.2 in
+    (size_of t) (as_type_has S a t g (integer_scalar a.type p)) r.1 r.2 in
     typed_good S t (nodes.Binary (operation_in o t) (as_type t a) (right_operand o t b))
-      (working_scalar o a.type b.type p q) n.0 n.1
+    (working_scalar o a.type b.type p q) n.0 n.1
 
 -- ---- operators on pointers
 
@@ -118,9 +124,12 @@ pointed_has : (S : TypingContext) (p i : TypedNode) → IsGood S p → IsGood S 
     × HasSize S (as_index p.type i) sizes.Long
 pointed_has S p i g h e =
     let pointer = sized_is_pointer p.type (and_left (is_sized_pointer p.type) (is_integer i.type)
-      e) in
-    (pointer, pointer_has S p g pointer, as_index_has S p.type i h
-      (integer_scalar i.type (and_right (is_sized_pointer p.type) (is_integer i.type) e)))
+    e) in (
+      pointer,
+      pointer_has S p g pointer,
+      as_index_has S p.type i h
+          (integer_scalar i.type (and_right (is_sized_pointer p.type) (is_integer i.type) e)),
+    )
 
 moved_good : (S : TypingContext) (o : Arithmetic) (p i : TypedNode) → IsGood S p → IsGood S i
     → (is_sized_pointer p.type && is_integer i.type) ≡ true → IsGood S (moved o p i)
@@ -128,7 +137,7 @@ moved_good S o p i g h e =
     let r = pointed_has S p i g h e in
     let n = long_has S o (as_is p) (as_index p.type i) r.1 r.2 in
     pointer_good S p.type (nodes.Binary (long_operation o) (as_is p) (as_index p.type i)) r.0 n.0
-      n.1
+    n.1
 
 abbrev index_first : TypedNode → TypedNode → TypedNode
 index_first i p = typed p.type (nodes.Binary (long_operation arithmetic.Add) (as_index p.type i)
@@ -140,42 +149,42 @@ index_first_good S p i g h e =
     let r = pointed_has S p i g h e in
     let n = long_has S arithmetic.Add (as_index p.type i) (as_is p) r.2 r.1 in
     pointer_good S p.type (nodes.Binary (long_operation arithmetic.Add) (as_index p.type i)
-      (as_is p)) r.0 n.0 n.1
+    (as_is p)) r.0 n.0 n.1
 
 sum_good : (S : TypingContext) (a b : TypedNode) → IsGood S a → IsGood S b → GoodIf S (sum a b)
 sum_good S a b g h =
     if_good S (is_pointer a.type) _ _
     (λ p. only_if_good S (is_sized_pointer a.type && is_integer b.type) (moved arithmetic.Add a b)
-      (λ e. moved_good S arithmetic.Add a b g h e))
+    (λ e. moved_good S arithmetic.Add a b g h e))
     (λ p. if_good S (is_pointer b.type) _ _
     (λ q. only_if_good S (is_sized_pointer b.type && is_integer a.type) (index_first a b)
-      (λ e. index_first_good S b a h g e))
+    (λ e. index_first_good S b a h g e))
     (λ q. integers_good S arithmetic.Add a b g h))
 
 apart_good : (S : TypingContext) (a b : TypedNode) → IsGood S a → IsGood S b
     → is_pointer a.type ≡ true → is_pointer b.type ≡ true
     → IsGood S (typed (plain LongLong) (nodes.PointerDifference (bytes_in (pointed a.type))
-      (as_is a) (as_is b)))
+    (as_is a) (as_is b)))
 apart_good S a b g h p q =
     let x = pointer_has S a g p in
     let y = pointer_has S b h q in
     typed_good S (plain LongLong) (nodes.PointerDifference (bytes_in (pointed a.type)) (as_is a)
-      (as_is b)) refl
+    (as_is b)) refl
     (and_true (and_true (and_true (and_true x.sound y.sound) (has_size S (as_is a) sizes.Long x))
-      (has_size S (as_is b) sizes.Long y)) (bytes_divide (width_of (pointed a.type)))) refl
+    (has_size S (as_is b) sizes.Long y)) (bytes_divide (width_of (pointed a.type)))) refl
 
 difference_good : (S : TypingContext) (a b : TypedNode) → IsGood S a → IsGood S b
     → GoodIf S (difference a b)
 difference_good S a b g h =
     if_good S (is_pointer a.type && is_pointer b.type) _ _
     (λ p. only_if_good S (is_sized_pointer a.type && same_type a.type b.type)
-      (typed (plain LongLong) (nodes.PointerDifference (bytes_in (pointed a.type)) (as_is a)
-      (as_is b)))
+    (typed (plain LongLong) (nodes.PointerDifference (bytes_in (pointed a.type)) (as_is a)
+    (as_is b)))
     (λ e. apart_good S a b g h (and_left (is_pointer a.type) (is_pointer b.type) p)
-      (and_right (is_pointer a.type) (is_pointer b.type) p)))
+    (and_right (is_pointer a.type) (is_pointer b.type) p)))
     (λ p. if_good S (is_pointer a.type) _ _
     (λ q. only_if_good S (is_sized_pointer a.type && is_integer b.type)
-      (moved arithmetic.Subtract a b) (λ e. moved_good S arithmetic.Subtract a b g h e))
+    (moved arithmetic.Subtract a b) (λ e. moved_good S arithmetic.Subtract a b g h e))
     (λ q. integers_good S arithmetic.Subtract a b g h))
 
 arithmetic_good : (S : TypingContext) (o : Arithmetic) (a b : TypedNode) → IsGood S a → IsGood S b
@@ -196,8 +205,8 @@ compared_good : (S : TypingContext) (c : Comparison) (t : CType) (a b : TypedNod
 compared_good S c t a b g h p q =
     let o = operations.Pure (pures.Compare (relation_of c) (sort_of t) (size_of t)) in
     let n = binary_has S o (as_type t a) (as_type t b) (size_of t) (size_of t) sizes.Int
-      (as_type_has S a t g p) (as_type_has S b t h q)
-      (takes_compared (relation_of c) (sort_of t) (size_of t)) in
+    (as_type_has S a t g p) (as_type_has S b t h q)
+    (takes_compared (relation_of c) (sort_of t) (size_of t)) in
     typed_good S int (nodes.Binary o (as_type t a) (as_type t b)) refl n.0 n.1
 
 comparison_good : (S : TypingContext) (c : Comparison) (a b : TypedNode) → IsGood S a → IsGood S b
@@ -205,13 +214,13 @@ comparison_good : (S : TypingContext) (c : Comparison) (a b : TypedNode) → IsG
 comparison_good S c a b g h =
     if_good S (is_pointer a.type || is_pointer b.type) _ _
     (λ p. only_if_good S (are_comparable a b) (compared c void_pointer a b)
-      (λ e. let r = comparable_scalar a b g.zero h.zero e in
-      compared_good S c void_pointer a b g h r.0 r.1))
+    (λ e. let r = comparable_scalar a b g.zero h.zero e in
+    compared_good S c void_pointer a b g h r.0 r.1))
     (λ p. only_if_good S (is_integer a.type && is_integer b.type)
-      (compared c (common a.type b.type) a b)
+    (compared c (common a.type b.type) a b)
     (λ e. compared_good S c (common a.type b.type) a b g h
-      (integer_scalar a.type (and_left (is_integer a.type) (is_integer b.type) e))
-      (integer_scalar b.type (and_right (is_integer a.type) (is_integer b.type) e))))
+    (integer_scalar a.type (and_left (is_integer a.type) (is_integer b.type) e))
+    (integer_scalar b.type (and_right (is_integer a.type) (is_integer b.type) e))))
 
 -- ---- `&&` and `||`
 
@@ -223,7 +232,7 @@ both_scalar S a b g h e =
     let p = as_is_has S a g (and_left (is_scalar a.type) (is_scalar b.type) e) in
     let q = as_is_has S b h (and_right (is_scalar a.type) (is_scalar b.type) e) in
     and_true (and_true p.sound q.sound) (and_true (has_number S (as_is a) (size_of a.type) p)
-      (has_number S (as_is b) (size_of b.type) q))
+    (has_number S (as_is b) (size_of b.type) q))
 
 pub binary_good : (S : TypingContext) (o : BinaryOperator) (a b : TypedNode) → IsGood S a
     → IsGood S b → GoodIf S (binary_of o a b)
@@ -231,12 +240,12 @@ binary_good S (binary.Arithmetic o) a b g h = arithmetic_good S o a b g h
 binary_good S (binary.Comparison c) a b g h = comparison_good S c a b g h
 binary_good S binary.LogicalAnd a b g h =
     only_if_good S (is_scalar a.type && is_scalar b.type)
-      (typed int (nodes.And (as_is a) (as_is b))) λ e. typed_good S int
-      (nodes.And (as_is a) (as_is b)) refl (both_scalar S a b g h e) refl
+    (typed int (nodes.And (as_is a) (as_is b))) λ e. typed_good S int
+    (nodes.And (as_is a) (as_is b)) refl (both_scalar S a b g h e) refl
 binary_good S binary.LogicalOr a b g h =
     only_if_good S (is_scalar a.type && is_scalar b.type)
-      (typed int (nodes.Or (as_is a) (as_is b))) λ e. typed_good S int
-      (nodes.Or (as_is a) (as_is b)) refl (both_scalar S a b g h e) refl
+    (typed int (nodes.Or (as_is a) (as_is b))) λ e. typed_good S int
+    (nodes.Or (as_is a) (as_is b)) refl (both_scalar S a b g h e) refl
 
 -- ---- one operand
 
@@ -258,11 +267,11 @@ unary_has S o e y z p h =
 -- an operator on a promoted integer
 promoted_good : (S : TypingContext) (o : Pure) (a : TypedNode) → IsGood S a
     → IsChange o (size_of (promoted a.type)) → GoodIf S
-      (only_if (is_integer a.type) (typed (promoted a.type) (nodes.Unary o (as_is a))))
+    (only_if (is_integer a.type) (typed (promoted a.type) (nodes.Unary o (as_is a))))
 promoted_good S o a g c =
     only_if_good S (is_integer a.type) (typed (promoted a.type) (nodes.Unary o (as_is a))) λ e.
     let h = resized S (as_is a) (size_of a.type) (size_of (promoted a.type))
-      (sym (promoted_size a.type e)) (as_is_has S a g (integer_scalar a.type e)) in
+    (sym (promoted_size a.type e)) (as_is_has S a g (integer_scalar a.type e)) in
     let n = unary_has S o (as_is a) (size_of (promoted a.type)) (size_of (promoted a.type)) h c in
     typed_good S (promoted a.type) (nodes.Unary o (as_is a)) (promoted_scalar a.type e) n.0 n.1
 
@@ -273,8 +282,8 @@ indirection_good S a g =
     only_if_good S (is_sized_pointer a.type) (typed (pointed a.type) (nodes.Read place)) λ e.
     let p = pointer_has S a g (sized_is_pointer a.type e) in
     typed_good S (pointed a.type) (nodes.Read place) (pointed_scalar a.type e)
-      (and_true p.sound (has_size S (as_is a) sizes.Long p))
-      (ap (λ z. Some z) (size_in_memory_is (width_of (pointed a.type))))
+    (and_true p.sound (has_size S (as_is a) sizes.Long p))
+    (ap (λ z. Some z) (size_in_memory_is (width_of (pointed a.type))))
 
 -- what `&` is applied to lies in memory
 abbrev pub IsInMemory : Option Lvalue → Type 0
@@ -302,7 +311,7 @@ unary_good S unary.LogicalNot a g m =
     only_if_good S (is_scalar a.type) (typed int (nodes.Not (as_is a))) λ e.
     let p = as_is_has S a g e in
     typed_good S int (nodes.Not (as_is a)) refl
-      (and_true p.sound (has_number S (as_is a) (size_of a.type) p)) refl
+    (and_true p.sound (has_number S (as_is a) (size_of a.type) p)) refl
 unary_good S unary.Indirection a g m = indirection_good S a g
 unary_good S unary.AddressOf a g m = address_good S a.type a.node g.sound m
 
@@ -310,23 +319,23 @@ pub cast_good : (S : TypingContext) (t : CType) (a : TypedNode) → IsGood S a
     → GoodIf S (cast_of t a)
 cast_good S t a g =
     only_if_good S (is_scalar t && is_scalar a.type)
-      (typed t (nodes.Unary pures.First (as_type t a))) λ e.
+    (typed t (nodes.Unary pures.First (as_type t a))) λ e.
     let n = unary_has S pures.First (as_type t a) (size_of t) (size_of t)
-      (as_type_has S a t g (and_right (is_scalar t) (is_scalar a.type) e)) refl in
+    (as_type_has S a t g (and_right (is_scalar t) (is_scalar a.type) e)) refl in
     typed_good S t (nodes.Unary pures.First (as_type t a))
-      (and_left (is_scalar t) (is_scalar a.type) e) n.0 n.1
+    (and_left (is_scalar t) (is_scalar a.type) e) n.0 n.1
 
 pub element_good : (S : TypingContext) (a i : TypedNode) → IsGood S a → IsGood S i
     → GoodIf S (element_of a i)
 element_good S a i g h =
     let place = nodes.Element (access_of (pointed a.type)) (as_is a) (as_index a.type i) in
     only_if_good S (is_sized_pointer a.type && is_integer i.type)
-      (typed (pointed a.type) (nodes.Read place)) λ e.
+    (typed (pointed a.type) (nodes.Read place)) λ e.
     let r = pointed_has S a i g h e in
     typed_good S (pointed a.type) (nodes.Read place)
-      (pointed_scalar a.type (and_left (is_sized_pointer a.type) (is_integer i.type) e))
+    (pointed_scalar a.type (and_left (is_sized_pointer a.type) (is_integer i.type) e))
     (and_true (and_true (and_true r.1.sound r.2.sound) (has_size S (as_is a) sizes.Long r.1))
-      (has_size S (as_index a.type i) sizes.Long r.2))
+    (has_size S (as_index a.type i) sizes.Long r.2))
     (ap (λ z. Some z) (size_in_memory_is (width_of (pointed a.type))))
 
 -- ---- changes of a place
@@ -339,10 +348,10 @@ assigned_good S a b g h =
     let s = can_become_scalar a.type b h.zero e in
     let v = as_type_has S b a.type h s.0 in
     with_lvalue_good S a.node (Some (size_of a.type))
-      (λ p. typed a.type (nodes.Assign p (as_type a.type b))) g.sound (good_size S a g s.1)
+    (λ p. typed a.type (nodes.Assign p (as_type a.type b))) g.sound (good_size S a g s.1)
     (λ p sound size. typed_good S a.type (nodes.Assign p (as_type a.type b)) s.1
-      (and_true (and_true sound v.sound) (alike_sizes (expression_size S (as_type a.type b))
-      (lvalue_size S p) (size_of a.type) v.size size)) size))
+    (and_true (and_true sound v.sound) (alike_sizes (expression_size S (as_type a.type b))
+    (lvalue_size S p) (size_of a.type) v.size size)) size))
     (λ e. tt)
 
 -- a value of a size is changed in another, and is of its own size again
@@ -354,52 +363,52 @@ change_has : (place amount : Option Size) (before after : Conversion) (o : Opera
     → change_fits place before o amount after ≡ true
 change_has place amount before after o x y z p q b s t c u =
     let result : takes o (size_after before place) amount
-      ≡ Some y = ap (λ v. takes o (size_after before v) amount) p ∙ ap (λ v. takes o v amount) s
-      ∙ ap (takes o (Some y)) q ∙ t in
+    ≡ Some y = ap (λ v. takes o (size_after before v) amount) p ∙ ap (λ v. takes o v amount) s
+    ∙ ap (takes o (Some y)) q ∙ t in
     and_true
     (and_true (and_true (ap (can_convert before) p ∙ b) (ap is_number result))
-      (ap (can_convert after) result ∙ c))
+    (ap (can_convert after) result ∙ c))
     (alike_sizes (size_after after (takes o (size_after before place) amount)) place x
-      (ap (size_after after) result ∙ u) p)
+    (ap (size_after after) result ∙ u) p)
 
 moved_place_good : (S : TypingContext) (o : Arithmetic) (a b : TypedNode) → IsGood S a → IsGood S b
     → (is_sized_pointer a.type && is_integer b.type) ≡ true
     → GoodIf S (with_lvalue (lvalue_of a.node)
-      (λ p. typed a.type (nodes.CompoundAssign p Kept (long_operation o) (as_index a.type b) Kept)))
+    (λ p. typed a.type (nodes.CompoundAssign p Kept (long_operation o) (as_index a.type b) Kept)))
 moved_place_good S o a b g h e =
     let r = pointed_has S a b g h e in
     let size : node_size S a.node ≡ Some sizes.Long = good_size S a g (pointer_scalar a.type r.0)
-      ∙ ap (λ z. Some z) (pointer_size a.type r.0) in
+    ∙ ap (λ z. Some z) (pointer_size a.type r.0) in
     with_lvalue_good S a.node (Some sizes.Long)
-      (λ p. typed a.type (nodes.CompoundAssign p Kept (long_operation o) (as_index a.type b) Kept))
-      g.sound size
+    (λ p. typed a.type (nodes.CompoundAssign p Kept (long_operation o) (as_index a.type b) Kept))
+    g.sound size
     (λ p sound sized. pointer_good S a.type (nodes.CompoundAssign p Kept (long_operation o)
-      (as_index a.type b) Kept) r.0
+    (as_index a.type b) Kept) r.0
     (and_true (and_true sound r.2.sound)
     (change_has (lvalue_size S p) (expression_size S (as_index a.type b)) Kept Kept
-      (long_operation o) sizes.Long sizes.Long sizes.Long sized r.2.size refl refl
-      (takes_alike o signs.Unsigned sizes.Long) refl refl))
+    (long_operation o) sizes.Long sizes.Long sizes.Long sized r.2.size refl refl
+    (takes_alike o signs.Unsigned sizes.Long) refl refl))
     sized)
 
 worked_place_good : (S : TypingContext) (o : Arithmetic) (a b : TypedNode) → IsGood S a → IsGood S b
     → is_integer a.type ≡ true → is_integer b.type ≡ true
     → (t : CType) → GoodIf S (with_lvalue (lvalue_of a.node)
-      (λ p. typed a.type (nodes.CompoundAssign p (conversion a.type t) (operation_in o t)
-      (right_operand o t b) (conversion t a.type))))
+    (λ p. typed a.type (nodes.CompoundAssign p (conversion a.type t) (operation_in o t)
+    (right_operand o t b) (conversion t a.type))))
 worked_place_good S o a b g h p q t =
     let scalar = integer_scalar a.type p in
     let r = right_has S o t b h (integer_scalar b.type q) (is_shift o) refl in
     let there = conversion_makes a.type t in
     let back = conversion_makes t a.type in
     with_lvalue_good S a.node (Some (size_of a.type))
-      (λ x. typed a.type (nodes.CompoundAssign x (conversion a.type t) (operation_in o t)
-      (right_operand o t b) (conversion t a.type))) g.sound (good_size S a g scalar)
+    (λ x. typed a.type (nodes.CompoundAssign x (conversion a.type t) (operation_in o t)
+    (right_operand o t b) (conversion t a.type))) g.sound (good_size S a g scalar)
     (λ x sound sized. typed_good S a.type (nodes.CompoundAssign x (conversion a.type t)
-      (operation_in o t) (right_operand o t b) (conversion t a.type)) scalar
+    (operation_in o t) (right_operand o t b) (conversion t a.type)) scalar
     (and_true (and_true sound r.1.sound)
     (change_has (lvalue_size S x) (expression_size S (right_operand o t b)) (conversion a.type t)
-      (conversion t a.type) (operation_in o t) (size_of a.type) (size_of t) r.0 sized r.1.size
-      there.0 there.1 r.2 back.0 back.1))
+    (conversion t a.type) (operation_in o t) (size_of a.type) (size_of t) r.0 sized r.1.size
+    there.0 there.1 r.2 back.0 back.1))
     sized)
 
 -- a test of three parts, without the first
@@ -413,11 +422,11 @@ compound_assigned_good S o a b g h =
     if_good S (is_pointer a.type) _ _
     (λ p. if_good S (is_additive o && is_sized_pointer a.type && is_integer b.type) _ _
     (λ e. moved_place_good S o a b g h (additive_parts (is_additive o) (is_sized_pointer a.type)
-      (is_integer b.type) e))
+    (is_integer b.type) e))
     (λ e. tt))
     (λ p. if_good S (is_integer a.type && is_integer b.type) _ _
     (λ e. worked_place_good S o a b g h (and_left (is_integer a.type) (is_integer b.type) e)
-      (and_right (is_integer a.type) (is_integer b.type) e) (working_type o a.type b.type))
+    (and_right (is_integer a.type) (is_integer b.type) e) (working_type o a.type b.type))
     (λ e. tt))
 
 increment_place_good : (S : TypingContext) (m : Fixity) (o : Operation) (n : ℕ) (after : Conversion)
@@ -425,15 +434,15 @@ increment_place_good : (S : TypingContext) (m : Fixity) (o : Operation) (n : ℕ
     → takes o (Some y) (Some y) ≡ Some y → can_convert after (Some y) ≡ true
     → size_after after (Some y) ≡ Some (size_of a.type) → constant_fits y n ≡ true
     → GoodIf S (with_lvalue (lvalue_of a.node)
-      (λ p. typed a.type (nodes.Increment m p Kept o n after)))
+    (λ p. typed a.type (nodes.Increment m p Kept o n after)))
 increment_place_good S m o n after y a g scalar same t c u small =
     with_lvalue_good S a.node (Some (size_of a.type))
-      (λ p. typed a.type (nodes.Increment m p Kept o n after)) g.sound (good_size S a g scalar)
+    (λ p. typed a.type (nodes.Increment m p Kept o n after)) g.sound (good_size S a g scalar)
     (λ p sound sized. typed_good S a.type (nodes.Increment m p Kept o n after) scalar
     (and_true
     (and_true sound
     (change_has (lvalue_size S p) (lvalue_size S p) Kept after o (size_of a.type) y y sized
-      (sized ∙ ap (λ z. Some z) same) refl (ap (λ z. Some z) same) t c u))
+    (sized ∙ ap (λ z. Some z) same) refl (ap (λ z. Some z) same) t c u))
     (ap (λ z. amount_fits z n) (sized ∙ ap (λ z. Some z) same) ∙ small))
     sized)
 
@@ -443,17 +452,17 @@ incremented_good S m i a g =
     if_good S (is_pointer a.type) _ _
     (λ p. if_good S (is_sized_pointer a.type) _ _
     (λ e. increment_place_good S m (long_operation (increment_operator i))
-      (bytes_in (pointed a.type)) Kept sizes.Long a g (pointer_scalar a.type p)
-      (pointer_size a.type p)
+    (bytes_in (pointed a.type)) Kept sizes.Long a g (pointer_scalar a.type p)
+    (pointer_size a.type p)
     (takes_alike (increment_operator i) signs.Unsigned sizes.Long) refl
-      (ap (λ z. Some z) (sym (pointer_size a.type p))) (bytes_fit (width_of (pointed a.type))))
+    (ap (λ z. Some z) (sym (pointer_size a.type p))) (bytes_fit (width_of (pointed a.type))))
     (λ e. tt))
     (λ p. if_good S (is_integer a.type) _ _
     (λ e.
     let t = promoted a.type in
     let back = conversion_makes t a.type in
     increment_place_good S m (operation_in (increment_operator i) t) 1 (conversion t a.type)
-      (size_of t) a g (integer_scalar a.type e) (sym (promoted_size a.type e))
+    (size_of t) a g (integer_scalar a.type e) (sym (promoted_size a.type e))
     (takes_alike (increment_operator i) (sort_of t) (size_of t)) back.0 back.1
-      (one_fits (size_of t)))
+    (one_fits (size_of t)))
     (λ e. tt))

@@ -50,9 +50,10 @@ scalar_parameters text (p ∷ ps) block none =
     let duplicate = unless_holds (not (is_taken block name)) p.name.start Duplicate in
     let scalar = unless_holds (is_scalar p.of) p.name.start TypeClash in
     let next = with_name block name (LocalVariable 0 p.of) in
-    let apart = none_in_both (duplicate ++ scalar) (parameter_faults text ps next) none in
-    (holds (is_scalar p.of) p.name.start TypeClash (none_in_both duplicate scalar apart.0).1,
-      scalar_parameters text ps next apart.1)
+    let apart = none_in_both (duplicate ++ scalar) (parameter_faults text ps next) none in (
+      holds (is_scalar p.of) p.name.start TypeClash (none_in_both duplicate scalar apart.0).1,
+      scalar_parameters text ps next apart.1,
+    )
 
 parameters_fit : (fs : List checked_program.Function) (zs : List Size) (text : List ℕ)
     (ps : List Parameter) (block : Scope) (n : ℕ) (done : List Size) → n ≡ length done
@@ -63,15 +64,17 @@ parameters_fit fs zs text (p ∷ ps) block n done e front scalar fit =
     let z = size_of p.of in
     let rest = parameter_sizes ps in
     let regrouped : (done ++ z ∷ []) ++ rest ≡ done ++ z ∷ rest = append_assoc done (z ∷ []) rest in
-    let first : IsFront (done ++ z ∷ []) zs =
-      (rest ++ front.0, front.1 ∙ ap (λ w. w ++ front.0) (sym regrouped)
-      ∙ append_assoc (done ++ z ∷ []) rest front.0) in
+    let first : IsFront (done ++ z ∷ []) zs = (
+      rest ++ front.0,
+      front.1 ∙ ap (λ w. w ++ front.0) (sym regrouped)
+          ∙ append_assoc (done ++ z ∷ []) rest front.0,
+    ) in
     let all : IsFront ((done ++ z ∷ []) ++ rest)
-      zs = (front.0, front.1 ∙ ap (λ w. w ++ front.0) (sym regrouped)) in
+    zs = (front.0, front.1 ∙ ap (λ w. w ++ front.0) (sym regrouped)) in
     let there : slice_get zs n ≡ Some z = ap (slice_get zs) e ∙ front_get done z zs first in
     let longer : n + 1 ≡ length (done ++ z ∷ []) = ap (λ k. k + 1) e ∙ sym (length_push done z) in
     parameters_fit fs zs text ps (with_name block (spelled text p.name) (LocalVariable n p.of))
-      (n + 1) (done ++ z ∷ []) longer all scalar.1
+    (n + 1) (done ++ z ∷ []) longer all scalar.1
     (with_name_fits fs zs block (spelled text p.name) (LocalVariable n p.of) fit (there, scalar.0))
 
 -- ---- one function
@@ -91,8 +94,8 @@ body_of text file t ps body number = resolve_statements body (around text file t
 body_counted : (text : List ℕ) (file : Scope) (t : CType) (ps : List Parameter) (body : Statements)
     (number : ℕ)
     → Counted (start ps number) (body_of text file t ps body number).counts
-      (funclets (checked.statements (body_of text file t ps body number).done))
-      (limits.locals_of_all body) (length (funclets_of_all text body))
+    (funclets (checked.statements (body_of text file t ps body number).done))
+    (limits.locals_of_all body) (length (funclets_of_all text body))
 body_counted text file t ps body number = statements_counted body (around text file t)
     (with_parameters text ps [] 0) (start ps number)
 
@@ -101,18 +104,22 @@ all_sizes : (ps : List Parameter) (zs : List Size) → IsFront (parameter_sizes 
     → parameter_sizes ps ++ drop (length ps) zs ≡ zs
 all_sizes ps zs h =
     let same : length (parameter_sizes ps) ≡ length ps = length-map ps
-      (λ (p : Parameter). size_of p.of) in
+    (λ (p : Parameter). size_of p.of) in
     ap (λ w. parameter_sizes ps ++ drop (length ps) w) h.1
-      ∙ ap (λ w. parameter_sizes ps ++ w) (drop_at (parameter_sizes ps) h.0 (length ps) same)
-      ∙ sym h.1
+    ∙ ap (λ w. parameter_sizes ps ++ w) (drop_at (parameter_sizes ps) h.0 (length ps) same)
+    ∙ sym h.1
 
 abbrev checked_function : List ℕ → Scope → CType → Identifier → List Parameter → Statements → ℕ
     → checked_program.Function
 checked_function text file t n ps body number =
     let m = body_of text file t ps body number in
-    record { name = spelled text n; parameters = parameter_sizes ps;
-      locals = drop (length ps) m.counts.sizes; returns = result_size t;
-      body = checked.statements m.done }
+    record {
+      name = spelled text n;
+      parameters = parameter_sizes ps;
+      locals = drop (length ps) m.counts.sizes;
+      returns = result_size t;
+      body = checked.statements m.done;
+    }
 
 function_holds : (fs : List checked_program.Function) (text : List ℕ) (file : Scope) (t : CType)
     (n : Identifier) (ps : List Parameter) (body : Statements) (number : ℕ)
@@ -126,34 +133,45 @@ function_holds fs text file t n ps body number within fit none =
     let c = body_counted text file t ps body number in
     let apart = none_in_both (parameter_faults text ps []) m.faults none in
     let block = parameters_fit fs zs text ps [] 0 [] refl c.front
-      (scalar_parameters text ps [] apart.0) tt in
+    (scalar_parameters text ps [] apart.0) tt in
     let r = statements_resolve fs zs body (around text file t) (with_parameters text ps [] 0)
-      (start ps number) block (fit zs) (front_itself zs) apart.1 in
+    (start ps number) block (fit zs) (front_itself zs) apart.1 in
     let e = all_sizes ps zs c.front in
     let env : List Size → Inside =
-    λ w. record { scope = record { functions = fs; sizes = w; code = false; information = false;
-      abnormal = false }; returns = result_size t; loop = false; body = false; function = true } in
+    λ w. record {
+      scope = record {
+        functions = fs;
+        sizes = w;
+        code = false;
+        information = false;
+        abnormal = false;
+      };
+      returns = result_size t;
+      loop = false;
+      body = false;
+      function = true;
+    } in
     let sound = subst (λ w. statements_sound (env w) (checked.statements m.done) ≡ true) (sym e)
-      r.sound in
+    r.sound in
     let same : length (parameter_sizes ps) ≡ length ps = length-map ps
-      (λ (p : Parameter). size_of p.of) in
+    (λ (p : Parameter). size_of p.of) in
     let parameters = within.parameters (omega arith) in
     let few : length (parameter_sizes ps) ≤ 8 = omega (arith, parameters) in
     let dropped = length-drop (length ps) zs in
     let declared = within.locals (omega arith) in
     let locals : length (drop (length ps) zs) ≤ 256 = omega (arith, declared, c.sizes) in
     and_true (and_true sound (le-leb (length (parameter_sizes ps)) 8 few))
-      (le-leb (length (drop (length ps) zs)) 256 locals)
+    (le-leb (length (drop (length ps) zs)) 256 locals)
 
 -- ---- all functions
 
 record FunctionsHold (fs : List checked_program.Function) (text : List ℕ)
     (xs : List ExternalDeclaration) (number : ℕ) (done : List checked_program.Function) : Type 0
-    where
-  sound : functions_sound fs done ≡ true
-  up : count_up number (all_funclets done) ≡ true
-  count : length done ≡ limits.functions xs
-  within : length (all_funclets done) ≤ length (limits.funclets_in text xs)
+  where
+    sound : functions_sound fs done ≡ true
+    up : count_up number (all_funclets done) ≡ true
+    count : length done ≡ limits.functions xs
+    within : length (all_funclets done) ≤ length (limits.funclets_in text xs)
 
 functions_hold : (fs : List checked_program.Function) (text : List ℕ) (file : Scope)
     → ((zs : List Size) → ScopeFits fs zs file) → (xs : List ExternalDeclaration) (number : ℕ)
@@ -176,9 +194,9 @@ functions_hold fs text file fit (Function t n ps body ∷ xs) number within none
     let all = length-append own (all_funclets rest.done) in
     record {
       sound = and_true (function_holds fs text file t n ps body number within.0 fit apart.0)
-        r.sound;
+          r.sound;
       up = count_up_append number own (all_funclets rest.done) c.up
-        (subst (λ k. count_up k (all_funclets rest.done) ≡ true) c.number r.up);
+          (subst (λ k. count_up k (all_funclets rest.done) ≡ true) c.number r.up);
       count = ap suc r.count;
       within = omega (arith, c.within, r.within, bound, all);
     }
@@ -201,11 +219,15 @@ functions_from text file (Function t n ps body ∷ xs) number front =
     let after = (function_of text file t n ps body number).number in
     let rest = (functions_of text file xs after).done in
     let more = functions_from text file xs after (front ++ f ∷ []) in (
-      record { function = f; there = get_at front f rest; takes = parameter_types_sizes ps;
-        gives = refl },
+      record {
+        function = f;
+        there = get_at front f rest;
+        takes = parameter_types_sizes ps;
+        gives = refl;
+      },
       subst (λ k. FunctionsFrom (front ++ f ∷ rest) k xs) (length_push front f)
-        (subst (λ fs. FunctionsFrom fs (length (front ++ f ∷ [])) xs)
-        (append_assoc front (f ∷ []) rest) more),
+          (subst (λ fs. FunctionsFrom fs (length (front ++ f ∷ [])) xs)
+          (append_assoc front (f ∷ []) rest) more),
     )
 
 -- ---- main
@@ -223,7 +245,7 @@ main_takes : (ps : List CType) → are_main_parameters ps ≡ true
 main_takes [] h = refl
 main_takes (t ∷ []) h = ap (λ u. are_sizes [] (some_sizes (map size_of (u ∷ [])))
     || are_sizes (sizes.Long ∷ []) (some_sizes (map size_of (u ∷ []))))
-      (same_type_is t (plain LongLong) h)
+    (same_type_is t (plain LongLong) h)
 main_takes (t ∷ u ∷ ps) h = absurd (cc)
 
 main_holds : (fs : List checked_program.Function) (zs : List Size) (xs : List ExternalDeclaration)
@@ -231,10 +253,10 @@ main_holds : (fs : List checked_program.Function) (zs : List Size) (xs : List Ex
     → main_sound (slice_get fs (main_of xs e).number) ≡ true
 main_holds fs zs xs (Some (UserFunction k t ps)) fit none =
     let h = and_parts (same_type t int) (are_main_parameters ps)
-      (holds (same_type t int && are_main_parameters ps) (place_of_function xs k) TypeClash none) in
+    (holds (same_type t int && are_main_parameters ps) (place_of_function xs k) TypeClash none) in
     let f = fit.function in
     let takes = ap (λ w. are_sizes [] (some_sizes w) || are_sizes (sizes.Long ∷ []) (some_sizes w))
-      fit.takes ∙ main_takes ps h.1 in
+    fit.takes ∙ main_takes ps h.1 in
     let gives = ap (is_size sizes.Int) (fit.gives ∙ ap result_size (same_type_is t int h.0)) in
     ap main_sound fit.there ∙ and_true takes gives
 main_holds fs zs xs other fit none = absurd (cc)
@@ -253,17 +275,17 @@ accepted_is_sound text xs within none =
     let most_bytes = within.bytes (omega arith) in
     let few : length file.bytes ≤ 1048576 = omega (arith, bytes, most_bytes) in
     let fit : (zs : List Size) → ScopeFits fs zs file.scope = λ zs. file_fits fs zs text xs
-      empty_file first.1 few (functions_from text file.scope xs 1 []) tt in
+    empty_file first.1 few (functions_from text file.scope xs 1 []) tt in
     let r = functions_hold fs text file.scope fit xs 1 within.each apart.1 in
     let main_fits = main_holds fs [] xs (meaning_in file.scope main_name)
-      (meaning_fits fs [] file.scope (fit []) main_name) first.0 in
+    (meaning_fits fs [] file.scope (fit []) main_name) first.0 in
     let most_functions = within.functions (omega arith) in
     let many : length fs ≤ 4096 = omega (arith, r.count, most_functions) in
     let most_numbered = within.numbered (omega arith) in
     let numbered : length (all_funclets fs) ≤ 16384 = omega (arith, r.within, most_numbered) in
     and_true
     (and_true (and_true (and_true (and_true r.sound main_fits) r.up) (le-leb (length fs) 4096 many))
-      (le-leb (length (all_funclets fs)) 16384 numbered))
+    (le-leb (length (all_funclets fs)) 16384 numbered))
     (le-leb (length file.bytes) 1048576 few)
 
 -- the same of a program that is seen as what the text is resolved to

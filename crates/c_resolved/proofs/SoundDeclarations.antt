@@ -71,13 +71,23 @@ is_near Beyond = false
 is_near Near = true
 
 abbrev pub scope_of : List Function → List Size → Environment → sound.TypingContext
-scope_of fs zs a = record { functions = fs; sizes = zs; code = a.code; information = false;
-    abnormal = a.abnormal }
+scope_of fs zs a = record {
+  functions = fs;
+  sizes = zs;
+  code = a.code;
+  information = false;
+  abnormal = a.abnormal;
+}
 
 -- what is around a statement of the checked program
 abbrev pub inside_of : List Function → List Size → Environment → Inside
-inside_of fs zs a = record { scope = scope_of fs zs a; returns = result_size a.returns;
-    loop = is_near a.loop; body = is_near a.body; function = is_near a.function }
+inside_of fs zs a = record {
+  scope = scope_of fs zs a;
+  returns = result_size a.returns;
+  loop = is_near a.loop;
+  body = is_near a.body;
+  function = is_near a.function;
+}
 
 abbrev pub filter_scope : List Function → List Size → Environment → sound.TypingContext
 filter_scope fs zs a = record (scope_of fs zs a) { code = true; information = true }
@@ -88,8 +98,8 @@ pub names_fit : (fs : List Function) (zs : List Size) (a : Environment) (block :
 names_fit fs zs a block h k =
     record {
       entities = λ n. meaning_fits fs zs (built_ins ++ block ++ a.outer)
-        (fits_append fs zs (built_ins ++ block) a.outer
-        (fits_append fs zs built_ins block (built_ins_fit fs zs) h) k) (spelled a.text n);
+          (fits_append fs zs (built_ins ++ block) a.outer
+          (fits_append fs zs built_ins block (built_ins_fit fs zs) h) k) (spelled a.text n);
       code = λ c. c;
       information = λ c. c;
       abnormal = λ c. c;
@@ -98,8 +108,12 @@ names_fit fs zs a block h k =
 pub filter_names_fit : (fs : List Function) (zs : List Size) (a : Environment) (block : Scope)
     → ScopeFits fs zs block → ScopeFits fs zs a.outer
     → NamesFit (filter_scope fs zs a) (filter_names a block)
-filter_names_fit fs zs a block h k = record { entities = (names_fit fs zs a block h k).entities;
-    code = λ c. refl; information = λ c. refl; abnormal = λ c. c }
+filter_names_fit fs zs a block h k = record {
+  entities = (names_fit fs zs a block h k).entities;
+  code = λ c. refl;
+  information = λ c. refl;
+  abnormal = λ c. c;
+}
 
 -- ---- values
 
@@ -128,7 +142,7 @@ pub to_type_has : (S : sound.TypingContext) (type : CType) (at : ℕ) (o : Optio
 to_type_has S type at None fs g e = absurd (no_fault fs e g)
 to_type_has S type at (Some t) fs g e =
     let s = can_become_scalar type t g.zero (holds (can_become type t) at TypeClash
-      (none_in_both fs _ e).1) in
+    (none_in_both fs _ e).1) in
     (as_type_has S t type g s.0, s.1)
 
 pub to_answer_has : (S : sound.TypingContext) (at : ℕ) (o : Option TypedNode) (fs : List FaultAt)
@@ -147,7 +161,7 @@ optional_any S s fit (Some e) h = let j = resolve_expression s e in
 
 pub optional_condition : (S : sound.TypingContext) (s : Names) → NamesFit S s
     → (at : ℕ) (o : Option Expression) → (optional (λ e. condition at (resolve_expression s e))
-      o).faults ≡ []
+    o).faults ≡ []
     → test_sound S (optional (λ e. condition at (resolve_expression s e)) o).value ≡ true
 optional_condition S s fit at None h = refl
 optional_condition S s fit at (Some e) h = let j = resolve_expression s e in
@@ -163,7 +177,7 @@ optional_value S s fit type size same (Some e) h =
     let j = resolve_expression s e in
     let v = (to_type_has S type (start e) j.found j.faults (settled S s fit e) h).0 in
     and_true v.sound (alike_sizes (expression_size S (to_type type (start e) j).value) size
-      (size_of type) v.size same)
+    (size_of type) v.size same)
 
 -- ---- what is done of statements
 
@@ -185,8 +199,11 @@ sound_append i (x ∷ xs) ys h k =
 pub follow_resolves : (fs : List Function) (zs : List Size) (a : Environment)
     (m next : ResolvedStatements) → Resolves fs zs a m → Resolves fs zs a next
     → Resolves fs zs a (follow m next)
-follow_resolves fs zs a m next p q = record { sound = sound_append (inside_of fs zs a) m.done
-    next.done p.sound q.sound; block = q.block }
+follow_resolves fs zs a m next p q = record {
+  sound = sound_append (inside_of fs zs a) m.done
+      next.done p.sound q.sound;
+  block = q.block;
+}
 
 pub only_sound : (i : Inside) (ss : List checked.Statement)
     → statements_sound i (checked.statements ss) ≡ true → statement_sound i (only ss) ≡ true
@@ -206,16 +223,19 @@ declare_resolves fs zs a base l block n h k front none =
     let number = length n.sizes in
     let size = front_get n.sizes (size_of type) zs front in
     let apart = none_in_both (unless_holds (not (is_taken block name)) l.name.start Duplicate
-      ++ unless_holds (is_scalar type) l.name.start TypeClash) _ none in
+    ++ unless_holds (is_scalar type) l.name.start TypeClash) _ none in
     let scalar = holds (is_scalar type) l.name.start TypeClash
-      (none_in_both (unless_holds (not (is_taken block name)) l.name.start Duplicate) _
-      apart.0).1 in
+    (none_in_both (unless_holds (not (is_taken block name)) l.name.start Duplicate) _
+    apart.0).1 in
     let after = with_name block name (LocalVariable number type) in
     let fit = with_name_fits fs zs block name (LocalVariable number type) h (size, scalar) in
     let value = optional_value (scope_of fs zs a) (names_at a after) (names_fit fs zs a after fit k)
-      type (slice_get zs number) size l.initialiser apart.1 in
-    record { sound = and_true (and_true (lt-ltb number (length zs)
-      (slice_get_within zs number (size_of type) size)) value) refl; block = fit }
+    type (slice_get zs number) size l.initialiser apart.1 in
+    record {
+      sound = and_true (and_true (lt-ltb number (length zs)
+          (slice_get_within zs number (size_of type) size)) value) refl;
+      block = fit;
+    }
 
 pub declare_all_resolves : (fs : List Function) (zs : List Size) (a : Environment) (base : Base)
     (ls : List Local) (block : Scope) (n : Numbering) → ScopeFits fs zs block
@@ -229,9 +249,9 @@ declare_all_resolves fs zs a base (l ∷ ls) block n h k front none =
     let apart = none_in_both m.faults rest.faults none in
     let grown = (declare_all_counted a base ls m.block m.counts).front in
     let first = declare_resolves fs zs a base l block n h k
-      (front_through m.counts.sizes rest.counts.sizes zs grown front) apart.0 in
+    (front_through m.counts.sizes rest.counts.sizes zs grown front) apart.0 in
     follow_resolves fs zs a m rest first (declare_all_resolves fs zs a base ls m.block m.counts
-      first.block k front apart.1)
+    first.block k front apart.1)
 
 -- ---- what a `for` does first
 
@@ -259,8 +279,16 @@ pub for_initialiser_resolves : (fs : List Function) (zs : List Size) (a : Enviro
     → ForInitialiserResolves fs zs a (resolve_for_initialiser a f n)
 for_initialiser_resolves fs zs a (Declaring base ls) n k front none first =
     let r = declare_all_resolves fs zs a base ls [] n tt k front none in
-    record { declared = names_only_sound (inside_of fs zs a) (declare_all a base ls [] n).done
-      r.sound; first = refl; block = r.block }
+    record {
+      declared = names_only_sound (inside_of fs zs a) (declare_all a base ls [] n).done
+          r.sound;
+      first = refl;
+      block = r.block;
+    }
 for_initialiser_resolves fs zs a (Evaluating e) n k front none first =
-    record { declared = refl; first = optional_any (scope_of fs zs a) (names_at a [])
-      (names_fit fs zs a [] tt k) e first; block = tt }
+    record {
+      declared = refl;
+      first = optional_any (scope_of fs zs a) (names_at a [])
+          (names_fit fs zs a [] tt k) e first;
+      block = tt;
+    }

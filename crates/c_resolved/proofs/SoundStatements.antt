@@ -53,22 +53,24 @@ returned_sound fs zs a block h k at (Some e) none = by_void (is_void a.returns) 
     void = record { value = None; faults = j.faults ++ fault_at at TypeClash }
 
     value : Optional
-    value = record { value = Some (to_type a.returns (start e) j).value;
-      faults = (to_type a.returns (start e) j).faults }
+    value = record {
+      value = Some (to_type a.returns (start e) j).value;
+      faults = (to_type a.returns (start e) j).faults;
+    }
 
     by_void : (x : Bool) → is_void a.returns ≡ x → (if x then void else value).faults ≡ []
-      → result_sound (inside_of fs zs a) (if x then void else value).value ≡ true
+        → result_sound (inside_of fs zs a) (if x then void else value).value ≡ true
     by_void true v none = absurd (nothing (none_in_both j.faults (fault_at at TypeClash) none).1)
       where
         nothing : fault_at at TypeClash ≡ [] → ⊥
         nothing e = absurd (cc)
     by_void false v none =
         let r = to_type_has S a.returns (start e) j.found j.faults
-          (settled S (names_at a block) (names_fit fs zs a block h k) e) none in
+        (settled S (names_at a block) (names_fit fs zs a block h k) e) none in
         let size = scalar_size a.returns r.1 in
         and_true (and_true r.0.sound (ap sound.is_number size))
-          (alike_sizes (expression_size S (to_type a.returns (start e) j).value)
-          (result_size a.returns) (size_of a.returns) r.0.size size)
+        (alike_sizes (expression_size S (to_type a.returns (start e) j).value)
+        (result_size a.returns) (size_of a.returns) r.0.size size)
 
 filter_resolves : (fs : List Function) (zs : List Size) (a : Environment) (block : Scope)
     → ScopeFits fs zs block → ScopeFits fs zs a.outer → (e : Expression) (number : ℕ)
@@ -85,11 +87,11 @@ filter_resolves fs zs a block h k e number none = if_both {A = ResolvedFilter}
     j = resolve_expression (filter_names a block) e
 
     asked : (to_answer (start e) j).faults ≡ []
-      → (expression_sound S (to_answer (start e) j).value
-      && sound.is_size sizes.Int (expression_size S (to_answer (start e) j).value)) ≡ true
+        → (expression_sound S (to_answer (start e) j).value
+        && sound.is_size sizes.Int (expression_size S (to_answer (start e) j).value)) ≡ true
     asked none =
         let r = to_answer_has S (start e) j.found j.faults
-          (settled S (filter_names a block) (filter_names_fit fs zs a block h k) e) none in
+        (settled S (filter_names a block) (filter_names_fit fs zs a block h k) e) none in
         and_true r.sound (has_size S (to_answer (start e) j).value sizes.Int r)
 
 -- ---- statements
@@ -105,27 +107,38 @@ condition_resolves : (fs : List Function) (zs : List Size) (a : Environment) (bl
     → ScopeFits fs zs block → ScopeFits fs zs a.outer → (at : ℕ) (c : Expression)
     → (condition at (resolve_expression (names_at a block) c)).faults ≡ []
     → condition_sound (scope_of fs zs a) (condition at
-      (resolve_expression (names_at a block) c)).value ≡ true
+    (resolve_expression (names_at a block) c)).value ≡ true
 condition_resolves fs zs a block h k at c none =
     let j = resolve_expression (names_at a block) c in
     condition_holds (scope_of fs zs a) at j.found j.faults
-      (settled (scope_of fs zs a) (names_at a block) (names_fit fs zs a block h k) c) none
+    (settled (scope_of fs zs a) (names_at a block) (names_fit fs zs a block h k) c) none
 
 -- a `__finally` block is left by no jump
 last_sound : (fs : List Function) (zs : List Size) (a : Environment) (last : checked.Statements)
-    → statements_sound (record (inside_of fs zs a)
-      { scope = record (scope_of fs zs a) { abnormal = true }; loop = is_near (past_finally a.loop);
-      body = is_near (past_finally a.body); function = false }) last ≡ true
-    → statements_sound (record (inside_of fs zs a)
-      { scope = record (scope_of fs zs a) { abnormal = true }; loop = false; body = false;
-      function = false }) last ≡ true
+    → statements_sound (record (inside_of fs zs a) {
+      scope = record (scope_of fs zs a) { abnormal = true };
+      loop = is_near (past_finally a.loop);
+      body = is_near (past_finally a.body);
+      function = false;
+    }) last ≡ true
+    → statements_sound (record (inside_of fs zs a) {
+      scope = record (scope_of fs zs a) { abnormal = true };
+      loop = false;
+      body = false;
+      function = false;
+    }) last ≡ true
 last_sound fs zs a last h =
     let scope : sound.TypingContext = record (scope_of fs zs a) { abnormal = true } in
-    let at : Bool → Bool → Inside = λ x y. record { scope = scope; returns = result_size a.returns;
-      loop = x; body = y; function = false } in
+    let at : Bool → Bool → Inside = λ x y. record {
+      scope = scope;
+      returns = result_size a.returns;
+      loop = x;
+      body = y;
+      function = false;
+    } in
     subst (λ y. statements_sound (at false y) last ≡ true) (past_not_near a.body)
-      (subst (λ x. statements_sound (at x (is_near (past_finally a.body))) last ≡ true)
-      (past_not_near a.loop) h)
+    (subst (λ x. statements_sound (at x (is_near (past_finally a.body))) last ≡ true)
+    (past_not_near a.loop) h)
 
 mutual
   pub statement_resolves : (fs : List Function) (zs : List Size) (s : Statement) (a : Environment)
@@ -133,11 +146,11 @@ mutual
       → IsFront (resolve_statement s a block n).counts.sizes zs
       → (resolve_statement s a block n).faults ≡ []
       → Resolves fs zs a (resolve_statement s a block n)
-  statement_resolves fs zs (statements.Declare base ls) a block n h k front
-      none = declare_all_resolves fs zs a base ls block n h k front none
+  statement_resolves fs zs (statements.Declare base ls) a block n h k front none =
+      declare_all_resolves fs zs a base ls block n h k front none
   statement_resolves fs zs (statements.Block ss) a block n h k front none =
       let r = statements_resolve fs zs ss (inside a block) [] n tt
-        (fits_append fs zs block a.outer h k) front none in
+      (fits_append fs zs block a.outer h k) front none in
       one_resolves fs zs a block _ _ _ h r.sound
   statement_resolves fs zs (statements.Evaluate e) a block n h k front none = one_resolves fs zs a
       block _ _ _ h (optional_any (scope_of fs zs a) (names_at a block)
@@ -148,10 +161,10 @@ mutual
       let v = condition at (resolve_expression (names_at a block) c) in
       let apart = none_in_both v.faults m.faults none in
       let r = statement_resolves fs zs s here [] n tt (fits_append fs zs block a.outer h k) front
-        apart.1 in
+      apart.1 in
       one_resolves fs zs a block _ _ _ h (and_true
-        (condition_resolves fs zs a block h k at c apart.0)
-        (only_sound (inside_of fs zs a) m.done r.sound))
+      (condition_resolves fs zs a block h k at c apart.0)
+      (only_sound (inside_of fs zs a) m.done r.sound))
   statement_resolves fs zs (statements.IfElse at c s t) a block n h k front none =
       let here = inside a block in
       let m = resolve_statement s here [] n in
@@ -162,32 +175,32 @@ mutual
       let fit = fits_append fs zs block a.outer h k in
       let grown = (statement_counted t here [] m.counts).front in
       let r = statement_resolves fs zs s here [] n tt fit
-        (front_through m.counts.sizes o.counts.sizes zs grown front) inner.0 in
+      (front_through m.counts.sizes o.counts.sizes zs grown front) inner.0 in
       let q = statement_resolves fs zs t here [] m.counts tt fit front inner.1 in
       one_resolves fs zs a block _ _ _ h
       (and_true (and_true (condition_resolves fs zs a block h k at c apart.0)
-        (only_sound (inside_of fs zs a) m.done r.sound))
-        (only_sound (inside_of fs zs a) o.done q.sound))
+      (only_sound (inside_of fs zs a) m.done r.sound))
+      (only_sound (inside_of fs zs a) o.done q.sound))
   statement_resolves fs zs (statements.While at c s) a block n h k front none =
       let here = record (inside a block) { loop = Near } in
       let m = resolve_statement s here [] n in
       let v = condition at (resolve_expression (names_at a block) c) in
       let apart = none_in_both v.faults m.faults none in
       let r = statement_resolves fs zs s here [] n tt (fits_append fs zs block a.outer h k) front
-        apart.1 in
+      apart.1 in
       one_resolves fs zs a block _ _ _ h (and_true
-        (and_true (condition_resolves fs zs a block h k at c apart.0) refl)
-        (only_sound (inside_of fs zs here) m.done r.sound))
+      (and_true (condition_resolves fs zs a block h k at c apart.0) refl)
+      (only_sound (inside_of fs zs here) m.done r.sound))
   statement_resolves fs zs (statements.DoWhile s at c) a block n h k front none =
       let here = record (inside a block) { loop = Near } in
       let m = resolve_statement s here [] n in
       let v = condition at (resolve_expression (names_at a block) c) in
       let apart = none_in_both v.faults m.faults none in
       let r = statement_resolves fs zs s here [] n tt (fits_append fs zs block a.outer h k) front
-        apart.1 in
+      apart.1 in
       one_resolves fs zs a block _ _ _ h (and_true
-        (condition_resolves fs zs a block h k at c apart.0)
-        (only_sound (inside_of fs zs here) m.done r.sound))
+      (condition_resolves fs zs a block h k at c apart.0)
+      (only_sound (inside_of fs zs here) m.done r.sound))
   statement_resolves fs zs (statements.For at f c next s) a block n h k front none =
       let out = inside a block in
       let b = resolve_for_initialiser out f n in
@@ -197,29 +210,29 @@ mutual
       let w = optional (λ e. any (resolve_expression names e)) next in
       let m = resolve_statement s here [] b.resolved.counts in
       let apart = none_in_both (b.resolved.faults ++ b.first.faults ++ v.faults ++ w.faults)
-        m.faults none in
+      m.faults none in
       let three = none_in_both (b.resolved.faults ++ b.first.faults ++ v.faults) w.faults apart.0 in
       let two = none_in_both (b.resolved.faults ++ b.first.faults) v.faults three.0 in
       let one = none_in_both b.resolved.faults b.first.faults two.0 in
       let fit = fits_append fs zs block a.outer h k in
       let grown = (statement_counted s here [] b.resolved.counts).front in
       let i = for_initialiser_resolves fs zs out f n fit
-        (front_through b.resolved.counts.sizes m.counts.sizes zs grown front) one.0 one.1 in
+      (front_through b.resolved.counts.sizes m.counts.sizes zs grown front) one.0 one.1 in
       let known = names_fit fs zs out b.resolved.block i.block fit in
       let r = statement_resolves fs zs s here [] b.resolved.counts tt
-        (fits_append fs zs b.resolved.block out.outer i.block fit) front apart.1 in
+      (fits_append fs zs b.resolved.block out.outer i.block fit) front apart.1 in
       one_resolves fs zs a block _ _ _ h
       (and_true
       (and_true
       (and_true (and_true i.declared i.first)
-        (optional_condition (scope_of fs zs out) names known at c two.1))
+      (optional_condition (scope_of fs zs out) names known at c two.1))
       (optional_any (scope_of fs zs out) names known next three.1))
       (only_sound (inside_of fs zs here) m.done r.sound))
   statement_resolves fs zs (statements.Return at e) a block n h k front none =
       let apart = none_in_both (jump a.function JumpOutOfFinally at) (returned a block at e).faults
-        none in
+      none in
       one_resolves fs zs a block _ _ _ h (and_true (near a.function JumpOutOfFinally at apart.0)
-        (returned_sound fs zs a block h k at e apart.1))
+      (returned_sound fs zs a block h k at e apart.1))
   statement_resolves fs zs (statements.Break at) a block n h k front none = one_resolves fs zs a
       block _ _ _ h (near a.loop JumpOutsideLoop at none)
   statement_resolves fs zs (statements.Continue at) a block n h k front none = one_resolves fs zs a
@@ -237,40 +250,44 @@ mutual
       let fit = fits_append fs zs block a.outer h k in
       let grown = (statements_counted handler (record out { code = true }) [] after).front in
       let r = statements_resolve fs zs body (record out { body = Near }) [] n tt fit
-        (front_through m.counts.sizes o.counts.sizes zs grown front) inner.0 in
+      (front_through m.counts.sizes o.counts.sizes zs grown front) inner.0 in
       let p = statements_resolve fs zs handler (record out { code = true }) [] after tt fit front
-        inner.1 in
+      inner.1 in
       one_resolves fs zs a block _ _ _ h (and_true
-        (and_true r.sound (filter_resolves fs zs a block h k f m.counts.number apart.0)) p.sound)
+      (and_true r.sound (filter_resolves fs zs a block h k f m.counts.number apart.0)) p.sound)
   statement_resolves fs zs (statements.TryFinally body at last) a block n h k front none =
       let out = inside a block in
       let m = resolve_statements body (record out { body = Near }) [] n in
       let after = with_number m.counts (m.counts.number + 1) in
-      let there = record out { loop = past_finally a.loop; body = past_finally a.body;
-        function = Beyond; abnormal = true } in
+      let there = record out {
+        loop = past_finally a.loop;
+        body = past_finally a.body;
+        function = Beyond;
+        abnormal = true;
+      } in
       let o = resolve_statements last there [] after in
       let inner = none_in_both m.faults o.faults none in
       let fit = fits_append fs zs block a.outer h k in
       let grown = (statements_counted last there [] after).front in
       let r = statements_resolve fs zs body (record out { body = Near }) [] n tt fit
-        (front_through m.counts.sizes o.counts.sizes zs grown front) inner.0 in
+      (front_through m.counts.sizes o.counts.sizes zs grown front) inner.0 in
       let p = statements_resolve fs zs last there [] after tt fit front inner.1 in
       one_resolves fs zs a block _ _ _ h (and_true r.sound
-        (last_sound fs zs a (checked.statements o.done) p.sound))
+      (last_sound fs zs a (checked.statements o.done) p.sound))
 
   pub statements_resolve : (fs : List Function) (zs : List Size) (ss : Statements) (a : Environment)
       (block : Scope) (n : Numbering) → ScopeFits fs zs block → ScopeFits fs zs a.outer
       → IsFront (resolve_statements ss a block n).counts.sizes zs
       → (resolve_statements ss a block n).faults ≡ []
       → Resolves fs zs a (resolve_statements ss a block n)
-  statements_resolve fs zs statements.Empty a block n h k front
-      none = record { sound = refl; block = h }
+  statements_resolve fs zs statements.Empty a block n h k front none =
+      record { sound = refl; block = h }
   statements_resolve fs zs (statements.Then s ss) a block n h k front none =
       let m = resolve_statement s a block n in
       let rest = resolve_statements ss a m.block m.counts in
       let apart = none_in_both m.faults rest.faults none in
       let grown = (statements_counted ss a m.block m.counts).front in
       let r = statement_resolves fs zs s a block n h k
-        (front_through m.counts.sizes rest.counts.sizes zs grown front) apart.0 in
+      (front_through m.counts.sizes rest.counts.sizes zs grown front) apart.0 in
       follow_resolves fs zs a m rest r (statements_resolve fs zs ss a m.block m.counts r.block k
-        front apart.1)
+      front apart.1)

@@ -110,8 +110,8 @@ pointed_not_void true n h k = ap (λ b. not (not b)) (one_fewer n h (not_true (n
 pub pointed_scalar : (t : CType) → is_sized_pointer t ≡ true → is_scalar (pointed t) ≡ true
 pointed_scalar t h =
     pointed_not_void (is_void_base t.base) t.pointers
-      (and_left (is_pointer t) (not (is_void_pointer t)) h)
-      (and_right (is_pointer t) (not (is_void_pointer t)) h)
+    (and_left (is_pointer t) (not (is_void_pointer t)) h)
+    (and_right (is_pointer t) (not (is_void_pointer t)) h)
 
 -- ---- types of results
 
@@ -145,8 +145,8 @@ pub common_scalar : (a b : CType) → is_integer a ≡ true → is_integer b ≡
 common_scalar a b h k =
     plain_scalar (wider (promoted_base a.base) (promoted_base b.base))
     (wider_value (promoted_base a.base) (promoted_base b.base)
-      (promoted_value a.base (integer_base_value a h))
-      (promoted_value b.base (integer_base_value b k)))
+    (promoted_value a.base (integer_base_value a h))
+    (promoted_value b.base (integer_base_value b k)))
 
 promoted_width : (b : Base) → is_void_base b ≡ false
     → size_of_width (base_width (promoted_base b)) ≡ size_of_width (base_width b)
@@ -202,11 +202,11 @@ pub can_become_scalar : (t : CType) (a : TypedNode) → ZeroScalar a → can_bec
     → (is_scalar a.type ≡ true) × (is_scalar t ≡ true)
 can_become_scalar t a z h =
     becoming (is_integer a.type) (is_integer t) (is_pointer a.type) (is_pointer t) _ a.zero
-      (is_scalar a.type) (is_scalar t)
+    (is_scalar a.type) (is_scalar t)
     (integer_scalar a.type) (integer_scalar t) (pointer_scalar a.type) (pointer_scalar t) z h
 
 pub comparable_scalar : (a b : TypedNode) → ZeroScalar a → ZeroScalar b → are_comparable a b ≡ true
     → (is_scalar a.type ≡ true) × (is_scalar b.type ≡ true)
 comparable_scalar a b z w h =
     comparable (is_pointer a.type) (is_pointer b.type) _ a.zero b.zero (is_scalar a.type)
-      (is_scalar b.type) (pointer_scalar a.type) (pointer_scalar b.type) z w h
+    (is_scalar b.type) (pointer_scalar a.type) (pointer_scalar b.type) z w h

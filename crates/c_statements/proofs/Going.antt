@@ -40,14 +40,14 @@ starts a list es start = record { done = refl; counts = refl; block = refl; faul
 step : (a : Environment) (s : Stmt) (left : List Stmt) (es es' : Entries) (start w w' : Walk)
     (made more : List Checked) (whole : ResolvedStatements)
     → Resolves es' w w' (map checked.statement more)
-      (resolve_statement (statement s) a (block_of es) (numbering w))
+    (resolve_statement (statement s) a (block_of es) (numbering w))
     → Going a (s ∷ left) es start w made whole → Going a left es' start w' (made ++ more) whole
 step a s left es es' start w w' made more whole m g =
     let r = resolve_statement (statement s) a (block_of es) (numbering w) in
     let here = resolved_from a left (block_of es') (numbering w') in
     let there = resolved_from a left r.block r.counts in
     let same : here ≡ there = ap (λ b. resolved_from a left b (numbering w')) m.block
-      ∙ ap (resolved_from a left r.block) m.counts in
+    ∙ ap (resolved_from a left r.block) m.counts in
     record {
       done =
           ap (λ k. map checked.statement (made ++ more) ++ k.done) same
@@ -68,7 +68,7 @@ pub goes : (a : Environment) (list : List Stmt) (i : ℕ) (s : Stmt) (es es' : E
     (start w w' : Walk) (made made' more : List Checked) (whole : ResolvedStatements)
     → i < length list → s ≡ get_or list i s → made' ≡ made ++ more
     → Resolves es' w w' (map checked.statement more)
-      (resolve_statement (statement s) a (block_of es) (numbering w))
+    (resolve_statement (statement s) a (block_of es) (numbering w))
     → Going a (drop i list) es start w made whole
     → Going a (drop (i + 1) list) es' start w' made' whole
 goes a list i s es es' start w w' made made' more whole lt is e m g =
@@ -79,8 +79,13 @@ goes a list i s es es' start w w' made made' more whole lt is e m g =
 finished : (a : Environment) (es : Entries) (start w : Walk) (made : List Checked)
     (whole : ResolvedStatements)
     → Going a [] es start w made whole → Resolves es start w (map checked.statement made) whole
-finished a es start w made whole g = record { done = sym (append-nil (map checked.statement made))
-    ∙ g.done; counts = g.counts; block = g.block; faults = g.faults }
+finished a es start w made whole g = record {
+  done = sym (append-nil (map checked.statement made))
+      ∙ g.done;
+  counts = g.counts;
+  block = g.block;
+  faults = g.faults;
+}
 
 pub ends : (a : Environment) (list : List Stmt) (i : ℕ) (es : Entries) (start w : Walk)
     (made : List Checked) (whole : ResolvedStatements)

@@ -28,7 +28,7 @@ Entries = List (Bor (List ℕ) × Entity)
 pub one_is : (es : Entries) (w0 w1 : Walk) (made : Stmt) (out : List checked.Statement)
     (t t' : Statement) (a : Environment)
     → t ≡ t' → MakesOne (block_of es) w0 w1 made
-      (resolve_statement t' a (block_of es) (numbering w0)) → out ≡ checked.statement made ∷ []
+    (resolve_statement t' a (block_of es) (numbering w0)) → out ≡ checked.statement made ∷ []
     → Resolves es w0 w1 out (resolve_statement t a (block_of es) (numbering w0))
 one_is es w0 w1 made out t t' a e m o =
     subst (λ s. Resolves es w0 w1 out (resolve_statement s a (block_of es) (numbering w0))) (sym e)
@@ -52,7 +52,7 @@ pub part_in : (w0 w1 : Walk) (made : Stmt) (t' t : Statement) (a' a : Environmen
     → MakesPart w0 w1 made (resolve_statement t a [] n)
 part_in w0 w1 made t' t a' a n p q m =
     subst (λ k. MakesPart w0 w1 made (resolve_statement t k [] n)) q
-      (subst (λ k. MakesPart w0 w1 made (resolve_statement k a' [] n)) p m)
+    (subst (λ k. MakesPart w0 w1 made (resolve_statement k a' [] n)) p m)
 
 pub block_in : (w0 w1 : Walk) (made : List Stmt) (list' list : List Read) (a' a : Environment)
     (n : Numbering) → list' ≡ list → a' ≡ a
@@ -60,9 +60,9 @@ pub block_in : (w0 w1 : Walk) (made : List Stmt) (list' list : List Read) (a' a 
     → MakesBlock w0 w1 made (resolve_statements (statements (map statement list)) a [] n)
 block_in w0 w1 made list' list a' a n p q m =
     subst (λ k. MakesBlock w0 w1 made (resolve_statements (statements (map statement list)) k [] n))
-      q
+    q
     (subst (λ k. MakesBlock w0 w1 made (resolve_statements (statements (map statement k)) a' [] n))
-      p m)
+    p m)
 
 pub governed_in : (w0 w1 : Walk) (e : Expr) (made : Stmt) (v : Value) (t' t : Statement)
     (a' a : Environment) (n : Numbering) → t' ≡ t → a' ≡ a
@@ -70,7 +70,7 @@ pub governed_in : (w0 w1 : Walk) (e : Expr) (made : Stmt) (v : Value) (t' t : St
     → MakesGoverned w0 w1 e made v (resolve_statement t a [] n)
 governed_in w0 w1 e made v t' t a' a n p q m =
     subst (λ k. MakesGoverned w0 w1 e made v (resolve_statement t k [] n)) q
-      (subst (λ k. MakesGoverned w0 w1 e made v (resolve_statement k a' [] n)) p m)
+    (subst (λ k. MakesGoverned w0 w1 e made v (resolve_statement k a' [] n)) p m)
 
 -- ---- a condition and what it governs
 
@@ -86,33 +86,33 @@ governed_is w0 w1 w2 e s v f value faults n m =
       done = k.done;
       counts = k.counts;
       faults = kept_more (least_of w0.worst) (least_of w1.worst) (least_of w2.worst) v.faults
-        (f (numbering w0)).faults faults k.faults;
+          (f (numbering w0)).faults faults k.faults;
     }
 
 pub if_else_is : (b : Scope) (w0 w1 w2 : Walk) (e : Expr) (s o made : Stmt) (a : Environment)
     (at : ℕ) (c : Expression) (t u : Statement)
     → MakesGoverned w0 w1 e s (condition at (resolved_at a b c))
-      (resolve_statement t (inside a b) [] (numbering w0))
+    (resolve_statement t (inside a b) [] (numbering w0))
     → MakesPart w1 w2 o (resolve_statement u (inside a b) [] (numbering w1))
     → checked.statement made ≡ checked.IfElse (expression e) (checked.statement s)
-      (checked.statement o)
+    (checked.statement o)
     → MakesOne b w0 w2 made (resolve_statement (trees.IfElse at c t u) a b (numbering w0))
 if_else_is b w0 w1 w2 e s o made a at c t u m k p =
     let v = condition at (resolved_at a b c) in
     let r = resolve_statement t (inside a b) [] (numbering w0) in
     let j = part_at w1 w2 o (λ n. resolve_statement u (inside a b) [] n) (numbering w1) r.counts
-      m.counts k in
+    m.counts k in
     let q = resolve_statement u (inside a b) [] r.counts in
     record {
       done =
           ap (λ x. x ∷ [])
           (p ∙ ap (λ x. checked.IfElse x (checked.statement s) (checked.statement o)) m.condition
-            ∙ ap (λ x. checked.IfElse v.value x (checked.statement o)) m.done
+          ∙ ap (λ x. checked.IfElse v.value x (checked.statement o)) m.done
           ∙ ap (checked.IfElse v.value (only r.done)) j.done);
       counts = j.counts;
       block = refl;
       faults =
           kept_more (least_of w0.worst) (least_of w1.worst) (least_of w2.worst)
-            (v.faults ++ r.faults) q.faults m.faults j.faults
+          (v.faults ++ r.faults) q.faults m.faults j.faults
           ∙ ap (kept (least_of w0.worst)) (append_assoc v.faults r.faults q.faults);
     }

@@ -12,7 +12,7 @@ use Rattle.c_syntax.specs.Statement.{Statement, statement, statements, node}
 
 if_else_is : (at : ℕ) (c : Expr) (s : _) (t : _)
     → statement (stmts.If at c s (Some t)) ≡ trees.IfElse at (expression c) (statement s.value)
-      (statement t.value)
+    (statement t.value)
 if_else_is at c s t = ap statement (sym (stmts.rolls-If at c s (Some t)))
     ∙ fold-roll-Stmt Statement node (opened.If at c s (Some t))
 
@@ -30,18 +30,18 @@ leave_is at = ap statement (sym (stmts.rolls-Leave at))
 
 pub try_except_is : (b : _) (at : ℕ) (f : Expr) (h : _)
     → statement (stmts.TryExcept b at f h) ≡ trees.TryExcept (statements (map statement b.items)) at
-      (expression f) (statements (map statement h.items))
+    (expression f) (statements (map statement h.items))
 try_except_is b at f h = ap statement (sym (stmts.rolls-TryExcept b at f h))
     ∙ fold-roll-Stmt Statement node (opened.TryExcept b at f h)
 
 pub try_finally_is : (b : _) (at : ℕ) (l : _)
     → statement (stmts.TryFinally b at l) ≡ trees.TryFinally (statements (map statement b.items)) at
-      (statements (map statement l.items))
+    (statements (map statement l.items))
 try_finally_is b at l = ap statement (sym (stmts.rolls-TryFinally b at l))
     ∙ fold-roll-Stmt Statement node (opened.TryFinally b at l)
 
 pub if_some : (at : ℕ) (c : Expr) (s : _) (o : _) (t : _) (x : Stmt) → x ≡ stmts.If at c s o
     → o ≡ Some t → statement x ≡ trees.IfElse at (expression c) (statement s.value)
-      (statement t.value)
+    (statement t.value)
 if_some at c s o t x is n = ap statement is ∙ ap (λ k. statement (stmts.If at c s k)) n
     ∙ if_else_is at c s t

@@ -40,8 +40,11 @@ decided : (program : Program) (k : ℕ) (m : Machine) → ends_plain program k m
     → raises_inside (after program j m) ≡ false
 decided program zero m e j = cc
 decided program (suc k) m e zero =
-    elim (cases_Bool (is_over m.next)) [ inl over ↦ no_raise m.next _ over | inr
-      on ↦ (both _ _ _ e on).0 ]
+    elim (cases_Bool (is_over m.next)) [
+      | inl over ↦ no_raise m.next _ over
+      | inr
+          on ↦ (both _ _ _ e on).0
+    ]
 decided program (suc k) m e (suc j) =
     elim (cases_Bool (is_over m.next)) [
       | inl over ↦ no_raise (after program (suc j) m).next _ (over_stays program (suc j) m over)
@@ -88,8 +91,10 @@ raises_in_filters = (nested raise_in_filter refl, nested handled_in_filter refl)
 
 pub raises_in_finallys : RaisesInFinallys
 unfolding computed
-raises_in_finallys = (nested raise_in_finally refl,
-    nested (raising_after (raise 0xE0000001 0)) refl)
+raises_in_finallys = (
+  nested raise_in_finally refl,
+  nested (raising_after (raise 0xE0000001 0)) refl,
+)
 
 pub flag_one_at_return : FlagOneAtReturn
 unfolding computed

@@ -24,7 +24,7 @@ over_stays program zero m e = e
 over_stays program (suc k) m e = over_stays program k (step program m) (still m m.next refl e)
   where
     still : (m : Machine) (next : Next) → m.next ≡ next → is_over next ≡ true
-      → is_over (step program m).next ≡ true
+        → is_over (step program m).next ≡ true
     still m (Over how) at e = ap (λ next. is_over (done program m next).next) at
     still m next at e = cc
 
@@ -54,8 +54,12 @@ same_left : (program : Program) (m : Machine) (next : Next) (l : ℕ) → m.stat
     → done program m next ≡ with_left m.state.steps_left (done program m next)
     → Ahead (done program m next) (done program (with_left l m) next)
 same_left program m next l le e kept =
-    inl (record { left = l; is = e; more = subst (λ (n : ℕ). n ≤ l)
-      (sym (ap (λ (x : Machine). x.state.steps_left) kept)) le })
+    inl (record {
+      left = l;
+      is = e;
+      more = subst (λ (n : ℕ). n ≤ l)
+          (sym (ap (λ (x : Machine). x.state.steps_left) kept)) le;
+    })
 
 done_ahead : (program : Program) (m : Machine) (next : Next) (l : ℕ) → m.state.steps_left ≤ l
     → Ahead (done program m next) (done program (with_left l m) next)
@@ -71,8 +75,8 @@ before program k m m' (inr over) h = no_raise (after program k m).next _
 before program zero m m' (inl s) h = subst (λ x. raises_inside x ≡ false) s.is (h 0)
 before program (suc k) m m' (inl s) h =
     before program k (step program m) (step program m')
-      (subst (λ x. Ahead (step program m) (step program x)) (sym s.is)
-      (done_ahead program m m.next s.left s.more)) (λ j. h (suc j))
+    (subst (λ x. Ahead (step program m) (step program x)) (sym s.is)
+    (done_ahead program m m.next s.left s.more)) (λ j. h (suc j))
 
 pub plain_before : PlainBefore
 plain_before program arg n k h = λ j. before program j (first program arg n)
@@ -96,7 +100,7 @@ ends program (suc n) m near =
       | inr e ↦
           let less : distance (step program m) < distance m = decreases program m e in
           let rest : (k : ℕ) × (is_over (after program k (step program m)).next ≡ true) = ends
-            program n (step program m) (omega arith) in
+          program n (step program m) (omega arith) in
           (suc rest.0, rest.1)
     ]
 

@@ -24,4 +24,4 @@ ended_is_tame program arg n e at calm = λ m. elim (cases_lt m n)
     more m le =
         let all : n + (m - n) ≡ m = omega arith in
         subst (λ k. Calm program arg k ≡ true) all
-          (ap (λ (s : Shown Ended). is_calm s.end) (end_stays program arg n (m - n) e at) ∙ calm)
+        (ap (λ (s : Shown Ended). is_calm s.end) (end_stays program arg n (m - n) e at) ∙ calm)

@@ -98,9 +98,9 @@ mutual
   locate_bound names (Indirection access e) d at = expression_bound names e d at
   locate_bound names (Element access e i) d at =
       two (expression_code names e d at) (expression_code names i (d + 1) (at + expression_size e))
-        (combine d (Pure (pures.Add Long)) ∷ []) (expression_room e) (expression_room i) 35
-        (expression_bound names e d at) (expression_bound names i (d + 1) (at + expression_size e))
-        (omega arith)
+      (combine d (Pure (pures.Add Long)) ∷ []) (expression_room e) (expression_room i) 35
+      (expression_bound names e d at) (expression_bound names i (d + 1) (at + expression_size e))
+      (omega arith)
 
   arguments_bound : (names : Names) (es : Arguments) (d at : ℕ)
       → code_room (arguments_code names es d at) ≤ arguments_room es
@@ -108,8 +108,11 @@ mutual
   arguments_bound names (Next e es) d at =
       let a = expression_bound names e d at in
       let b = arguments_bound names es (d + 1) (at + expression_size e) in
-      omega (arith, room_append (expression_code names e d at)
-        (arguments_code names es (d + 1) (at + expression_size e)))
+      omega (
+        arith,
+        room_append (expression_code names e d at)
+            (arguments_code names es (d + 1) (at + expression_size e)),
+      )
 
   node_bound : (names : Names) (n : Node) (d at : ℕ)
       → code_room (node_code names n d at) ≤ node_room n
@@ -139,64 +142,81 @@ mutual
       let v = expression_bound names e (old + 1) from in
       let f = converted after old in
       let w = written p d old d in
-      omega (arith, room_append (locate_code names p d at)
-        (read_code p d old ++ (conversion_code before old ++ (value ++ done))),
+      omega (
+        arith,
+        room_append (locate_code names p d at)
+            (read_code p d old ++ (conversion_code before old ++ (value ++ done))),
         room_append (read_code p d old) (conversion_code before old ++ (value ++ done)),
-        room_append (conversion_code before old) (value ++ done), room_append value done,
-        room_append (conversion_code after old) last)
+        room_append (conversion_code before old) (value ++ done),
+        room_append value done,
+        room_append (conversion_code after old) last,
+      )
   node_bound names (nodes.Increment m p before o n after) d at =
       let old = d + address_count p in
       let last = write_code p d (old + 1) (old + 1)
-        ∷ copy (Temporary d) (Temporary (chosen_of m old)) ∷ [] in
+      ∷ copy (Temporary d) (Temporary (chosen_of m old)) ∷ [] in
       let done = constant (old + 2) n ∷ combine (old + 1) o
-        ∷ (conversion_code after (old + 1) ++ last) in
+      ∷ (conversion_code after (old + 1) ++ last) in
       let new = copy (Temporary (old + 1)) (Temporary old)
-        ∷ (conversion_code before (old + 1) ++ done) in
+      ∷ (conversion_code before (old + 1) ++ done) in
       let a = locate_bound names p d at in
       let r = read p d old in
       let b = converted before (old + 1) in
       let f = converted after (old + 1) in
       let w = written p d (old + 1) (old + 1) in
-      omega (arith, room_append (locate_code names p d at) (read_code p d old ++ new),
-        room_append (read_code p d old) new, room_append (conversion_code before (old + 1)) done,
-        room_append (conversion_code after (old + 1)) last)
+      omega (
+        arith,
+        room_append (locate_code names p d at) (read_code p d old ++ new),
+        room_append (read_code p d old) new,
+        room_append (conversion_code before (old + 1)) done,
+        room_append (conversion_code after (old + 1)) last,
+      )
   node_bound names (nodes.Unary o e) d at =
       let a = expression_bound names e d at in
       let b = unary o d in
       omega (arith, room_append (expression_code names e d at) (unary_code o d))
   node_bound names (nodes.Binary o e f) d at =
       two (expression_code names e d at) (expression_code names f (d + 1) (at + expression_size e))
-        (combine d o ∷ []) (expression_room e) (expression_room f) 35
-        (expression_bound names e d at) (expression_bound names f (d + 1) (at + expression_size e))
-        (omega arith)
+      (combine d o ∷ []) (expression_room e) (expression_room f) 35
+      (expression_bound names e d at) (expression_bound names f (d + 1) (at + expression_size e))
+      (omega arith)
   node_bound names (nodes.PointerDifference n e f) d at =
       two (expression_code names e d at) (expression_code names f (d + 1) (at + expression_size e))
-        (combine d (Pure (pures.Subtract Long)) ∷ constant (d + 1) n
-        ∷ combine d (Divide Signed Long) ∷ []) (expression_room e) (expression_room f) 105
-          (expression_bound names e d at) (expression_bound names f (d + 1)
-          (at + expression_size e)) (omega arith)
+      (combine d (Pure (pures.Subtract Long)) ∷ constant (d + 1) n
+      ∷ combine d (Divide Signed Long) ∷ []) (expression_room e) (expression_room f) 105
+      (expression_bound names e d at) (expression_bound names f (d + 1)
+      (at + expression_size e)) (omega arith)
   node_bound names (nodes.Not e) d at =
       let a = expression_bound names e d at in
-      omega (arith, room_append (expression_code names e d at)
-        (choice_code d (at + expression_size e) 1 0))
+      omega (
+        arith,
+        room_append (expression_code names e d at)
+            (choice_code d (at + expression_size e) 1 0),
+      )
   node_bound names (nodes.And e f) d at =
       let second = at + expression_size e + 1 in
       let last = choice_code d (second + expression_size f) 0 1 in
       let a = expression_bound names e d at in
       let b = expression_bound names f d second in
-      omega (arith, room_append (expression_code names e d at)
-        (JumpIfZero (Temporary d) (second + expression_size f + 3)
-        ∷ (expression_code names f d second ++ last)),
-          room_append (expression_code names f d second) last)
+      omega (
+        arith,
+        room_append (expression_code names e d at)
+            (JumpIfZero (Temporary d) (second + expression_size f + 3)
+            ∷ (expression_code names f d second ++ last)),
+        room_append (expression_code names f d second) last,
+      )
   node_bound names (nodes.Or e f) d at =
       let second = at + expression_size e + 3 in
       let last = choice_code d (second + expression_size f) 0 1 in
       let a = expression_bound names e d at in
       let b = expression_bound names f d second in
-      omega (arith, room_append (expression_code names e d at)
-        (JumpIfZero (Temporary d) second ∷ constant d 1 ∷ Jump (second + expression_size f + 4)
-        ∷ (expression_code names f d second ++ last)),
-          room_append (expression_code names f d second) last)
+      omega (
+        arith,
+        room_append (expression_code names e d at)
+            (JumpIfZero (Temporary d) second ∷ constant d 1 ∷ Jump (second + expression_size f + 4)
+            ∷ (expression_code names f d second ++ last)),
+        room_append (expression_code names f d second) last,
+      )
   node_bound names (nodes.Conditional c e f) d at =
       let yes = at + expression_size c + 1 in
       let no = yes + expression_size e + 1 in
@@ -204,14 +224,17 @@ mutual
       let a = expression_bound names c d at in
       let b = expression_bound names e d yes in
       let g = expression_bound names f d no in
-      omega (arith, room_append (expression_code names c d at)
-        (JumpIfZero (Temporary d) no ∷ (expression_code names e d yes ++ last)),
-        room_append (expression_code names e d yes) last)
+      omega (
+        arith,
+        room_append (expression_code names c d at)
+            (JumpIfZero (Temporary d) no ∷ (expression_code names e d yes ++ last)),
+        room_append (expression_code names e d yes) last,
+      )
   node_bound names (nodes.Comma e f) d at =
       two (expression_code names e d at) (expression_code names f (d + 1) (at + expression_size e))
-        (copy (Temporary d) (Temporary (d + 1)) ∷ []) (expression_room e) (expression_room f) 35
-        (expression_bound names e d at) (expression_bound names f (d + 1) (at + expression_size e))
-        (omega arith)
+      (copy (Temporary d) (Temporary (d + 1)) ∷ []) (expression_room e) (expression_room f) 35
+      (expression_bound names e d at) (expression_bound names f (d + 1) (at + expression_size e))
+      (omega arith)
   node_bound names (nodes.Call f es) d at =
       let a = arguments_bound names es d at in
       omega (arith, room_append (arguments_code names es d at) (Call f d (argument_count es) ∷ []))

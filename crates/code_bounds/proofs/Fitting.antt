@@ -71,14 +71,16 @@ mutual
   statement_counted owner names Leave = tt
   statement_counted owner names (TryExcept body filter block) =
       all_append FuncletIsCounted _ _ (statements_counted owner names body)
-        (all_append FuncletIsCounted _ _ (filters_counted owner (filter_names names) filter)
-        (statements_counted owner (except_names names) block))
+      (all_append FuncletIsCounted _ _ (filters_counted owner (filter_names names) filter)
+      (statements_counted owner (except_names names) block))
   statement_counted owner names (TryFinally body k last) =
       all_append FuncletIsCounted (statements_funclets owner names body)
-        (finally_funclet owner names last ∷ statements_funclets (in_funclet (k - 1) owner)
-        (finally_names names) last)
-      (statements_counted owner names body) (refl,
-        statements_counted (in_funclet (k - 1) owner) (finally_names names) last)
+      (finally_funclet owner names last ∷ statements_funclets (in_funclet (k - 1) owner)
+      (finally_names names) last)
+      (statements_counted owner names body) (
+        refl,
+        statements_counted (in_funclet (k - 1) owner) (finally_names names) last,
+      )
 
   statements_counted : (owner : Owner) (names : Names) (ss : Statements)
       → AllByRecursion FuncletIsCounted (statements_funclets owner names ss)
@@ -97,7 +99,7 @@ funclets_counted number [] = tt
 funclets_counted number (f ∷ fs) =
     all_append FuncletIsCounted (lowered_funclets number f) (all_funclets (number + 1) fs)
     (statements_counted (record { function = number; locals = all_locals f; parent = None })
-      (scope_of f).names f.body) (funclets_counted (number + 1) fs)
+    (scope_of f).names f.body) (funclets_counted (number + 1) fs)
 
 -- ---- instructions
 
@@ -114,9 +116,11 @@ field_fits fields.NumberParameters h = tt
 
 instruction_fits : (b : LinearBody) (i : Instruction) → IsPlain b.locals i
     → instruction_temporaries i ≤ b.temporaries → FitsInstruction b i
-instruction_fits b (instructions.Compute to o first second) h
-    le = (slot_fits b to h.0 (omega arith), slot_fits b first h.1 (omega arith),
-    slot_fits b second h.2 (omega arith))
+instruction_fits b (instructions.Compute to o first second) h le = (
+  slot_fits b to h.0 (omega arith),
+  slot_fits b first h.1 (omega arith),
+  slot_fits b second h.2 (omega arith),
+)
 instruction_fits b (instructions.Information to field) h
     le = (slot_fits b to h.0 le, field_fits field h.1)
 instruction_fits b (instructions.Landing to) h le = slot_fits b to h le
@@ -132,8 +136,10 @@ instruction_fits b (instructions.Return from) h le = slot_fits b from h le
 code_fits : (b : LinearBody) (is : List Instruction) → AllByRecursion (IsPlain b.locals) is
     → temporaries_in is ≤ b.temporaries → AllByRecursion (FitsInstruction b) is
 code_fits b [] h le = tt
-code_fits b (i ∷ is) h le = (instruction_fits b i h.0 (omega arith),
-    code_fits b is h.1 (omega arith))
+code_fits b (i ∷ is) h le = (
+  instruction_fits b i h.0 (omega arith),
+  code_fits b is h.1 (omega arith),
+)
 
 -- ---- bodies
 
@@ -149,8 +155,13 @@ functions_fit : (fs : List LinearFunction) → AllByRecursion IsSmallFunction fs
     → AllByRecursion FunctionIsCounted fs → tables_room (function_bodies fs) ≤ MOST_IMAGE
     → AllByRecursion FitsFunction fs
 functions_fit [] s c few = tt
-functions_fit (f ∷ fs) s c few = (record { parameters = s.0.parameters;
-    body = body_fits f.body s.0.body c.0 (omega arith) }, functions_fit fs s.1 c.1 (omega arith))
+functions_fit (f ∷ fs) s c few = (
+  record {
+    parameters = s.0.parameters;
+    body = body_fits f.body s.0.body c.0 (omega arith);
+  },
+  functions_fit fs s.1 c.1 (omega arith),
+)
 
 kind_fits : (b : LinearBody) (k : FuncletKind) → HasFlag b k → FitsKind b k
 kind_fits b kinds.Filter h = tt
@@ -164,10 +175,15 @@ funclets_fit : (p : LinearProgram) (fs : List LinearFunclet) → AllByRecursion 
     → AllByRecursion FuncletIsCounted fs → tables_room (funclet_bodies fs) ≤ MOST_IMAGE
     → AllByRecursion (FitsFunclet p) fs
 funclets_fit p [] s c few = tt
-funclets_fit p (f ∷ fs) s c few =
-    (record { kind = kind_fits f.body f.kind s.0.kind; function = s.0.function;
-      parent = parent_fits p f.parent s.0.parent;
-      body = body_fits f.body s.0.body c.0 (omega arith) }, funclets_fit p fs s.1 c.1 (omega arith))
+funclets_fit p (f ∷ fs) s c few = (
+  record {
+    kind = kind_fits f.body f.kind s.0.kind;
+    function = s.0.function;
+    parent = parent_fits p f.parent s.0.parent;
+    body = body_fits f.body s.0.body c.0 (omega arith);
+  },
+  funclets_fit p fs s.1 c.1 (omega arith),
+)
 
 -- ---- programs
 
@@ -200,9 +216,9 @@ accepted_fits text xs within accepted few =
       globals = omega arith;
       main = s.main;
       functions = functions_fit p.functions s.functions (functions_counted program.functions)
-        (omega arith);
+          (omega arith);
       funclets = funclets_fit p p.funclets s.funclets (funclets_counted 0 program.functions)
-        (omega arith);
+          (omega arith);
       small = all;
     }
 

@@ -38,9 +38,14 @@ functions_bound number (f ∷ fs) =
     let r = functions_bound (number + 1) fs in
     let b = statements_bound (scope_of f) 0 0 owner names f.body in
     let c = statements_count owner names f.body in
-    omega (arith, room_append (statements_code (scope_of f) f.body 0)
-      (constant 0 0 ∷ Return (Temporary 0) ∷ []), funclets_append own more, length-append own more,
-      length-append (funclets f.body) (sound.all_funclets fs))
+    omega (
+      arith,
+      room_append (statements_code (scope_of f) f.body 0)
+          (constant 0 0 ∷ Return (Temporary 0) ∷ []),
+      funclets_append own more,
+      length-append own more,
+      length-append (funclets f.body) (sound.all_funclets fs),
+    )
 
 pub lowered_is_bounded : LoweredIsBounded
 lowered_is_bounded program =

@@ -68,15 +68,21 @@ tested : (names : Names) (e : Option Expression) (label at : ℕ)
     → code_room (condition_code names e label at) ≤ condition_room e
 tested names None label at = omega arith
 tested names (Some e) label at = let a = expression_bound names e 0 at in
-    omega (arith, room_append (expression_code names e 0 at)
-    (instructions.JumpIfZero (Temporary 0) label ∷ []))
+    omega (
+      arith,
+      room_append (expression_code names e 0 at)
+          (instructions.JumpIfZero (Temporary 0) label ∷ []),
+    )
 
 initialised : (names : Names) (x : ℕ) (e : Option Expression) (at : ℕ)
     → code_room (initialiser_code names x e at) ≤ initialiser_room e
 initialised names x None at = omega arith
 initialised names x (Some e) at = let a = expression_bound names e 0 at in
-    omega (arith, room_append (expression_code names e 0 at)
-    (copy (Local x) (Temporary 0) ∷ instructions.Separator ∷ []))
+    omega (
+      arith,
+      room_append (expression_code names e 0 at)
+          (copy (Local x) (Temporary 0) ∷ instructions.Separator ∷ []),
+    )
 
 declared_bound : (names : Names) (d : Declared) (at : ℕ)
     → code_room (declared_code names d at) ≤ declared_room d
@@ -88,15 +94,21 @@ all_declared names [] at = omega arith
 all_declared names (d ∷ ds) at =
     let a = declared_bound names d at in
     let b = all_declared names ds (at + declared_size d) in
-    omega (arith, room_append (declared_code names d at)
-      (all_declared_code names ds (at + declared_size d)))
+    omega (
+      arith,
+      room_append (declared_code names d at)
+          (all_declared_code names ds (at + declared_size d)),
+    )
 
 filtered : (owner : Owner) (names : Names) (f : Filter)
     → funclets_room (filter_funclets owner names f) ≤ filter_room f
 filtered owner names Always = omega arith
 filtered owner names (Funclet k e) = let a = expression_bound names e 0 0 in
-    omega (arith, room_append (expression_code names e 0 0)
-    (instructions.Return (Temporary 0) ∷ []))
+    omega (
+      arith,
+      room_append (expression_code names e 0 0)
+          (instructions.Return (Temporary 0) ∷ []),
+    )
 
 -- ---- statements: the code is placed at one instruction, and the regions at another
 
@@ -123,9 +135,12 @@ mutual
       let then = at + expression_size c + 1 in
       let a = expression_bound scope.names c 0 at in
       let b = statement_bound scope then (from + expression_size c + 1) owner names s in
-      omega (arith, room_append (expression_code scope.names c 0 at)
-        (instructions.JumpIfZero (Temporary 0) (then + statement_size s)
-        ∷ statement_code scope s then))
+      omega (
+        arith,
+        room_append (expression_code scope.names c 0 at)
+            (instructions.JumpIfZero (Temporary 0) (then + statement_size s)
+            ∷ statement_code scope s then),
+      )
   statement_bound scope at from owner names (IfElse c s t) =
       let then = at + expression_size c + 1 in
       let otherwise = then + statement_size s + 1 in
@@ -135,12 +150,15 @@ mutual
       let b = statement_bound scope then then' owner names s in
       let d = statement_bound scope otherwise otherwise' owner names t in
       let last = instructions.Jump (otherwise + statement_size t)
-        ∷ statement_code scope t otherwise in
-      omega (arith, room_append (expression_code scope.names c 0 at)
-        (instructions.JumpIfZero (Temporary 0) otherwise ∷ (statement_code scope s then ++ last)),
+      ∷ statement_code scope t otherwise in
+      omega (
+        arith,
+        room_append (expression_code scope.names c 0 at)
+            (instructions.JumpIfZero (Temporary 0) otherwise ∷ (statement_code scope s then ++ last)),
         room_append (statement_code scope s then) last,
         length-append (statement_regions s then') (statement_regions t otherwise'),
-        funclets_append (statement_funclets owner names s) (statement_funclets owner names t))
+        funclets_append (statement_funclets owner names s) (statement_funclets owner names t),
+      )
   statement_bound scope at from owner names (For ds first c next s) =
       let begin = at + all_declared_size ds in
       let iteration = begin + discarded_size first in
@@ -151,25 +169,32 @@ mutual
       let b = discarded scope.names first begin in
       let d = tested scope.names c end iteration in
       let e = statement_bound (in_loop end again scope) body
-        (from + all_declared_size ds + discarded_size first + condition_size c) owner names s in
+      (from + all_declared_size ds + discarded_size first + condition_size c) owner names s in
       let f = discarded scope.names next (again + 1) in
       let step = discarded_code scope.names next (again + 1) in
       let last = instructions.Separator ∷ (step ++ instructions.Jump iteration ∷ []) in
       let inner = statement_code (in_loop end again scope) s body ++ last in
       let test = condition_code scope.names c end iteration in
-      omega (arith, room_append (all_declared_code scope.names ds at)
-        (discarded_code scope.names first begin ++ (test ++ inner)),
+      omega (
+        arith,
+        room_append (all_declared_code scope.names ds at)
+            (discarded_code scope.names first begin ++ (test ++ inner)),
         room_append (discarded_code scope.names first begin) (test ++ inner),
-        room_append test inner, room_append (statement_code (in_loop end again scope) s body) last,
-        room_append step (instructions.Jump iteration ∷ []))
+        room_append test inner,
+        room_append (statement_code (in_loop end again scope) s body) last,
+        room_append step (instructions.Jump iteration ∷ []),
+      )
   statement_bound scope at from owner names (DoWhile s c) =
       let again = at + statement_size s in
       let end = again + 1 + expression_size c + 2 in
       let a = statement_bound (in_loop end again scope) at from owner names s in
       let b = expression_bound scope.names c 0 (again + 1) in
-      omega (arith, room_append (statement_code (in_loop end again scope) s at)
-        (instructions.Separator ∷ (expression_code scope.names c 0 (again + 1) ++ repeated end at)),
-        room_append (expression_code scope.names c 0 (again + 1)) (repeated end at))
+      omega (
+        arith,
+        room_append (statement_code (in_loop end again scope) s at)
+            (instructions.Separator ∷ (expression_code scope.names c 0 (again + 1) ++ repeated end at)),
+        room_append (expression_code scope.names c 0 (again + 1)) (repeated end at),
+      )
   statement_bound scope at from owner names (statements.Return e) =
       let a = returned scope.names e at in
       let b = returned_by scope.exit in
@@ -184,15 +209,18 @@ mutual
       let own = region from target' (except_kind filter target') in
       let a = statements_bound (in_try end scope) at from owner names body in
       let b = statements_bound (in_except scope) (target + 1) (target' + 1) owner
-        (except_names names) block in
+      (except_names names) block in
       let d = filtered owner (filter_names names) filter in
       let inner = filter_funclets owner (filter_names names) filter in
       let last = statements_funclets owner (except_names names) block in
-      omega (arith, room_append (statements_code (in_try end scope) body at)
-        (landed end scope.names.free ++ statements_code (in_except scope) block (target + 1)),
+      omega (
+        arith,
+        room_append (statements_code (in_try end scope) body at)
+            (landed end scope.names.free ++ statements_code (in_except scope) block (target + 1)),
         length-append (statements_regions body from) (own ∷ statements_regions block (target' + 1)),
         funclets_append (statements_funclets owner names body) (inner ++ last),
-        funclets_append inner last)
+        funclets_append inner last,
+      )
   statement_bound scope at from owner names (TryFinally body k last) =
       let guarded = in_guarded (at + statements_size body) scope in
       let inner = finally_scope names in
@@ -200,13 +228,16 @@ mutual
       let names' = finally_names names in
       let a = statements_bound guarded at from owner names body in
       let b = statements_bound inner 0 0 owner' names' last in
-      omega (arith, room_append (statements_code guarded body at)
-        (instructions.Separator ∷ instructions.CallFinally (k - 1) ∷ instructions.Separator ∷ []),
+      omega (
+        arith,
+        room_append (statements_code guarded body at)
+            (instructions.Separator ∷ instructions.CallFinally (k - 1) ∷ instructions.Separator ∷ []),
         length-append (statements_regions body from)
-        (region from (from + statements_size body + 1) (kinds.Finally (k - 1)) ∷ []),
+            (region from (from + statements_size body + 1) (kinds.Finally (k - 1)) ∷ []),
         funclets_append (statements_funclets owner names body)
-        (finally_funclet owner names last ∷ statements_funclets owner' names' last),
-        room_append (statements_code inner last 0) (instructions.Return (Local names.free) ∷ []))
+            (finally_funclet owner names last ∷ statements_funclets owner' names' last),
+        room_append (statements_code inner last 0) (instructions.Return (Local names.free) ∷ []),
+      )
 
   pub statements_bound : (scope : LoweringContext) (at from : ℕ) (owner : Owner) (names : Names)
       (ss : Statements) → Bounds scope at from owner names ss
@@ -214,8 +245,11 @@ mutual
   statements_bound scope at from owner names (Then s ss) =
       let a = statement_bound scope at from owner names s in
       let b = statements_bound scope (at + statement_size s) (from + statement_size s) owner names
-        ss in
-      omega (arith, room_append (statement_code scope s at)
-        (statements_code scope ss (at + statement_size s)),
+      ss in
+      omega (
+        arith,
+        room_append (statement_code scope s at)
+            (statements_code scope ss (at + statement_size s)),
         length-append (statement_regions s from) (statements_regions ss (from + statement_size s)),
-        funclets_append (statement_funclets owner names s) (statements_funclets owner names ss))
+        funclets_append (statement_funclets owner names s) (statements_funclets owner names ss),
+      )

@@ -12,7 +12,7 @@ no_plus : (ds : List ℕ) → AllDigits 10 ds → without_leading_plus ds ≡ ds
 no_plus [] h = refl
 no_plus (c ∷ cs) h = elim (cases_eq c 43) [
   | inl e ↦ let d : digit_value 43 < 10 = subst (λ (x : ℕ). digit_value x < 10) e h.0 in
-    absurd (omega arith)
+      absurd (omega arith)
   | inr n ↦ rw (ne_eqb c 43 n) refl
 ]
 
@@ -22,7 +22,7 @@ pub is_read : (text : List ℕ) (n : ℕ) → n < 2 ^ 63 → text ≡ decimal n
 is_read text n lt e =
     let d = decimal_is_IsNumeral n (omega arith) in
     let same : without_leading_plus text ≡ decimal n = ap without_leading_plus e
-      ∙ no_plus (decimal n) d.0.1 in
+    ∙ no_plus (decimal n) d.0.1 in
     (subst (IsNumeral 10) (sym same) d.0, ap (digits_value 10) same ∙ d.1)
 
 same_bytes : (xs : List ℕ) → pointwise nat_eq xs xs ≡ true

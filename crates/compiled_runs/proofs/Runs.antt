@@ -27,27 +27,33 @@ has_rule (Finished e es) h = tt
 has_rule (Stuck es) h = absurd (h es refl)
 
 prefix_then : (xs ys zs : List Event) → IsPrefixOf xs ys → IsPrefixOf ys zs → IsPrefixOf xs zs
-prefix_then xs ys zs a b = (a.0 ++ b.0, sym (append_assoc xs a.0 b.0) ∙ ap (λ es. es ++ b.0) a.1
-    ∙ b.1)
+prefix_then xs ys zs a b = (
+  a.0 ++ b.0,
+  sym (append_assoc xs a.0 b.0) ∙ ap (λ es. es ++ b.0) a.1
+      ∙ b.1,
+)
 
 -- a run that shows all that linear code shows, which shows all that the program means
 through : (meant linear : Shown Ended) (machine : Shown RunEnd)
     → IsPrefixOf meant.events linear.events → ((e : Ended) → meant.end ≡ Some e → linear ≡ meant)
     → ShowsAll linear machine → ShowsAll meant machine
 through meant linear machine front same all = record {
-  shows = (front.0 ++ all.shows.0, all.shows.1 ∙ ap (λ es. es ++ all.shows.0) (sym front.1)
-      ∙ append_assoc meant.events front.0 all.shows.0);
+  shows = (
+    front.0 ++ all.shows.0,
+    all.shows.1 ∙ ap (λ es. es ++ all.shows.0) (sym front.1)
+        ∙ append_assoc meant.events front.0 all.shows.0,
+  );
   ends = λ e h. by meant.end refl e h;
 }
   where
     by : (end : Option Ended) → meant.end ≡ end → (e : RunEnd) → run_end_of end ≡ Some e
-      → machine ≡ record { events = meant.events; end = Some e }
+        → machine ≡ record { events = meant.events; end = Some e }
     by None g e h = cc
     by (Some x) g e h =
         let is : linear ≡ meant = same x g in
         all.ends e (ap (λ (z : Shown Ended). run_end_of z.end) is ∙ ap run_end_of g ∙ h)
-          ∙ ap (λ (z : Shown Ended). let o : Shown
-            RunEnd = record { events = z.events; end = Some e } in o) is
+        ∙ ap (λ (z : Shown Ended). let o : Shown
+        RunEnd = record { events = z.events; end = Some e } in o) is
 
 -- a run that shows no more than linear code, which shows no more than the program means
 back : (meant linear : Shown Ended) (machine : Shown RunEnd) → IsPrefixOf linear.events meant.events
@@ -59,12 +65,14 @@ back meant linear machine front same less = record {
 }
   where
     by : (end : Option Ended) → linear.end ≡ end → (e : RunEnd)
-      → (run_end_of linear.end ≡ Some e) × (machine.events ≡ linear.events)
-      → (run_end_of meant.end ≡ Some e) × (machine.events ≡ meant.events)
+        → (run_end_of linear.end ≡ Some e) × (machine.events ≡ linear.events)
+        → (run_end_of meant.end ≡ Some e) × (machine.events ≡ meant.events)
     by None g e h = absurd (let no : None ≡ Some e = sym (ap run_end_of g) ∙ h.0 in cc)
-    by (Some x) g e h = let is : meant ≡ linear = same x g in
-      (ap (λ (z : Shown Ended). run_end_of z.end) is ∙ h.0, h.1
-      ∙ ap (λ (z : Shown Ended). z.events) (sym is))
+    by (Some x) g e h = let is : meant ≡ linear = same x g in (
+      ap (λ (z : Shown Ended). run_end_of z.end) is ∙ h.0,
+      h.1
+          ∙ ap (λ (z : Shown Ended). z.events) (sym is),
+    )
 
 -- linear code is calm where the program is
 calm_too : (meant linear : Shown Ended) → ((e : Ended) → linear.end ≡ Some e → meant ≡ linear)
@@ -80,28 +88,34 @@ all t fs program sound credit arg first n s begins few =
     let turns : ℕ = 16 * n + 2 in
     let follows = lowered_follows program sound arg n turns (omega arith) in
     let rest = lowered_shows_no_more program sound arg turns ((turns + 1) * pace_of program)
-      (omega arith) in
+    (omega arith) in
     let rule = has_rule (seen (lowered program) arg turns) rest.2 in
     let time = enough n first few in
     through (meaning program arg n) (linear_meaning (lowered program) arg turns)
-      (run t fs (256 * n + 256) (host s) []) follows.0 follows.1
+    (run t fs (256 * n + 256) (host s) []) follows.0 follows.1
     (programs_all t fs (lowered program) pace credit arg first turns (256 * n + 256) s begins rule
-      time)
+    time)
 
 pub no_more : MatchedRunsShowNoMore
 no_more t fs program sound credit arg first m n s begins paces calm =
     let rest = lowered_shows_no_more program sound arg m n paces in
     let rule = has_rule (seen (lowered program) arg m) rest.2 in
     back (meaning program arg n) (linear_meaning (lowered program) arg m) (run t fs m (host s) [])
-      rest.0 rest.1
+    rest.0 rest.1
     (programs_no_more t fs (lowered program) pace credit arg first m m s begins
-      (record { rule = rule; calm = calm_too (meaning program arg n)
-      (linear_meaning (lowered program) arg m) rest.1 calm }) (omega arith))
+    (record {
+      rule = rule;
+      calm = calm_too (meaning program arg n)
+          (linear_meaning (lowered program) arg m) rest.1 calm;
+    }) (omega arith))
 
 pub shadow : MatchedRunsWalkTheShadow
 shadow t fs program sound credit arg first m n s cs begins paces calm walk none =
     let rest = lowered_shows_no_more program sound arg m n paces in
     let rule = has_rule (seen (lowered program) arg m) rest.2 in
     programs_walk_the_shadow t fs (lowered program) pace credit arg first m m s cs begins
-    (record { rule = rule; calm = calm_too (meaning program arg n)
-      (linear_meaning (lowered program) arg m) rest.1 calm }) (omega arith) walk none
+    (record {
+      rule = rule;
+      calm = calm_too (meaning program arg n)
+          (linear_meaning (lowered program) arg m) rest.1 calm;
+    }) (omega arith) walk none

@@ -44,7 +44,7 @@ chain_continues (suc n) m image index xs r i e is =
     ap (λ k. onto (xs ++ (i ∷ [])) (parents k image index i.parent)) (sym h)
     ∙ sym (onto_more xs i (parents n image index i.parent))
     ∙ sym (ap (λ (t : Table Info). onto xs (t >>= λ j. prepend j (parents n image index j.parent)))
-      is)
+    is)
 
 pub entry_is : (image : Image) (index last : ℕ) (r : RuntimeFunction) (i : Info) (above : List Info)
     → r.begin < r.end → last ≤ r.begin → info image index r.unwind_info ≡ Ok i
@@ -53,12 +53,12 @@ pub entry_is : (image : Image) (index last : ℕ) (r : RuntimeFunction) (i : Inf
 unfolding entry
 entry_is image index last r i above some sorted own chain =
     let chained : Table Info → Table Entry = λ t. t >>= λ j. parents 31 image index j.parent
-      >>= λ a. Ok (record { range = r; info = j; parents = a }) in
+    >>= λ a. Ok (record { range = r; info = j; parents = a }) in
     ap (λ b. unless b (refusals.EmptyRange index)
-      >>= λ _. unless (nat_le last r.begin) (refusals.Unsorted index)
-      >>= λ _. chained (info image index r.unwind_info)) (lt-ltb r.begin r.end some)
+    >>= λ _. unless (nat_le last r.begin) (refusals.Unsorted index)
+    >>= λ _. chained (info image index r.unwind_info)) (lt-ltb r.begin r.end some)
     ∙ ap (λ b. unless b (refusals.Unsorted index) >>= λ _. chained (info image index r.unwind_info))
-      (le-leb last r.begin sorted)
+    (le-leb last r.begin sorted)
     ∙ ap chained own
     ∙ ap (λ (t : Table (List Info)). t >>= λ a. Ok (record { range = r; info = i; parents = a }))
-      chain
+    chain

@@ -48,12 +48,12 @@ module _ (framed : Bool) (offset op info : ℕ) (o : UnwindOperation) (small : o
       → IsReadAs framed offset o (slot offset op info)
   bare is = record {
     code = λ rest. ap (code_before offset (λ k. codes framed k rest))
-      (operation_is framed op info rest small ∙ is rest);
+        (operation_is framed op info rest small ∙ is rest);
     order = λ rest index at last le later.
         ap (code_checked index at last offset (λ k. checked index framed (at + 1) offset k rest))
-          (operation_is framed op info rest small ∙ is rest)
+        (operation_is framed op info rest small ∙ is rest)
         ∙ ap (in_order index at (checked index framed (at + 1) offset 0 rest))
-          (le-ltb last offset le)
+        (le-ltb last offset le)
         ∙ later (at + 1);
     even = refl;
   }
@@ -63,13 +63,13 @@ module _ (framed : Bool) (offset op info : ℕ) (o : UnwindOperation) (small : o
   unfolding u16
   short n is = record {
     code = λ rest. ap (code_before offset (λ k. codes framed k (u16 n ++ rest)))
-      (operation_is framed op info (u16 n ++ rest) small ∙ is rest);
+        (operation_is framed op info (u16 n ++ rest) small ∙ is rest);
     order = λ rest index at last le later.
         ap (code_checked index at last offset
-          (λ k. checked index framed (at + 1) offset k (u16 n ++ rest)))
-          (operation_is framed op info (u16 n ++ rest) small ∙ is rest)
+        (λ k. checked index framed (at + 1) offset k (u16 n ++ rest)))
+        (operation_is framed op info (u16 n ++ rest) small ∙ is rest)
         ∙ ap (in_order index at (checked index framed (at + 1) offset 1 (u16 n ++ rest)))
-          (le-ltb last offset le)
+        (le-ltb last offset le)
         ∙ later (at + 1 + 1);
     even = refl;
   }
@@ -79,13 +79,13 @@ module _ (framed : Bool) (offset op info : ℕ) (o : UnwindOperation) (small : o
   unfolding u32
   long n is = record {
     code = λ rest. ap (code_before offset (λ k. codes framed k (u32 n ++ rest)))
-      (operation_is framed op info (u32 n ++ rest) small ∙ is rest);
+        (operation_is framed op info (u32 n ++ rest) small ∙ is rest);
     order = λ rest index at last le later.
         ap (code_checked index at last offset
-          (λ k. checked index framed (at + 1) offset k (u32 n ++ rest)))
-          (operation_is framed op info (u32 n ++ rest) small ∙ is rest)
+        (λ k. checked index framed (at + 1) offset k (u32 n ++ rest)))
+        (operation_is framed op info (u32 n ++ rest) small ∙ is rest)
         ∙ ap (in_order index at (checked index framed (at + 1) offset 2 (u32 n ++ rest)))
-          (le-ltb last offset le)
+        (le-ltb last offset le)
         ∙ later (at + 1 + 1 + 1);
     even = refl;
   }
@@ -132,38 +132,38 @@ module _ (framed : Bool) (offset : ℕ) where
   unfolding operation u16 u32
   allocated n lt =
       cond_both (is_small n) (slot offset UWOP_ALLOC_SMALL (n / 8 - 1))
-        (cond (is_short 8 n) (slot offset UWOP_ALLOC_LARGE 0 ++ u16 (n / 8))
-        (slot offset UWOP_ALLOC_LARGE 1 ++ u32 n)) (IsReadAs framed offset (Allocate n))
+      (cond (is_short 8 n) (slot offset UWOP_ALLOC_LARGE 0 ++ u16 (n / 8))
+      (slot offset UWOP_ALLOC_LARGE 1 ++ u32 n)) (IsReadAs framed offset (Allocate n))
       (λ is. bare framed offset UWOP_ALLOC_SMALL (n / 8 - 1) (Allocate n) (omega arith)
-        (λ rest. ap (λ m. Some (Allocate m, 0)) (small_is n is)))
+      (λ rest. ap (λ m. Some (Allocate m, 0)) (small_is n is)))
       (λ more. cond_both (is_short 8 n) (slot offset UWOP_ALLOC_LARGE 0 ++ u16 (n / 8))
-        (slot offset UWOP_ALLOC_LARGE 1 ++ u32 n) (IsReadAs framed offset (Allocate n))
+      (slot offset UWOP_ALLOC_LARGE 1 ++ u32 n) (IsReadAs framed offset (Allocate n))
       (λ is. short framed offset UWOP_ALLOC_LARGE 0 (Allocate n) (omega arith) (n / 8)
-        (λ rest. ap (λ m. Some (Allocate m, 1)) (eight_is n is)))
+      (λ rest. ap (λ m. Some (Allocate m, 1)) (eight_is n is)))
       (λ far. long framed offset UWOP_ALLOC_LARGE 1 (Allocate n) (omega arith) n
-        (λ rest. ap (λ m. Some (Allocate m, 2)) (four_is n lt))))
+      (λ rest. ap (λ m. Some (Allocate m, 2)) (four_is n lt))))
 
   saved : (r n : ℕ) → n < 2 ^ 32 → IsReadAs framed offset (Save r n)
       (saving offset UWOP_SAVE_NONVOL UWOP_SAVE_NONVOL_FAR 8 r n)
   unfolding operation u16 u32
   saved r n lt =
       cond_both (is_short 8 n) (slot offset UWOP_SAVE_NONVOL r ++ u16 (n / 8))
-        (slot offset UWOP_SAVE_NONVOL_FAR r ++ u32 n) (IsReadAs framed offset (Save r n))
+      (slot offset UWOP_SAVE_NONVOL_FAR r ++ u32 n) (IsReadAs framed offset (Save r n))
       (λ is. short framed offset UWOP_SAVE_NONVOL r (Save r n) (omega arith) (n / 8)
-        (λ rest. ap (λ m. Some (Save r m, 1)) (eight_is n is)))
+      (λ rest. ap (λ m. Some (Save r m, 1)) (eight_is n is)))
       (λ far. long framed offset UWOP_SAVE_NONVOL_FAR r (Save r n) (omega arith) n
-        (λ rest. ap (λ m. Some (Save r m, 2)) (four_is n lt)))
+      (λ rest. ap (λ m. Some (Save r m, 2)) (four_is n lt)))
 
   vector_saved : (r n : ℕ) → n < 2 ^ 32 → IsReadAs framed offset (SaveVector r n)
       (saving offset UWOP_SAVE_XMM128 UWOP_SAVE_XMM128_FAR 16 r n)
   unfolding operation u16 u32
   vector_saved r n lt =
       cond_both (is_short 16 n) (slot offset UWOP_SAVE_XMM128 r ++ u16 (n / 16))
-        (slot offset UWOP_SAVE_XMM128_FAR r ++ u32 n) (IsReadAs framed offset (SaveVector r n))
+      (slot offset UWOP_SAVE_XMM128_FAR r ++ u32 n) (IsReadAs framed offset (SaveVector r n))
       (λ is. short framed offset UWOP_SAVE_XMM128 r (SaveVector r n) (omega arith) (n / 16)
-        (λ rest. ap (λ m. Some (SaveVector r m, 1)) (sixteen_is n is)))
+      (λ rest. ap (λ m. Some (SaveVector r m, 1)) (sixteen_is n is)))
       (λ far. long framed offset UWOP_SAVE_XMM128_FAR r (SaveVector r n) (omega arith) n
-        (λ rest. ap (λ m. Some (SaveVector r m, 2)) (four_is n lt)))
+      (λ rest. ap (λ m. Some (SaveVector r m, 2)) (four_is n lt)))
 
   one_again : (o : UnwindOperation) → OperationFits framed o → IsOperation o
       → IsReadAs framed offset o (operation_bytes offset o)
@@ -191,7 +191,7 @@ module _ (framed : Bool) where
   order_again index [] at last fits are falling = refl
   order_again index (c ∷ cs) at last fits are falling =
       (one_again framed c.offset c.operation fits.0 are.0).order (codes_bytes cs) index at last
-        falling.0 (λ k. order_again index cs k c.offset fits.1 are.1 falling.1)
+      falling.0 (λ k. order_again index cs k c.offset fits.1 are.1 falling.1)
 
   pub whole_slots : (cs : List UnwindCode) → AllByRecursion (λ c. OperationFits framed c.operation)
       cs → AllByRecursion (λ c. IsOperation c.operation) cs → length (codes_bytes cs) % 2 ≡ 0

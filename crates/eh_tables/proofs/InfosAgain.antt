@@ -82,8 +82,13 @@ handler_again s u rva is known other lt = record {
 }
 
 trailer_again : (t : Trailer) → IsTrailer t → HasTrailer t → TrailerAgain t
-trailer_again Nothing some is = record { known = refl; size = refl; handler = refl; parent = refl;
-    c = λ image. refl }
+trailer_again Nothing some is = record {
+  known = refl;
+  size = refl;
+  handler = refl;
+  parent = refl;
+  c = λ image. refl;
+}
 trailer_again (Handler false false rva) some is = absurd (let h = some refl in cc)
 trailer_again (Handler true false rva) some is = handler_again true false rva refl refl refl is
 trailer_again (Handler false true rva) some is = handler_again false true rva refl refl refl is
@@ -137,8 +142,12 @@ offset_is r o lt whole = omega arith
 -- ---- where the slots end
 
 padded_length : (xs : List ℕ) (k : ℕ) → length xs ≡ 2 * k → length (padded xs) ≡ 4 * ((k + 1) / 2)
-padded_length xs k e = omega (arith, e, length-append xs (replicate (length xs % 4) 0),
-    length-replicate {A = ℕ} (length xs % 4) 0)
+padded_length xs k e = omega (
+  arith,
+  e,
+  length-append xs (replicate (length xs % 4) 0),
+  length-replicate {A = ℕ} (length xs % 4) 0,
+)
 
 module _ (i : UnwindInfo) (is : IsUnwindInfo i) (can : CanBeWritten i) where
   abbrev sl : List ℕ
@@ -160,15 +169,18 @@ module _ (i : UnwindInfo) (is : IsUnwindInfo i) (can : CanBeWritten i) where
   trailer = trailer_again i.trailer can.trailer is.trailer
 
   end_is : UNWIND_CODES + 4 * ((length sl / 2 + 1) / 2) ≡ length front
-  end_is = omega (arith, padded_length sl (length sl / 2) whole,
-      length-append (header i (length sl)) (padded sl))
+  end_is = omega (
+    arith,
+    padded_length sl (length sl / 2) whole,
+    length-append (header i (length sl)) (padded sl),
+  )
 
   size_is : infos.slots_end (header i (length sl)) + infos.trailer_size (header i (length sl))
       ≡ length all
   size_is =
       let e = ap (λ f. cond (handled f) HANDLER_SIZE
-        (cond (f == UNW_FLAG_CHAININFO) RUNTIME_FUNCTION_SIZE 0))
-        (flags_is (trailer_flags i.trailer)) ∙ trailer.size in
+      (cond (f == UNW_FLAG_CHAININFO) RUNTIME_FUNCTION_SIZE 0))
+      (flags_is (trailer_flags i.trailer)) ∙ trailer.size in
       omega (arith, end_is, e, length-append front tail)
 
   stored_again : (image : Image) (index rva : ℕ) (rest : List ℕ) → rva % 4 ≡ 0
@@ -178,21 +190,21 @@ module _ (i : UnwindInfo) (is : IsUnwindInfo i) (can : CanBeWritten i) where
       let total = all ++ rest in
       let long = length-append all rest in
       let first : stored image.sections rva UNWIND_CODES
-        ≡ Some (header i (length sl)) = front_is_at image.sections rva (length total) UNWIND_CODES
-          total (omega (arith, long, length-append front tail, end_is)) is_there in
+      ≡ Some (header i (length sl)) = front_is_at image.sections rva (length total) UNWIND_CODES
+      total (omega (arith, long, length-append front tail, end_is)) is_there in
       let second : stored image.sections rva (length all) ≡ Some all =
       front_is_at image.sections rva (length total) (length all) total (omega (arith, long))
-        is_there ∙ ap (λ (l : List ℕ). Some l) (take_at all rest (length all) refl) in
+      is_there ∙ ap (λ (l : List ℕ). Some l) (take_at all rest (length all) refl) in
       let head = header i (length sl) in
       opened (rva % 4 == 0) (stored image.sections rva UNWIND_CODES) head (refusals.Misaligned rva)
-        (refusals.Truncated rva)
+      (refusals.Truncated rva)
       (λ h. unless (infos.version h == UNWIND_VERSION) (refusals.Version index (infos.version h))
-        >>= λ _. unless (infos.are_flags (infos.flags h)) (refusals.Flags index)
-        >>= λ _. or_refused (stored image.sections rva (infos.slots_end h + infos.trailer_size h))
-          (refusals.Truncated rva))
+      >>= λ _. unless (infos.are_flags (infos.flags h)) (refusals.Flags index)
+      >>= λ _. or_refused (stored image.sections rva (infos.slots_end h + infos.trailer_size h))
+      (refusals.Truncated rva))
       (eq-eqb (rva % 4) 0 aligned) first
       ∙ known (infos.version head == UNWIND_VERSION) (infos.are_flags (infos.flags head))
-        (stored image.sections rva (infos.slots_end head + infos.trailer_size head)) all
+      (stored image.sections rva (infos.slots_end head + infos.trailer_size head)) all
       (refusals.Version index (infos.version head)) (refusals.Flags index) (refusals.Truncated rva)
       (eq-eqb (infos.version head) UNWIND_VERSION (version_is (trailer_flags i.trailer)))
       (ap (λ f. nat_le f UNW_FLAG_CHAININFO) (flags_is (trailer_flags i.trailer)) ∙ trailer.known)
@@ -232,8 +244,11 @@ module _ (i : UnwindInfo) (is : IsUnwindInfo i) (can : CanBeWritten i) where
   handler_at_again = ap (little_number 4) tail_again
 
   range_at_again : range_at all (infos.slots_end all) ≡ range_at tail 0
-  range_at_again = λ j. record { begin = field_again 0 j; end = field_again 4 j;
-      unwind_info = field_again 8 j }
+  range_at_again = λ j. record {
+    begin = field_again 0 j;
+    end = field_again 4 j;
+    unwind_info = field_again 8 j;
+  }
 
   handler_read : infos.handler all ≡ handler_of i.trailer
   handler_read =
@@ -244,9 +259,9 @@ module _ (i : UnwindInfo) (is : IsUnwindInfo i) (can : CanBeWritten i) where
   parent_read : infos.parent all ≡ parent_of i.trailer
   parent_read =
       ap (λ (f : ℕ). cond (f == UNW_FLAG_CHAININFO) (Some (range_at all (infos.slots_end all)))
-        None) flags_again
+      None) flags_again
       ∙ ap (λ (r : RuntimeFunction). cond (trailer_flags i.trailer == UNW_FLAG_CHAININFO) (Some r)
-        None) range_at_again
+      None) range_at_again
       ∙ trailer.parent
 
   c_again : (image : Image) → infos.is_c image all ≡ has_c_handler image i
@@ -301,7 +316,7 @@ module _ (i : UnwindInfo) (is : IsUnwindInfo i) (can : CanBeWritten i) where
       ∙ ap (λ (r : List ScopeRecord). scopes.checked index image.size 0 r
       >>= λ _. Ok (info_of all (infos.is_c image all) bytes)) are
       ∙ ap (λ (x : Info). scopes.checked index image.size 0 rows >>= λ _. Ok x)
-        (said_again (infos.is_c image all) b bytes rows (c_again image ∙ c) are)
+      (said_again (infos.is_c image all) b bytes rows (c_again image ∙ c) are)
 
   no_rows : (image : Image) (rva : ℕ) → has_c_handler image i ≡ false
       → stored_scope_records image rva all ≡ Ok []
@@ -327,26 +342,31 @@ module _ (i : UnwindInfo) (is : IsUnwindInfo i) (can : CanBeWritten i) where
       let body = flat_map scope_record_bytes rs in
       let total = all ++ (count ++ body) in
       let four_more : length (all ++ count) ≡ length all
-        + 4 = omega (arith, length-append all count, handler_size (length rs)) in
+      + 4 = omega (arith, length-append all count, handler_size (length rs)) in
       let long : length total ≡ length all + 4
-        + 16 * length rs = omega (arith, length-append all (count ++ body),
-          length-append count body, handler_size (length rs), rows_length rs) in
+      + 16 * length rs = omega (
+        arith,
+        length-append all (count ++ body),
+        length-append count body,
+        handler_size (length rs),
+        rows_length rs,
+      ) in
       let parted : total ≡ all ++ count ++ body = sym (append_assoc all count body) in
       let first : stored image.sections rva (length all + 4) ≡ Some (all ++ count) =
       front_is_at image.sections rva (length total) (length all + 4) total (omega (arith, long))
-        is_there
+      is_there
       ∙ ap (λ (l : List ℕ). Some (take (length all + 4) l)) parted
       ∙ ap (λ (l : List ℕ). Some l) (take_at (all ++ count) body (length all + 4) four_more) in
       let count_is : field 4 (all ++ count) (length all) ≡ length rs =
       ap (little_number 4) (drop_at all count (length all) refl) ∙ count_again (length rs) few in
       let second : stored image.sections rva (length all + 4
-        + 16 * field 4 (all ++ count) (length all)) ≡ Some total =
+      + 16 * field 4 (all ++ count) (length all)) ≡ Some total =
       ap (λ n. stored image.sections rva (length all + 4 + 16 * n)) count_is
       ∙ ap (stored image.sections rva) (sym long)
       ∙ is_there in
       counted (stored image.sections rva (length all + 4)) (all ++ count) total
       (λ c. stored image.sections rva (length all + 4 + 16 * field 4 c (length all)))
-        (drop (length all + 4)) (refusals.Truncated rva) first second
+      (drop (length all + 4)) (refusals.Truncated rva) first second
       ∙ ap (λ (l : List ℕ). Ok (drop (length all + 4) l)) parted
       ∙ ap (λ (l : List ℕ). Ok l) (drop_at (all ++ count) body (length all + 4) four_more)
 
@@ -356,10 +376,14 @@ module _ (i : UnwindInfo) (is : IsUnwindInfo i) (can : CanBeWritten i) where
   unfolding stored_scope_records
   c_rows image rva rs few some is_there =
       let after : infos.slots_end all + HANDLER_SIZE
-        ≡ length all = omega (arith, end_is, handler_length image i.trailer some,
-          length-append front tail) in
+      ≡ length all = omega (
+        arith,
+        end_is,
+        handler_length image i.trailer some,
+        length-append front tail,
+      ) in
       ap (scope_records_if (scope_records_at image rva (infos.slots_end all + HANDLER_SIZE)))
-        (c_again image ∙ some)
+      (c_again image ∙ some)
       ∙ ap (scope_records_at image rva) after
       ∙ rows_after image rva rs few is_there
 
@@ -368,13 +392,13 @@ unfolding unwind_bytes
 reads_info image index rva i is can aligned none is_there =
     let bytes = all i is can in
     let there : IsStoredAt image rva (bytes ++ []) = subst (IsStoredAt image rva)
-      (sym (append-nil bytes)) is_there in
+    (sym (append-nil bytes)) is_there in
     whole_info i is can image index rva [] [] false [] aligned none there
-      (no_rows i is can image rva none) refl
+    (no_rows i is can image rva none) refl
 
 pub reads_scopes : ScopeRecordsAreReadAgain
 unfolding unwind_bytes
 reads_scopes image index rva i rows is can are few aligned some is_there =
     whole_info i is can image index rva (scope_bytes rows) (flat_map scope_record_bytes rows) true
-      rows aligned some is_there (c_rows i is can image rva rows few some is_there)
-      (rows_again rows are)
+    rows aligned some is_there (c_rows i is can image rva rows few some is_there)
+    (rows_again rows are)

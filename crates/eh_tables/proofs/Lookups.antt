@@ -52,12 +52,12 @@ entry_read image index last r e h =
     let three = given (info image index r.unwind_info) _ e two.then in
     let four = given (parents 31 image index three.value.parent) _ e three.then in
     let made : Ok (record { range = r; info = three.value; parents = four.value })
-      ≡ Ok e = four.then in
+    ≡ Ok e = four.then in
     record {
       sorted = leb-true last r.begin (holds_then (nat_le last r.begin) (refusals.Unsorted index)
-        two.value two.first);
+          two.value two.first);
       some = ltb-true r.begin r.end (holds_then (nat_lt r.begin r.end) (refusals.EmptyRange index)
-        one.value one.first);
+          one.value one.first);
       range = range_of (record { range = r; info = three.value; parents = four.value }) e made;
     }
   where
@@ -79,10 +79,16 @@ split : (image : Image) (index last : ℕ) (r : RuntimeFunction) (rs : List Runt
     (es : List Entry) → entries image index last (r ∷ rs) ≡ Ok es → Split image index last r rs es
 split image index last r rs es h =
     let one = given (entry image index last r) (λ e. prepend e (entries image (index + 1) r.end rs))
-      es h in
+    es h in
     let two = prepended one.value (entries image (index + 1) r.end rs) es one.then in
-    record { head = one.value; rest = two.rest; is = one.first; others = two.is; all = two.all;
-      read = entry_read image index last r one.value one.first }
+    record {
+      head = one.value;
+      rest = two.rest;
+      is = one.first;
+      others = two.is;
+      all = two.all;
+      read = entry_read image index last r one.value one.first;
+    }
 
 below_begin : (rva : ℕ) (r : RuntimeFunction) → rva < r.begin → covers_address rva r ≡ false
 below_begin rva r lt = and_left (leb r.begin rva) (ltb rva r.end) (lt-leb r.begin rva lt)
@@ -101,7 +107,7 @@ module _ (image : Image) (index last : ℕ) (r : RuntimeFunction) (rs : List Run
   by_head b e =
       ap (holding rva) s.all
       ∙ ap (λ (q : RuntimeFunction). entry_or (holding rva s.rest) s.head (covers_address rva q))
-        s.read.range
+      s.read.range
       ∙ ap (entry_or (holding rva s.rest) s.head) e
 
 none_from : (image : Image) (index last : ℕ) (rs : List RuntimeFunction) (es : List Entry) (rva : ℕ)
@@ -153,13 +159,13 @@ gap image index last (r ∷ rs) es rva (suc k) h b lt under =
     let s = split image index last r rs es h in
     by_head image index last r rs es s rva false (past_end rva r (b.passed 0 (omega arith)))
     ∙ gap image (index + 1) r.end rs s.rest rva k s.others (before_rest r rs k rva b) (omega arith)
-      under
+    under
 
 hit : (image : Image) (index last : ℕ) (rs : List RuntimeFunction) (es : List Entry) (rva k : ℕ)
     → entries image index last rs ≡ Ok es → Before rs k rva → k < length rs
     → (get_or rs k no_range).begin ≤ rva → rva < (get_or rs k no_range).end
     → holding rva es ≡ result_ok (entry image (index + k) (end_from last rs k)
-      (get_or rs k no_range))
+    (get_or rs k no_range))
 hit image index last [] es rva k h b lt le under = absurd (omega arith)
 hit image index last (r ∷ rs) es rva zero h b lt le under =
     let s = split image index last r rs es h in
@@ -172,10 +178,10 @@ hit image index last (r ∷ rs) es rva (suc k) h b lt le under =
     let e : index + 1 + k ≡ index + suc k = omega arith in
     by_head image index last r rs es s rva false (past_end rva r (b.passed 0 (omega arith)))
     ∙ hit image (index + 1) r.end rs s.rest rva k s.others (before_rest r rs k rva b) (omega arith)
-      le under
+    le under
     ∙ ap (λ n. result_ok (entry image n (end_from r.end rs k) (get_or rs k no_range))) e
     ∙ ap (λ n. result_ok (entry image (index + suc k) n (get_or rs k no_range)))
-      (end_of_rest last r rs k)
+    (end_of_rest last r rs k)
 
 -- ---- the ends rise
 

@@ -55,7 +55,7 @@ module _ (image : Image) (index : ℕ) (rs : List RuntimeFunction) where
   stops e lt is =
       ap (λ t. passed (entries image index (end_before rs index) t)) (here lt)
       ∙ ap (λ (t : Table Entry). passed (t >>= λ x. prepend x
-        (entries image (index + 1) (get_or rs index no_range).end (drop (index + 1) rs)))) is
+      (entries image (index + 1) (get_or rs index no_range).end (drop (index + 1) rs)))) is
 
   passed_more : (x : Entry) (r : Table (List Entry)) → passed (prepend x r) ≡ passed r
   passed_more x (Ok xs) = refl
@@ -71,12 +71,12 @@ module _ (image : Image) (index : ℕ) (rs : List RuntimeFunction) where
       ≡ passed (entries image index (end_before rs index) (drop index rs))
   continues x lt is =
       ap (λ n. passed (entries image (index + 1) n (drop (index + 1) rs)))
-        (end_next (index + 1) (omega arith))
+      (end_next (index + 1) (omega arith))
       ∙ sym (passed_more x (entries image (index + 1) (get_or rs index no_range).end
-        (drop (index + 1) rs)))
+      (drop (index + 1) rs)))
       ∙ sym (ap (λ (t : Table Entry). passed (t
       >>= λ y. prepend y (entries image (index + 1) (get_or rs index no_range).end
-        (drop (index + 1) rs)))) is)
+      (drop (index + 1) rs)))) is)
       ∙ sym (ap (λ t. passed (entries image index (end_before rs index) t)) (here lt))
 
   pub is_over : length rs ≤ index → passed (entries image index (end_before rs index)

@@ -17,9 +17,9 @@ pub first_row : (xs : List ℕ) → 16 ≤ length xs
 first_row xs le =
     let e = ap (λ (t : List ℕ). length t / 16) (after_row xs) in
     one_more (length xs / 16) xs (length (take (length xs - 16) (drop 16 xs)) / 16)
-      (omega (arith, e, length-drop 16 xs))
+    (omega (arith, e, length-drop 16 xs))
     ∙ ap (λ (t : List ℕ). scope_record xs ∷ rows (length (take (length xs - 16) (drop 16 xs)) / 16)
-      t) (sym (after_row xs))
+    t) (sym (after_row xs))
 
 pub row_count : (n : ℕ) (xs : List ℕ) → length (rows n xs) ≡ n
 row_count zero xs = refl

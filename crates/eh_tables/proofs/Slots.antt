@@ -29,7 +29,7 @@ first_code framed (a ∷ []) o n le is = absurd (omega arith)
 first_code framed (a ∷ b ∷ xs) o n le is =
     ap (code_before a (λ k. codes framed k xs)) is
     ∙ ap (λ (t : List UnwindCode). record { offset = a; operation = o } ∷ t)
-      (passed framed n (2 * n) xs refl)
+    (passed framed n (2 * n) xs refl)
 
 -- what follows a slot
 pub after : (xs : List ℕ) → take (length xs - 2) (drop 2 xs) ≡ drop 2 xs
@@ -54,13 +54,13 @@ Later index framed slot xs k = checked index framed (slot + 1) (get_or xs 0 0) k
 
 code_at : (index : ℕ) (framed : Bool) (slot last : ℕ) (xs : List ℕ) → 2 ≤ length xs
     → checked index framed slot last 0 xs ≡ code_checked index slot last (get_or xs 0 0)
-      (Later index framed slot xs) (operation framed (get_or xs 1 0 % 16) (get_or xs 1 0 / 16)
-      (take (length xs - 2) (drop 2 xs)))
+    (Later index framed slot xs) (operation framed (get_or xs 1 0 % 16) (get_or xs 1 0 / 16)
+    (take (length xs - 2) (drop 2 xs)))
 code_at index framed slot last [] le = absurd (omega arith)
 code_at index framed slot last (a ∷ []) le = absurd (omega arith)
 code_at index framed slot last (a ∷ b ∷ xs) le =
     ap (λ t. code_checked index slot last a (λ k. checked index framed (slot + 1) a k t)
-      (operation framed (b % 16) (b / 16) t)) (sym (after (a ∷ b ∷ xs)))
+    (operation framed (b % 16) (b / 16) t)) (sym (after (a ∷ b ∷ xs)))
 
 module _ (index : ℕ) (framed : Bool) (slot last k : ℕ) (xs : List ℕ) (le : 2 ≤ length xs)
     (none : k ≡ 0) where
@@ -77,7 +77,7 @@ module _ (index : ℕ) (framed : Bool) (slot last k : ℕ) (xs : List ℕ) (le :
 
   pub out_of_order : (x : UnwindOperation × ℕ)
       → operation framed (get_or xs 1 0 % 16) (get_or xs 1 0 / 16)
-        (take (length xs - 2) (drop 2 xs)) ≡ Some x → nat_lt last (get_or xs 0 0) ≡ true
+      (take (length xs - 2) (drop 2 xs)) ≡ Some x → nat_lt last (get_or xs 0 0) ≡ true
       → checked index framed slot last k xs ≡ Err (refusals.CodeOrder index slot)
   out_of_order x is above = here ∙ ap (code_checked index slot last (get_or xs 0 0)
       (Later index framed slot xs)) is ∙ ap (in_order index slot (Later index framed slot xs x.1))
@@ -85,7 +85,7 @@ module _ (index : ℕ) (framed : Bool) (slot last k : ℕ) (xs : List ℕ) (le :
 
   pub code_passed : (x : UnwindOperation × ℕ)
       → operation framed (get_or xs 1 0 % 16) (get_or xs 1 0 / 16)
-        (take (length xs - 2) (drop 2 xs)) ≡ Some x → nat_lt last (get_or xs 0 0) ≡ false
+      (take (length xs - 2) (drop 2 xs)) ≡ Some x → nat_lt last (get_or xs 0 0) ≡ false
       → Later index framed slot xs x.1 ≡ checked index framed slot last k xs
   code_passed x is below = sym (here ∙ ap (code_checked index slot last (get_or xs 0 0)
       (Later index framed slot xs)) is ∙ ap (in_order index slot (Later index framed slot xs x.1))
@@ -104,9 +104,9 @@ pub left_after : (framed : Bool) (xs : List ℕ) (o : UnwindOperation) (n : ℕ)
     ≡ Some (o, n)
     → codes framed 0 xs ≡ record { offset = get_or xs 0 0; operation = o }
     ∷ codes framed 0 (let ys = take (length xs - 2) (drop 2 xs) in
-      take (length ys - 2 * n) (drop (2 * n) ys))
+    take (length ys - 2 * n) (drop (2 * n) ys))
 left_after framed xs o n le is =
     first_code framed xs o n le (ap (operation framed (get_or xs 1 0 % 16) (get_or xs 1 0 / 16))
-      (sym (after xs)) ∙ is)
+    (sym (after xs)) ∙ is)
     ∙ ap (λ (t : List ℕ). record { offset = get_or xs 0 0; operation = o } ∷ codes framed 0 t)
-      (sym (after_code xs (2 * n)))
+    (sym (after_code xs (2 * n)))

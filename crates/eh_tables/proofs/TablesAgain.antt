@@ -31,7 +31,7 @@ whole_front m n ys xs le h =
     let long : length xs ≡ m = ap length (sym parts.0) ∙ eqb-true (length (take m ys)) m parts.1 in
     let front : take n ys ≡ take n xs = sym (take-take n m ys le) ∙ ap (take n) parts.0 in
     ap (whole n) front ∙ ap (only_if (take n xs))
-      (eq-eqb (length (take n xs)) n (length-take-le n xs (omega (arith, long))))
+    (eq-eqb (length (take n xs)) n (length-take-le n xs (omega (arith, long))))
 
 pub front_is_at : (ss : List Section) (rva m n : ℕ) (xs : List ℕ) → n ≤ m
     → stored ss rva m ≡ Some xs → stored ss rva n ≡ Some (take n xs)
@@ -67,15 +67,19 @@ range_length r = refl
 
 table_length : (rs : List RuntimeFunction) → length (table_bytes rs) ≡ 12 * length rs
 table_length [] = refl
-table_length (r ∷ rs) = omega (arith, length-append (range_bytes r) (table_bytes rs),
-    range_length r, table_length rs)
+table_length (r ∷ rs) = omega (
+  arith,
+  length-append (range_bytes r) (table_bytes rs),
+  range_length r,
+  table_length rs,
+)
 
 so_many : (rs : List RuntimeFunction) → AllByRecursion IsRuntimeFunction rs
     → ranges (length rs) (table_bytes rs) ≡ rs
 so_many [] are = refl
 so_many (r ∷ rs) are =
     ap (λ (t : RuntimeFunction). t ∷ ranges (length rs) (drop 12 (range_bytes r ++ table_bytes rs)))
-      (range_again r (table_bytes rs) are.0)
+    (range_again r (table_bytes rs) are.0)
     ∙ ap (λ (t : List ℕ). r ∷ ranges (length rs) t) (after_range r (table_bytes rs))
     ∙ ap (λ (t : List RuntimeFunction). r ∷ t) (so_many rs are.1)
 
@@ -105,12 +109,12 @@ unfolding directory
 reads_ranges image rs are aligned size is_there =
     let d = image.exceptions in
     let there : stored image.sections d.rva d.size
-      ≡ Some (table_bytes rs) = ap (stored image.sections d.rva) size ∙ is_there in
+    ≡ Some (table_bytes rs) = ap (stored image.sections d.rva) size ∙ is_there in
     let multiple : d.size % 12 ≡ 0 = omega (arith, size, table_length rs) in
     none_or rs (stored_ranges image d) (d.size == 0)
     (λ h. let e = eqb-true d.size 0 h in none rs (omega (arith, e, size, table_length rs)))
     (three (d.rva % 4 == 0) (d.size % 12 == 0) (stored image.sections d.rva d.size) (table_bytes rs)
-      (refusals.Misaligned d.rva) (refusals.Truncated d.rva) (refusals.Truncated d.rva)
+    (refusals.Misaligned d.rva) (refusals.Truncated d.rva) (refusals.Truncated d.rva)
     (eq-eqb (d.rva % 4) 0 aligned) there (eq-eqb (d.size % 12) 0 multiple)
     ∙ ap (λ (l : List RuntimeFunction). Ok l) (ranges_again rs are))
 
@@ -136,16 +140,21 @@ row_length r = refl
 
 pub rows_length : (rs : List ScopeRecord) → length (flat_map scope_record_bytes rs) ≡ 16 * length rs
 rows_length [] = refl
-rows_length (r ∷ rs) = omega (arith, length-append (scope_record_bytes r)
-    (flat_map scope_record_bytes rs), row_length r, rows_length rs)
+rows_length (r ∷ rs) = omega (
+  arith,
+  length-append (scope_record_bytes r)
+      (flat_map scope_record_bytes rs),
+  row_length r,
+  rows_length rs,
+)
 
 so_many_rows : (rs : List ScopeRecord) → AllByRecursion IsScopeRecord rs
     → rows (length rs) (flat_map scope_record_bytes rs) ≡ rs
 so_many_rows [] are = refl
 so_many_rows (r ∷ rs) are =
     ap (λ (t : ScopeRecord). t ∷ rows (length rs)
-      (drop 16 (scope_record_bytes r ++ flat_map scope_record_bytes rs)))
-      (row_again r (flat_map scope_record_bytes rs) are.0)
+    (drop 16 (scope_record_bytes r ++ flat_map scope_record_bytes rs)))
+    (row_again r (flat_map scope_record_bytes rs) are.0)
     ∙ ap (λ (t : List ℕ). r ∷ rows (length rs) t) (after_row r (flat_map scope_record_bytes rs))
     ∙ ap (λ (t : List ScopeRecord). r ∷ t) (so_many_rows rs are.1)
 
@@ -153,5 +162,5 @@ pub rows_again : (rs : List ScopeRecord) → AllByRecursion IsScopeRecord rs
     → scope_records_in (flat_map scope_record_bytes rs) ≡ rs
 rows_again rs are =
     let e : length (flat_map scope_record_bytes rs) / 16
-      ≡ length rs = omega (arith, rows_length rs) in
+    ≡ length rs = omega (arith, rows_length rs) in
     ap (λ n. rows n (flat_map scope_record_bytes rs)) e ∙ so_many_rows rs are

@@ -23,7 +23,7 @@ info_by image index rva w h false e has =
     ∙ ap (λ (rs : List ScopeRecord). Ok (info_written w.info false rs)) (sym has.none)
 info_by image index rva w h true e has =
     reads_scopes image index rva w.info w.scopes h.info h.can has.records has.count h.aligned e
-      has.stored
+    has.stored
     ∙ ap (λ (t : Table Unit). t >>= λ _. Ok (info_written w.info true w.scopes)) (has.of_code index)
 
 info_again : (image : Image) (index rva : ℕ) (w : WrittenInfo) → IsInfoWritten image rva w
@@ -41,16 +41,16 @@ chain_again zero image index named (w ∷ ws) h le = absurd (omega arith)
 chain_again (suc n) image index named (w ∷ ws) h le =
     ap (parents (suc n) image index) h.0.is
     ∙ ap (λ (t : Table Info). t >>= λ i. prepend i (parents n image index i.parent))
-      (info_again image index h.0.range.unwind_info w h.0.written)
+    (info_again image index h.0.range.unwind_info w h.0.written)
     ∙ ap (prepend (info_read image w)) (chain_again n image index (parent_of w.info.trailer) ws h.1
-      (omega arith))
+    (omega arith))
 
 entry_again : (image : Image) (index last : ℕ) (w : WrittenEntry) → IsEntryWritten image w
     → last ≤ w.range.begin → w.range.begin < w.range.end
     → entry image index last w.range ≡ Ok (as_read image w)
 entry_again image index last w h le lt =
     entry_is image index last w.range (info_read image w.own) (map (info_read image) w.parents) lt
-      le
+    le
     (info_again image index w.range.unwind_info w.own h.own)
     (chain_again MOST_PARENTS image index (parent_of w.own.info.trailer) w.parents h.chain h.count)
 
@@ -60,12 +60,12 @@ entries_again : (image : Image) (index last : ℕ) (ws : List WrittenEntry)
 entries_again image index last [] h o = refl
 entries_again image index last (w ∷ ws) h o =
     ap (λ (t : Table Entry). t >>= λ e. prepend e
-      (entries image (index + 1) w.range.end (ranges_of ws)))
-      (entry_again image index last w h.0 o.0 o.1)
+    (entries image (index + 1) w.range.end (ranges_of ws)))
+    (entry_again image index last w h.0 o.0 o.1)
     ∙ ap (prepend (as_read image w)) (entries_again image (index + 1) w.range.end ws h.1 o.2)
 
 pub reads_table : TableIsReadAgain
 reads_table image ws are aligned size stored h o =
     ap (λ (t : Table (List RuntimeFunction)). t >>= λ rs. entries image 0 0 rs)
-      (reads_ranges image (ranges_of ws) are aligned size stored)
+    (reads_ranges image (ranges_of ws) are aligned size stored)
     ∙ entries_again image 0 0 ws h o

@@ -69,12 +69,12 @@ later : (byte : ℕ → ℕ) (m at v a : ℕ) → at < 2 ^ 64 → a < 2 ^ 64 →
     ≡ with_number byte (m + 1) at v a
 later byte m at v a lt la n = elim (cases_lt (distance (next at) a) m) [
   | inl h ↦ among (with_byte byte at (v % 256)) m (next at) (v / 256) a la h
-  ∙ ap (λ x. x % 256) (digit_later v (distance (next at) a))
-  ∙ ap (λ d. v / 256 ^ d % 256) (sym (far at a lt la n))
-  ∙ sym (among byte (m + 1) at v a la (let f = far at a lt la n in omega arith))
+      ∙ ap (λ x. x % 256) (digit_later v (distance (next at) a))
+      ∙ ap (λ d. v / 256 ^ d % 256) (sym (far at a lt la n))
+      ∙ sym (among byte (m + 1) at v a la (let f = far at a lt la n in omega arith))
   | inr h ↦ beyond (with_byte byte at (v % 256)) m (next at) (v / 256) a la h
-  ∙ other byte at (v % 256) a n ∙ sym (beyond byte (m + 1) at v a la
-    (let f = far at a lt la n in omega arith))
+      ∙ other byte at (v % 256) a n ∙ sym (beyond byte (m + 1) at v a la
+      (let f = far at a lt la n in omega arith))
 ]
 
 first : (byte : ℕ → ℕ) (m at v : ℕ) → at < 2 ^ 64 → m < 2 ^ 64
@@ -82,7 +82,7 @@ first : (byte : ℕ → ℕ) (m at v : ℕ) → at < 2 ^ 64 → m < 2 ^ 64
     ≡ with_number byte (m + 1) at v at
 first byte m at v lt small =
     beyond (with_byte byte at (v % 256)) m (next at) (v / 256) at lt
-      (let f = around at lt in omega arith)
+    (let f = around at lt in omega arith)
     ∙ ap (λ b. cond b (v % 256) (byte at)) (eq-eqb at at refl)
     ∙ (let one : v % 256 ≡ v / 256 ^ 0 % 256 = omega arith in one)
     ∙ sym (ap (λ d. v / 256 ^ d % 256) (here at lt))
@@ -94,11 +94,11 @@ with_number-suc : (byte : ℕ → ℕ) (m at v a : ℕ) → at < 2 ^ 64 → m < 
 with_number-suc byte m at v a lt small = elim (cases_lt a (2 ^ 64)) [
   | inl la ↦ elim (cases_eq a at) [
     | inl e ↦ ap (with_number (with_byte byte at (v % 256)) m (next at) (v / 256)) e
-    ∙ first byte m at v lt small ∙ sym (ap (with_number byte (m + 1) at v) e)
+        ∙ first byte m at v lt small ∙ sym (ap (with_number byte (m + 1) at v) e)
     | inr n ↦ later byte m at v a lt la n
   ]
   | inr ge ↦ outside (with_byte byte at (v % 256)) m (next at) (v / 256) a ge
-  ∙ other byte at (v % 256) a (λ e. absurd (omega arith)) ∙ sym (outside byte (m + 1) at v a ge)
+      ∙ other byte at (v % 256) a (λ e. absurd (omega arith)) ∙ sym (outside byte (m + 1) at v a ge)
 ]
 
 -- a number is written byte by byte, the lowest first
@@ -130,7 +130,7 @@ digit n v =
     let p : 256 ^ suc n ≡ 256 ^ n * 256 = pow-suc 256 n in
     let pos : 0 < 256 ^ n = one-le-pow n 256 (omega arith) in
     let e : v % (256 ^ n * 256) ≡ (v / 256 % 256 ^ n) * 256
-      + v % 256 = mod-mul v {m = 256 ^ n} {c = 256} pos (omega arith) in
+    + v % 256 = mod-mul v {m = 256 ^ n} {c = 256} pos (omega arith) in
     rw p (omega arith)
 
 -- what is written is read again
@@ -142,13 +142,13 @@ stored_is_loaded byte (suc n) at v le lt =
     let whole = with_number-more byte (suc n) n at v (omega arith) lt (omega arith) in
     let apart : IsApart at (next at) n = λ i il e. absurd (omega arith) in
     let low' : with_number (with_byte byte at (v % 256)) n (next at) (v / 256) at
-      ≡ v % 256 = untouched (with_byte byte at (v % 256)) n (next at) (v / 256) at apart
-        (omega arith) ∙ ap (λ b. cond b (v % 256) (byte at)) (eq-eqb at at refl) in
+    ≡ v % 256 = untouched (with_byte byte at (v % 256)) n (next at) (v / 256) at apart
+    (omega arith) ∙ ap (λ b. cond b (v % 256) (byte at)) (eq-eqb at at refl) in
     let high = stored_is_loaded (with_byte byte at (v % 256)) n (next at) (v / 256) (omega arith)
-      (omega arith) in
+    (omega arith) in
     ap (λ f. f at + 256 * number_at f n (next at)) (sym whole)
-      ∙ ap (λ x. x + 256 * number_at (with_number (with_byte byte at (v % 256)) n (next at)
-        (v / 256)) n (next at)) low' ∙ ap (λ x. v % 256 + 256 * x) high ∙ digit n v
+    ∙ ap (λ x. x + 256 * number_at (with_number (with_byte byte at (v % 256)) n (next at)
+    (v / 256)) n (next at)) low' ∙ ap (λ x. v % 256 + 256 * x) high ∙ digit n v
 
 pub leaves_others : LeavesOthers
 unfolding number_at
@@ -156,13 +156,13 @@ leaves_others byte n at v zero to at_lt lt h = refl
 leaves_others byte n at v (suc m) to at_lt lt h =
     let here' : to ≡ (to + 0) % 2 ^ 64 = omega arith in
     let low' = ap (with_number byte n at v) here'
-      ∙ untouched byte n at v ((to + 0) % 2 ^ 64) (h 0 (omega arith)) at_lt ∙ sym (ap byte here') in
+    ∙ untouched byte n at v ((to + 0) % 2 ^ 64) (h 0 (omega arith)) at_lt ∙ sym (ap byte here') in
     let rest : (i : ℕ) → i < m → IsApart ((next to + i) % 2 ^ 64) at n = λ i il j jl e. h (suc i)
-      (omega arith) j jl (let f : (to + suc i) % 2 ^ 64 ≡ (next to + i) % 2 ^ 64 = omega arith in f
-      ∙ e) in
+    (omega arith) j jl (let f : (to + suc i) % 2 ^ 64 ≡ (next to + i) % 2 ^ 64 = omega arith in f
+    ∙ e) in
     let high = leaves_others byte n at v m (next to) at_lt (omega arith) rest in
     ap (λ x. x + 256 * number_at (with_number byte n at v) m (next to)) low'
-      ∙ ap (λ x. byte to + 256 * x) high
+    ∙ ap (λ x. byte to + 256 * x) high
 
 readable : (r : Rights) → is_writable r ≡ true → is_readable r ≡ true
 readable Nothing e = absurd cc
@@ -178,9 +178,9 @@ writable_is_readable m (suc n) at e = go (λ h. writable_is_readable m n (next a
     (may_write m at) refl e
   where
     go : (first_refused (may_write m) n (next at) ≡ None
-      → first_refused (may_read m) n (next at) ≡ None) → (b : Bool) → may_write m at ≡ b
-      → cond b (first_refused (may_write m) n (next at)) (Some at) ≡ None
-      → cond (may_read m at) (first_refused (may_read m) n (next at)) (Some at) ≡ None
+        → first_refused (may_read m) n (next at) ≡ None) → (b : Bool) → may_write m at ≡ b
+        → cond b (first_refused (may_write m) n (next at)) (Some at) ≡ None
+        → cond (may_read m at) (first_refused (may_read m) n (next at)) (Some at) ≡ None
     go more true w e = rw (readable (m.protection at).rights w) (more e)
     go more false w e = absurd cc
 
@@ -209,7 +209,7 @@ pub loads_what_was_stored : LoadsWhatWasStored
 loads_what_was_stored m at v w lt ok =
     let may = none_refused (first_refused (may_write m) (bytes_of w) at) ok in
     rw (may, writable_is_readable m (bytes_of w) at may)
-      (ap Ok (stored_is_loaded m.byte (bytes_of w) at v (small w) lt ∙ ap (λ l. v % l) (power w)))
+    (ap Ok (stored_is_loaded m.byte (bytes_of w) at v (small w) lt ∙ ap (λ l. v % l) (power w)))
 
 modes_kept : (o : Option ℕ) (m new : Memory) → new.protection ≡ m.protection
     → (unless_refused o new m).protection ≡ m.protection

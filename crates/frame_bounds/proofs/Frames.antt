@@ -122,8 +122,8 @@ declares_shallow a base (l ∷ ls) block n =
     let m = declare a base l block n in
     let type : CType = record { base = base; pointers = l.pointers } in
     let v = optional_shallow (λ e. to_type type (start e)
-      (resolve_expression (names_at a m.block) e))
-      (λ e. typed_shallow (names_at a m.block) type (start e) e) l.initialiser in
+    (resolve_expression (names_at a m.block) e))
+    (λ e. typed_shallow (names_at a m.block) type (start e) e) l.initialiser in
     let rest = declares_shallow a base ls m.block m.counts in
     let p = v.0 in let q = v.1 in let r = rest.0 in let s = rest.1 in
     (omega arith, omega arith)
@@ -142,10 +142,10 @@ names_most f (s ∷ ss) = let i = names_most f ss in omega arith
 
 begins_shallow : (a : Environment) (f : ForInitialiser) (n : Numbering)
     → (max (most_of_declared expression_nesting (resolve_for_initialiser a f n).declared)
-      (most_of_optional expression_nesting (resolve_for_initialiser a f n).first.value)
+    (most_of_optional expression_nesting (resolve_for_initialiser a f n).first.value)
     ≤ height_of_for_initialiser f)
     × (max (most_of_declared expression_reads (resolve_for_initialiser a f n).declared)
-      (most_of_optional expression_reads (resolve_for_initialiser a f n).first.value) ≤ 15)
+    (most_of_optional expression_reads (resolve_for_initialiser a f n).first.value) ≤ 15)
 begins_shallow a (Declaring base ls) n =
     let done = (declare_all a base ls [] n).done in
     let i = names_most expression_nesting done in
@@ -155,7 +155,7 @@ begins_shallow a (Declaring base ls) n =
     (omega arith, omega arith)
 begins_shallow a (Evaluating e) n =
     let v = optional_shallow (λ e. any (resolve_expression (names_at a []) e))
-      (λ e. any_shallow (names_at a []) e) e in
+    (λ e. any_shallow (names_at a []) e) e in
     let p = v.0 in let q = v.1 in
     (omega arith, omega arith)
 
@@ -196,8 +196,8 @@ mutual
       [] n in let p = i.0 in let q = i.1 in (omega arith, omega arith)
   statement_shallow (statements.Evaluate e) a block n =
       let v = optional_shallow (λ e. any (resolve_expression (names_at a block) e))
-        (λ e. any_shallow (names_at a block) e) e in let p = v.0 in let q = v.1 in
-        (omega arith, omega arith)
+      (λ e. any_shallow (names_at a block) e) e in let p = v.0 in let q = v.1 in
+      (omega arith, omega arith)
   statement_shallow (statements.If at c s) a block n =
       let done = (resolve_statement s (inside a block) [] n).done in
       let v = condition_shallow (names_at a block) at c in
@@ -212,7 +212,7 @@ mutual
       let m = statement_shallow s (inside a block) [] n in
       let k = statement_shallow u (inside a block) [] first.counts in
       let x = only_most expression_nesting first.done in
-        let y = only_most expression_reads first.done in
+      let y = only_most expression_reads first.done in
       let x' = only_most expression_nesting done in let y' = only_most expression_reads done in
       let p = v.0 in let q = v.1 in let r = m.0 in let t = m.1 in let r' = k.0 in let t' = k.1 in
       (omega arith, omega arith)
@@ -239,14 +239,14 @@ mutual
       let done = (resolve_statement s within [] b.resolved.counts).done in
       let u = begins_shallow here f n in
       let v = optional_shallow (λ e. condition at
-        (resolve_expression (names_at here b.resolved.block) e))
-        (λ e. condition_shallow (names_at here b.resolved.block) at e) c in
+      (resolve_expression (names_at here b.resolved.block) e))
+      (λ e. condition_shallow (names_at here b.resolved.block) at e) c in
       let w = optional_shallow (λ e. any (resolve_expression (names_at here b.resolved.block) e))
-        (λ e. any_shallow (names_at here b.resolved.block) e) next in
+      (λ e. any_shallow (names_at here b.resolved.block) e) next in
       let m = statement_shallow s within [] b.resolved.counts in
       let x = only_most expression_nesting done in let y = only_most expression_reads done in
       let p = u.0 in let q = u.1 in let p' = v.0 in let q' = v.1 in let p'' = w.0 in
-        let q'' = w.1 in let r = m.0 in let t = m.1 in
+      let q'' = w.1 in let r = m.0 in let t = m.1 in
       (omega arith, omega arith)
   statement_shallow (statements.Return at e) a block n = let v = returned_shallow a block at e in
       let p = v.0 in let q = v.1 in (omega arith, omega arith)
@@ -259,16 +259,19 @@ mutual
       let m = statements_shallow body (record here { body = Near }) [] n in
       let v = filter_shallow a block f counts.number in
       let k = statements_shallow handler (record here { code = true }) []
-        (with_number counts (resolve_filter a block f counts.number).number) in
+      (with_number counts (resolve_filter a block f counts.number).number) in
       let p = v.0 in let q = v.1 in let r = m.0 in let t = m.1 in let r' = k.0 in let t' = k.1 in
       (omega arith, omega arith)
   statement_shallow (statements.TryFinally body at last) a block n =
       let here = inside a block in
       let counts = (resolve_statements body (record here { body = Near }) [] n).counts in
       let m = statements_shallow body (record here { body = Near }) [] n in
-      let k = statements_shallow last (record here
-        { loop = past_finally a.loop; body = past_finally a.body; function = Beyond;
-        abnormal = true }) [] (with_number counts (counts.number + 1)) in
+      let k = statements_shallow last (record here {
+        loop = past_finally a.loop;
+        body = past_finally a.body;
+        function = Beyond;
+        abnormal = true;
+      }) [] (with_number counts (counts.number + 1)) in
       let r = m.0 in let t = m.1 in let r' = k.0 in let t' = k.1 in
       (omega arith, omega arith)
 
@@ -321,7 +324,7 @@ mutual
   statement_blocks (statements.Evaluate e) a block n = omega arith
   statement_blocks (statements.If at c s) a block n =
       let m = statement_blocks s (inside a block) [] n in
-        let x = only_notes (resolve_statement s (inside a block) [] n).done in omega arith
+      let x = only_notes (resolve_statement s (inside a block) [] n).done in omega arith
   statement_blocks (statements.IfElse at c s u) a block n =
       let first = resolve_statement s (inside a block) [] n in
       let m = statement_blocks s (inside a block) [] n in
@@ -332,11 +335,11 @@ mutual
   statement_blocks (statements.While at c s) a block n =
       let within = record (inside a block) { loop = Near } in
       let m = statement_blocks s within [] n in
-        let x = only_notes (resolve_statement s within [] n).done in omega arith
+      let x = only_notes (resolve_statement s within [] n).done in omega arith
   statement_blocks (statements.DoWhile s at c) a block n =
       let within = record (inside a block) { loop = Near } in
       let m = statement_blocks s within [] n in
-        let x = only_notes (resolve_statement s within [] n).done in omega arith
+      let x = only_notes (resolve_statement s within [] n).done in omega arith
   statement_blocks (statements.For at f c next s) a block n =
       let here = inside a block in
       let b = resolve_for_initialiser here f n in
@@ -353,15 +356,18 @@ mutual
       let counts = (resolve_statements body (record here { body = Near }) [] n).counts in
       let m = statements_blocks body (record here { body = Near }) [] n in
       let k = statements_blocks handler (record here { code = true }) []
-        (with_number counts (resolve_filter a block f counts.number).number) in
+      (with_number counts (resolve_filter a block f counts.number).number) in
       omega arith
   statement_blocks (statements.TryFinally body at last) a block n =
       let here = inside a block in
       let counts = (resolve_statements body (record here { body = Near }) [] n).counts in
       let m = statements_blocks body (record here { body = Near }) [] n in
-      let k = statements_blocks last (record here
-        { loop = past_finally a.loop; body = past_finally a.body; function = Beyond;
-        abnormal = true }) [] (with_number counts (counts.number + 1)) in
+      let k = statements_blocks last (record here {
+        loop = past_finally a.loop;
+        body = past_finally a.body;
+        function = Beyond;
+        abnormal = true;
+      }) [] (with_number counts (counts.number + 1)) in
       omega arith
 
   statements_blocks : (ss : Statements) (a : Environment) (block : Scope) (n : Numbering)
@@ -371,7 +377,7 @@ mutual
       let m = resolve_statement s a block n in
       let rest = resolve_statements ss a m.block m.counts in
       let i = item_over s (notes m.done) (statement_blocks s a block n)
-        (declare_notes s a block n) in
+      (declare_notes s a block n) in
       let j = statements_blocks ss a m.block m.counts in
       let e = notes_append m.done rest.done in
       omega arith
@@ -389,9 +395,10 @@ functions_shallow text file (Function t n ps body ∷ xs) number within =
     let j = statements_blocks body (around text file t) (with_parameters text ps [] 0) start' in
     let p = i.0 in
     let e = within.0.expressions (omega arith) in
-    let s = within.0.statements (omega arith) in
-    (record { expressions = omega arith; parameters = i.1; blocks = omega arith },
-      functions_shallow text file xs (function_of text file t n ps body number).number within.1)
+    let s = within.0.statements (omega arith) in (
+      record { expressions = omega arith; parameters = i.1; blocks = omega arith },
+      functions_shallow text file xs (function_of text file t n ps body number).number within.1,
+    )
 
 pub resolved_is_shallow : ResolvedIsShallow
 resolved_is_shallow text xs within = functions_shallow text (file_of text xs empty_file).scope xs 1

@@ -126,7 +126,7 @@ pass_shallow w at m n fs (Some a) rest h le l =
     let p = h.0 in
     let q = h.1 in
     fit_shallow n (fits w a) (before fs (passed w a) rest) (spoiled _ rest)
-      (before_shallow m n fs (passed w a) rest.found rest.faults (omega arith) (omega arith) l) refl
+    (before_shallow m n fs (passed w a) rest.found rest.faults (omega arith) (omega arith) l) refl
 
 called_shallow : (n : ℕ) (t : CType) (make : nodes.Arguments → Node) (o : Option nodes.Arguments)
     (fs : List FaultAt) → AreShallow n o
@@ -168,12 +168,12 @@ changed_shallow : (o : Option Arithmetic) (at value_at k m : ℕ) (a b : Resolve
     → ShallowIf (1 + max k m) (changed o at value_at a b).found
 changed_shallow None at value_at k m a b h l =
     rule_2_shallow k m (1 + max k m) value_at assigned _ a.found b.found h l
-      (λ x y p q. let u = p.0 in let v = q.0 in
-      assigned_shallow (1 + max k m) x y (omega arith) (omega arith) p.1 q.1)
+    (λ x y p q. let u = p.0 in let v = q.0 in
+    assigned_shallow (1 + max k m) x y (omega arith) (omega arith) p.1 q.1)
 changed_shallow (Some o) at value_at k m a b h l =
     rule_2_shallow k m (1 + max k m) at (compound_assigned o) _ a.found b.found h l
-      (λ x y p q. let u = p.0 in let v = q.0 in
-      compound_shallow (1 + max k m) x y (omega arith) (omega arith) p.1 q.1 o)
+    (λ x y p q. let u = p.0 in let v = q.0 in
+    compound_shallow (1 + max k m) x y (omega arith) (omega arith) p.1 q.1 o)
 
 mutual
   pub resolved_shallow : (s : Names) (e : Expression)
@@ -190,58 +190,58 @@ mutual
       let k = height a in
       let m = height i in
       rule_2_shallow k m (1 + max k m) at _ _ (resolve_expression s a).found
-        (resolve_expression s i).found (resolved_shallow s a) (resolved_shallow s i)
+      (resolve_expression s i).found (resolved_shallow s a) (resolved_shallow s i)
       (λ x y p q. let u = p.0 in let v = q.0 in
-        element_shallow (1 + max k m) x y (omega arith) (omega arith) p.1 q.1)
+      element_shallow (1 + max k m) x y (omega arith) (omega arith) p.1 q.1)
   resolved_shallow s (trees.Postfix e o at) =
       let n = height e in
       given_that_shallow (1 + n) _ (start e) _ _ _
-        (rule_1_shallow n (1 + n) at _ _ (resolve_expression s e).found (resolved_shallow s e)
-        (λ x p. let u = p.0 in incremented_shallow (1 + n) x (omega arith) p.1 _ o))
+      (rule_1_shallow n (1 + n) at _ _ (resolve_expression s e).found (resolved_shallow s e)
+      (λ x p. let u = p.0 in incremented_shallow (1 + n) x (omega arith) p.1 _ o))
   resolved_shallow s (trees.Prefix at o e) =
       let n = height e in
       given_that_shallow (1 + n) _ (start e) _ _ _
-        (rule_1_shallow n (1 + n) at _ _ (resolve_expression s e).found (resolved_shallow s e)
-        (λ x p. let u = p.0 in incremented_shallow (1 + n) x (omega arith) p.1 _ o))
+      (rule_1_shallow n (1 + n) at _ _ (resolve_expression s e).found (resolved_shallow s e)
+      (λ x p. let u = p.0 in incremented_shallow (1 + n) x (omega arith) p.1 _ o))
   resolved_shallow s (trees.Unary at o e) =
       let n = height e in
       given_that_shallow (1 + n) _ (start e) _ _ _
-        (rule_1_shallow n (1 + n) at _ _ (resolve_expression s e).found (resolved_shallow s e)
-        (λ x p. let u = p.0 in unary_shallow (1 + n) x (omega arith) p.1 o))
+      (rule_1_shallow n (1 + n) at _ _ (resolve_expression s e).found (resolved_shallow s e)
+      (λ x p. let u = p.0 in unary_shallow (1 + n) x (omega arith) p.1 o))
   resolved_shallow s (trees.Cast at t e) =
       let n = height e in
       rule_1_shallow n (1 + n) at _ _ (resolve_expression s e).found (resolved_shallow s e)
-        (λ x p. let u = p.0 in cast_shallow (1 + n) x (omega arith) p.1 t)
+      (λ x p. let u = p.0 in cast_shallow (1 + n) x (omega arith) p.1 t)
   resolved_shallow s (trees.Binary a at o b) =
       let k = height a in
       let m = height b in
       rule_2_shallow k m (1 + max k m) at _ _ (resolve_expression s a).found
-        (resolve_expression s b).found (resolved_shallow s a) (resolved_shallow s b)
+      (resolve_expression s b).found (resolved_shallow s a) (resolved_shallow s b)
       (λ x y p q. let u = p.0 in let v = q.0 in
-        binary_shallow (1 + max k m) x y (omega arith) (omega arith) p.1 q.1 o)
+      binary_shallow (1 + max k m) x y (omega arith) (omega arith) p.1 q.1 o)
   resolved_shallow s (trees.Conditional c at a b) =
       let i = height c in
       let k = height a in
       let m = height b in
       rule_3_shallow i k m (1 + max i (max k m)) at _ _ (resolve_expression s c).found
-        (resolve_expression s a).found (resolve_expression s b).found (resolved_shallow s c)
-        (resolved_shallow s a) (resolved_shallow s b)
+      (resolve_expression s a).found (resolve_expression s b).found (resolved_shallow s c)
+      (resolved_shallow s a) (resolved_shallow s b)
       (λ z x y p q r. let u = p.0 in let v = q.0 in let w = r.0 in
-        conditional_shallow (1 + max i (max k m)) z x y (omega arith) (omega arith) (omega arith)
-        p.1 q.1 r.1)
+      conditional_shallow (1 + max i (max k m)) z x y (omega arith) (omega arith) (omega arith)
+      p.1 q.1 r.1)
   resolved_shallow s (trees.Assign a at o b) =
       let k = height a in
       let m = height b in
       given_that_shallow (1 + max k m) _ (start a) _ _ _
-        (changed_shallow o at (start b) k m (resolve_expression s a) (resolve_expression s b)
-        (resolved_shallow s a) (resolved_shallow s b))
+      (changed_shallow o at (start b) k m (resolve_expression s a) (resolve_expression s b)
+      (resolved_shallow s a) (resolved_shallow s b))
   resolved_shallow s (trees.Comma a at b) =
       let k = height a in
       let m = height b in
       rule_2_shallow k m (1 + max k m) at comma_of _ (resolve_expression s a).found
-        (resolve_expression s b).found (resolved_shallow s a) (resolved_shallow s b)
+      (resolve_expression s b).found (resolved_shallow s a) (resolved_shallow s b)
       (λ x y p q. let u = p.0 in let v = q.0 in
-        comma_shallow (1 + max k m) x y (omega arith) (omega arith) p.1 q.1)
+      comma_shallow (1 + max k m) x y (omega arith) (omega arith) p.1 q.1)
 
   arguments_shallow : (s : Names) (es : trees.Arguments)
       → ArgumentsShallow (heights es) (resolve_arguments s es)
@@ -251,7 +251,7 @@ mutual
   arguments_shallow s (trees.Next e es) (w ∷ ws) =
       let n = max (1 + height e) (heights es) in
       pass_shallow w (start e) (height e) n (resolve_expression s e).faults
-        (resolve_expression s e).found (pass_all ws (resolve_arguments s es)) (resolved_shallow s e)
-        (omega arith)
+      (resolve_expression s e).found (pass_all ws (resolve_arguments s es)) (resolved_shallow s e)
+      (omega arith)
       (all_deeper (heights es) n (pass_all ws (resolve_arguments s es)).found (omega arith)
-        (arguments_shallow s es ws))
+      (arguments_shallow s es ws))

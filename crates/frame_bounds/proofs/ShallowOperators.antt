@@ -91,18 +91,18 @@ module _ (n : ℕ) (a b : TypedNode) (p : 1 + nesting a ≤ n) (q : 1 + nesting 
   sum_shallow : ShallowIf n (sum a b)
   sum_shallow =
       shallow_if n (is_pointer a.type) _ _ (shallow_only n
-        (is_sized_pointer a.type && is_integer b.type) _ (omega arith, omega arith))
+      (is_sized_pointer a.type && is_integer b.type) _ (omega arith, omega arith))
       (shallow_if n (is_pointer b.type) _ _ (shallow_only n
-        (is_sized_pointer b.type && is_integer a.type) _ (omega arith, omega arith))
-        (on_integers_shallow arithmetic.Add))
+      (is_sized_pointer b.type && is_integer a.type) _ (omega arith, omega arith))
+      (on_integers_shallow arithmetic.Add))
 
   difference_shallow : ShallowIf n (difference a b)
   difference_shallow =
       shallow_if n (is_pointer a.type && is_pointer b.type) _ _
-        (shallow_only n _ _ (omega arith, omega arith))
+      (shallow_only n _ _ (omega arith, omega arith))
       (shallow_if n (is_pointer a.type) _ _ (shallow_only n
-        (is_sized_pointer a.type && is_integer b.type) _ (omega arith, omega arith))
-        (on_integers_shallow arithmetic.Subtract))
+      (is_sized_pointer a.type && is_integer b.type) _ (omega arith, omega arith))
+      (on_integers_shallow arithmetic.Subtract))
 
   arithmetic_shallow : (o : Arithmetic) → ShallowIf n (arithmetic_of o a b)
   arithmetic_shallow arithmetic.Add = sum_shallow
@@ -133,9 +133,9 @@ module _ (n : ℕ) (a b : TypedNode) (p : 1 + nesting a ≤ n) (q : 1 + nesting 
       let g' = right_reads o (working_type o a.type b.type) b in
       shallow_if n (is_pointer a.type) _ _
       (shallow_if n (is_additive o && is_sized_pointer a.type && is_integer b.type) _ _
-        (place_shallow a.node _ n (λ x e g. (omega arith, omega arith))) tt)
+      (place_shallow a.node _ n (λ x e g. (omega arith, omega arith))) tt)
       (shallow_if n (is_integer a.type && is_integer b.type) _ _
-        (place_shallow a.node _ n (λ x e g. (omega arith, omega arith))) tt)
+      (place_shallow a.node _ n (λ x e g. (omega arith, omega arith))) tt)
 
   pub comma_shallow : ShallowIf n (comma_of a b)
   comma_shallow = (omega arith, omega arith)
@@ -147,9 +147,9 @@ module _ (n : ℕ) (a : TypedNode) (p : 1 + nesting a ≤ n) (r : reads a ≤ 15
   incremented_shallow m i =
       shallow_if n (is_pointer a.type) _ _
       (shallow_if n (is_sized_pointer a.type) _ _
-        (place_shallow a.node _ n (λ x e g. (omega arith, omega arith))) tt)
+      (place_shallow a.node _ n (λ x e g. (omega arith, omega arith))) tt)
       (shallow_if n (is_integer a.type) _ _ (place_shallow a.node _ n
-        (λ x e g. (omega arith, omega arith))) tt)
+      (λ x e g. (omega arith, omega arith))) tt)
 
   pub unary_shallow : (o : UnaryOperator) → ShallowIf n (unary_of o a)
   unary_shallow unary.Plus = shallow_only n _ _ (omega arith, omega arith)

@@ -39,7 +39,7 @@ is_far n le lt =
     let e : ltb n 128 ≡ false = le-ltb n 128 le in
     let f : leb (2 ^ 64 - 128) n ≡ false = lt-leb (2 ^ 64 - 128) n (omega arith) in
     ap (λ (b : Bool). b || (leb (2 ^ 64 - 128) n && ltb n (2 ^ 64))) e
-      ∙ ap (λ (b : Bool). b && ltb n (2 ^ 64)) f
+    ∙ ap (λ (b : Bool). b && ltb n (2 ^ 64)) f
 
 -- ---- the instructions, by whether there is a page at most
 
@@ -100,17 +100,31 @@ is_taking probe n some = same_taking probe n (leb n 4096)
 abbrev info_by : ℕ → ℕ → Bool → Info
 info_by probe n none =
     let steps = steps_of spell (plan probe n) 0 (turned [] (allocation_then (not none) n [])) in
-    record { bytes = []; flags = 0; prologue_size = bytes (items steps); frame_register = 0;
-      frame_offset = 0; codes = codes_onto [] steps; handler = None; parent = None;
-      has_c_handler = false; scopes = [] }
+    record {
+      bytes = [];
+      flags = 0;
+      prologue_size = bytes (items steps);
+      frame_register = 0;
+      frame_offset = 0;
+      codes = codes_onto [] steps;
+      handler = None;
+      parent = None;
+      has_c_handler = false;
+      scopes = [];
+    }
 
 abbrev code_at : ℕ → ℕ → UnwindCode
 code_at offset n = record { offset = offset; operation = Allocate n }
 
 pub describes : (frame : FrameLayout) (size : ℕ) (codes : ArrayVec UnwindCode) → 0 < frame.size
     → size ≡ taking_size frame.size → codes.items ≡ code_at size frame.size ∷ []
-    → (probe : ℕ) → Describes (record { prologue_size = size; frame_register = 0; frame_offset = 0;
-      codes = codes; trailer = Nothing }) (rules.unwind_of spell (plan_of frame probe))
+    → (probe : ℕ) → Describes (record {
+      prologue_size = size;
+      frame_register = 0;
+      frame_offset = 0;
+      codes = codes;
+      trailer = Nothing;
+    }) (rules.unwind_of spell (plan_of frame probe))
 describes frame size codes some is are probe =
     let n = frame.size in
     let e : (n == 0) ≡ false = ne_eqb n 0 (λ z. (let h : n ≡ 0 = z in absurd (omega arith))) in
@@ -118,12 +132,12 @@ describes frame size codes some is are probe =
     let info = ap (info_by probe n) (sym e) in
     record {
       prologue_size = same ∙ sym (ap bytes (append-nil
-        (spelled_by spell (allocating probe n (leb n 4096)))))
-        ∙ ap (λ (i : Info). i.prologue_size) info;
+          (spelled_by spell (allocating probe n (leb n 4096)))))
+          ∙ ap (λ (i : Info). i.prologue_size) info;
       frame_register = refl;
       frame_offset = refl;
       codes = are ∙ ap (λ (o : ℕ). code_at o n ∷ [])
-        (same ∙ sym (zero-add (taking probe n (leb n 4096)))) ∙ ap (λ (i : Info). i.codes) info;
+          (same ∙ sym (zero-add (taking probe n (leb n 4096)))) ∙ ap (λ (i : Info). i.codes) info;
       trailer = refl;
     }
 
@@ -143,8 +157,13 @@ few offset n false false = omega arith
 
 pub can_be_written : (n size : ℕ) (codes : ArrayVec UnwindCode) → size < 256
     → codes.items ≡ code_at size n ∷ []
-    → CanBeWritten (record { prologue_size = size; frame_register = 0; frame_offset = 0;
-      codes = codes; trailer = Nothing })
+    → CanBeWritten (record {
+      prologue_size = size;
+      frame_register = 0;
+      frame_offset = 0;
+      codes = codes;
+      trailer = Nothing;
+    })
 can_be_written n size codes small are = record {
   register = omega arith;
   offset = refl;

@@ -39,7 +39,7 @@ pub next_mode : (f offset : ℕ) (ops : List UnwindOperation) (x : FetchedInstr)
 next_mode f offset ops x xs m h = go (next f offset ops x m) refl h
   where
     go : (o : Option Mode) → next f offset ops x m ≡ o
-      → is_body (and_then (following f offset ops xs) o) ≡ true → Next f offset ops x xs m
+        → is_body (and_then (following f offset ops xs) o) ≡ true → Next f offset ops x xs m
     go (Some to) e h = record { to = to; is = e; rest = h }
     go None e h = absurd (false≢true h)
 
@@ -53,9 +53,9 @@ following-append f offset ops (x ∷ xs) ys m to e = go
     (λ k h. following-append f offset ops xs ys k to h) (next f offset ops x m) e
   where
     go : ((k : Mode) → following f offset ops xs k ≡ Some to
-      → following f offset ops (xs ++ ys) k ≡ following f offset ops ys to) → (o : Option Mode)
-      → and_then (following f offset ops xs) o ≡ Some to
-      → and_then (following f offset ops (xs ++ ys)) o ≡ following f offset ops ys to
+        → following f offset ops (xs ++ ys) k ≡ following f offset ops ys to) → (o : Option Mode)
+        → and_then (following f offset ops xs) o ≡ Some to
+        → and_then (following f offset ops (xs ++ ys)) o ≡ following f offset ops ys to
     go more (Some k) e = more k e
     go more None e = absurd cc
 
@@ -80,13 +80,13 @@ not_among f ops q [] nv s h = refl
 not_among f ops q (r ∷ rs) nv s h =
     let p = and_parts (may_write f ops r) (may_write_all f ops rs) h in
     let first = and_parts (not (eqb r 4)) ((eqb f 0 || not (eqb r f))
-      && (not (is_nonvolatile r) || is_saved r ops)) p.0 in
+    && (not (is_nonvolatile r) || is_saved r ops)) p.0 in
     let may = (and_parts (eqb f 0 || not (eqb r f)) (not (is_nonvolatile r) || is_saved r ops)
-      first.1).1 in
+    first.1).1 in
     or_from (eqb r q) (has q rs) (ne_eqb r q (λ e. elim
-      (or_cases (not (is_nonvolatile r)) (is_saved r ops) may) [
+    (or_cases (not (is_nonvolatile r)) (is_saved r ops) may) [
       | inl volatile ↦ false≢true (sym (not-true (is_nonvolatile r) volatile)
-      ∙ (ap is_nonvolatile e ∙ nv))
+          ∙ (ap is_nonvolatile e ∙ nv))
       | inr saved ↦ false≢true (sym s ∙ (ap (λ x. is_saved x ops) (sym e) ∙ saved))
     ])) (not_among f ops q rs nv s p.1)
 
@@ -121,7 +121,7 @@ unwritten f offset ops q [] m nv s h = refl
 unwritten f offset ops q (x ∷ xs) m nv s h =
     let n = next_mode f offset ops x xs m h in
     or_from (writes f q x) (is_written f q xs) (next_unwritten f offset ops q x m n.to nv s n.is)
-      (unwritten f offset ops q xs n.to nv s n.rest)
+    (unwritten f offset ops q xs n.to nv s n.rest)
 
 -- ---- the frame in the body
 
@@ -151,7 +151,7 @@ pub body_holds : (f offset back : ℕ) (e p s : State) (ops : List UnwindOperati
     (rest : List FetchedInstr) → are_allowed f ops ≡ true → (f ≢ 0 → sets_frame ops ≡ true)
     → is_body (following f offset ops rest (Body [])) ≡ true → Running f offset e back ops p
     → InBody f ops rest e p s → HoldsFrame f offset s.memory (registers e) back (registers s) ops
-      ops
+    ops
 body_holds f offset back e p s ops rest allowed frame body run b = record {
   stack = subst (λ x. Stack s.memory (registers e) back x x ops) (sym b.stack)
       (kept_words p.memory s.memory (registers e) back (registers p 4) (registers p 4) ops b.words

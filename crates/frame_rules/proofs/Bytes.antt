@@ -58,7 +58,7 @@ register_starts r b (Some i) d = record { head = _; tail = _; is = refl }
 register_starts r b None d = go (eqb (number b % 8) 4)
   where
     go : (t : Bool) → Starts (cond t ((64 * mode d + 8 * r + 4) ∷ sib None 4 ∷ displacement d)
-      ((64 * mode d + 8 * r + number b % 8) ∷ displacement d))
+        ((64 * mode d + 8 * r + number b % 8) ∷ displacement d))
     go true = record { head = _; tail = _; is = refl }
     go false = record { head = _; tail = _; is = refl }
 
@@ -69,9 +69,9 @@ place_starts r (bases.Register b) i d = register_starts r b i d
 
 jump_plain : (m : MemRef) (more : List ℕ) (n : ℕ)
     → is_plain (chosen (instrs.Jump (Indirect (places.Memory m))) ++ more) n
-      (instrs.Jump (Indirect (places.Memory m)))
+    (instrs.Jump (Indirect (places.Memory m)))
     ≡ is_plain (chosen (instrs.Jump (Indirect (places.Memory m)))) n
-      (instrs.Jump (Indirect (places.Memory m)))
+    (instrs.Jump (Indirect (places.Memory m)))
 unfolding modrm
 jump_plain m more n =
     let bits = modrm_bits W32 4 (places.Memory m) in
@@ -79,22 +79,22 @@ jump_plain m more n =
     go (has_rex W32 bits) bits (memory_bytes 4 m.base m.index m.displacement) s
   where
     by : (t : Bool) (bits h : ℕ) (tl : List ℕ)
-      → is_plain ((cond t ((0x40 + bits) ∷ []) [] ++ 0xFF ∷ [] ++ (h ∷ tl)) ++ more) n
+        → is_plain ((cond t ((0x40 + bits) ∷ []) [] ++ 0xFF ∷ [] ++ (h ∷ tl)) ++ more) n
         (instrs.Jump (Indirect (places.Memory m)))
-      ≡ is_plain (cond t ((0x40 + bits) ∷ []) [] ++ 0xFF ∷ [] ++ (h ∷ tl)) n
+        ≡ is_plain (cond t ((0x40 + bits) ∷ []) [] ++ 0xFF ∷ [] ++ (h ∷ tl)) n
         (instrs.Jump (Indirect (places.Memory m)))
     by true bits h tl = refl
     by false bits h tl = refl
 
     go : (t : Bool) (bits : ℕ) (xs : List ℕ) → Starts xs
-      → is_plain ((cond t ((0x40 + bits) ∷ []) [] ++ 0xFF ∷ [] ++ xs) ++ more) n
+        → is_plain ((cond t ((0x40 + bits) ∷ []) [] ++ 0xFF ∷ [] ++ xs) ++ more) n
         (instrs.Jump (Indirect (places.Memory m)))
-      ≡ is_plain (cond t ((0x40 + bits) ∷ []) [] ++ 0xFF ∷ [] ++ xs) n
+        ≡ is_plain (cond t ((0x40 + bits) ∷ []) [] ++ 0xFF ∷ [] ++ xs) n
         (instrs.Jump (Indirect (places.Memory m)))
     go t bits xs s = subst (λ (ys : List ℕ). is_plain
-      ((cond t ((0x40 + bits) ∷ []) [] ++ 0xFF ∷ [] ++ ys) ++ more) n
-      (instrs.Jump (Indirect (places.Memory m)))
-      ≡ is_plain (cond t ((0x40 + bits) ∷ []) [] ++ 0xFF ∷ [] ++ ys) n
+        ((cond t ((0x40 + bits) ∷ []) [] ++ 0xFF ∷ [] ++ ys) ++ more) n
+        (instrs.Jump (Indirect (places.Memory m)))
+        ≡ is_plain (cond t ((0x40 + bits) ∷ []) [] ++ 0xFF ∷ [] ++ ys) n
         (instrs.Jump (Indirect (places.Memory m)))) (sym s.is) (by t bits s.head s.tail)
 
 plain_again : (i : Instr) (more : List ℕ) (n : ℕ)
@@ -111,16 +111,18 @@ fetches m [] n at le h lt = (executable m n at, refl)
 fetches m (b ∷ bytes) zero at le h lt = absurd (omega arith)
 fetches m (b ∷ bytes) (suc n) at le h lt =
     let e : next at ≡ at + 1 = omega arith in
-    let rest = fetches m bytes n (at + 1) (omega arith) h.2 (omega arith) in
-    (rest.0, ap (λ (c : Bool). cond c (m.byte at ∷ executable m n (next at)) []) h.1
-      ∙ ap (λ (x : ℕ). x ∷ executable m n (next at)) h.0 ∙ ap (λ (a : ℕ). b ∷ executable m n a) e
-      ∙ ap (λ (t : List ℕ). b ∷ t) rest.1)
+    let rest = fetches m bytes n (at + 1) (omega arith) h.2 (omega arith) in (
+      rest.0,
+      ap (λ (c : Bool). cond c (m.byte at ∷ executable m n (next at)) []) h.1
+          ∙ ap (λ (x : ℕ). x ∷ executable m n (next at)) h.0 ∙ ap (λ (a : ℕ). b ∷ executable m n a) e
+          ∙ ap (λ (t : List ℕ). b ∷ t) rest.1,
+    )
 
 leading-again : (i : Instr) (more : List ℕ) → is_encodable i ≡ true
     → leading (chosen i ++ more) ≡ Some (i, length (chosen i))
 leading-again i more h =
     let n : length (chosen i ++ more) - length more
-      ≡ length (chosen i) = omega (arith, length-append (chosen i) more) in
+    ≡ length (chosen i) = omega (arith, length-append (chosen i) more) in
     rw (again i more h, n) refl
 
 item_is_at : (m : Memory) (at : ℕ) (i : Instr) → is_encodable i ≡ true
@@ -132,14 +134,17 @@ item_is_at m at i h lt s =
     ap (λ (bytes : List ℕ). item_of bytes (leading bytes)) f.1
     ∙ ap (item_of (chosen i ++ f.0)) (leading-again i f.0 h)
     ∙ ap (λ b. let x : FetchedInstr = record { instr = i; size = length (chosen i); plain = b } in
-      Some x) (plain_again i f.0 (length (chosen i)))
+    Some x) (plain_again i f.0 (length (chosen i)))
 
 -- ---- several
 
 executable_split : (m : Memory) (at : ℕ) (a b : List ℕ) → IsExecutableAt m at (a ++ b)
     → IsExecutableAt m at a × IsExecutableAt m (at + length a) b
-executable_split m at [] b h = (tt, let e : at ≡ at + 0 = omega arith in
-    subst (λ x. IsExecutableAt m x b) e h)
+executable_split m at [] b h = (
+  tt,
+  let e : at ≡ at + 0 = omega arith in
+      subst (λ x. IsExecutableAt m x b) e h,
+)
 executable_split m at (x ∷ a) b h =
     let r = executable_split m (at + 1) a b h.2 in
     let e : at + 1 + length a ≡ at + length (x ∷ a) = omega arith in
@@ -151,10 +156,12 @@ items_are_at m at (i ∷ is) h lt s =
     let p = and_parts (is_encodable i) (all_encodable is) h in
     let r = executable_split m at (chosen i) (code is) s in
     let n = length-append (chosen i) (code is) in
-    let z : at + length (chosen i) + length (code is) ≡ at + length (code (i ∷ is)) = omega arith in
-    (item_is_at m at i p.0 (omega arith) r.0, never_empty i p.0,
+    let z : at + length (chosen i) + length (code is) ≡ at + length (code (i ∷ is)) = omega arith in (
+      item_is_at m at i p.0 (omega arith) r.0,
+      never_empty i p.0,
       subst (HasItems m (at + length (chosen i)) (spelled_by spell is)) z
-      (items_are_at m (at + length (chosen i)) is p.1 (omega arith) r.1))
+          (items_are_at m (at + length (chosen i)) is p.1 (omega arith) r.1),
+    )
 
 -- ---- plans
 
@@ -196,8 +203,8 @@ difference_signed a b x y = elim (cases_lt a b) [
   | inl lt ↦
       let v = (a + (2 ^ 64 - b)) % 2 ^ 64 in
       or_right (ltb v (2 ^ 31)) (leb (2 ^ 64 - 2 ^ 31) v && ltb v (2 ^ 64))
-        (and_from (leb (2 ^ 64 - 2 ^ 31) v) (ltb v (2 ^ 64))
-        (le-leb (2 ^ 64 - 2 ^ 31) v (omega arith)) (lt-ltb v (2 ^ 64) (omega arith)))
+      (and_from (leb (2 ^ 64 - 2 ^ 31) v) (ltb v (2 ^ 64))
+      (le-leb (2 ^ 64 - 2 ^ 31) v (omega arith)) (lt-ltb v (2 ^ 64) (omega arith)))
   | inr le ↦ small_signed ((a + (2 ^ 64 - b)) % 2 ^ 64) (omega arith)
 ]
 
@@ -213,12 +220,13 @@ opened_encodable p false is h e = and_from (is_encodable (opening_by p (eqb p.fr
 
 pub plans_are_encodable : PlansAreEncodable
 plans_are_encodable p h =
-    let e = emitted_plan p h in
-    (prologue_encodable p (turned [] (operations_of p)) h (all_turned p [] (operations_of p) tt e),
+    let e = emitted_plan p h in (
+      prologue_encodable p (turned [] (operations_of p)) h (all_turned p [] (operations_of p) tt e),
       loads_encodable p.saves (opening_then p (eqb p.size 0)
-      (pops_then p.pushes (instrs.Return ∷ []))) (bounded p p.saves _ e)
-      (opened_encodable p (eqb p.size 0) (pops_then p.pushes (instrs.Return ∷ [])) h
-      (pops_encodable p.pushes)))
+          (pops_then p.pushes (instrs.Return ∷ []))) (bounded p p.saves _ e)
+          (opened_encodable p (eqb p.size 0) (pops_then p.pushes (instrs.Return ∷ [])) h
+          (pops_encodable p.pushes)),
+    )
 
 rest_encodable : (p : FramePlan) → IsPlan p → (parts : List (List Instr)) (last : List Instr)
     → all_parts parts ≡ true → all_encodable last ≡ true
@@ -227,8 +235,8 @@ rest_encodable p h [] last a b = b
 rest_encodable p h (is ∷ parts) last a b =
     let q = and_parts (all_encodable is) (all_parts parts) a in
     encodable-append is (epilogue p ++ rest_code p parts last) q.0
-      (encodable-append (epilogue p) (rest_code p parts last) (plans_are_encodable p h).1
-      (rest_encodable p h parts last q.1 b))
+    (encodable-append (epilogue p) (rest_code p parts last) (plans_are_encodable p h).1
+    (rest_encodable p h parts last q.1 b))
 
 -- ---- planned functions
 
@@ -242,7 +250,7 @@ spelled_steps : (p : FramePlan) (at : ℕ) (xs : List UnwindOperation)
 spelled_steps p at [] = refl
 spelled_steps p at (x ∷ xs) = spelled-append (instructions_of p x) (flat_map (instructions_of p) xs)
     ∙ ap (λ (ys : List FetchedInstr). spelled_by spell (instructions_of p x) ++ ys)
-      (spelled_steps p (at + bytes (spelled_by spell (instructions_of p x))) xs)
+    (spelled_steps p (at + bytes (spelled_by spell (instructions_of p x))) xs)
 
 spelled_rest : (p : FramePlan) (parts : List (List Instr)) (last : List Instr)
     → spelled_by spell (rest_code p parts last)
@@ -251,9 +259,9 @@ spelled_rest p [] last = refl
 spelled_rest p (is ∷ parts) last =
     spelled-append is (epilogue p ++ rest_code p parts last)
     ∙ ap (λ (ys : List FetchedInstr). spelled_by spell is ++ ys)
-      (spelled-append (epilogue p) (rest_code p parts last))
+    (spelled-append (epilogue p) (rest_code p parts last))
     ∙ ap (λ (ys : List FetchedInstr). spelled_by spell is ++ (spelled_by spell (epilogue p) ++ ys))
-      (spelled_rest p parts last)
+    (spelled_rest p parts last)
 
 -- a smaller room
 less_room : (m n : ℕ) (e : State) → m ≤ n → IsEntry n e → IsEntry m e
@@ -270,18 +278,18 @@ pub planned_frames : PlannedFramesAreRight
 planned_frames p parts last e s begin d plan ok ok' inner inner' entry is_there lt rip st =
     let f = planned p parts last in
     let right = plans_are_right spell p (spelled_parts parts) (spelled_by spell last) spells_all
-      plan inner inner' in
+    plan inner inner' in
     let enc = encodable-append (prologue_code p) (rest_code p parts last)
-      (plans_are_encodable p plan).0 (rest_encodable p plan parts last ok ok') in
+    (plans_are_encodable p plan).0 (rest_encodable p plan parts last ok ok') in
     let has = items_are_at s.memory begin (all_code p parts last) enc lt is_there in
     let same = spelled-append (prologue_code p) (rest_code p parts last)
     ∙ ap (λ (xs : List FetchedInstr). xs ++ spelled_by spell (rest_code p parts last))
-      (spelled_steps p 0 (turned [] (operations_of p)))
+    (spelled_steps p 0 (turned [] (operations_of p)))
     ∙ ap (λ (xs : List FetchedInstr). items (prologue spell p) ++ xs) (spelled_rest p parts last) in
     let to = begin + length (code (all_code p parts last)) in
     let size = frame_has_its_size p in
     let codes = codes_plan spell p in
     let deep : depth (ops f) ≡ depth (operations_of p) = ap depth codes in
     frames_are_right f e s begin d to right (less_room (depth (ops f)) (frame_size p) e
-      (omega arith) entry) (subst (λ (xs : List FetchedInstr). HasItems s.memory begin xs to) same
-      has) lt rip st
+    (omega arith) entry) (subst (λ (xs : List FetchedInstr). HasItems s.memory begin xs to) same
+    has) lt rip st

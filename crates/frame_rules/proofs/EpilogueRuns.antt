@@ -95,10 +95,13 @@ opens_effect : (s u : State) (v r : ℕ) → length s.cpu.registers ≡ 16
     × ((q : ℕ) → q ≢ 4 → registers u q ≡ registers s q)
 opens_effect s u v r n b e =
     let now : (q : ℕ) → registers u q ≡ get_or (set s.cpu.registers 4 v) q 0 = λ q. ap
-      (λ (xs : List ℕ). get_or xs q 0) b.registers in
-    (ap (λ (xs : List ℕ). length xs) b.registers ∙ length-set s.cpu.registers 4 v ∙ n, now 4
-      ∙ set_same s.cpu.registers 4 v n (omega arith) ∙ e, λ q ne. now q
-      ∙ set_other s.cpu.registers 4 q v ne)
+    (λ (xs : List ℕ). get_or xs q 0) b.registers in (
+      ap (λ (xs : List ℕ). length xs) b.registers ∙ length-set s.cpu.registers 4 v ∙ n,
+      now 4
+          ∙ set_same s.cpu.registers 4 v n (omega arith) ∙ e,
+      λ q ne. now q
+          ∙ set_other s.cpu.registers 4 q v ne,
+    )
 
 pub opens : (f offset back a : ℕ) (old : ℕ → ℕ) (ops : List UnwindOperation) (rs : List ℕ)
     (s u : State) (i : Instr) → Known f offset old ops → InLoads f offset old back ops rs s
@@ -108,37 +111,49 @@ opens f offset back a old ops rs s u (instrs.Arithmetic Add W64 (places.Register
     (operands.Immediate v)) known h done e ef =
     let same : v ≡ allocation ops = eqb-true v (allocation ops) e in
     let d = stack_depth s.memory old back (registers s 4) (registers s 4 + allocation ops)
-      (pushed (pushes ops)) (stack_opened s.memory old back (registers s 4) (registers s 4) ops
-      known.ordered h.holds.stack) in
+    (pushed (pushes ops)) (stack_opened s.memory old back (registers s 4) (registers s 4) ops
+    known.ordered h.holds.stack) in
     let high = known.high in
     let x = added W64 (registers s 4 % 2 ^ 64) (v % 2 ^ 64) in
     let w = x.0 % 2 ^ 64 in
-    let b = became (record { cpu = record { registers = set s.cpu.registers 4 w; rip = a;
-      flags = x.1 }; memory = s.memory }) u (effect (with_rip s a)
-      (instrs.Arithmetic Add W64 (places.Register Rsp) (operands.Immediate v))) refl ef in
+    let b = became (record {
+      cpu = record {
+        registers = set s.cpu.registers 4 w;
+        rip = a;
+        flags = x.1;
+      };
+      memory = s.memory;
+    }) u (effect (with_rip s a)
+    (instrs.Arithmetic Add W64 (places.Register Rsp) (operands.Immediate v))) refl ef in
     let o = opens_effect s u w (allocation ops) h.length b
-      (sum_is (registers s 4) v (omega arith) ∙ ap (λ k. registers s 4 + k) same) in
+    (sum_is (registers s 4) v (omega arith) ∙ ap (λ k. registers s 4 + k) same) in
     opened f offset back old ops rs s u known h done o.0 b.memory o.1 o.2
 opens f offset back a old ops rs s u (instrs.LoadAddress W64 Rsp m) known h done e ef =
     let parts = and_parts (is_of f m.base m.index)
-      (eqb ((offset + m.displacement) % 2 ^ 64) (allocation ops)) e in
+    (eqb ((offset + m.displacement) % 2 ^ 64) (allocation ops)) e in
     let d = stack_depth s.memory old back (registers s 4) (registers s 4 + allocation ops)
-      (pushed (pushes ops)) (stack_opened s.memory old back (registers s 4) (registers s 4) ops
-      known.ordered h.holds.stack) in
+    (pushed (pushes ops)) (stack_opened s.memory old back (registers s 4) (registers s 4) ops
+    known.ordered h.holds.stack) in
     let high = known.high in
     let c : Cpu = record { registers = s.cpu.registers; rip = a; flags = s.cpu.flags } in
     let framed : f ≢ 0 → registers s f ≡ registers s 4
-      + offset = λ ne. framed_above f offset (registers s) (registers s 4) ops known.ordered
-        (known.frame ne) h.holds.framed in
+    + offset = λ ne. framed_above f offset (registers s) (registers s 4) ops known.ordered
+    (known.frame ne) h.holds.framed in
     let lt : registers s 4 + allocation ops < 2 ^ 64 = omega arith in
     let at = frame_address f offset (allocation ops) c m parts.0
-      (eqb-true ((offset + m.displacement) % 2 ^ 64) (allocation ops) parts.1) framed lt in
+    (eqb-true ((offset + m.displacement) % 2 ^ 64) (allocation ops) parts.1) framed lt in
     let w = address_of c m % 2 ^ 64 in
-    let b = became (record { cpu = record { registers = set s.cpu.registers 4 w; rip = a;
-      flags = s.cpu.flags }; memory = s.memory }) u
-      (effect (with_rip s a) (instrs.LoadAddress W64 Rsp m)) refl ef in
+    let b = became (record {
+      cpu = record {
+        registers = set s.cpu.registers 4 w;
+        rip = a;
+        flags = s.cpu.flags;
+      };
+      memory = s.memory;
+    }) u
+    (effect (with_rip s a) (instrs.LoadAddress W64 Rsp m)) refl ef in
     let o = opens_effect s u w (allocation ops) h.length b
-      (let z : w ≡ registers s 4 + allocation ops = omega arith in z) in
+    (let z : w ≡ registers s 4 + allocation ops = omega arith in z) in
     opened f offset back old ops rs s u known h done o.0 b.memory o.1 o.2
 opens f offset back a old ops rs s u i known h done e ef = absurd (false≢true e)
 
@@ -146,15 +161,27 @@ opens f offset back a old ops rs s u i known h done e ef = absurd (false≢true 
 
 pop_effect : (s : State) (a v : ℕ) (q : Reg) → load s.memory (registers s 4) W64 ≡ Ok v
     → effect (with_rip s a) (instrs.Pop q) ≡ Ok
-      (record { cpu = record { registers = set
-      (set s.cpu.registers 4 ((registers s 4 + 8) % 2 ^ 64 % 2 ^ 64)) (number q) (v % 2 ^ 64);
-      rip = a; flags = s.cpu.flags }; memory = s.memory })
+    (record {
+      cpu = record {
+        registers = set
+            (set s.cpu.registers 4 ((registers s 4 + 8) % 2 ^ 64 % 2 ^ 64)) (number q) (v % 2 ^ 64);
+        rip = a;
+        flags = s.cpu.flags;
+      };
+      memory = s.memory;
+    })
 pop_effect s a v q got =
-    let lower : State = record { cpu = record { registers = set s.cpu.registers 4
-      ((registers s 4 + 8) % 2 ^ 64 % 2 ^ 64); rip = a; flags = s.cpu.flags };
-      memory = s.memory } in
+    let lower : State = record {
+      cpu = record {
+        registers = set s.cpu.registers 4
+            ((registers s 4 + 8) % 2 ^ 64 % 2 ^ 64);
+        rip = a;
+        flags = s.cpu.flags;
+      };
+      memory = s.memory;
+    } in
     let G : Answer ℕ → Answer State = λ r. ◌>>=◌ {A = ℕ × State} (r >>= λ v. Ok (v, lower))
-      (λ x. Ok (record x.1 { cpu = with_register W64 x.1.cpu q x.0 })) in
+    (λ x. Ok (record x.1 { cpu = with_register W64 x.1.cpu q x.0 })) in
     ap G got
 
 pub popped : (f back a : ℕ) (old : ℕ → ℕ) (r : ℕ) (rs : List ℕ) (s u : State) (i : Instr)
@@ -164,9 +191,9 @@ popped f back a old r rs s u (instrs.Pop q) high fits h e ef =
     let same : number q ≡ r = eqb-true (number q) r e in
     let parts = and_parts (may_save r (pushed rs)) (are_allowed f (pushed rs)) h.allowed in
     let once = and_parts (is_nonvolatile r) (not (eqb r 4) && not (is_saved r (pushed rs)))
-      parts.0 in
+    parts.0 in
     let four : r ≢ 4 = eqb-false r 4 (not-true (eqb r 4)
-      (and_parts (not (eqb r 4)) (not (is_saved r (pushed rs))) once.1).0) in
+    (and_parts (not (eqb r 4)) (not (is_saved r (pushed rs))) once.1).0) in
     let d = stack_depth s.memory old back h.base (registers s 4 + 8) (pushed rs) h.stack.1 in
     let w = (registers s 4 + 8) % 2 ^ 64 % 2 ^ 64 in
     let up : w ≡ registers s 4 + 8 = omega arith in
@@ -175,25 +202,31 @@ popped f back a old r rs s u (instrs.Pop q) high fits h e ef =
     let value : v ≡ old r = omega arith in
     let xs = set s.cpu.registers 4 w in
     let n : length xs ≡ 16 = length-set s.cpu.registers 4 w ∙ h.length in
-    let b = became (record { cpu = record { registers = set xs (number q) v; rip = a;
-      flags = s.cpu.flags }; memory = s.memory }) u (effect (with_rip s a) (instrs.Pop q))
-      (pop_effect s a (old r) q (load_at s.memory (registers s 4) (old r) h.stack.0)) ef in
+    let b = became (record {
+      cpu = record {
+        registers = set xs (number q) v;
+        rip = a;
+        flags = s.cpu.flags;
+      };
+      memory = s.memory;
+    }) u (effect (with_rip s a) (instrs.Pop q))
+    (pop_effect s a (old r) q (load_at s.memory (registers s 4) (old r) h.stack.0)) ef in
     let now : (k : ℕ) → registers u k ≡ get_or (set xs (number q) v) k 0 = λ k. ap
-      (λ (ys : List ℕ). get_or ys k 0) b.registers in
+    (λ (ys : List ℕ). get_or ys k 0) b.registers in
     let here : registers u r ≡ old r = now r ∙ ap (λ k. get_or (set xs (number q) v) k 0) (sym same)
-      ∙ set_same xs (number q) v n (number_small q) ∙ value in
+    ∙ set_same xs (number q) v n (number_small q) ∙ value in
     let sp : registers u 4 ≡ registers s 4 + 8 = now 4
-      ∙ set_other xs (number q) 4 v (λ z. four (sym same ∙ sym z))
-      ∙ set_same s.cpu.registers 4 w h.length (omega arith) ∙ up in
+    ∙ set_other xs (number q) 4 v (λ z. four (sym same ∙ sym z))
+    ∙ set_same s.cpu.registers 4 w h.length (omega arith) ∙ up in
     let others : (k : ℕ) → r ≢ k → k ≢ 4 → registers u k ≡ registers s k = λ k x y. now k
-      ∙ set_other xs (number q) k v (λ z. x (sym same ∙ sym z))
-      ∙ set_other s.cpu.registers 4 k w y in
+    ∙ set_other xs (number q) k v (λ z. x (sym same ∙ sym z))
+    ∙ set_other s.cpu.registers 4 k w y in
     record {
       length = ap (λ (ys : List ℕ). length ys) b.registers ∙ length-set xs (number q) v ∙ n;
       base = h.base;
       stack = subst (λ x. Stack u.memory old back h.base x (pushed rs)) (sym sp)
-        (subst (λ (x : Memory). Stack x old back h.base (registers s 4 + 8) (pushed rs))
-        (sym b.memory) h.stack.1);
+          (subst (λ (x : Memory). Stack x old back h.base (registers s 4 + 8) (pushed rs))
+          (sym b.memory) h.stack.1);
       others = others_after old (registers s) (registers u) r (pushed rs) here others h.others;
       allowed = parts.1;
     }
@@ -242,8 +275,8 @@ leaving_step f back old [] s u x to offset ops known e l h turn = absurd
 leaving_step f back old (r ∷ rs) s u x to offset ops known e l h turn =
     let o = only (Some (Leaving rs)) (is_pop r x.instr) to e in
     subst (Has f offset old back ops u) (some_same o.1)
-      (popped f back _ old r rs s u x.instr known.high known.fits h o.0
-      (turn_plain s u x (plain_pop f r x.instr o.0) turn))
+    (popped f back _ old r rs s u x.instr known.high known.fits h o.0
+    (turn_plain s u x (plain_pop f r x.instr o.0) turn))
 
 some_of : (o : Option ℕ) → is_some o ≡ true → (r : ℕ) × (o ≡ Some r)
 some_of (Some r) e = (r, refl)
@@ -257,39 +290,39 @@ body_step : (f offset back : ℕ) (old : ℕ → ℕ) (ops : List UnwindOperatio
 body_step f offset back old ops rs s u x to known e l h turn = elim
     (or_cases (is_some (restored_by f offset ops x.instr)) (is_leaving (role_of f x.plain x.instr))
     l) [
-  | inl loaded ↦
-      let r = some_of (restored_by f offset ops x.instr) loaded in
-      let other = load_role f offset r.0 ops x.plain x.instr r.1 in
-      let o = only (Some (Body (with_restored rs (restored_by f offset ops x.instr))))
-        (may_write_all f ops (written x.instr)) to
-        (sym (ap (from_body f offset ops rs x) other) ∙ e) in
-      subst (Has f offset old back ops u) (ap (λ k. Body (with_restored rs k)) (sym r.1)
-        ∙ some_same o.1) (loads f offset back _ old ops rs s u x.instr r.0 known h r.1
+      | inl loaded ↦
+          let r = some_of (restored_by f offset ops x.instr) loaded in
+          let other = load_role f offset r.0 ops x.plain x.instr r.1 in
+          let o = only (Some (Body (with_restored rs (restored_by f offset ops x.instr))))
+          (may_write_all f ops (written x.instr)) to
+          (sym (ap (from_body f offset ops rs x) other) ∙ e) in
+          subst (Has f offset old back ops u) (ap (λ k. Body (with_restored rs k)) (sym r.1)
+          ∙ some_same o.1) (loads f offset back _ old ops rs s u x.instr r.0 known h r.1
           (turn_plain s u x (plain_load f offset r.0 ops x.instr r.1) turn))
-  | inr leave ↦ go (role_of f x.plain x.instr) refl leave
-]
+      | inr leave ↦ go (role_of f x.plain x.instr) refl leave
+    ]
   where
     go : (r : Role) → role_of f x.plain x.instr ≡ r → is_leaving r ≡ true
-      → Has f offset old back ops u to
+        → Has f offset old back ops u to
     go Opens er lr =
         let o = only (Some (Leaving (pushes ops)))
-          (are_restored rs ops && gives_back f offset (allocation ops) x.instr) to
-          (sym (ap (from_body f offset ops rs x) er) ∙ e) in
+        (are_restored rs ops && gives_back f offset (allocation ops) x.instr) to
+        (sym (ap (from_body f offset ops rs x) er) ∙ e) in
         let p = and_parts (are_restored rs ops) (gives_back f offset (allocation ops) x.instr)
-          o.0 in
+        o.0 in
         subst (Has f offset old back ops u) (some_same o.1)
-          (opens f offset back _ old ops rs s u x.instr known h p.0 p.1
-          (turn_plain s u x (plain_opens f offset (allocation ops) x.instr p.1) turn))
+        (opens f offset back _ old ops rs s u x.instr known h p.0 p.1
+        (turn_plain s u x (plain_opens f offset (allocation ops) x.instr p.1) turn))
     go Restores er lr =
         let o = only (leaving f (pushes ops) x) (are_restored rs ops && eqb (allocation ops) 0) to
-          (sym (ap (from_body f offset ops rs x) er) ∙ e) in
+        (sym (ap (from_body f offset ops rs x) er) ∙ e) in
         let p = and_parts (are_restored rs ops) (eqb (allocation ops) 0) o.0 in
         let z = eqb-true (allocation ops) 0 p.1 in
         let first = opened f offset back old ops rs s s known h p.0 h.length refl
-          (let w : registers s 4 ≡ registers s 4 + allocation ops = omega arith in w)
-          (λ q ne. refl) in
+        (let w : registers s 4 ≡ registers s 4 + allocation ops = omega arith in w)
+        (λ q ne. refl) in
         leaving_step f back old (pushes ops) s u x to offset ops known o.1 (ap is_leaving er ∙ lr)
-          first turn
+        first turn
     go Ends er lr = absurd (false≢true lr)
     go Other er lr = absurd (false≢true lr)
 
@@ -310,10 +343,10 @@ leave_step f offset back old ops s u x (Body rs) to known e l h turn = body_step
 leave_step f offset back old ops s u x (Leaving rs) to known e l h turn = elim
     (or_cases (is_some (restored_by f offset ops x.instr)) (is_leaving (role_of f x.plain x.instr))
     l) [
-  | inl loaded ↦ let r = some_of (restored_by f offset ops x.instr) loaded in
-    absurd (leaving_not_other f rs x to e (load_role f offset r.0 ops x.plain x.instr r.1))
-  | inr leave ↦ leaving_step f back old rs s u x to offset ops known e leave h turn
-]
+      | inl loaded ↦ let r = some_of (restored_by f offset ops x.instr) loaded in
+          absurd (leaving_not_other f rs x to e (load_role f offset r.0 ops x.plain x.instr r.1))
+      | inr leave ↦ leaving_step f back old rs s u x to offset ops known e leave h turn
+    ]
 
 -- ---- a run
 
@@ -332,9 +365,9 @@ leave_run f offset back old ops (x ∷ xs) s t m to known e l h runs = go
     parts = and_parts (leaves f offset ops x) (all_leave f offset ops xs) l
 
     go : ((k : Mode) → following f offset ops xs k ≡ Some to → Has f offset old back ops runs.0 k
-      → RunsThrough runs.0 xs t → Has f offset old back ops t to) → (o : Option Mode)
-      → next f offset ops x m ≡ o → and_then (following f offset ops xs) o ≡ Some to
-      → Has f offset old back ops t to
+        → RunsThrough runs.0 xs t → Has f offset old back ops t to) → (o : Option Mode)
+        → next f offset ops x m ≡ o → and_then (following f offset ops xs) o ≡ Some to
+        → Has f offset old back ops t to
     go more (Some k) n e = more k e (leave_step f offset back old ops s runs.0 x m k known n parts.0
-      h runs.1) runs.2
+        h runs.1) runs.2
     go more None n e = absurd cc

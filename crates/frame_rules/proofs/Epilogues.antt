@@ -62,19 +62,19 @@ popped_one : (old : ℕ → ℕ) (c : Context) (r : ℕ) (rs : List ℕ) → len
 popped_one old c r rs n lt m o =
     let once = and_parts (is_nonvolatile r) (not (eqb r 4) && not (is_saved r (pushed rs))) m in
     let ne : r ≢ 4 = eqb-false r 4 (not-true (eqb r 4)
-      (and_parts (not (eqb r 4)) (not (is_saved r (pushed rs))) once.1).0) in
+    (and_parts (not (eqb r 4)) (not (is_saved r (pushed rs))) once.1).0) in
     let up : (rsp c + 8) % 2 ^ 64 ≡ rsp c + 8 = omega arith in
     let kept : length (rsp_raised c 8).kept ≡ 9 = rsp_length c ((rsp c + 8) % 2 ^ 64) n in
     let top : get (set (rsp_raised c 8) r (old r)) 4
-      ≡ rsp c + 8 = get-set_other (rsp_raised c 8) r 4 (old r) ne
-      ∙ get-rsp_same c ((rsp c + 8) % 2 ^ 64) n ∙ up in
+    ≡ rsp c + 8 = get-set_other (rsp_raised c 8) r 4 (old r) ne
+    ∙ get-rsp_same c ((rsp c + 8) % 2 ^ 64) n ∙ up in
     record {
       kept = length-set (rsp_raised c 8) r (old r) ∙ kept;
       top = top;
       others = others_after old (get c) (get (set (rsp_raised c 8) r (old r))) r (pushed rs)
-        (get-set_same (rsp_raised c 8) r (old r) kept once.0)
-        (λ q a b. get-set_other (rsp_raised c 8) r q (old r) a
-        ∙ get-rsp_other c q ((rsp c + 8) % 2 ^ 64) b) o;
+          (get-set_same (rsp_raised c 8) r (old r) kept once.0)
+          (λ q a b. get-set_other (rsp_raised c 8) r q (old r) a
+          ∙ get-rsp_other c q ((rsp c + 8) % 2 ^ 64) b) o;
     }
 
 pub pops_restore : PopsRestore
@@ -85,7 +85,7 @@ pops_restore f m c base old back [] (x ∷ []) n lt a s o p =
       | inr ne ↦ o r nv ne refl
     ] in
     one_left m x c (left_to old back) (end_pops m x c p
-      ∙ popped_is m old back c n now lt (return_word m old back base (get c 4) [] s))
+    ∙ popped_is m old back c n now lt (return_word m old back base (get c 4) [] s))
 pops_restore f m c base old back [] (x ∷ y ∷ is) n lt a s o p = absurd (false≢true p)
 pops_restore f m c base old back (r ∷ rs) [] n lt a s o p = absurd (false≢true p)
 pops_restore f m c base old back (r ∷ rs) (x ∷ is) n lt a s o p =
@@ -94,9 +94,9 @@ pops_restore f m c base old back (r ∷ rs) (x ∷ is) n lt a s o p =
     let d = stack_depth m old back base (rsp c + 8) (pushed rs) s.1 in
     let q = popped_one old c r rs n (omega arith) parts.0 o in
     ap (λ (b : Answer Context). b >>= left m is)
-      (pop_by m c r (old r) x here.0 (word-is m (rsp c) (old r) s.0))
+    (pop_by m c r (old r) x here.0 (word-is m (rsp c) (old r) s.0))
     ∙ pops_restore f m (set (rsp_raised c 8) r (old r)) base old back rs is q.kept lt parts.1
-      (subst (λ y. Stack m old back base y (pushed rs)) (sym q.top) s.1) q.others here.1
+    (subst (λ y. Stack m old back base y (pushed rs)) (sym q.top) s.1) q.others here.1
 
 -- ---- the allocation given back
 
@@ -104,8 +104,11 @@ of_frame : (f : ℕ) (c : Context) (b : Base) (x : Option Index) → is_of f b x
     → (f ≢ 0) × (base_value c b ≡ get c f)
 of_frame f c (bases.Register r) None e = elim (cases_eq f 0) [
   | inl z ↦ absurd (false≢true (sym (ap (λ b. cond b false (eqb (number r) f)) (eq-eqb f 0 z)) ∙ e))
-  | inr ne ↦ (ne, ap (get c) (eqb-true (number r) f
-    (sym (ap (λ b. cond b false (eqb (number r) f)) (ne_eqb f 0 ne)) ∙ e)))
+  | inr ne ↦ (
+    ne,
+    ap (get c) (eqb-true (number r) f
+        (sym (ap (λ b. cond b false (eqb (number r) f)) (ne_eqb f 0 ne)) ∙ e)),
+  )
 ]
 of_frame f c (bases.Register r) (Some x) e = absurd (false≢true e)
 of_frame f c bases.Nothing x e = absurd (false≢true e)
@@ -122,11 +125,11 @@ given_back m i c n (instrs.Arithmetic Add W64 (places.Register Rsp) (operands.Im
     ap (λ a. Ok (with_rsp c a)) up
 given_back m i c n (instrs.LoadAddress W64 Rsp a) e framed lt =
     let parts = and_parts (is_of i.frame_register a.base a.index)
-      (eqb ((i.frame_offset + a.displacement) % 2 ^ 64) n) e in
+    (eqb ((i.frame_offset + a.displacement) % 2 ^ 64) n) e in
     let b = of_frame i.frame_register c a.base a.index parts.0 in
     let at = b.1 ∙ framed b.0 in
     let same : (i.frame_offset + a.displacement) % 2 ^ 64
-      ≡ n = eqb-true ((i.frame_offset + a.displacement) % 2 ^ 64) n parts.1 in
+    ≡ n = eqb-true ((i.frame_offset + a.displacement) % 2 ^ 64) n parts.1 in
     let up : (base_value c a.base + a.displacement) % 2 ^ 64 ≡ rsp c + n = omega arith in
     ap (λ v. Ok (with_rsp c v)) up
 given_back m i c n x e framed lt = absurd (false≢true e)
@@ -146,23 +149,23 @@ epilogue_restores i m c base old back ops (x ∷ is) n lt ord a has s f o e =
     let allowed = pushes_allowed i.frame_register ops order a in
     let d = stack_depth m old back base (rsp c + allocation ops) (pushed (pushes ops)) open' in
     elim (or_cases (gives_back i.frame_register i.frame_offset (allocation ops) x
-      && pops (pushes ops) is) (eqb (allocation ops) 0 && pops (pushes ops) (x ∷ is)) e) [
+    && pops (pushes ops) is) (eqb (allocation ops) 0 && pops (pushes ops) (x ∷ is)) e) [
       | inl given ↦
           let p = and_parts (gives_back i.frame_register i.frame_offset (allocation ops) x)
-            (pops (pushes ops) is) given in
+          (pops (pushes ops) is) given in
           let c' = with_rsp c (rsp c + allocation ops) in
           let top : get c' 4 ≡ rsp c + allocation ops = get-rsp_same c (rsp c + allocation ops) n in
           ap (λ (b : Answer Context). b >>= left m is)
-            (given_back m i c (allocation ops) x p.0 (above i (get c) (rsp c) ops order has f)
-            (omega arith))
+          (given_back m i c (allocation ops) x p.0 (above i (get c) (rsp c) ops order has f)
+          (omega arith))
           ∙ pops_restore i.frame_register m c' base old back (pushes ops) is
-            (rsp_length c (rsp c + allocation ops) n) lt allowed
-            (subst (λ y. Stack m old back base y (pushed (pushes ops))) (sym top) open')
-            (λ q nv four r. get-rsp_other c q (rsp c + allocation ops) four ∙ o q nv four r) p.1
+          (rsp_length c (rsp c + allocation ops) n) lt allowed
+          (subst (λ y. Stack m old back base y (pushed (pushes ops))) (sym top) open')
+          (λ q nv four r. get-rsp_other c q (rsp c + allocation ops) four ∙ o q nv four r) p.1
       | inr none ↦
           let p = and_parts (eqb (allocation ops) 0) (pops (pushes ops) (x ∷ is)) none in
           let z = eqb-true (allocation ops) 0 p.0 in
           let at : rsp c + allocation ops ≡ rsp c = omega arith in
           pops_restore i.frame_register m c base old back (pushes ops) (x ∷ is) n lt allowed
-            (subst (λ y. Stack m old back base y (pushed (pushes ops))) at open') o p.1
+          (subst (λ y. Stack m old back base y (pushed (pushes ops))) at open') o p.1
     ]

@@ -44,12 +44,12 @@ framed_context f offset at s xs a h = framed_saved f offset (registers s) (get (
 base_is : (i : Info) (old : ℕ → ℕ) (back : ℕ) (s : State) (xs : List UnwindOperation) (b : Bool)
     → i.frame_offset < 2 ^ 16 → old 4 < 2 ^ 47 → Ordered xs → are_allowed i.frame_register xs ≡ true
     → (b ≡ true → sets_frame xs ≡ true) → HoldsFrame i.frame_register i.frame_offset s.memory old
-      back (registers s) xs xs → base_if i (context_of s.cpu) b ≡ registers s 4
+    back (registers s) xs xs → base_if i (context_of s.cpu) b ≡ registers s 4
 base_is i old back s xs false small high o a set h = refl
 base_is i old back s xs true small high o a set h =
     let framed = framed_above i.frame_register i.frame_offset (get (context_of s.cpu))
-      (registers s 4) xs o (set refl) (framed_context i.frame_register i.frame_offset
-      (registers s 4) s xs a h.framed) in
+    (registers s 4) xs o (set refl) (framed_context i.frame_register i.frame_offset
+    (registers s 4) s xs a h.framed) in
     let d = stack_depth s.memory old back (registers s 4) (registers s 4) xs h.stack in
     omega arith
 
@@ -78,15 +78,15 @@ pub based : (i : Info) (old : ℕ → ℕ) (back : ℕ) (s : State) (xs : List U
     → are_allowed i.frame_register xs ≡ true → (b ≡ true → sets_frame xs ≡ true)
     → HoldsFrame i.frame_register i.frame_offset s.memory old back (registers s) xs xs
     → FindsContext (let base = base_if i (context_of s.cpu) b in
-      found base asked (unwound s.memory base i [] xs (context_of s.cpu))) (left_to old back)
-      (registers s 4)
+    found base asked (unwound s.memory base i [] xs (context_of s.cpu))) (left_to old back)
+    (registers s 4)
 based i old back s xs b asked small high o a set h =
     let d = stack_depth s.memory old back (registers s 4) (registers s 4) xs h.stack in
     subst (λ base. FindsContext (found base asked
-      (unwound s.memory base i [] xs (context_of s.cpu))) (left_to old back) (registers s 4))
-      (sym (base_is i old back s xs b small high o a set h))
+    (unwound s.memory base i [] xs (context_of s.cpu))) (left_to old back) (registers s 4))
+    (sym (base_is i old back s xs b small high o a set h))
     (finds (registers s 4) asked (unwound s.memory (registers s 4) i [] xs (context_of s.cpu)) old
-      back (registers s 4) (unwound_is i old back s xs small high a h) (omega arith))
+    back (registers s 4) (unwound_is i old back s xs small high a h) (omega arith))
 
 -- ---- the first state
 
@@ -98,8 +98,15 @@ first_running f offset n e h =
       length = h.length;
       protection = refl;
       holds = record {
-        stack = (refl, record { readable = all_may (may_read e.memory) 8 (registers e 4)
-          (omega arith) h.readable; value = refl; high = omega arith });
+        stack = (
+          refl,
+          record {
+            readable = all_may (may_read e.memory) 8 (registers e 4)
+                (omega arith) h.readable;
+            value = refl;
+            high = omega arith;
+          },
+        );
         framed = tt;
         others = λ r nv ne z. refl;
       };
@@ -114,7 +121,7 @@ good_run f n d (c ∷ cs) g = go (leb c.offset d)
     (good_run f n d cs (good_rest f n c.operation (operations cs) g))
   where
     go : (b : Bool) → Good f n (operations (run_by d cs))
-      → Good f n (operations (run_or (c ∷ cs) (run_by d cs) b))
+        → Good f n (operations (run_or (c ∷ cs) (run_by d cs) b))
     go true r = g
     go false r = r
 
@@ -130,10 +137,10 @@ at_end f offset at done [] h m = subst (λ k. AtMost k done) (let e : at ≡ at 
 at_end f offset at done (s ∷ ss) h m =
     let e = bytes-append s.items (items ss) in
     subst (λ k. AtMost k (codes_onto (s.code ∷ done) ss))
-      (let z : at + bytes s.items + bytes (items ss)
-      ≡ at + bytes (s.items ++ items ss) = omega arith in z)
-        (at_end f offset (at + bytes s.items) (s.code ∷ done) ss h.1
-        (let end = h.0.ends in omega arith))
+    (let z : at + bytes s.items + bytes (items ss)
+    ≡ at + bytes (s.items ++ items ss) = omega arith in z)
+    (at_end f offset (at + bytes s.items) (s.code ∷ done) ss h.1
+    (let end = h.0.ends in omega arith))
 
 pub items_split : (m : Memory) (at : ℕ) (xs ys : List FetchedInstr) (to : ℕ)
     → HasItems m at (xs ++ ys) to → HasItems m (at + bytes xs) ys to

@@ -44,7 +44,7 @@ may_all may (suc n) at le e a p q =
       | inr ne ↦
           let z : next at ≡ at + 1 = omega arith in
           may_all may n (at + 1) (omega arith) (sym (ap (first_refused may n) z) ∙ h.1) a
-            (omega arith) (omega arith)
+          (omega arith) (omega arith)
     ]
 
 same_word : (m : Memory) (at v : ℕ) → IsWord m at v → KeepsWord m m at
@@ -78,7 +78,8 @@ does_writes f offset (Allocate k) (instrs.Arithmetic computes.Sub W64 (places.Re
 does_writes f offset SetFrame (instrs.LoadAddress W64 to m) r d four fr = one_register (number to) r
     (λ e. fr (e ∙ eqb-true (number to) f (and_parts (eqb (number to) f) (is_stack offset m) d).0))
 does_writes f offset (Save k n) (instrs.Move W64 (places.Memory m) (operands.Register q)) r d four
-    fr = refl
+    fr =
+    refl
 does_writes f offset op i r d four fr = absurd (false≢true d)
 
 does_no_call : (f offset : ℕ) (op : UnwindOperation) (i : Instr) → does f offset op i ≡ true
@@ -93,14 +94,15 @@ does_no_call f offset op i e = refl
 
 size_writes : (k : ℕ) (i : Instr) (r : ℕ) → sets_size k i ≡ true → is_nonvolatile r ≡ true
     → (is_a_call i ≡ false) × (has r (written i) ≡ false)
-size_writes k (instrs.Move W32 (places.Register Rax) (operands.Immediate v)) r e
-    nv = (refl, one_register 0 r (λ z. false≢true (ap is_nonvolatile (sym z) ∙ nv)))
+size_writes k (instrs.Move W32 (places.Register Rax) (operands.Immediate v)) r e nv =
+    (refl, one_register 0 r (λ z. false≢true (ap is_nonvolatile (sym z) ∙ nv)))
 size_writes k i r e nv = absurd (false≢true e)
 
 subtracts_writes : (i : Instr) (r : ℕ) → subtracts i ≡ true → r ≢ 4
     → (is_a_call i ≡ false) × (has r (written i) ≡ false)
 subtracts_writes (instrs.Arithmetic computes.Sub W64 (places.Register Rsp) (operands.Register Rax))
-    r e four = (refl, one_register 4 r four)
+    r e four =
+    (refl, one_register 4 r four)
 subtracts_writes i r e four = absurd (false≢true e)
 
 -- after a step's instructions: the state, and the run of what follows them
@@ -133,12 +135,12 @@ still_items f offset op (x ∷ y ∷ z ∷ []) xs e s t h st runs =
       to = s3;
       still = λ r nv four fr.
           (let q = subtracts_writes z.instr r large.takes four in
-            writes_no_other _ s3 z.instr r q.0
-            (turn_plain s2 s3 z (subtracts_plain z.instr large.takes) third.1) q.1)
+          writes_no_other _ s3 z.instr r q.0
+          (turn_plain s2 s3 z (subtracts_plain z.instr large.takes) third.1) q.1)
           ∙ call.kept r (inl nv)
           ∙ (let q = size_writes large.size x.instr r large.sets nv in
-            writes_no_other _ s1 x.instr r q.0
-            (turn_plain s s1 x (size_plain large.size x.instr large.sets) runs.1) q.1)
+          writes_no_other _ s1 x.instr r q.0
+          (turn_plain s s1 x (size_plain large.size x.instr large.sets) runs.1) q.1)
           ∙ st r nv four fr;
       runs = third.2;
     }
@@ -155,13 +157,13 @@ pub body_begins : BodyBegins
 body_begins f e p right entry runs =
     let run = following_running f e right entry p runs in
     let still = still_steps f.info.frame_register f.info.frame_offset 0 f.steps e e p right.steps
-      (λ r nv four fr. refl) runs in
+    (λ r nv four fr. refl) runs in
     record {
       length = run.length;
       stack = refl;
       frame = λ ne. refl;
       words = same_words p.memory (registers e) _ (registers p 4) (registers p 4) (ops f)
-        run.holds.stack;
+          run.holds.stack;
       others = λ r nv four fr w. still r nv four fr;
     }
 
@@ -173,7 +175,7 @@ may_not f xs [] k h e = refl
 may_not f xs (r ∷ rs) k h e =
     let p = and_parts (may_write f xs r) (may_write_all f xs rs) h in
     let q = and_parts (not (eqb r 4)) ((eqb f 0 || not (eqb r f))
-      && (not (is_nonvolatile r) || is_saved r xs)) p.0 in
+    && (not (is_nonvolatile r) || is_saved r xs)) p.0 in
     let o = and_parts (eqb f 0 || not (eqb r f)) (not (is_nonvolatile r) || is_saved r xs) q.1 in
     or_from (eqb r k) (has k rs) (ne_eqb r k (λ z. elim e [
       | inl four ↦ eqb-false r 4 (not-true (eqb r 4) q.0) (z ∙ four)
@@ -193,16 +195,16 @@ pub body_continues : BodyContinues
 body_continues f e p s t a x done left parts role may call ef long words b =
     let fr = f.info.frame_register in
     let keeps : (r : ℕ) → has r (written x.instr) ≡ false
-      → registers t r ≡ registers s r = λ r h. writes_no_other (with_rip s a) t x.instr r call ef
-        h in
+    → registers t r ≡ registers s r = λ r h. writes_no_other (with_rip s a) t x.instr r call ef
+    h in
     record {
       length = long;
       stack = keeps 4 (may_not fr (ops f) (written x.instr) 4 may (inl refl)) ∙ b.stack;
       frame = λ ne. keeps fr (may_not fr (ops f) (written x.instr) fr may (inr (ne, refl)))
-        ∙ b.frame ne;
+          ∙ b.frame ne;
       words = words;
       others = λ r nv four nf w.
           keeps r (sym (ap (λ y. is_other y && has r (written x.instr)) role)
-            ∙ written_here fr r done x left (sym (ap (is_written fr r) parts) ∙ w))
-            ∙ b.others r nv four nf w;
+          ∙ written_here fr r done x left (sym (ap (is_written fr r) parts) ∙ w))
+          ∙ b.others r nv four nf w;
     }

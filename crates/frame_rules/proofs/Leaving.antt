@@ -80,29 +80,29 @@ saved_place f offset m old back base at r n (SetFrame ∷ ops) (frame t p o) a s
     (not_some (saved_at r ops) (allocated_unsaved r ops t) e)
 saved_place f offset m old back base at r n (Save q k ∷ ops) (save o) a s e =
     let parts = and_parts (may_save q ops && (leb (k + 8) (allocation ops) && are_apart k ops))
-      (are_allowed f ops) a in
+    (are_allowed f ops) a in
     let may = and_parts (may_save q ops) (leb (k + 8) (allocation ops) && are_apart k ops)
-      parts.0 in
+    parts.0 in
     elim (cases_eq q r) [
       | inl same ↦
           let here : k ≡ n = some_number (sym
-            (ap (λ b. cond b (Some k) (saved_at r ops)) (eq-eqb q r same)) ∙ e) in
+          (ap (λ b. cond b (Some k) (saved_at r ops)) (eq-eqb q r same)) ∙ e) in
           let once = and_parts (is_nonvolatile q) (not (eqb q 4) && not (is_saved q ops)) may.0 in
           let alone = not-true (is_saved q ops)
-            (and_parts (not (eqb q 4)) (not (is_saved q ops)) once.1).1 in
+          (and_parts (not (eqb q 4)) (not (is_saved q ops)) once.1).1 in
           record {
             saved = or_left (eqb q r) (is_saved r ops) (eq-eqb q r same);
             inside = let l = leb-true (k + 8) (allocation ops)
-              (and_parts (leb (k + 8) (allocation ops)) (are_apart k ops) may.1).0 in omega arith;
+                (and_parts (leb (k + 8) (allocation ops)) (are_apart k ops) may.1).0 in omega arith;
             word = subst (λ j. IsWord m (base + j) (old r)) here
-              (subst (λ j. IsWord m (base + k) (old j)) same s.0);
+                (subst (λ j. IsWord m (base + k) (old j)) same s.0);
             framed = λ now after keeps g. framed_saved f offset now after at ops parts.1
-              (λ y. sym (keeps f (λ z. false≢true
-              (sym alone ∙ (ap (λ j. is_saved j ops) (same ∙ sym z) ∙ y))))) g;
+                (λ y. sym (keeps f (λ z. false≢true
+                (sym alone ∙ (ap (λ j. is_saved j ops) (same ∙ sym z) ∙ y))))) g;
           }
       | inr ne ↦
           let rest = saved_place f offset m old back base at r n ops o parts.1 s.1
-            (sym (ap (λ b. cond b (Some k) (saved_at r ops)) (ne_eqb q r ne)) ∙ e) in
+          (sym (ap (λ b. cond b (Some k) (saved_at r ops)) (ne_eqb q r ne)) ∙ e) in
           record {
             saved = or_right (eqb q r) (is_saved r ops) rest.saved;
             inside = let l = rest.inside in omega arith;
@@ -119,8 +119,11 @@ of_frame : (f : ℕ) (c : Cpu) (b : Base) (x : Option Index) → is_of f b x ≡
     → (f ≢ 0) × (base_of c b + index_of c x ≡ get_or c.registers f 0 + 0)
 of_frame f c (bases.Register r) None e = elim (cases_eq f 0) [
   | inl z ↦ absurd (false≢true (sym (ap (λ b. cond b false (eqb (number r) f)) (eq-eqb f 0 z)) ∙ e))
-  | inr ne ↦ (ne, ap (λ k. get_or c.registers k 0 + 0)
-    (eqb-true (number r) f (sym (ap (λ b. cond b false (eqb (number r) f)) (ne_eqb f 0 ne)) ∙ e)))
+  | inr ne ↦ (
+    ne,
+    ap (λ k. get_or c.registers k 0 + 0)
+        (eqb-true (number r) f (sym (ap (λ b. cond b false (eqb (number r) f)) (ne_eqb f 0 ne)) ∙ e)),
+  )
 ]
 of_frame f c (bases.Register r) (Some x) e = absurd (false≢true e)
 of_frame f c bases.Nothing x e = absurd (false≢true e)
@@ -128,7 +131,7 @@ of_frame f c bases.Rip x e = absurd (false≢true e)
 
 pub frame_address : (f offset n : ℕ) (c : Cpu) (a : MemRef) → is_of f a.base a.index ≡ true
     → (offset + a.displacement) % 2 ^ 64 ≡ n →
-      (f ≢ 0 → get_or c.registers f 0 ≡ get_or c.registers 4 0 + offset)
+    (f ≢ 0 → get_or c.registers f 0 ≡ get_or c.registers 4 0 + offset)
     → get_or c.registers 4 0 + n < 2 ^ 64 → address_of c a ≡ get_or c.registers 4 0 + n
 frame_address f offset n c a is d framed lt =
     let b = of_frame f c a.base a.index is in
@@ -142,11 +145,11 @@ place_address : (f offset n : ℕ) (c : Cpu) (a : MemRef) → is_place f offset 
 place_address f offset n c a is framed lt = elim
     (or_cases (is_stack n a) (is_of f a.base a.index && eqb ((offset + a.displacement) % 2 ^ 64) n)
     is) [
-  | inl s ↦ stack_address c n a s lt
-  | inr r ↦ let p = and_parts (is_of f a.base a.index) (eqb ((offset + a.displacement) % 2 ^ 64) n)
-    r in frame_address f offset n c a p.0 (eqb-true ((offset + a.displacement) % 2 ^ 64) n p.1)
-    framed lt
-]
+      | inl s ↦ stack_address c n a s lt
+      | inr r ↦ let p = and_parts (is_of f a.base a.index) (eqb ((offset + a.displacement) % 2 ^ 64) n)
+          r in frame_address f offset n c a p.0 (eqb-true ((offset + a.displacement) % 2 ^ 64) n p.1)
+          framed lt
+    ]
 
 -- ---- states
 
@@ -183,12 +186,24 @@ load_effect : (s : State) (a at v : ℕ) (q : Reg) (m : MemRef)
     → address_of (record { registers = s.cpu.registers; rip = a; flags = s.cpu.flags }) m ≡ at
     → load s.memory at W64 ≡ Ok v
     → effect (with_rip s a) (instrs.Move W64 (places.Register q) (operands.Memory m))
-    ≡ Ok (record { cpu = record { registers = set s.cpu.registers (number q) (v % 2 ^ 64); rip = a;
-      flags = s.cpu.flags }; memory = s.memory })
+    ≡ Ok (record {
+      cpu = record {
+        registers = set s.cpu.registers (number q) (v % 2 ^ 64);
+        rip = a;
+        flags = s.cpu.flags;
+      };
+      memory = s.memory;
+    })
 load_effect s a at v q m place got =
     let G : Answer ℕ → Answer State = λ r. r >>= λ x. Ok
-      (record { cpu = record { registers = set s.cpu.registers (number q) (x % 2 ^ 64); rip = a;
-      flags = s.cpu.flags }; memory = s.memory }) in
+    (record {
+      cpu = record {
+        registers = set s.cpu.registers (number q) (x % 2 ^ 64);
+        rip = a;
+        flags = s.cpu.flags;
+      };
+      memory = s.memory;
+    }) in
     ap (λ x. G (load s.memory x W64)) place ∙ ap G got
 
 -- where a saved register is loaded from
@@ -204,7 +219,7 @@ if_place_parts f offset a q r None e = absurd cc
 if_place_parts f offset a q r (Some n) e = go (is_place f offset n a) refl e
   where
     go : (b : Bool) → is_place f offset n a ≡ b → cond b (Some q) None ≡ Some r
-      → IsPlaceOf f offset a q r (Some n)
+        → IsPlaceOf f offset a q r (Some n)
     go true is e = record { at = n; saved = refl; place = is; same = some_number e }
     go false is e = absurd cc
 
@@ -219,7 +234,7 @@ loads f offset back a old ops rs s u (instrs.Move W64 (places.Register q) (opera
     let same = parts.same in
     let base = registers s 4 in
     let place = saved_place f offset s.memory old back base base (number q) n ops known.ordered
-      known.allowed h.holds.stack parts.saved in
+    known.allowed h.holds.stack parts.saved in
     let kept = saved_register f (number q) ops known.allowed place.saved in
     let d = stack_depth s.memory old back base base ops h.holds.stack in
     let shallow = allocation_depth ops in
@@ -228,34 +243,40 @@ loads f offset back a old ops rs s u (instrs.Move W64 (places.Register q) (opera
     let lt : registers s 4 + n < 2 ^ 64 = omega arith in
     let c : Cpu = record { registers = s.cpu.registers; rip = a; flags = s.cpu.flags } in
     let framed : f ≢ 0 → registers s f ≡ registers s 4
-      + offset = λ ne. framed_above f offset (registers s) base ops known.ordered (known.frame ne)
-        h.holds.framed in
+    + offset = λ ne. framed_above f offset (registers s) base ops known.ordered (known.frame ne)
+    h.holds.framed in
     let at = place_address f offset n c m parts.place framed lt in
     let fits = known.fits (number q) in
     let v = old (number q) % 2 ^ 64 in
     let value : v ≡ old (number q) = omega arith in
-    let b = became (record { cpu = record { registers = set s.cpu.registers (number q) v; rip = a;
-      flags = s.cpu.flags }; memory = s.memory }) u
-      (effect (with_rip s a) (instrs.Move W64 (places.Register q) (operands.Memory m)))
-      (load_effect s a (base + n) (old (number q)) q m at
-      (load_at s.memory (base + n) (old (number q)) place.word)) ef in
+    let b = became (record {
+      cpu = record {
+        registers = set s.cpu.registers (number q) v;
+        rip = a;
+        flags = s.cpu.flags;
+      };
+      memory = s.memory;
+    }) u
+    (effect (with_rip s a) (instrs.Move W64 (places.Register q) (operands.Memory m)))
+    (load_effect s a (base + n) (old (number q)) q m at
+    (load_at s.memory (base + n) (old (number q)) place.word)) ef in
     let now : (k : ℕ) → registers u k ≡ get_or (set s.cpu.registers (number q) v) k 0 = λ k. ap
-      (λ (xs : List ℕ). get_or xs k 0) b.registers in
+    (λ (xs : List ℕ). get_or xs k 0) b.registers in
     let others : (k : ℕ) → k ≢ number q → registers u k ≡ registers s k = λ k ne. now k
-      ∙ set_other s.cpu.registers (number q) k v ne in
+    ∙ set_other s.cpu.registers (number q) k v ne in
     let sp : registers u 4 ≡ registers s 4 = others 4 (λ z. kept.1 (sym z)) in
     let here : registers u (number q) ≡ old (number q) = now (number q)
-      ∙ set_same s.cpu.registers (number q) v h.length (number_small q) ∙ value in
+    ∙ set_same s.cpu.registers (number q) v h.length (number_small q) ∙ value in
     record {
       length = ap (λ (xs : List ℕ). length xs) b.registers ∙ length-set s.cpu.registers (number q) v
-        ∙ h.length;
+          ∙ h.length;
       holds = record {
         stack = subst (λ x. Stack u.memory old back x x ops) (sym sp)
-          (subst (λ (x : Memory). Stack x old back base base ops) (sym b.memory) h.holds.stack);
+            (subst (λ (x : Memory). Stack x old back base base ops) (sym b.memory) h.holds.stack);
         framed = subst (λ x. Framed f offset (registers u) x ops) (sym sp)
-          (place.framed (registers s) (registers u) others h.holds.framed);
+            (place.framed (registers s) (registers u) others h.holds.framed);
         others = λ k nv ne z. others k (λ w. false≢true
-          (sym z ∙ (ap (λ j. is_saved j ops) w ∙ place.saved))) ∙ h.holds.others k nv ne z;
+            (sym z ∙ (ap (λ j. is_saved j ops) w ∙ place.saved))) ∙ h.holds.others k nv ne z;
       };
       restored = λ k w. elim (cases_eq k (number q)) [
         | inl is ↦ subst (λ j. registers u j ≡ old j) (sym is) here

@@ -111,27 +111,32 @@ pushes_alone (MachineFrame e ∷ xs) h = absurd (false≢true h)
 pub stack_opened : (m : Memory) (old : ℕ → ℕ) (back base at : ℕ) (xs : List UnwindOperation)
     → Ordered xs → Stack m old back base at xs
     → Stack m old back base (at + allocation xs) (pushed (pushes xs))
-stack_opened m old back base at [] o h = (let e = h.0 in
-    omega arith, subst (λ a. IsWord m a back) (let z : at ≡ at + 0 = omega arith in z) h.1)
+stack_opened m old back base at [] o h = (
+  let e = h.0 in
+      omega arith,
+  subst (λ a. IsWord m a back) (let z : at ≡ at + 0 = omega arith in z) h.1,
+)
 stack_opened m old back base at (Push r ∷ xs) (push p o) h =
     let z = pushes_alone xs p in
     let e : at ≡ at + (0 + allocation xs) = omega arith in
-    let g : at + 8 + allocation xs ≡ at + (0 + allocation xs) + 8 = omega arith in
-    (subst (λ a. IsWord m a (old r)) e h.0, subst
-      (λ a. Stack m old back base a (pushed (pushes xs))) g
-      (stack_opened m old back base (at + 8) xs o h.1))
+    let g : at + 8 + allocation xs ≡ at + (0 + allocation xs) + 8 = omega arith in (
+      subst (λ a. IsWord m a (old r)) e h.0,
+      subst
+          (λ a. Stack m old back base a (pushed (pushes xs))) g
+          (stack_opened m old back base (at + 8) xs o h.1),
+    )
 stack_opened m old back base at (Allocate n ∷ xs) (allocate p o) h =
     let g : at + n + allocation xs ≡ at + (n + allocation xs) = omega arith in
     subst (λ a. Stack m old back base a (pushed (pushes xs))) g
-      (stack_opened m old back base (at + n) xs o h)
+    (stack_opened m old back base (at + n) xs o h)
 stack_opened m old back base at (SetFrame ∷ xs) (frame t p o) h =
     let g : at + allocation xs ≡ at + (0 + allocation xs) = omega arith in
     subst (λ a. Stack m old back base a (pushed (pushes xs))) g
-      (stack_opened m old back base at xs o h)
+    (stack_opened m old back base at xs o h)
 stack_opened m old back base at (Save r n ∷ xs) (save o) h =
     let g : at + allocation xs ≡ at + (0 + allocation xs) = omega arith in
     subst (λ a. Stack m old back base a (pushed (pushes xs))) g
-      (stack_opened m old back base at xs o h.1)
+    (stack_opened m old back base at xs o h.1)
 stack_opened m old back base at (SaveVector r n ∷ xs) o h = absurd h
 stack_opened m old back base at (MachineFrame e ∷ xs) o h = absurd h
 

@@ -26,7 +26,7 @@ loadable_more : (f r n : ℕ) (xs : List UnwindOperation) (ss : List Saved) → 
 loadable_more f r n xs [] free h = tt
 loadable_more f r n xs (s ∷ ss) free h =
     let ne : r ≢ s.register = λ e. false≢true
-      (sym free ∙ (ap (λ k. is_saved k xs) e ∙ h.0.saved)) in (
+    (sym free ∙ (ap (λ k. is_saved k xs) e ∙ h.0.saved)) in (
       record {
         at = ap (λ b. cond b (Some n) (saved_at s.register xs)) (ne_eqb r s.register ne) ∙ h.0.at;
         saved = or_right (eqb r s.register) (is_saved s.register xs) h.0.saved;
@@ -62,9 +62,9 @@ loadable f (s ∷ ss) xs set a =
         frame = elim (cases_eq f 0) [
           | inl z ↦ or_left (eqb f 0) (not (eqb r f)) (eq-eqb f 0 z)
           | inr ne ↦ or_right (eqb f 0) (not (eqb r f))
-            (not_from_false (eqb r f) (ne_eqb r f
-            (λ e. false≢true (sym alone ∙ (ap (λ k. is_saved k more) e
-          ∙ saved_later f ss xs (set ne))))))
+              (not_from_false (eqb r f) (ne_eqb r f
+              (λ e. false≢true (sym alone ∙ (ap (λ k. is_saved k more) e
+              ∙ saved_later f ss xs (set ne))))))
         ];
       },
       loadable_more f r s.offset more ss alone (loadable f ss xs set p.1),
@@ -75,14 +75,14 @@ loadable f (s ∷ ss) xs set a =
 pub frame_saved : (p : FramePlan) (b : Bool) (n : ℕ) (rs : List ℕ)
     → are_allowed p.frame (frame_then (not (eqb p.frame 0)) (allocation_then b n (pushed rs)))
     ≡ true → p.frame ≢ 0 → is_saved p.frame (frame_then (not (eqb p.frame 0))
-      (allocation_then b n (pushed rs))) ≡ true
+    (allocation_then b n (pushed rs))) ≡ true
 frame_saved p b n rs a ne =
     let xs = allocation_then b n (pushed rs) in
     let e = ne_eqb p.frame 0 ne in
     let a' = sym (ap (λ t. are_allowed p.frame (frame_then (not t) xs)) e) ∙ a in
     let q = and_parts (not (eqb p.frame 0) && is_saved p.frame xs) (are_allowed p.frame xs) a' in
     ap (λ t. is_saved p.frame (frame_then (not t) xs)) e
-      ∙ (and_parts (not (eqb p.frame 0)) (is_saved p.frame xs) q.0).1
+    ∙ (and_parts (not (eqb p.frame 0)) (is_saved p.frame xs) q.0).1
 
 pub allowed_later : (f : ℕ) (ss : List Saved) (xs : List UnwindOperation)
     → are_allowed f (saves_then ss xs) ≡ true → are_allowed f xs ≡ true
@@ -94,9 +94,9 @@ allowed_later f (s ∷ ss) xs a = allowed_later f ss xs
 pub all_loadable : (p : FramePlan) → IsPlan p → AllLoadable p.frame (operations_of p) p.saves
 all_loadable p h =
     let xs = frame_then (not (eqb p.frame 0))
-      (allocation_then (not (eqb p.size 0)) p.size (pushed p.pushes)) in
+    (allocation_then (not (eqb p.size 0)) p.size (pushed p.pushes)) in
     loadable p.frame p.saves xs (frame_saved p (not (eqb p.size 0)) p.size p.pushes
-      (allowed_later p.frame p.saves xs h.allowed)) h.allowed
+    (allowed_later p.frame p.saves xs h.allowed)) h.allowed
 
 pushed_allocation : (rs : List ℕ) → allocation (pushed rs) ≡ 0
 pushed_allocation [] = refl
@@ -180,13 +180,13 @@ saves_restored (s ∷ ss) more rs xs h i = and_from (has s.register (loaded more
     (wider r ss (s.register ∷ rs) rs (λ q w. or_right (eqb s.register q) (has q rs) w) k)))
   where
     wider : (r : ℕ) (ss : List Saved) (a b : List ℕ) → ((q : ℕ) → has q b ≡ true → has q a ≡ true)
-      → has r (loaded ss b) ≡ true → has r (loaded ss a) ≡ true
+        → has r (loaded ss b) ≡ true → has r (loaded ss a) ≡ true
     wider r [] a b w k = w r k
     wider r (t ∷ ss) a b w k = wider r ss (t.register ∷ a) (t.register ∷ b)
-      (λ q z. elim (or_cases (eqb t.register q) (has q b) z) [
-      | inl here ↦ or_left (eqb t.register q) (has q a) here
-      | inr there ↦ or_right (eqb t.register q) (has q a) (w q there)
-    ]) k
+        (λ q z. elim (or_cases (eqb t.register q) (has q b) z) [
+          | inl here ↦ or_left (eqb t.register q) (has q a) here
+          | inr there ↦ or_right (eqb t.register q) (has q a) (w q there)
+        ]) k
 
 pub restored_plan : (p : FramePlan) (rs : List ℕ)
     → are_restored (loaded p.saves rs) (operations_of p) ≡ true

@@ -131,9 +131,11 @@ emitted_frame : (p : FramePlan) (a b : Bool) (n : ℕ) (rs : List ℕ) → n < 2
     → AllEmitted p (frame_then a (allocation_then b n (pushed rs)))
 emitted_frame p true b n rs lt h =
     let xs = allocation_then b n (pushed rs) in
-    let a = and_parts (not (eqb p.frame 0) && is_saved p.frame xs) (are_allowed p.frame xs) h in
-    ((saved_register p.frame p.frame xs a.1 (and_parts (not (eqb p.frame 0)) (is_saved p.frame xs)
-      a.0).1).0, emitted_allocation p p.frame b n rs lt a.1)
+    let a = and_parts (not (eqb p.frame 0) && is_saved p.frame xs) (are_allowed p.frame xs) h in (
+      (saved_register p.frame p.frame xs a.1 (and_parts (not (eqb p.frame 0)) (is_saved p.frame xs)
+          a.0).1).0,
+      emitted_allocation p p.frame b n rs lt a.1,
+    )
 emitted_frame p false b n rs lt h = emitted_allocation p p.frame b n rs lt h
 
 allocation_size : (b : Bool) (n : ℕ) (rs : List ℕ)
@@ -158,15 +160,16 @@ emitted_saves p [] a b n rs lt h = emitted_frame p a b n rs lt h
 emitted_saves p (s ∷ ss) a b n rs lt h =
     let xs = saves_then ss (frame_then a (allocation_then b n (pushed rs))) in
     let q = and_parts (is_allowed p.frame xs (Save s.register s.offset)) (are_allowed p.frame xs)
-      h in
+    h in
     let m = and_parts (may_save s.register xs)
-      (leb (s.offset + 8) (allocation xs) && are_apart s.offset xs) q.0 in
+    (leb (s.offset + 8) (allocation xs) && are_apart s.offset xs) q.0 in
     let le = leb-true (s.offset + 8) (allocation xs)
-      (and_parts (leb (s.offset + 8) (allocation xs)) (are_apart s.offset xs) m.1).0 in
+    (and_parts (leb (s.offset + 8) (allocation xs)) (are_apart s.offset xs) m.1).0 in
     let e = saves_size ss (frame_then a (allocation_then b n (pushed rs))) in
-    let k = frame_size a b n rs in
-    ((may_kept s.register xs m.0, let z : s.offset < 2 ^ 31 = omega arith in z),
-      emitted_saves p ss a b n rs lt q.1)
+    let k = frame_size a b n rs in (
+      (may_kept s.register xs m.0, let z : s.offset < 2 ^ 31 = omega arith in z),
+      emitted_saves p ss a b n rs lt q.1,
+    )
 
 pub emitted_plan : (p : FramePlan) → IsPlan p → AllEmitted p (operations_of p)
 emitted_plan p h = emitted_saves p p.saves (not (eqb p.frame 0)) (not (eqb p.size 0)) p.size
@@ -202,7 +205,7 @@ module _ (spell : Instr → FetchedInstr) (sp : IsSpelling spell) where
   all_sized (i ∷ is) h =
       let a = and_parts (is_encodable i) (all_encodable is) h in
       and_from (ltb 0 (spell i).size) (are_sized (spelled_by spell is))
-        (lt-ltb 0 (spell i).size (sp.sized i a.0)) (all_sized is a.1)
+      (lt-ltb 0 (spell i).size (sp.sized i a.0)) (all_sized is a.1)
 
   allocated : (f offset probe n : ℕ) (b : Bool) → n < 2 ^ 32
       → is_step f offset (Allocate n) (spelled_by spell (allocating probe n b)) ≡ true
@@ -217,7 +220,7 @@ module _ (spell : Instr → FetchedInstr) (sp : IsSpelling spell) where
       ∙ ap (λ (i : Instr). allocates (Allocate n) x i (spell z).instr) (sp.instr y)
       ∙ ap (λ (i : Instr). allocates (Allocate n) x y i) (sp.instr z)
       ∙ and_from (eqb n n && ltb n (2 ^ 32)) true
-        (and_from (eqb n n) (ltb n (2 ^ 32)) (eq-eqb n n refl) (lt-ltb n (2 ^ 32) lt)) refl
+      (and_from (eqb n n) (ltb n (2 ^ 32)) (eq-eqb n n refl) (lt-ltb n (2 ^ 32) lt)) refl
 
   one_step : (p : FramePlan) (x : UnwindOperation) → Emitted p x
       → is_step p.frame p.distance x (spelled_by spell (instructions_of p x)) ≡ true
@@ -228,12 +231,12 @@ module _ (spell : Instr → FetchedInstr) (sp : IsSpelling spell) where
   one_step p SetFrame h = ap (does p.frame p.distance SetFrame)
       (sp.instr (instrs.LoadAddress W64 (register p.frame) (stack_place p.distance)))
       ∙ and_from (eqb (number (register p.frame)) p.frame) (true && eqb p.distance p.distance)
-        (eq-eqb (number (register p.frame)) p.frame (nonvolatile_number p.frame h))
-        (eq-eqb p.distance p.distance refl)
+      (eq-eqb (number (register p.frame)) p.frame (nonvolatile_number p.frame h))
+      (eq-eqb p.distance p.distance refl)
   one_step p (Save r n) h = ap (does p.frame p.distance (Save r n))
       (sp.instr (instrs.Move W64 (places.Memory (stack_place n)) (operands.Register (register r))))
       ∙ and_from (eqb (number (register r)) r) (true && eqb n n)
-        (eq-eqb (number (register r)) r (nonvolatile_number r h.0)) (eq-eqb n n refl)
+      (eq-eqb (number (register r)) r (nonvolatile_number r h.0)) (eq-eqb n n refl)
   one_step p (SaveVector r n) h = absurd h
   one_step p (MachineFrame n) h = absurd h
 
@@ -242,8 +245,11 @@ module _ (spell : Instr → FetchedInstr) (sp : IsSpelling spell) where
   all_steps p at [] k h = tt
   all_steps p at (x ∷ xs) k h =
       let first : IsPrologueStep p.frame p.distance at
-        (step_of spell p at x) = record { does = one_step p x h.0;
-        sized = all_sized (instructions_of p x) (step_encodable p x k h.0); ends = refl } in
+      (step_of spell p at x) = record {
+        does = one_step p x h.0;
+        sized = all_sized (instructions_of p x) (step_encodable p x k h.0);
+        ends = refl;
+      } in
       (first, all_steps p (at + bytes (spelled_by spell (instructions_of p x))) xs k h.1)
 
   pub are_steps : (p : FramePlan) → IsPlan p → ArePrologueSteps p.frame p.distance 0

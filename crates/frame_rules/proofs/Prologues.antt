@@ -40,7 +40,7 @@ pub carried : (f offset back : ℕ) (e s u : State) (ops : List UnwindOperation)
 carried f offset back e s u ops allowed run long protection stack same =
     let sp = same 4 refl in
     let framed = framed_saved f offset (registers s) (registers u) (registers s 4) ops allowed
-      (λ y. sym (same f (saved_register f f ops allowed y).0)) run.holds.framed in
+    (λ y. sym (same f (saved_register f f ops allowed y).0)) run.holds.framed in
     record {
       length = long;
       protection = protection ∙ run.protection;
@@ -75,19 +75,25 @@ sized s u a k (instrs.Move W32 (places.Register Rax) (operands.Immediate v)) n e
     let same : v ≡ k = eqb-true v k parts.0 in
     let small = ltb-true k (2 ^ 32) parts.1 in
     let w = v % 2 ^ 32 % 2 ^ 32 in
-    let b = became (record { cpu = record { registers = set s.cpu.registers 0 w; rip = a;
-      flags = s.cpu.flags }; memory = s.memory }) u
-      (effect (with_rip s a) (instrs.Move W32 (places.Register Rax) (operands.Immediate v))) refl
-      ef in
+    let b = became (record {
+      cpu = record {
+        registers = set s.cpu.registers 0 w;
+        rip = a;
+        flags = s.cpu.flags;
+      };
+      memory = s.memory;
+    }) u
+    (effect (with_rip s a) (instrs.Move W32 (places.Register Rax) (operands.Immediate v))) refl
+    ef in
     let now : (q : ℕ) → registers u q ≡ get_or (set s.cpu.registers 0 w) q 0 = λ q. ap
-      (λ (xs : List ℕ). get_or xs q 0) b.registers in
+    (λ (xs : List ℕ). get_or xs q 0) b.registers in
     record {
       length = ap (λ (xs : List ℕ). length xs) b.registers ∙ length-set s.cpu.registers 0 w ∙ n;
       memory = b.memory;
       rax = now 0 ∙ set_same s.cpu.registers 0 w n (omega arith)
-        ∙ (let z : w ≡ k = omega arith in z);
+          ∙ (let z : w ≡ k = omega arith in z);
       kept = λ q nv. now q ∙ set_other s.cpu.registers 0 q w
-        (λ z. false≢true (ap is_nonvolatile (sym z) ∙ nv));
+          (λ z. false≢true (ap is_nonvolatile (sym z) ∙ nv));
     }
 sized s u a k i n e ef = absurd (false≢true e)
 
@@ -108,22 +114,28 @@ subtracted_step f offset back n a k e s u ops
     (instrs.Arithmetic computes.Sub W64 (places.Register Rsp) (operands.Register Rax)) entry deep p
     is rax run ef =
     let d = stack_depth s.memory (registers e) back (registers s 4) (registers s 4) ops
-      run.holds.stack in
+    run.holds.stack in
     let low = entry.low in
     let high = entry.high in
     let x = subtracted W64 (registers s 4 % 2 ^ 64) (registers s 0 % 2 ^ 64) in
     let v = x.0 % 2 ^ 64 in
-    let b = became (record { cpu = record { registers = set s.cpu.registers 4 v; rip = a;
-      flags = x.1 }; memory = s.memory }) u (effect (with_rip s a)
-      (instrs.Arithmetic computes.Sub W64 (places.Register Rsp) (operands.Register Rax))) refl ef in
+    let b = became (record {
+      cpu = record {
+        registers = set s.cpu.registers 4 v;
+        rip = a;
+        flags = x.1;
+      };
+      memory = s.memory;
+    }) u (effect (with_rip s a)
+    (instrs.Arithmetic computes.Sub W64 (places.Register Rsp) (operands.Register Rax))) refl ef in
     let now : (q : ℕ) → registers u q ≡ get_or (set s.cpu.registers 4 v) q 0 = λ q. ap
-      (λ (xs : List ℕ). get_or xs q 0) b.registers in
+    (λ (xs : List ℕ). get_or xs q 0) b.registers in
     let sp : registers u 4 ≡ registers s 4 - registers s 0 = now 4
-      ∙ set_same s.cpu.registers 4 v run.length (omega arith)
-      ∙ difference (registers s 4) (registers s 0) (omega arith) (omega arith) in
+    ∙ set_same s.cpu.registers 4 v run.length (omega arith)
+    ∙ difference (registers s 4) (registers s 0) (omega arith) (omega arith) in
     fallen f offset back n k e s u ops entry deep p run
-      (ap (λ (xs : List ℕ). length xs) b.registers ∙ length-set s.cpu.registers 4 v ∙ run.length)
-      b.memory (omega arith) (λ q nv ne. now q ∙ set_other s.cpu.registers 4 q v ne)
+    (ap (λ (xs : List ℕ). length xs) b.registers ∙ length-set s.cpu.registers 4 v ∙ run.length)
+    b.memory (omega arith) (λ q nv ne. now q ∙ set_other s.cpu.registers 4 q v ne)
 subtracted_step f offset back n a k e s u ops i entry deep p is rax run ef = absurd (false≢true is)
 
 -- the frame while the size is set, and while it is probed
@@ -165,19 +177,19 @@ does_step f offset back n a e s u (Push r) ops (instrs.Push q) entry small deep 
     (push p o) d run ef =
     let same : number q ≡ r = eqb-true (number q) r d in
     subst (λ x. Running f offset e back (Push x ∷ ops) u) same
-      (pushed_step f offset back n a e s u ops q entry deep (ap (λ x. may_save x ops) same ∙ is) p
-      run ef)
+    (pushed_step f offset back n a e s u ops q entry deep (ap (λ x. may_save x ops) same ∙ is) p
+    run ef)
 does_step f offset back n a e s u (Allocate k) ops
     (instrs.Arithmetic computes.Sub W64 (places.Register Rsp) (operands.Immediate v)) entry small
     deep is allowed (allocate p o) d run ef =
     let same : v ≡ k = eqb-true v k d in
     subst (λ x. Running f offset e back (Allocate x ∷ ops) u) same
-      (allocated_step f offset back n a v e s u ops entry (omega arith) p run ef)
+    (allocated_step f offset back n a v e s u ops entry (omega arith) p run ef)
 does_step f offset back n a e s u SetFrame ops (instrs.LoadAddress W64 to m) entry small deep is
     allowed (frame t p o) d run ef =
     let parts = and_parts (eqb (number to) f) (is_stack offset m) d in
     framed_step f offset back n a e s u ops to m entry small (eqb-true (number to) f parts.0)
-      parts.1 (and_parts (not (eqb f 0)) (is_saved f ops) is).1 allowed p run ef
+    parts.1 (and_parts (not (eqb f 0)) (is_saved f ops) is).1 allowed p run ef
 does_step f offset back n a e s u (Save r k) ops
     (instrs.Move W64 (places.Memory m) (operands.Register q)) entry small deep is allowed (save o) d
     run ef =
@@ -186,9 +198,9 @@ does_step f offset back n a e s u (Save r k) ops
     let may = and_parts (may_save r ops) (leb (k + 8) (allocation ops) && are_apart k ops) is in
     let fits = and_parts (leb (k + 8) (allocation ops)) (are_apart k ops) may.1 in
     subst (λ x. Running f offset e back (Save x k ∷ ops) u) same
-      (saved_step f offset back n a k e s u ops q m entry (omega arith) parts.1
-      (ap (λ x. may_save x ops) same ∙ may.0) (leb-true (k + 8) (allocation ops) fits.0) fits.1 o
-      run ef)
+    (saved_step f offset back n a k e s u ops q m entry (omega arith) parts.1
+    (ap (λ x. may_save x ops) same ∙ may.0) (leb-true (k + 8) (allocation ops) fits.0) fits.1 o
+    run ef)
 does_step f offset back n a e s u op ops i entry small deep is allowed order d run ef = absurd
     (false≢true d)
 
@@ -263,7 +275,7 @@ skips f offset at d done (s ∷ ss) le h =
     let pos = positive f offset s.code.operation s.items h.0.does h.0.sized in
     let end = h.0.ends in
     skips f offset (at + bytes s.items) d (s.code ∷ done) ss (omega arith) h.1
-      ∙ ap (run_or (s.code ∷ done) (run_by d done)) (lt-leb s.code.offset d (omega arith))
+    ∙ ap (run_or (s.code ∷ done) (run_by d done)) (lt-leb s.code.offset d (omega arith))
 
 pub skips_first : (f offset at d : ℕ) (done : List UnwindCode) (s : PrologueStep)
     (ss : List PrologueStep) → d < at + bytes s.items → ArePrologueSteps f offset at (s ∷ ss)
@@ -271,7 +283,7 @@ pub skips_first : (f offset at d : ℕ) (done : List UnwindCode) (s : PrologueSt
 skips_first f offset at d done s ss lt h =
     let end = h.0.ends in
     skips f offset (at + bytes s.items) d (s.code ∷ done) ss (omega arith) h.1
-      ∙ ap (run_or (s.code ∷ done) (run_by d done)) (lt-leb s.code.offset d (omega arith))
+    ∙ ap (run_or (s.code ∷ done) (run_by d done)) (lt-leb s.code.offset d (omega arith))
 
 -- ---- the states on the way
 

@@ -23,14 +23,27 @@ use Rattle.frame_rules.proofs.EveryFrame.{known, leaving_has, leaving_modes}
 
 return_effect : (s : State) (a v : ℕ) → load s.memory (registers s 4) W64 ≡ Ok v
     → effect (with_rip s a) instrs.Return ≡ Ok
-      (record { cpu = record { registers = set s.cpu.registers 4
-      ((registers s 4 + 8) % 2 ^ 64 % 2 ^ 64); rip = v; flags = s.cpu.flags }; memory = s.memory })
+    (record {
+      cpu = record {
+        registers = set s.cpu.registers 4
+            ((registers s 4 + 8) % 2 ^ 64 % 2 ^ 64);
+        rip = v;
+        flags = s.cpu.flags;
+      };
+      memory = s.memory;
+    })
 return_effect s a v got =
-    let lower : State = record { cpu = record { registers = set s.cpu.registers 4
-      ((registers s 4 + 8) % 2 ^ 64 % 2 ^ 64); rip = a; flags = s.cpu.flags };
-      memory = s.memory } in
+    let lower : State = record {
+      cpu = record {
+        registers = set s.cpu.registers 4
+            ((registers s 4 + 8) % 2 ^ 64 % 2 ^ 64);
+        rip = a;
+        flags = s.cpu.flags;
+      };
+      memory = s.memory;
+    } in
     let G : Answer ℕ → Answer State = λ r. ◌>>=◌ {A = ℕ × State} (r >>= λ v. Ok (v, lower))
-      (λ x. Ok (with_rip x.1 x.0)) in
+    (λ x. Ok (with_rip x.1 x.0)) in
     ap G got
 
 -- with nothing left to be popped
@@ -41,10 +54,16 @@ returned f e s t a high h ef =
     let back = return_address e in
     let top = h.stack.0 in
     let w = (registers s 4 + 8) % 2 ^ 64 % 2 ^ 64 in
-    let u : State = record { cpu = record { registers = set s.cpu.registers 4 w; rip = back;
-      flags = s.cpu.flags }; memory = s.memory } in
+    let u : State = record {
+      cpu = record {
+        registers = set s.cpu.registers 4 w;
+        rip = back;
+        flags = s.cpu.flags;
+      };
+      memory = s.memory;
+    } in
     let same : u ≡ t = ok_same (sym (return_effect s a back
-      (load_at s.memory (registers s 4) back h.stack.1)) ∙ ef) in
+    (load_at s.memory (registers s 4) back h.stack.1)) ∙ ef) in
     let up : w ≡ registers e 4 + 8 = omega arith in
     subst (λ (x : State). ReturnedToCaller e s x) same (record {
       rip = refl;
@@ -67,11 +86,11 @@ none_left f offset old back xs s (Leaving (r ∷ rs)) to x known e n h =
     ends_restores e = cc
 none_left f offset old back xs s (Body rs) to x known e n h =
     let o = only (leaving f (pushes xs) x) (are_restored rs xs && eqb (allocation xs) 0) to
-      (sym (ap (from_body f offset xs rs x) e) ∙ n) in
+    (sym (ap (from_body f offset xs rs x) e) ∙ n) in
     let p = and_parts (are_restored rs xs) (eqb (allocation xs) 0) o.0 in
     let z = eqb-true (allocation xs) 0 p.1 in
     let first = opened f offset back old xs rs s s known h p.0 h.length refl
-      (let w : registers s 4 ≡ registers s 4 + allocation xs = omega arith in w) (λ q ne. refl) in
+    (let w : registers s 4 ≡ registers s 4 + allocation xs = omega arith in w) (λ q ne. refl) in
     go (pushes xs) o.1 first
   where
     go : (ps : List ℕ) → leaving f ps x ≡ Some to → InPops f old back ps s → InPops f old back [] s
@@ -86,18 +105,23 @@ epilogues_return f e s t d a x xs right entry h left instr plain ef =
     let fr = f.info.frame_register in
     let off = f.info.frame_offset in
     let b = subst (λ (ys : List FetchedInstr). is_body (following fr off (ops f) ys h.to) ≡ true)
-      left (leaving_modes f e right entry s d h) in
+    left (leaving_modes f e right entry s d h) in
     let n = next_mode fr off (ops f) x xs h.to b in
     let role : role_of fr x.plain x.instr ≡ Ends = ap (role_of fr x.plain) instr
-      ∙ ap ending plain in
+    ∙ ap ending plain in
     returned fr e s t a entry.high (none_left fr off (registers e) (return_address e) (ops f) s h.to
-      n.to x (known f e right entry) role n.is (leaving_has f e right entry s d h)) ef
+    n.to x (known f e right entry) role n.is (leaving_has f e right entry s d h)) ef
 
 pub leaves_return : LeavesReturn
 leaves_return rest e s t a body entry b ef =
     let holds = body_holds 0 0 (return_address e) e e s [] rest refl (λ ne. absurd (ne refl)) body
-      (first_running 0 0 0 e entry) b in
+    (first_running 0 0 0 e entry) b in
     let pops : InPops 0 (registers e) (return_address e) []
-      s = record { length = b.length; base = registers s 4; stack = holds.stack;
-      others = holds.others; allowed = refl } in
+    s = record {
+      length = b.length;
+      base = registers s 4;
+      stack = holds.stack;
+      others = holds.others;
+      allowed = refl;
+    } in
     returned 0 e s t a entry.high pops ef

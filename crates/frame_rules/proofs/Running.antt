@@ -42,7 +42,7 @@ saved_value f offset back e s xs r m run =
     let once = and_parts (is_nonvolatile r) (not (eqb r 4) && not (is_saved r xs)) m in
     let q = and_parts (not (eqb r 4)) (not (is_saved r xs)) once.1 in
     run.holds.others r once.0 (eqb-false r 4 (not-true (eqb r 4) q.0))
-      (not-true (is_saved r xs) q.1)
+    (not-true (is_saved r xs) q.1)
 
 leads : (f offset back n a : ℕ) (e s : State) (op : UnwindOperation) (xs : List UnwindOperation)
     (i : Instr) → IsEntry n e → depth (op ∷ xs) ≤ n → is_allowed f xs op ≡ true
@@ -50,33 +50,39 @@ leads : (f offset back n a : ℕ) (e s : State) (op : UnwindOperation) (xs : Lis
 leads f offset back n a e s (Push r) xs (instrs.Push q) entry deep allowed d run =
     let same : number q ≡ r = eqb-true (number q) r d in
     let h = stack_depth s.memory (registers e) back (registers s 4) (registers s 4) xs
-      run.holds.stack in
+    run.holds.stack in
     let low = entry.low in
     let high = entry.high in
     let at = registers s 4 - 8 in
     let may : (b : ℕ) → at ≤ b → b < at + 8 → may_write s.memory b
-      ≡ true = λ b x y. room f offset back n e s xs entry run b (omega arith) (omega arith) in
+    ≡ true = λ b x y. room f offset back n e s xs entry run b (omega arith) (omega arith) in
     record {
-      to = record { cpu = record { registers = set s.cpu.registers 4 at; rip = a;
-        flags = s.cpu.flags }; memory = with_bytes s.memory
-        (with_number s.memory.byte 8 at (registers e (number q))) };
+      to = record {
+        cpu = record {
+          registers = set s.cpu.registers 4 at;
+          rip = a;
+          flags = s.cpu.flags;
+        };
+        memory = with_bytes s.memory
+            (with_number s.memory.byte 8 at (registers e (number q)));
+      };
       is = push_effect s a (registers e (number q)) at q (omega arith) (omega arith)
-        (all_may (may_write s.memory) 8 at (omega arith) may)
-        (saved_value f offset back e s xs (number q) (ap (λ k. may_save k xs) same ∙ allowed) run);
+          (all_may (may_write s.memory) 8 at (omega arith) may)
+          (saved_value f offset back e s xs (number q) (ap (λ k. may_save k xs) same ∙ allowed) run);
       rip = refl;
     }
 leads f offset back n a e s (Allocate k) xs (instrs.Arithmetic computes.Sub W64
     (places.Register Rsp) (operands.Immediate v)) entry deep allowed d
     run = record { to = _; is = subtract_effect s a v; rip = refl }
-leads f offset back n a e s SetFrame xs (instrs.LoadAddress W64 to m) entry deep allowed d
-    run = record { to = _; is = refl; rip = refl }
+leads f offset back n a e s SetFrame xs (instrs.LoadAddress W64 to m) entry deep allowed d run =
+    record { to = _; is = refl; rip = refl }
 leads f offset back n a e s (Save r k) xs (instrs.Move W64 (places.Memory m) (operands.Register q))
     entry deep allowed d run =
     let parts = and_parts (eqb (number q) r) (is_stack k m) d in
     let same : number q ≡ r = eqb-true (number q) r parts.0 in
     let al = and_parts (may_save r xs) (leb (k + 8) (allocation xs) && are_apart k xs) allowed in
     let le = leb-true (k + 8) (allocation xs)
-      (and_parts (leb (k + 8) (allocation xs)) (are_apart k xs) al.1).0 in
+    (and_parts (leb (k + 8) (allocation xs)) (are_apart k xs) al.1).0 in
     let shallow = allocation_depth xs in
     let base = registers s 4 in
     let h = stack_depth s.memory (registers e) back base base xs run.holds.stack in
@@ -84,18 +90,21 @@ leads f offset back n a e s (Save r k) xs (instrs.Move W64 (places.Memory m) (op
     let high = entry.high in
     let fits = entry.fits (number q) in
     let val = saved_value f offset back e s xs (number q) (ap (λ j. may_save j xs) same ∙ al.0)
-      run in
+    run in
     let value : registers s (number q) % 2 ^ 64 ≡ registers e (number q) = omega arith in
     let c : Cpu = record { registers = s.cpu.registers; rip = a; flags = s.cpu.flags } in
     let lt : base + k < 2 ^ 64 = omega arith in
     let may : (b : ℕ) → base + k ≤ b → b < base + k + 8
-      → may_write s.memory b ≡ true = λ b x y. room f offset back n e s xs entry run b (omega arith)
-        (omega arith) in
+    → may_write s.memory b ≡ true = λ b x y. room f offset back n e s xs entry run b (omega arith)
+    (omega arith) in
     record {
-      to = record { cpu = c; memory = with_bytes s.memory
-        (with_number s.memory.byte 8 (base + k) (registers e (number q))) };
+      to = record {
+        cpu = c;
+        memory = with_bytes s.memory
+            (with_number s.memory.byte 8 (base + k) (registers e (number q)));
+      };
       is = save_effect s a (registers e (number q)) (base + k) q m (stack_address c k m parts.1 lt)
-        value (all_may (may_write s.memory) 8 (base + k) (omega arith) may);
+          value (all_may (may_write s.memory) 8 (base + k) (omega arith) may);
       rip = refl;
     }
 leads f offset back n a e s op xs i entry deep allowed d run = absurd (false≢true d)
@@ -122,11 +131,11 @@ module _ (f offset back n : ℕ) (e : State) (entry : IsEntry n e) (small : offs
       let a = (s.cpu.rip + x.size) % 2 ^ 64 in
       let l = leads f offset back n a e s c.operation xs x.instr entry g.deep p.0 h run in
       let step = does_step f offset back n a e s l.to c.operation xs x.instr entry small g.deep p.0
-        p.1 g.ordered h run l.is in
+      p.1 g.ordered h run l.is in
       let turn = subst (λ b. RunsOne s x l.to b) (sym (does_plain f offset c.operation x.instr h))
-        l.is in
+      l.is in
       let rip : l.to.cpu.rip ≡ s.cpu.rip + x.size = l.rip
-        ∙ (let z : a ≡ s.cpu.rip + x.size = omega arith in z) in
+      ∙ (let z : a ≡ s.cpu.rip + x.size = omega arith in z) in
       let more = rest l.to step (omega arith) in
       let end = more.rip in
       record { to = more.to; runs = (l.to, turn, more.runs); rip = omega arith }
@@ -135,21 +144,27 @@ module _ (f offset back n : ℕ) (e : State) (entry : IsEntry n e) (small : offs
       → ArePrologueSteps f offset at ss → are_single ss ≡ true
       → Good f n (operations (codes_onto done ss)) → Running f offset e back (operations done) s
       → s.cpu.rip + bytes (items ss) < 2 ^ 64 → Ends s (items ss)
-  ends at done [] s h one g run lt = record { to = s; runs = refl;
-      rip = let z : s.cpu.rip ≡ s.cpu.rip + 0 = omega arith in z }
+  ends at done [] s h one g run lt = record {
+    to = s;
+    runs = refl;
+    rip = let z : s.cpu.rip ≡ s.cpu.rip + 0 = omega arith in z;
+  }
   ends at done (st ∷ ss) s h one g run lt =
       let o = and_parts (is_single st.items) (are_single ss) one in
       by_items at done st.code ss st.items s o.0 h.0.does (good_done f n (st.code ∷ done) ss g) run
-        lt (λ u r l. ends (at + bytes st.items) (st.code ∷ done) ss u h.1 o.1 g r l)
+      lt (λ u r l. ends (at + bytes st.items) (st.code ∷ done) ss u h.1 o.1 g r l)
 
 pub prologues_run : ProloguesRun
 prologues_run f e right entry one lt =
     let fr = f.info.frame_register in
     let off = f.info.frame_offset in
     let n = depth (ops f) in
-    let good : Good fr n (ops f) = record { ordered = ordered (ops f) right.ordered;
-      allowed = right.allowed; deep = omega arith } in
+    let good : Good fr n (ops f) = record {
+      ordered = ordered (ops f) right.ordered;
+      allowed = right.allowed;
+      deep = omega arith;
+    } in
     let r = ends fr off (return_address e) n e entry right.offset 0 [] f.steps e right.steps one
-      (subst (λ (cs : List UnwindCode). Good fr n (operations cs)) right.codes good)
-      (first_running fr off n e entry) lt in
+    (subst (λ (cs : List UnwindCode). Good fr n (operations cs)) right.codes good)
+    (first_running fr off n e entry) lt in
     record { following = r.to; runs = r.runs; rip = r.rip }

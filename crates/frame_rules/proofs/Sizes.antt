@@ -26,5 +26,5 @@ saves_depth (s ∷ ss) xs = let e = saves_depth ss xs in omega arith
 pub frame_has_its_size : FrameHasItsSize
 frame_has_its_size p =
     let e = saves_depth p.saves _ ∙ frame_depth (not (eqb p.frame 0)) _
-      ∙ allocation_depth p.size (eqb p.size 0) p.pushes refl in
+    ∙ allocation_depth p.size (eqb p.size 0) p.pushes refl in
     omega arith

@@ -59,12 +59,16 @@ became t u a p q = let e : t ≡ u = ok_same (sym p ∙ q) in record {
 }
 
 pub store_at : (s : State) (at v : ℕ) → first_refused (may_write s.memory) 8 at ≡ None
-    → store s at W64 v ≡ Ok (record s { memory = with_bytes s.memory
-      (with_number s.memory.byte 8 at v) })
+    → store s at W64 v ≡ Ok (record s {
+      memory = with_bytes s.memory
+          (with_number s.memory.byte 8 at v);
+    })
 store_at s at v h =
     ap (λ (o : Option ℕ). granted (access true o tt)
-      >>= λ _. Ok (record s { memory = unless_refused o
-        (with_bytes s.memory (with_number s.memory.byte 8 at v)) s.memory })) h
+    >>= λ _. Ok (record s {
+      memory = unless_refused o
+          (with_bytes s.memory (with_number s.memory.byte 8 at v)) s.memory;
+    })) h
 
 -- ---- a state on the way
 
@@ -86,19 +90,29 @@ room f offset back n e s ops entry run a p q = ap (λ (g : ℕ → Protection). 
 pub push_effect : (s : State) (a v at : ℕ) (q : Reg) → registers s 4 ≡ at + 8 → at + 8 < 2 ^ 64
     → first_refused (may_write s.memory) 8 at ≡ None → registers s (number q) ≡ v
     → effect (with_rip s a) (instrs.Push q) ≡ Ok
-      (record { cpu = record { registers = set s.cpu.registers 4 at; rip = a; flags = s.cpu.flags };
-      memory = with_bytes s.memory (with_number s.memory.byte 8 at v) })
+    (record {
+      cpu = record { registers = set s.cpu.registers 4 at; rip = a; flags = s.cpu.flags };
+      memory = with_bytes s.memory (with_number s.memory.byte 8 at v);
+    })
 push_effect s a v at q top lt may val =
     let F : ℕ → ℕ → ℕ → Answer State = λ x y w. store
-      (record { cpu = record { registers = set s.cpu.registers 4 y; rip = a; flags = s.cpu.flags };
-      memory = s.memory }) x W64 w in
+    (record {
+      cpu = record { registers = set s.cpu.registers 4 y; rip = a; flags = s.cpu.flags };
+      memory = s.memory;
+    }) x W64 w in
     let raw : (registers s 4 + (2 ^ 64 - 8)) % 2 ^ 64 ≡ at = omega arith in
     let low : at % 2 ^ 64 ≡ at = omega arith in
     ap (λ x. F x (x % 2 ^ 64) (registers s (number q))) raw
     ∙ ap (λ y. F at y (registers s (number q))) low
     ∙ ap (F at at) val
-    ∙ store_at (record { cpu = record { registers = set s.cpu.registers 4 at; rip = a;
-      flags = s.cpu.flags }; memory = s.memory }) at v may
+    ∙ store_at (record {
+      cpu = record {
+        registers = set s.cpu.registers 4 at;
+        rip = a;
+        flags = s.cpu.flags;
+      };
+      memory = s.memory;
+    }) at v may
 
 -- the other registers, where one was set
 pub others_set : (old now after : ℕ → ℕ) (k : ℕ) (ops : List UnwindOperation)
@@ -123,41 +137,47 @@ pushed_step f offset back n a e s u ops q entry deep m p run ef =
     let once = and_parts (is_nonvolatile r) (not (eqb r 4) && not (is_saved r ops)) m in
     let apart = and_parts (not (eqb r 4)) (not (is_saved r ops)) once.1 in
     let val = run.holds.others r once.0 (eqb-false r 4 (not-true (eqb r 4) apart.0))
-      (not-true (is_saved r ops) apart.1) in
+    (not-true (is_saved r ops) apart.1) in
     let may : (b : ℕ) → at ≤ b → b < at + 8 → may_write s.memory b
-      ≡ true = λ b x y. room f offset back n e s ops entry run b (omega arith) (omega arith) in
+    ≡ true = λ b x y. room f offset back n e s ops entry run b (omega arith) (omega arith) in
     let after = with_bytes s.memory (with_number s.memory.byte 8 at (old r)) in
-    let b = became (record { cpu = record { registers = set s.cpu.registers 4 at; rip = a;
-      flags = s.cpu.flags }; memory = after }) u (effect (with_rip s a) (instrs.Push q))
-      (push_effect s a (old r) at q top lt (all_may (may_write s.memory) 8 at (omega arith) may)
-      val) ef in
+    let b = became (record {
+      cpu = record {
+        registers = set s.cpu.registers 4 at;
+        rip = a;
+        flags = s.cpu.flags;
+      };
+      memory = after;
+    }) u (effect (with_rip s a) (instrs.Push q))
+    (push_effect s a (old r) at q top lt (all_may (may_write s.memory) 8 at (omega arith) may)
+    val) ef in
     let now : (k : ℕ) → registers u k ≡ get_or (set s.cpu.registers 4 at) k 0 = λ k. ap
-      (λ (xs : List ℕ). get_or xs k 0) b.registers in
+    (λ (xs : List ℕ). get_or xs k 0) b.registers in
     let sp : registers u 4 ≡ at = now 4 ∙ set_same s.cpu.registers 4 at run.length (omega arith) in
     let others : (k : ℕ) → k ≢ 4 → registers u k ≡ registers s k = λ k ne. now k
-      ∙ set_other s.cpu.registers 4 k at ne in
+    ∙ set_other s.cpu.registers 4 k at ne in
     let word = stored_word s.memory at (old r) (omega arith) (entry.fits r) may in
     let z : at + 0 ≡ at = omega arith in
     let alone = pushes_alone ops p in
     let words0 = left_words s.memory old back at (registers s 4) 0 (old r) ops (of_pushes ops p)
-      (omega arith) (omega arith) (pushes_apart 0 ops p)
-      (rebased s.memory old back (registers s 4) at (registers s 4) ops p run.holds.stack) in
+    (omega arith) (omega arith) (pushes_apart 0 ops p)
+    (rebased s.memory old back (registers s 4) at (registers s 4) ops p run.holds.stack) in
     let words1 = subst (λ w. Stack (with_bytes s.memory (with_number s.memory.byte 8 w (old r))) old
-      back at (registers s 4) ops) z words0 in
+    back at (registers s 4) ops) z words0 in
     let words = subst (λ w. Stack after old back at w ops) top words1 in
     let stack = subst (λ x. Stack u.memory old back x x (Push r ∷ ops)) (sym sp)
-      (subst (λ (x : Memory). Stack x old back at at (Push r ∷ ops)) (sym b.memory)
-      (word, words)) in
+    (subst (λ (x : Memory). Stack x old back at at (Push r ∷ ops)) (sym b.memory)
+    (word, words)) in
     record {
       length = ap (λ (xs : List ℕ). length xs) b.registers ∙ length-set s.cpu.registers 4 at
-        ∙ run.length;
+          ∙ run.length;
       protection = ap (λ (x : Memory). x.protection) b.memory ∙ run.protection;
       holds = record {
         stack = stack;
         framed = unframed f offset (registers u) (registers u 4) (Push r ∷ ops)
-          (pushes_unframed ops p);
+            (pushes_unframed ops p);
         others = λ k nv ne s'. others k ne ∙ run.holds.others k nv ne
-          (or_parts (eqb r k) (is_saved k ops) s').1;
+            (or_parts (eqb r k) (is_saved k ops) s').1;
       };
     }
 
@@ -172,25 +192,31 @@ pub fallen : (f offset back n k : ℕ) (e s u : State) (ops : List UnwindOperati
 fallen f offset back n k e s u ops entry deep p run long same sp others =
     let old = registers e in
     let stack0 = rebased s.memory old back (registers s 4) (registers u 4) (registers s 4) ops p
-      run.holds.stack in
+    run.holds.stack in
     let stack1 = subst (λ x. Stack s.memory old back (registers u 4) x ops) (sym sp) stack0 in
     record {
       length = long;
       protection = ap (λ (x : Memory). x.protection) same ∙ run.protection;
       holds = record {
         stack = subst (λ (x : Memory). Stack x old back (registers u 4) (registers u 4)
-          (Allocate k ∷ ops)) (sym same) stack1;
+            (Allocate k ∷ ops)) (sym same) stack1;
         framed = unframed f offset (registers u) (registers u 4) (Allocate k ∷ ops)
-          (pushes_unframed ops p);
+            (pushes_unframed ops p);
         others = λ q nv ne z. others q nv ne ∙ run.holds.others q nv ne z;
       };
     }
 
 pub subtract_effect : (s : State) (a v : ℕ) → effect (with_rip s a)
     (instrs.Arithmetic computes.Sub W64 (places.Register Rsp) (operands.Immediate v))
-    ≡ Ok (record { cpu = record { registers = set s.cpu.registers 4
-      ((subtracted W64 (registers s 4 % 2 ^ 64) (v % 2 ^ 64)).0 % 2 ^ 64); rip = a;
-      flags = (subtracted W64 (registers s 4 % 2 ^ 64) (v % 2 ^ 64)).1 }; memory = s.memory })
+    ≡ Ok (record {
+      cpu = record {
+        registers = set s.cpu.registers 4
+            ((subtracted W64 (registers s 4 % 2 ^ 64) (v % 2 ^ 64)).0 % 2 ^ 64);
+        rip = a;
+        flags = (subtracted W64 (registers s 4 % 2 ^ 64) (v % 2 ^ 64)).1;
+      };
+      memory = s.memory;
+    })
 subtract_effect s a v = refl
 
 pub difference : (x v : ℕ) → v ≤ x → x < 2 ^ 64
@@ -201,27 +227,33 @@ difference x v le lt = omega arith
 pub allocated_step : (f offset back n a k : ℕ) (e s u : State) (ops : List UnwindOperation)
     → IsEntry n e → depth (Allocate k ∷ ops) ≤ n → are_pushes ops ≡ true
     → Running f offset e back ops s → effect (with_rip s a)
-      (instrs.Arithmetic computes.Sub W64 (places.Register Rsp) (operands.Immediate k)) ≡ Ok u
+    (instrs.Arithmetic computes.Sub W64 (places.Register Rsp) (operands.Immediate k)) ≡ Ok u
     → Running f offset e back (Allocate k ∷ ops) u
 allocated_step f offset back n a k e s u ops entry deep p run ef =
     let d = stack_depth s.memory (registers e) back (registers s 4) (registers s 4) ops
-      run.holds.stack in
+    run.holds.stack in
     let low = entry.low in
     let high = entry.high in
     let x = subtracted W64 (registers s 4 % 2 ^ 64) (k % 2 ^ 64) in
     let v = x.0 % 2 ^ 64 in
-    let b = became (record { cpu = record { registers = set s.cpu.registers 4 v; rip = a;
-      flags = x.1 }; memory = s.memory }) u (effect (with_rip s a)
-      (instrs.Arithmetic computes.Sub W64 (places.Register Rsp) (operands.Immediate k)))
-      (subtract_effect s a k) ef in
+    let b = became (record {
+      cpu = record {
+        registers = set s.cpu.registers 4 v;
+        rip = a;
+        flags = x.1;
+      };
+      memory = s.memory;
+    }) u (effect (with_rip s a)
+    (instrs.Arithmetic computes.Sub W64 (places.Register Rsp) (operands.Immediate k)))
+    (subtract_effect s a k) ef in
     let now : (q : ℕ) → registers u q ≡ get_or (set s.cpu.registers 4 v) q 0 = λ q. ap
-      (λ (xs : List ℕ). get_or xs q 0) b.registers in
+    (λ (xs : List ℕ). get_or xs q 0) b.registers in
     let sp : registers u 4 ≡ registers s 4 - k = now 4
-      ∙ set_same s.cpu.registers 4 v run.length (omega arith)
-      ∙ difference (registers s 4) k (omega arith) (omega arith) in
+    ∙ set_same s.cpu.registers 4 v run.length (omega arith)
+    ∙ difference (registers s 4) k (omega arith) (omega arith) in
     fallen f offset back n k e s u ops entry deep p run
-      (ap (λ (xs : List ℕ). length xs) b.registers ∙ length-set s.cpu.registers 4 v ∙ run.length)
-      b.memory (omega arith) (λ q nv ne. now q ∙ set_other s.cpu.registers 4 q v ne)
+    (ap (λ (xs : List ℕ). length xs) b.registers ∙ length-set s.cpu.registers 4 v ∙ run.length)
+    b.memory (omega arith) (λ q nv ne. now q ∙ set_other s.cpu.registers 4 q v ne)
 
 -- ---- a frame register
 
@@ -254,29 +286,37 @@ framed_step f offset back n a e s u ops to m entry small same place saved allowe
     let at = stack_address c offset m place lt in
     let v = address_of c m % 2 ^ 64 in
     let value : v ≡ registers s 4 + offset = omega arith in
-    let b = became (record { cpu = record { registers = set s.cpu.registers (number to) v; rip = a;
-      flags = s.cpu.flags }; memory = s.memory }) u
-      (effect (with_rip s a) (instrs.LoadAddress W64 to m)) refl ef in
+    let b = became (record {
+      cpu = record {
+        registers = set s.cpu.registers (number to) v;
+        rip = a;
+        flags = s.cpu.flags;
+      };
+      memory = s.memory;
+    }) u
+    (effect (with_rip s a) (instrs.LoadAddress W64 to m)) refl ef in
     let now : (q : ℕ) → registers u q ≡ get_or (set s.cpu.registers (number to) v) q 0 = λ q. ap
-      (λ (xs : List ℕ). get_or xs q 0) b.registers in
+    (λ (xs : List ℕ). get_or xs q 0) b.registers in
     let others : (q : ℕ) → q ≢ f → registers u q ≡ registers s q = λ q ne. now q
-      ∙ set_other s.cpu.registers (number to) q v (λ z. ne (z ∙ same)) in
+    ∙ set_other s.cpu.registers (number to) q v (λ z. ne (z ∙ same)) in
     let sp : registers u 4 ≡ registers s 4 = others 4 (λ z. is.1 (sym z)) in
     let fp : registers u f ≡ registers s 4 + offset = now f
-      ∙ ap (λ k. get_or (set s.cpu.registers (number to) v) k 0) (sym same)
-      ∙ set_same s.cpu.registers (number to) v run.length (number_small to) ∙ value in
+    ∙ ap (λ k. get_or (set s.cpu.registers (number to) v) k 0) (sym same)
+    ∙ set_same s.cpu.registers (number to) v run.length (number_small to) ∙ value in
     record {
       length = ap (λ (xs : List ℕ). length xs) b.registers
-        ∙ length-set s.cpu.registers (number to) v ∙ run.length;
+          ∙ length-set s.cpu.registers (number to) v ∙ run.length;
       protection = ap (λ (x : Memory). x.protection) b.memory ∙ run.protection;
       holds = record {
         stack = subst (λ x. Stack u.memory old back x x ops) (sym sp)
-          (subst (λ (x : Memory). Stack x old back (registers s 4) (registers s 4) ops)
-          (sym b.memory) run.holds.stack);
-        framed = (fp ∙ ap (λ x. x + offset) (sym sp),
-          unframed f offset (registers u) (registers u 4) ops free);
+            (subst (λ (x : Memory). Stack x old back (registers s 4) (registers s 4) ops)
+            (sym b.memory) run.holds.stack);
+        framed = (
+          fp ∙ ap (λ x. x + offset) (sym sp),
+          unframed f offset (registers u) (registers u 4) ops free,
+        );
         others = λ q nv ne z. others q (λ k. false≢true
-          (sym z ∙ (ap (λ j. is_saved j ops) k ∙ saved))) ∙ run.holds.others q nv ne z;
+            (sym z ∙ (ap (λ j. is_saved j ops) k ∙ saved))) ∙ run.holds.others q nv ne z;
       };
     }
 
@@ -295,17 +335,19 @@ pub save_effect : (s : State) (a v at : ℕ) (q : Reg) (m : MemRef)
     → address_of (record { registers = s.cpu.registers; rip = a; flags = s.cpu.flags }) m ≡ at
     → registers s (number q) % 2 ^ 64 ≡ v → first_refused (may_write s.memory) 8 at ≡ None
     → effect (with_rip s a) (instrs.Move W64 (places.Memory m) (operands.Register q))
-    ≡ Ok (record { cpu = record { registers = s.cpu.registers; rip = a; flags = s.cpu.flags };
-      memory = with_bytes s.memory (with_number s.memory.byte 8 at v) })
+    ≡ Ok (record {
+      cpu = record { registers = s.cpu.registers; rip = a; flags = s.cpu.flags };
+      memory = with_bytes s.memory (with_number s.memory.byte 8 at v);
+    })
 save_effect s a v at q m place val may =
     ap (λ x. store (with_rip s a) x W64 (registers s (number q) % 2 ^ 64)) place
-      ∙ ap (store (with_rip s a) at W64) val ∙ store_at (with_rip s a) at v may
+    ∙ ap (store (with_rip s a) at W64) val ∙ store_at (with_rip s a) at v may
 
 pub saved_step : (f offset back n a k : ℕ) (e s u : State) (ops : List UnwindOperation) (q : Reg)
     (m : MemRef) → IsEntry n e → depth ops ≤ n → is_stack k m ≡ true
     → may_save (number q) ops ≡ true → k + 8 ≤ allocation ops → are_apart k ops ≡ true → Ordered ops
     → Running f offset e back ops s → effect (with_rip s a)
-      (instrs.Move W64 (places.Memory m) (operands.Register q)) ≡ Ok u
+    (instrs.Move W64 (places.Memory m) (operands.Register q)) ≡ Ok u
     → Running f offset e back (Save (number q) k ∷ ops) u
 saved_step f offset back n a k e s u ops q m entry deep place ms le apart order run ef =
     let r = number q in
@@ -321,32 +363,32 @@ saved_step f offset back n a k e s u ops q m entry deep place ms le apart order 
     let once = and_parts (is_nonvolatile r) (not (eqb r 4) && not (is_saved r ops)) ms in
     let parts = and_parts (not (eqb r 4)) (not (is_saved r ops)) once.1 in
     let val = run.holds.others r once.0 (eqb-false r 4 (not-true (eqb r 4) parts.0))
-      (not-true (is_saved r ops) parts.1) in
+    (not-true (is_saved r ops) parts.1) in
     let fits = entry.fits r in
     let value : registers s r % 2 ^ 64 ≡ old r = omega arith in
     let may : (b : ℕ) → base + k ≤ b → b < base + k + 8
-      → may_write s.memory b ≡ true = λ b x y. room f offset back n e s ops entry run b
-        (omega arith) (omega arith) in
+    → may_write s.memory b ≡ true = λ b x y. room f offset back n e s ops entry run b
+    (omega arith) (omega arith) in
     let after = with_bytes s.memory (with_number s.memory.byte 8 (base + k) (old r)) in
     let b = became (record { cpu = c; memory = after }) u
-      (effect (with_rip s a) (instrs.Move W64 (places.Memory m) (operands.Register q)))
-      (save_effect s a (old r) (base + k) q m at value
-      (all_may (may_write s.memory) 8 (base + k) (omega arith) may)) ef in
+    (effect (with_rip s a) (instrs.Move W64 (places.Memory m) (operands.Register q)))
+    (save_effect s a (old r) (base + k) q m at value
+    (all_may (may_write s.memory) 8 (base + k) (omega arith) may)) ef in
     let now : (j : ℕ) → registers u j ≡ registers s j = λ j. ap (λ (xs : List ℕ). get_or xs j 0)
-      b.registers in
+    b.registers in
     let word = stored_word s.memory (base + k) (old r) (omega arith) fits may in
     let words = left_words s.memory old back base base k (old r) ops order (omega arith)
-      (omega arith) apart run.holds.stack in
+    (omega arith) apart run.holds.stack in
     record {
       length = ap (λ (xs : List ℕ). length xs) b.registers ∙ run.length;
       protection = ap (λ (x : Memory). x.protection) b.memory ∙ run.protection;
       holds = record {
         stack = subst (λ x. Stack u.memory old back x x (Save r k ∷ ops)) (sym (now 4))
-          (subst (λ (x : Memory). Stack x old back base base (Save r k ∷ ops)) (sym b.memory)
-          (word, words));
+            (subst (λ (x : Memory). Stack x old back base base (Save r k ∷ ops)) (sym b.memory)
+            (word, words));
         framed = subst (λ (xs : List ℕ). Framed f offset (λ j. get_or xs j 0) (get_or xs 4 0) ops)
-          (sym b.registers) run.holds.framed;
+            (sym b.registers) run.holds.framed;
         others = λ j nv ne z. now j ∙ run.holds.others j nv ne
-          (or_parts (eqb r j) (is_saved j ops) z).1;
+            (or_parts (eqb r j) (is_saved j ops) z).1;
       };
     }

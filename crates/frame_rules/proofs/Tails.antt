@@ -56,7 +56,7 @@ tail-more zero j first f m at x e h = absurd (omega arith)
 tail-more (suc n) j first f m at x e h = let same : n ≡ j = omega arith in
     ap (from_item (λ k. tail n false f m ((at + k) % 2 ^ 64)) f first) h
     ∙ ap (λ p. by_role (λ k. tail p false f m ((at + k) % 2 ^ 64)) first x
-      (role_of f x.plain x.instr)) same
+    (role_of f x.plain x.instr)) same
 
 -- ---- the rest of an epilogue
 
@@ -73,7 +73,7 @@ trails_end f offset ops m n at first x to lt here e =
     record {
       instrs = x.instr ∷ [];
       is = tail-more n (n - 1) first f m at x (omega arith) here
-        ∙ ap (by_role (λ k. tail (n - 1) false f m ((at + k) % 2 ^ 64)) first x)
+          ∙ ap (by_role (λ k. tail (n - 1) false f m ((at + k) % 2 ^ 64)) first x)
           (ends (role_of f x.plain x.instr) is);
       pops = role_end f x.plain x.instr is;
     }
@@ -92,17 +92,17 @@ trails f offset ops m (r ∷ rs) n at to first (x ∷ ys) lt fuel h b =
     let k = next_mode f offset ops x ys (Leaving (r ∷ rs)) b in
     let o = only (Some (Leaving rs)) (is_pop r x.instr) k.to k.is in
     let rest = subst (λ (md : Mode). is_body (following f offset ops ys md) ≡ true)
-      (sym (some_same o.1)) k.rest in
+    (sym (some_same o.1)) k.rest in
     let more = trails f offset ops m rs (n - 1) (at + x.size) to false ys lt (omega arith) h.2
-      rest in
+    rest in
     let wraps : (at + x.size) % 2 ^ 64 ≡ at + x.size = omega arith in
     record {
       instrs = x.instr ∷ more.instrs;
       is = tail-more n (n - 1) first f m at x (omega arith) h.0
-        ∙ ap (by_role (λ k. tail (n - 1) false f m ((at + k) % 2 ^ 64)) first x)
+          ∙ ap (by_role (λ k. tail (n - 1) false f m ((at + k) % 2 ^ 64)) first x)
           (pop_role f r x.plain x.instr o.0) ∙ ap
           (λ a. prepend_instr x.instr (tail (n - 1) false f m a)) wraps
-        ∙ ap (prepend_instr x.instr) more.is;
+          ∙ ap (prepend_instr x.instr) more.is;
       pops = and_from (is_pop r x.instr) (pops rs more.instrs) o.0 more.pops;
     }
 
@@ -147,39 +147,45 @@ opens_here f offset ops m n at to x ys rs lt fuel h b other = go (role_of f x.pl
     wraps = let p = h.1 in let r = rise in omega arith
 
     popping : only_if (leaving f (pushes ops) x) (are_restored rs ops && eqb (allocation ops) 0)
-      ≡ Some k.to → Opened f offset ops m n at rs
+        ≡ Some k.to → Opened f offset ops m n at rs
     popping e =
         let o = only (leaving f (pushes ops) x) (are_restored rs ops && eqb (allocation ops) 0) k.to
-          e in
+        e in
         let p = and_parts (are_restored rs ops) (eqb (allocation ops) 0) o.0 in
         let t = trails f offset ops m (pushes ops) n at to true (x ∷ ys) lt fuel h
-          (ap (λ (a : Option Mode). is_body (and_then (following f offset ops ys) a)) o.1
-          ∙ k.rest) in
-        record { restored = p.0; is_there = record { instrs = t.instrs; is = t.is;
-          epilogue = from_pops f offset ops t.instrs (eqb-true (allocation ops) 0 p.1) t.pops } }
+        (ap (λ (a : Option Mode). is_body (and_then (following f offset ops ys) a)) o.1
+        ∙ k.rest) in
+        record {
+          restored = p.0;
+          is_there = record {
+            instrs = t.instrs;
+            is = t.is;
+            epilogue = from_pops f offset ops t.instrs (eqb-true (allocation ops) 0 p.1) t.pops;
+          };
+        }
 
     go : (r : Role) → role_of f x.plain x.instr ≡ r → Opened f offset ops m n at rs
     go Opens e =
         let o = only (Some (Leaving (pushes ops)))
-          (are_restored rs ops && gives_back f offset (allocation ops) x.instr) k.to
-          (sym (ap (from_body f offset ops rs x) e) ∙ k.is) in
+        (are_restored rs ops && gives_back f offset (allocation ops) x.instr) k.to
+        (sym (ap (from_body f offset ops rs x) e) ∙ k.is) in
         let p = and_parts (are_restored rs ops) (gives_back f offset (allocation ops) x.instr)
-          o.0 in
+        o.0 in
         let t = trails f offset ops m (pushes ops) (n - 1) (at + x.size) to false ys lt
-          (let q = h.1 in omega arith) h.2 (subst
-          (λ (md : Mode). is_body (following f offset ops ys md) ≡ true) (sym (some_same o.1))
-          k.rest) in
+        (let q = h.1 in omega arith) h.2 (subst
+        (λ (md : Mode). is_body (following f offset ops ys md) ≡ true) (sym (some_same o.1))
+        k.rest) in
         record {
           restored = p.0;
           is_there = record {
             instrs = x.instr ∷ t.instrs;
             is = tail-more n (n - 1) true f m at x (let q = h.1 in let r = rise in omega arith) h.0
-              ∙ ap (by_role (λ j. tail (n - 1) false f m ((at + j) % 2 ^ 64)) true x) e
-              ∙ ap (λ a. prepend_instr x.instr (tail (n - 1) false f m a)) wraps
-              ∙ ap (prepend_instr x.instr) t.is;
+                ∙ ap (by_role (λ j. tail (n - 1) false f m ((at + j) % 2 ^ 64)) true x) e
+                ∙ ap (λ a. prepend_instr x.instr (tail (n - 1) false f m a)) wraps
+                ∙ ap (prepend_instr x.instr) t.is;
             epilogue = or_left (gives_back f offset (allocation ops) x.instr
-              && pops (pushes ops) t.instrs) (eqb (allocation ops) 0
-              && pops (pushes ops) (x.instr ∷ t.instrs))
+                && pops (pushes ops) t.instrs) (eqb (allocation ops) 0
+                && pops (pushes ops) (x.instr ∷ t.instrs))
                 (and_from (gives_back f offset (allocation ops) x.instr)
                 (pops (pushes ops) t.instrs) p.1 t.pops);
           };

@@ -31,19 +31,21 @@ saved_register f r [] a s = absurd (false≢true s)
 saved_register f r (x ∷ ops) a s = elim (or_cases (saves r x) (is_saved r ops) s) [
   | inl here ↦ by_code x (and_parts (is_allowed f ops x) (are_allowed f ops) a).0 here
   | inr later ↦ saved_register f r ops (and_parts (is_allowed f ops x) (are_allowed f ops) a).1
-    later
+      later
 ]
   where
     fits : (q : ℕ) → may_save q ops ≡ true → eqb q r ≡ true → (is_nonvolatile r ≡ true) × (r ≢ 4)
     fits q m e =
         let p = and_parts (is_nonvolatile q) (not (eqb q 4) && not (is_saved q ops)) m in
         let n = and_parts (not (eqb q 4)) (not (is_saved q ops)) p.1 in
-        let same : q ≡ r = eqb-true q r e in
-        (ap is_nonvolatile (sym same) ∙ p.0, λ four. eqb-false q 4 (not-true (eqb q 4) n.0)
-          (same ∙ four))
+        let same : q ≡ r = eqb-true q r e in (
+          ap is_nonvolatile (sym same) ∙ p.0,
+          λ four. eqb-false q 4 (not-true (eqb q 4) n.0)
+              (same ∙ four),
+        )
 
     by_code : (x : UnwindOperation) → is_allowed f ops x ≡ true → saves r x ≡ true
-      → (is_nonvolatile r ≡ true) × (r ≢ 4)
+        → (is_nonvolatile r ≡ true) × (r ≢ 4)
     by_code (Push q) m e = fits q m e
     by_code (Allocate n) m e = absurd (false≢true e)
     by_code SetFrame m e = absurd (false≢true e)
@@ -61,10 +63,13 @@ framed_saved f offset now after at (Push r ∷ ops) a e h = framed_saved f offse
 framed_saved f offset now after at (Allocate n ∷ ops) a e h = framed_saved f offset now after
     (at + n) ops a e h
 framed_saved f offset now after at (SetFrame ∷ ops) a e
-    h = (sym (e (and_parts (not (eqb f 0)) (is_saved f ops)
-    (and_parts (not (eqb f 0) && is_saved f ops) (are_allowed f ops) a).0).1)
-    ∙ h.0, framed_saved f offset now after at ops
-      (and_parts (not (eqb f 0) && is_saved f ops) (are_allowed f ops) a).1 e h.1)
+    h = (
+      sym (e (and_parts (not (eqb f 0)) (is_saved f ops)
+          (and_parts (not (eqb f 0) && is_saved f ops) (are_allowed f ops) a).0).1)
+          ∙ h.0,
+      framed_saved f offset now after at ops
+          (and_parts (not (eqb f 0) && is_saved f ops) (are_allowed f ops) a).1 e h.1,
+    )
 framed_saved f offset now after at (Save r n ∷ ops) a e h = framed_saved f offset now after at ops
     (and_parts _ (are_allowed f ops) a).1 (λ s. e (or_right (eqb r f) (is_saved f ops) s)) h
 framed_saved f offset now after at (SaveVector r n ∷ ops) a e h = absurd (false≢true a)
@@ -134,11 +139,11 @@ rsp_length c v n = length-set c.kept 0 v ∙ n
 
 -- RSP moved
 record IsMoved (i : Info) (old : ℕ → ℕ) (c : Context) (at : ℕ) (ops : List UnwindOperation) : Type 0
-    where
-  kept : length c.kept ≡ 9
-  top : get c 4 ≡ at
-  framed : Framed i.frame_register i.frame_offset (get c) (get c 4) ops
-  others : Others old (get c) ops
+  where
+    kept : length c.kept ≡ 9
+    top : get c 4 ≡ at
+    framed : Framed i.frame_register i.frame_offset (get c) (get c 4) ops
+    others : Others old (get c) ops
 
 moved : (i : Info) (old : ℕ → ℕ) (c : Context) (v at : ℕ) (ops : List UnwindOperation)
     → length c.kept ≡ 9 → are_allowed i.frame_register ops ≡ true → v ≡ at
@@ -147,13 +152,13 @@ moved : (i : Info) (old : ℕ → ℕ) (c : Context) (v at : ℕ) (ops : List Un
 moved i old c v at ops n a e f o =
     let top : get (with_rsp c v) 4 ≡ at = get-rsp_same c v n ∙ e in
     let framed = framed_saved i.frame_register i.frame_offset (get c) (get (with_rsp c v)) at ops a
-      (λ y. sym (get-rsp_other c i.frame_register v
-      (saved_register i.frame_register i.frame_register ops a y).1)) f in
+    (λ y. sym (get-rsp_other c i.frame_register v
+    (saved_register i.frame_register i.frame_register ops a y).1)) f in
     record {
       kept = rsp_length c v n;
       top = top;
       framed = subst (λ x. Framed i.frame_register i.frame_offset (get (with_rsp c v)) x ops)
-        (sym top) framed;
+          (sym top) framed;
       others = λ q nv four s. get-rsp_other c q v four ∙ o q nv four s;
     }
 
@@ -184,24 +189,24 @@ restores i m old back base (Push r ∷ ops) u n lt ol a s f o =
     let d = stack_depth m old back base (rsp c + 8) ops s.1 in
     let up : (rsp (with_register c r (old r)) + 8) % 2 ^ 64 ≡ rsp c + 8 = rw stays (omega arith) in
     let top : get after 4 ≡ rsp c + 8 = get-rsp_same (with_register c r (old r))
-      ((rsp (with_register c r (old r)) + 8) % 2 ^ 64) kept ∙ up in
+    ((rsp (with_register c r (old r)) + 8) % 2 ^ 64) kept ∙ up in
     let here : get after r ≡ old r = get-rsp_other (with_register c r (old r)) r
-      ((rsp (with_register c r (old r)) + 8) % 2 ^ 64) ne ∙ get-set_same c r (old r) n once.0 in
+    ((rsp (with_register c r (old r)) + 8) % 2 ^ 64) ne ∙ get-set_same c r (old r) n once.0 in
     let rest : (q : ℕ) → r ≢ q → q ≢ 4 → get after q
-      ≡ get c q = λ q a b. get-rsp_other (with_register c r (old r)) q
-        ((rsp (with_register c r (old r)) + 8) % 2 ^ 64) b ∙ get-set_other c r q (old r) a in
+    ≡ get c q = λ q a b. get-rsp_other (with_register c r (old r)) q
+    ((rsp (with_register c r (old r)) + 8) % 2 ^ 64) b ∙ get-set_other c r q (old r) a in
     let framed = framed_saved i.frame_register i.frame_offset (get c) (get after) (rsp c + 8) ops
-      parts.1 (λ y. sym (rest i.frame_register
-      (λ e. false≢true (sym (not-true (is_saved r ops) apart.1) ∙ (ap (λ q. is_saved q ops) e ∙ y)))
-      (saved_register i.frame_register i.frame_register ops parts.1 y).1)) f in
+    parts.1 (λ y. sym (rest i.frame_register
+    (λ e. false≢true (sym (not-true (is_saved r ops) apart.1) ∙ (ap (λ q. is_saved q ops) e ∙ y)))
+    (saved_register i.frame_register i.frame_register ops parts.1 y).1)) f in
     let v : Undo = record { context = after; is_returned = u.is_returned } in
     let more = restores i m old back base ops v (grind (arith, common_steps, kept)) lt ol parts.1
-      (subst (λ x. Stack m old back base x ops) (sym top) s.1)
-      (subst (λ x. Framed i.frame_register i.frame_offset (get after) x ops) (sym top) framed)
-      (others_after old (get c) (get after) r ops here rest o) in
+    (subst (λ x. Stack m old back base x ops) (sym top) s.1)
+    (subst (λ x. Framed i.frame_register i.frame_offset (get after) x ops) (sym top) framed)
+    (others_after old (get c) (get after) r ops here rest o) in
     step m base i old (Push r) ops u v (ap (λ (w : Answer ℕ). w
-      >>= λ x. going u (rsp_raised (with_register c r x) 8)) (word-is m (rsp c) (old r) s.0)) refl
-        more
+    >>= λ x. going u (rsp_raised (with_register c r x) 8)) (word-is m (rsp c) (old r) s.0)) refl
+    more
 restores i m old back base (Allocate k ∷ ops) u n lt ol a s f o =
     let c = u.context in
     let d = stack_depth m old back base (rsp c + k) ops s in
@@ -209,26 +214,26 @@ restores i m old back base (Allocate k ∷ ops) u n lt ol a s f o =
     let after = moved i old c ((rsp c + k) % 2 ^ 64) (rsp c + k) ops n a up f o in
     let v : Undo = record { context = rsp_raised c k; is_returned = u.is_returned } in
     step m base i old (Allocate k) ops u v refl refl
-      (restores i m old back base ops v after.kept lt ol a
-      (subst (λ x. Stack m old back base x ops) (sym after.top) s) after.framed after.others)
+    (restores i m old back base ops v after.kept lt ol a
+    (subst (λ x. Stack m old back base x ops) (sym after.top) s) after.framed after.others)
 restores i m old back base (SetFrame ∷ ops) u n lt ol a s f o =
     let c = u.context in
     let parts = and_parts (not (eqb i.frame_register 0) && is_saved i.frame_register ops)
-      (are_allowed i.frame_register ops) a in
+    (are_allowed i.frame_register ops) a in
     let d = stack_depth m old back base (rsp c) ops s in
     let set = f.0 in
     let back_at : below_frame i c ≡ rsp c = omega arith in
     let after = moved i old c (below_frame i c) (rsp c) ops n parts.1 back_at f.1 o in
     let v : Undo = record { context = with_rsp c (below_frame i c); is_returned = u.is_returned } in
     step m base i old SetFrame ops u v refl refl
-      (restores i m old back base ops v after.kept lt ol parts.1
-      (subst (λ x. Stack m old back base x ops) (sym after.top) s) after.framed after.others)
+    (restores i m old back base ops v after.kept lt ol parts.1
+    (subst (λ x. Stack m old back base x ops) (sym after.top) s) after.framed after.others)
 restores i m old back base (Save r k ∷ ops) u n lt ol a s f o =
     let c = u.context in
     let parts = and_parts (may_save r ops && (leb (k + 8) (allocation ops) && are_apart k ops))
-      (are_allowed i.frame_register ops) a in
+    (are_allowed i.frame_register ops) a in
     let once = and_parts (is_nonvolatile r) (not (eqb r 4) && not (is_saved r ops))
-      (and_parts (may_save r ops) _ parts.0).0 in
+    (and_parts (may_save r ops) _ parts.0).0 in
     let apart = and_parts (not (eqb r 4)) (not (is_saved r ops)) once.1 in
     let ne : r ≢ 4 = eqb-false r 4 (not-true (eqb r 4) apart.0) in
     let after = with_register c r (old r) in
@@ -236,19 +241,19 @@ restores i m old back base (Save r k ∷ ops) u n lt ol a s f o =
     let high = s.0.high in
     let at : (base + k) % 2 ^ 64 ≡ base + k = omega arith in
     let rest : (q : ℕ) → r ≢ q → q ≢ 4 → get after q
-      ≡ get c q = λ q x y. get-set_other c r q (old r) x in
+    ≡ get c q = λ q x y. get-set_other c r q (old r) x in
     let framed = framed_saved i.frame_register i.frame_offset (get c) (get after) (rsp c) ops
-      parts.1 (λ y. sym (rest i.frame_register
-      (λ e. false≢true (sym (not-true (is_saved r ops) apart.1) ∙ (ap (λ q. is_saved q ops) e ∙ y)))
-      (saved_register i.frame_register i.frame_register ops parts.1 y).1)) f in
+    parts.1 (λ y. sym (rest i.frame_register
+    (λ e. false≢true (sym (not-true (is_saved r ops) apart.1) ∙ (ap (λ q. is_saved q ops) e ∙ y)))
+    (saved_register i.frame_register i.frame_register ops parts.1 y).1)) f in
     let v : Undo = record { context = after; is_returned = u.is_returned } in
     let more = restores i m old back base ops v (kept-set c r (old r) ∙ n) lt ol parts.1
-      (subst (λ x. Stack m old back base x ops) (sym stays) s.1)
-      (subst (λ x. Framed i.frame_register i.frame_offset (get after) x ops) (sym stays) framed)
-      (others_after old (get c) (get after) r ops (get-set_same c r (old r) n once.0) rest o) in
+    (subst (λ x. Stack m old back base x ops) (sym stays) s.1)
+    (subst (λ x. Framed i.frame_register i.frame_offset (get after) x ops) (sym stays) framed)
+    (others_after old (get c) (get after) r ops (get-set_same c r (old r) n once.0) rest o) in
     step m base i old (Save r k) ops u v (ap (λ a. word m a >>= λ x. going u (with_register c r x))
-      at ∙ ap (λ (w : Answer ℕ). w >>= λ x. going u (with_register c r x))
-      (word-is m (base + k) (old r) s.0)) refl more
+    at ∙ ap (λ (w : Answer ℕ). w >>= λ x. going u (with_register c r x))
+    (word-is m (base + k) (old r) s.0)) refl more
 restores i m old back base (SaveVector r k ∷ ops) u n lt ol a s f o = absurd s
 restores i m old back base (MachineFrame x ∷ ops) u n lt ol a s f o = absurd s
 
@@ -277,24 +282,24 @@ left_with old back c n h lt = ap (λ (xs : List ℕ).
     risen = let e : get_or c.kept 0 0 ≡ old 4 = h 4 refl in omega arith
 
     each : (k : ℕ) → k < length (set c.kept 0 v)
-      → get_or (set c.kept 0 v) k 0 ≡ get_or (left_to old back).kept k 0
+        → get_or (set c.kept 0 v) k 0 ≡ get_or (left_to old back).kept k 0
     each zero k = front c.kept v n ∙ risen
     each (suc zero) k = following_front c.kept v 1 (λ e. absurd (omega arith)) ∙ h 3 refl
     each (suc (suc zero)) k = following_front c.kept v 2 (λ e. absurd (omega arith)) ∙ h 5 refl
     each (suc (suc (suc zero))) k = following_front c.kept v 3 (λ e. absurd (omega arith))
-      ∙ h 6 refl
+        ∙ h 6 refl
     each (suc (suc (suc (suc zero)))) k = following_front c.kept v 4 (λ e. absurd (omega arith))
-      ∙ h 7 refl
+        ∙ h 7 refl
     each (suc (suc (suc (suc (suc zero))))) k = following_front c.kept v 5
-      (λ e. absurd (omega arith)) ∙ h 12 refl
+        (λ e. absurd (omega arith)) ∙ h 12 refl
     each (suc (suc (suc (suc (suc (suc zero)))))) k = following_front c.kept v 6
-      (λ e. absurd (omega arith)) ∙ h 13 refl
+        (λ e. absurd (omega arith)) ∙ h 13 refl
     each (suc (suc (suc (suc (suc (suc (suc zero))))))) k = following_front c.kept v 7
-      (λ e. absurd (omega arith)) ∙ h 14 refl
+        (λ e. absurd (omega arith)) ∙ h 14 refl
     each (suc (suc (suc (suc (suc (suc (suc (suc zero)))))))) k = following_front c.kept v 8
-      (λ e. absurd (omega arith)) ∙ h 15 refl
+        (λ e. absurd (omega arith)) ∙ h 15 refl
     each (suc (suc (suc (suc (suc (suc (suc (suc (suc k))))))))) lt = absurd
-      (let l = long in omega arith)
+        (let l = long in omega arith)
 
 -- the return address popped
 pub popped_is : (m : Memory) (old : ℕ → ℕ) (back : ℕ) (c : Context) → length c.kept ≡ 9
@@ -302,8 +307,8 @@ pub popped_is : (m : Memory) (old : ℕ → ℕ) (back : ℕ) (c : Context) → 
     → IsWord m (old 4) back → popped m c ≡ Ok (left_to old back)
 popped_is m old back c n h lt w =
     ap (λ a. word m a >>= λ v. Ok (rsp_raised (record c { rip = v }) 8)) (h 4 refl)
-      ∙ ap (λ (a : Answer ℕ). a >>= λ v. Ok (rsp_raised (record c { rip = v }) 8))
-        (word-is m (old 4) back w) ∙ ap Ok (left_with old back c n h lt)
+    ∙ ap (λ (a : Answer ℕ). a >>= λ v. Ok (rsp_raised (record c { rip = v }) 8))
+    (word-is m (old 4) back w) ∙ ap Ok (left_with old back c n h lt)
 
 pub undoing : UndoingRestores
 undoing i m c base old back ops n lt ol a s f o =
@@ -312,4 +317,4 @@ undoing i m c base old back ops n lt ol a s f o =
     ap (λ (x : Answer Undo). x >>= λ v. all_undone m base [] v >>= returned m) r.is
     ∙ ap (λ b. returned_or m r.after.context b) r.returned
     ∙ popped_is m old back r.after.context r.kept r.now lt
-      (return_word m old back base (get c 4) ops s)
+    (return_word m old back base (get c 4) ops s)

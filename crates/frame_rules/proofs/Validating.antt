@@ -42,12 +42,14 @@ joined : (f offset at : ℕ) (done cs : List UnwindCode) (c : UnwindCode) (its x
     → Has f offset at done (c ∷ cs) (its ++ xs) ss
 joined f offset at done cs c its xs rest ss h r e =
     let p = and_parts (is_step f offset c.operation its)
-      (are_sized its && eqb c.offset (at + bytes its)) h in
+    (are_sized its && eqb c.offset (at + bytes its)) h in
     let q = and_parts (are_sized its) (eqb c.offset (at + bytes its)) p.1 in
     let end = eqb-true c.offset (at + bytes its) q.1 in
     subst (Has f offset at done (c ∷ cs) (its ++ xs)) e (record {
-      are = (record { does = p.0; sized = q.0; ends = end },
-        subst (λ a. ArePrologueSteps f offset a rest) end r.are);
+      are = (
+        record { does = p.0; sized = q.0; ends = end },
+        subst (λ a. ArePrologueSteps f offset a rest) end r.are,
+      );
       spelled = ap (λ (ys : List FetchedInstr). its ++ ys) r.spelled;
       codes = r.codes;
     })
@@ -63,29 +65,29 @@ has_steps f offset at done (c ∷ cs) (x ∷ xs) ss e = first
     refl e
   where
     second : ((ys : List FetchedInstr) (rest : List PrologueStep)
-      → steps f offset c.offset cs ys ≡ Some rest → Has f offset c.offset (c ∷ done) cs ys rest)
-      → (xs : List FetchedInstr) → three f offset at c (steps f offset c.offset cs) (x ∷ xs)
-      ≡ Some ss → Has f offset at done (c ∷ cs) (x ∷ xs) ss
+        → steps f offset c.offset cs ys ≡ Some rest → Has f offset c.offset (c ∷ done) cs ys rest)
+        → (xs : List FetchedInstr) → three f offset at c (steps f offset c.offset cs) (x ∷ xs)
+        ≡ Some ss → Has f offset at done (c ∷ cs) (x ∷ xs) ss
     second more [] e = absurd cc
     second more (y ∷ []) e = absurd cc
     second more (y ∷ z ∷ xs) e = go (fits f offset at c (x ∷ y ∷ z ∷ [])) refl e
       where
         go : (b : Bool) → fits f offset at c (x ∷ y ∷ z ∷ []) ≡ b
-          → with_step c (x ∷ y ∷ z ∷ []) (steps f offset c.offset cs xs) b None ≡ Some ss
-          → Has f offset at done (c ∷ cs) (x ∷ y ∷ z ∷ xs) ss
+            → with_step c (x ∷ y ∷ z ∷ []) (steps f offset c.offset cs xs) b None ≡ Some ss
+            → Has f offset at done (c ∷ cs) (x ∷ y ∷ z ∷ xs) ss
         go true is e =
             let s : PrologueStep = record { code = c; items = x ∷ y ∷ z ∷ [] } in
             let b = was_before s (steps f offset c.offset cs xs) ss e in
             joined f offset at done cs c (x ∷ y ∷ z ∷ []) xs b.rest ss is (more xs b.rest b.is)
-              b.all
+            b.all
         go false is e = absurd cc
 
     first : ((ys : List FetchedInstr) (rest : List PrologueStep)
-      → steps f offset c.offset cs ys ≡ Some rest → Has f offset c.offset (c ∷ done) cs ys rest)
-      → (b : Bool) → fits f offset at c (x ∷ []) ≡ b
-      → with_step c (x ∷ []) (steps f offset c.offset cs xs) b
+        → steps f offset c.offset cs ys ≡ Some rest → Has f offset c.offset (c ∷ done) cs ys rest)
+        → (b : Bool) → fits f offset at c (x ∷ []) ≡ b
+        → with_step c (x ∷ []) (steps f offset c.offset cs xs) b
         (three f offset at c (steps f offset c.offset cs) (x ∷ xs)) ≡ Some ss
-      → Has f offset at done (c ∷ cs) (x ∷ xs) ss
+        → Has f offset at done (c ∷ cs) (x ∷ xs) ss
     first more true is e =
         let s : PrologueStep = record { code = c; items = x ∷ [] } in
         let b = was_before s (steps f offset c.offset cs xs) ss e in
@@ -105,11 +107,11 @@ rules_are_right i xs ys h =
     let b = and_parts (has_codes i) (has_prologue i xs && has_body i ys) a.1 in
     let c = and_parts (has_prologue i xs) (has_body i ys) b.1 in
     let codes = and_parts (are_allowed f (operations i.codes))
-      (not (has_frame i) || sets_frame (operations i.codes)) b.0 in
+    (not (has_frame i) || sets_frame (operations i.codes)) b.0 in
     let p = and_parts (is_ordered (operations i.codes))
-      (eqb i.prologue_size (bytes xs) && are_steps (steps f off 0 (turned [] i.codes) xs)) c.0 in
+    (eqb i.prologue_size (bytes xs) && are_steps (steps f off 0 (turned [] i.codes) xs)) c.0 in
     let q = and_parts (eqb i.prologue_size (bytes xs))
-      (are_steps (steps f off 0 (turned [] i.codes) xs)) p.1 in
+    (are_steps (steps f off 0 (turned [] i.codes) xs)) p.1 in
     let s = steps_of (steps f off 0 (turned [] i.codes) xs) q.1 in
     let has = has_steps f off 0 [] (turned [] i.codes) xs s.0 s.1 in
     record {
@@ -122,10 +124,9 @@ rules_are_right i xs ys h =
         steps = has.are;
         ordered = p.0;
         allowed = codes.0;
-        frame = λ ne. elim (or_cases (not (has_frame i)) (sets_frame (operations i.codes)) codes.1)
-          [
+        frame = λ ne. elim (or_cases (not (has_frame i)) (sets_frame (operations i.codes)) codes.1) [
           | inl none ↦ absurd (false≢true (sym (not-true (has_frame i) none)
-          ∙ ap not (ne_eqb f 0 ne)))
+              ∙ ap not (ne_eqb f 0 ne)))
           | inr set ↦ set
         ];
         body = c.1;

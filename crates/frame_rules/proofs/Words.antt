@@ -21,8 +21,8 @@ all_may may (suc zero) at lt h = ap (λ b. cond b None (Some at)) (h at (omega a
 all_may may (suc (suc n)) at lt h =
     let e : next at ≡ at + 1 = omega arith in
     ap (λ b. cond b (first_refused may (suc n) (next at)) (Some at))
-      (h at (omega arith) (omega arith)) ∙ ap (first_refused may (suc n)) e
-      ∙ all_may may (suc n) (at + 1) (omega arith) (λ a p q. h a (omega arith) (omega arith))
+    (h at (omega arith) (omega arith)) ∙ ap (first_refused may (suc n)) e
+    ∙ all_may may (suc n) (at + 1) (omega arith) (λ a p q. h a (omega arith) (omega arith))
 
 pub same_number : (f g : ℕ → ℕ) (n at : ℕ) → at + n ≤ 2 ^ 64
     → ((a : ℕ) → at ≤ a → a < at + n → f a ≡ g a) → number_at f n at ≡ number_at g n at
@@ -32,9 +32,9 @@ same_number f g (suc zero) at lt h = ap (λ x. x + 256 * 0) (h at (omega arith) 
 same_number f g (suc (suc n)) at lt h =
     let e : next at ≡ at + 1 = omega arith in
     let rest = ap (number_at f (suc n)) e ∙ same_number f g (suc n) (at + 1) (omega arith)
-      (λ a p q. h a (omega arith) (omega arith)) ∙ sym (ap (number_at g (suc n)) e) in
+    (λ a p q. h a (omega arith) (omega arith)) ∙ sym (ap (number_at g (suc n)) e) in
     ap (λ x. x + 256 * number_at f (suc n) (next at)) (h at (omega arith) (omega arith))
-      ∙ ap (λ x. g at + 256 * x) rest
+    ∙ ap (λ x. g at + 256 * x) rest
 
 -- a word whose bytes are kept
 pub kept_word : (m n : Memory) (at v : ℕ) → KeepsWord m n at → IsWord m at v → IsWord n at v
@@ -77,9 +77,9 @@ left_word m at v a x lt apart w = record {
   readable = w.readable;
   value = same_number (with_number m.byte 8 at v) m.byte 8 a w.high
       (λ b p q. untouched m.byte 8 at v b (λ i il e. elim apart [
-    | inl before ↦ let h = w.high in absurd (omega arith)
-    | inr after ↦ let h = w.high in absurd (omega arith)
-  ]) (omega arith)) ∙ w.value;
+        | inl before ↦ let h = w.high in absurd (omega arith)
+        | inr after ↦ let h = w.high in absurd (omega arith)
+      ]) (omega arith)) ∙ w.value;
   high = w.high;
 }
 
@@ -91,10 +91,11 @@ pub left_words : (m : Memory) (old : ℕ → ℕ) (back base at n v : ℕ) (ops 
 left_words m old back base at n v [] o lt le p
     s = (s.0, left_word m (base + n) v at back lt (inl (omega arith)) s.1)
 left_words m old back base at n v (Push r ∷ ops) (push q o) lt le p s =
-    let z = pushes_alone ops q in
-    (left_word m (base + n) v at (old r) lt (inl (omega arith)) s.0,
+    let z = pushes_alone ops q in (
+      left_word m (base + n) v at (old r) lt (inl (omega arith)) s.0,
       left_words m old back base (at + 8) n v ops o lt (omega arith)
-      (and_parts true (are_apart n ops) p).1 s.1)
+          (and_parts true (are_apart n ops) p).1 s.1,
+    )
 left_words m old back base at n v (Allocate k ∷ ops) (allocate q o) lt le p s = left_words m old
     back base (at + k) n v ops o lt (omega arith) p s
 left_words m old back base at n v (SetFrame ∷ ops) (frame t q o) lt le p s = left_words m old back
@@ -102,12 +103,13 @@ left_words m old back base at n v (SetFrame ∷ ops) (frame t q o) lt le p s = l
 left_words m old back base at n v (Save r k ∷ ops) (save o) lt le p s =
     let parts = and_parts (leb (n + 8) k || leb (k + 8) n) (are_apart n ops) p in
     let apart : (base + n + 8 ≤ base + k) ⊎ (base + k + 8 ≤ base + n) = elim
-      (or_cases (leb (n + 8) k) (leb (k + 8) n) parts.0) [
+    (or_cases (leb (n + 8) k) (leb (k + 8) n) parts.0) [
       | inl a ↦ inl (let l = leb-true (n + 8) k a in omega arith)
       | inr a ↦ inr (let l = leb-true (k + 8) n a in omega arith)
-    ] in
-    (left_word m (base + n) v (base + k) (old r) lt apart s.0,
-      left_words m old back base at n v ops o lt (omega arith) parts.1 s.1)
+    ] in (
+      left_word m (base + n) v (base + k) (old r) lt apart s.0,
+      left_words m old back base at n v ops o lt (omega arith) parts.1 s.1,
+    )
 left_words m old back base at n v (SaveVector r k ∷ ops) o lt le p s = absurd s
 left_words m old back base at n v (MachineFrame k ∷ ops) o lt le p s = absurd s
 
@@ -145,13 +147,13 @@ moved_words m n old back base at ops protection byte le s = go at ops le s
     word : (a v : ℕ) → base ≤ a → IsWord m a v → IsWord n a v
     word a v l w = record {
       readable = ap (λ (f : ℕ → Protection). first_refused (λ b. is_readable (f b).rights) 8 a)
-        protection ∙ w.readable;
+          protection ∙ w.readable;
       value = same_number n.byte m.byte 8 a w.high (λ b p q. byte b (omega arith)) ∙ w.value;
       high = w.high;
     }
 
     go : (at : ℕ) (ops : List UnwindOperation) → base ≤ at → Stack m old back base at ops
-      → Stack n old back base at ops
+        → Stack n old back base at ops
     go at [] le s = (s.0, word at back le s.1)
     go at (Push r ∷ ops) le s = (word at (old r) le s.0, go (at + 8) ops (omega arith) s.1)
     go at (Allocate k ∷ ops) le s = go (at + k) ops (omega arith) s

@@ -50,7 +50,7 @@ kept w c k v r e = set_other c.registers (number k) r _ (λ z. eqb-false (number
 store_keeps : (s t : State) (at : ℕ) (w : Width) (v r : ℕ) → store s at w v ≡ Ok t → Same s t r
 store_keeps s t at w v r e =
     let b = bound (granted (stored s.memory at w))
-      (λ _. Ok (record s { memory = after_store s.memory at w v })) t e in
+    (λ _. Ok (record s { memory = after_store s.memory at w v })) t e in
     same_cpu s t (record s { memory = after_store s.memory at w v }) r b.then refl
 
 write_keeps : (s t : State) (w : Width) (to : RegisterOrMemory) (v r : ℕ)
@@ -71,20 +71,20 @@ change_keeps : (s t : State) (o : Operation) (w : Width) (to : RegisterOrMemory)
     (r : ℕ) → has r (written_place to) ≡ false → change s o w to from ≡ Ok t → Same s t r
 change_keeps s t o w to from r h e =
     let b = bound (operand s w from) (λ b. may_change s w to >>= λ _. read s w to
-      >>= λ a. write (with_flags s (computed o w a b).1) w to (computed o w a b).0) t e in
+    >>= λ a. write (with_flags s (computed o w a b).1) w to (computed o w a b).0) t e in
     let c = bound (may_change s w to) (λ _. read s w to
-      >>= λ a. write (with_flags s (computed o w a b.value).1) w to (computed o w a b.value).0) t
-        b.then in
+    >>= λ a. write (with_flags s (computed o w a b.value).1) w to (computed o w a b.value).0) t
+    b.then in
     let d = bound (read s w to) (λ a. write (with_flags s (computed o w a b.value).1) w to
-      (computed o w a b.value).0) t c.then in
+    (computed o w a b.value).0) t c.then in
     write_keeps (with_flags s (computed o w d.value b.value).1) t w to
-      (computed o w d.value b.value).0 r h d.then
+    (computed o w d.value b.value).0 r h d.then
 
 compare_keeps : (s t : State) (o : Operation) (w : Width) (to : RegisterOrMemory) (from : Operand)
     (r : ℕ) → compare s o w to from ≡ Ok t → Same s t r
 compare_keeps s t o w to from r e =
     let b = bound (operand s w from) (λ b. read s w to
-      >>= λ a. Ok (with_flags s (computed o w a b).1)) t e in
+    >>= λ a. Ok (with_flags s (computed o w a b).1)) t e in
     let c = bound (read s w to) (λ a. Ok (with_flags s (computed o w a b.value).1)) t b.then in
     same_cpu s t (with_flags s (computed o w c.value b.value).1) r c.then refl
 
@@ -92,15 +92,17 @@ push_keeps : (s t : State) (v r : ℕ) → eqb 4 r ≡ false → push s v ≡ Ok
 push_keeps s t v r h e =
     let at = (register s.cpu Rsp + (2 ^ 64 - 8)) % 2 ^ 64 in
     store_keeps (record s { cpu = with_register W64 s.cpu Rsp at }) t at W64 v r e
-      ∙ kept W64 s.cpu Rsp at r h
+    ∙ kept W64 s.cpu Rsp at r h
 
 pop_keeps : (s : State) (x : ℕ × State) (r : ℕ) → eqb 4 r ≡ false → pop s ≡ Ok x → Same s x.1 r
 pop_keeps s x r h e =
-    let low : State = record s { cpu = with_register W64 s.cpu Rsp
-      ((register s.cpu Rsp + 8) % 2 ^ 64) } in
+    let low : State = record s {
+      cpu = with_register W64 s.cpu Rsp
+          ((register s.cpu Rsp + 8) % 2 ^ 64);
+    } in
     let b = bound (load s.memory (register s.cpu Rsp) W64) (λ v. Ok (v, low)) x e in
     ap (λ (p : ℕ × State). registers p.1 r) (sym (ok_same b.then))
-      ∙ kept W64 s.cpu Rsp ((register s.cpu Rsp + 8) % 2 ^ 64) r h
+    ∙ kept W64 s.cpu Rsp ((register s.cpu Rsp + 8) % 2 ^ 64) r h
 
 jumped_keeps : (c : Cpu) (b : Bool) (a r : ℕ)
     → get_or (cond b (record c { rip = a }) c).registers r 0 ≡ get_or c.registers r 0
@@ -113,7 +115,7 @@ quotient_keeps s t w (Ok x) r h e =
     let p = or_parts (eqb 0 r) (eqb 2 r || false) h in
     let q = or_parts (eqb 2 r) false p.1 in
     same_cpu s t (record s { cpu = with_register w (with_register w s.cpu Rax x.0) Rdx x.1 }) r e
-      (kept w (with_register w s.cpu Rax x.0) Rdx x.1 r q.0 ∙ kept w s.cpu Rax x.0 r p.0)
+    (kept w (with_register w s.cpu Rax x.0) Rdx x.1 r q.0 ∙ kept w s.cpu Rax x.0 r p.0)
 quotient_keeps s t w (Err x) r h e = absurd cc
 
 pub writes_no_other : WritesNoOther
@@ -149,11 +151,11 @@ writes_no_other s t (instrs.Pop k) r n e h =
     let q = or_parts (eqb (number k) r) false p.1 in
     let b = bound (pop s) (λ x. Ok (record x.1 { cpu = with_register W64 x.1.cpu k x.0 })) t e in
     same_cpu s t (record b.value.1 { cpu = with_register W64 b.value.1.cpu k b.value.0 }) r b.then
-      (kept W64 b.value.1.cpu k b.value.0 r q.0 ∙ pop_keeps s b.value r p.0 b.is)
+    (kept W64 b.value.1.cpu k b.value.0 r q.0 ∙ pop_keeps s b.value r p.0 b.is)
 writes_no_other s t instrs.Return r n e h =
     let b = bound (pop s) (λ x. Ok (with_rip x.1 x.0)) t e in
     same_cpu s t (with_rip b.value.1 b.value.0) r b.then
-      (pop_keeps s b.value r (or_parts (eqb 4 r) false h).0 b.is)
+    (pop_keeps s b.value r (or_parts (eqb 4 r) false h).0 b.is)
 writes_no_other s t instrs.NoOperation r n e h = same_cpu s t s r e refl
 writes_no_other s t instrs.Breakpoint r n e h = absurd cc
 writes_no_other s t instrs.Undefined r n e h = absurd cc

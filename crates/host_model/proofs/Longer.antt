@@ -43,8 +43,8 @@ none_yet out x b = record { shows = b; ends = λ e h. absurd cc }
 
 longer_or : (f : Functions) (fs : List Funclet) (k j : ℕ) (out : List Event) (h : Host)
     → ((g : Host) (ev : List Event) → Covers (run f fs k g ev).events (run f fs k g ev).end
-      (run f fs (k + j) g ev)) → Covers (or_turn f fs (run f fs k) out h).events
-      (or_turn f fs (run f fs k) out h).end (or_turn f fs (run f fs (k + j)) out h)
+    (run f fs (k + j) g ev)) → Covers (or_turn f fs (run f fs k) out h).events
+    (or_turn f fs (run f fs k) out h).end (or_turn f fs (run f fs (k + j)) out h)
 longer_or f fs k j out (Ended e) rest = covers_self (record { events = out; end = Some e })
 longer_or f fs k j out (Live s) rest = rest (after (turn f fs s)) (out ++ shown_in (turn f fs s))
 
@@ -61,26 +61,29 @@ longer f fs zero zero h out = covers_self (run f fs zero h out)
 longer f fs zero (suc j) h out =
     let e : 0 + suc j ≡ suc j = omega arith in
     subst (λ n. Covers (run f fs 0 h out).events (run f fs 0 h out).end (run f fs n h out)) (sym e)
-      (ended_or f fs j out h)
+    (ended_or f fs j out h)
 longer f fs (suc k) j h out =
     let e : suc k + j ≡ suc (k + j) = omega arith in
     subst (λ n. Covers (run f fs (suc k) h out).events (run f fs (suc k) h out).end
-      (run f fs n h out)) (sym e) (longer_or f fs k j out h (λ g ev. longer f fs k j g ev))
+    (run f fs n h out)) (sym e) (longer_or f fs k j out h (λ g ev. longer f fs k j g ev))
 
 pub covers_then : CoveringIsTransitive
 covers_then ev end y z a b = record {
-  shows = (a.shows.0 ++ b.shows.0, b.shows.1 ∙ ap (λ (t : List Event). t ++ b.shows.0) a.shows.1
-      ∙ append_assoc ev a.shows.0 b.shows.0);
+  shows = (
+    a.shows.0 ++ b.shows.0,
+    b.shows.1 ∙ ap (λ (t : List Event). t ++ b.shows.0) a.shows.1
+        ∙ append_assoc ev a.shows.0 b.shows.0,
+  );
   ends = λ e h. let same = a.ends e h in b.ends e (ap (λ (w : Shown RunEnd). w.end) same)
       ∙ ap (λ (w : Shown RunEnd). let v : Shown
-        RunEnd = record { events = w.events; end = Some e } in v) same;
+      RunEnd = record { events = w.events; end = Some e } in v) same;
 }
 
 -- ---- images
 
 of_reading : (read : Result Image ImageErr) (arg : ℤ) (k j : ℕ)
     → Covers (machine_of read arg k).events (machine_of read arg k).end
-      (machine_of read arg (k + j))
+    (machine_of read arg (k + j))
 of_reading (Ok image) arg k j = let f = functions_in image in
     longer f (funclets f.entries) k j (host (start image arg)) []
 of_reading (Err e) arg k j = covers_self (record { events = []; end = None })

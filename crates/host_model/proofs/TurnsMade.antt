@@ -26,7 +26,7 @@ shown_one_more f fs zero h = append-nil (shown_next f fs h)
 shown_one_more f fs (suc n) h =
     ap (λ t. shown_next f fs h ++ t) (shown_one_more f fs n (next f fs h))
     ∙ sym (append_assoc (shown_next f fs h) (shown_in_turns f fs n (next f fs h))
-      (shown_next f fs (after_turns f fs n (next f fs h))))
+    (shown_next f fs (after_turns f fs n (next f fs h))))
 
 -- some turns, and others after them
 pub after_more : (f : Functions) (fs : List Funclet) (n m : ℕ) (h : Host)
@@ -47,7 +47,7 @@ shown_more f fs (suc n) m h =
     ap (λ k. shown_in_turns f fs k h) e
     ∙ ap (λ t. shown_next f fs h ++ t) (shown_more f fs n m (next f fs h))
     ∙ sym (append_assoc (shown_next f fs h) (shown_in_turns f fs n (next f fs h))
-      (shown_in_turns f fs m (after_turns f fs n (next f fs h))))
+    (shown_in_turns f fs m (after_turns f fs n (next f fs h))))
 
 pub turns_split : TurnsSplit
 turns_split f fs n m h = record { host = after_more f fs n m h; shown = shown_more f fs n m h }
@@ -67,18 +67,20 @@ run_ended f fs zero e out = refl
 run_ended f fs (suc n) e out = refl
 
 of_ended : (f : Functions) (fs : List Funclet) (n : ℕ) (e : RunEnd) (out : List Event)
-    → run f fs n (Ended e) out ≡ record { events = out ++ shown_in_turns f fs n (Ended e);
-      end = end_of (after_turns f fs n (Ended e)) }
+    → run f fs n (Ended e) out ≡ record {
+      events = out ++ shown_in_turns f fs n (Ended e);
+      end = end_of (after_turns f fs n (Ended e));
+    }
 of_ended f fs n e out =
     let stays = ends_stay f fs n e in
     run_ended f fs n e out
     ∙ ap (λ es. let x : Shown RunEnd = record { events = es; end = Some e } in x)
-      (sym (append-nil out))
+    (sym (append-nil out))
     ∙ ap (λ es. let x : Shown RunEnd = record { events = out ++ es; end = Some e } in x)
-      (sym stays.shown)
+    (sym stays.shown)
     ∙ ap (λ (h : Host). let x : Shown RunEnd =
-      record { events = out ++ shown_in_turns f fs n (Ended e); end = end_of h } in x)
-      (sym stays.host)
+    record { events = out ++ shown_in_turns f fs n (Ended e); end = end_of h } in x)
+    (sym stays.host)
 
 pub runs_are_turns : RunsAreTurns
 unfolding run after_turns shown_in_turns
@@ -89,6 +91,8 @@ runs_are_turns f fs (suc n) (Live s) out =
     let shown = shown_in (turn f fs s) in
     let rest = after (turn f fs s) in
     runs_are_turns f fs n rest (out ++ shown)
-    ∙ ap (λ es. let x : Shown RunEnd = record { events = es;
-      end = end_of (after_turns f fs n rest) } in x)
-      (append_assoc out shown (shown_in_turns f fs n rest))
+    ∙ ap (λ es. let x : Shown RunEnd = record {
+      events = es;
+      end = end_of (after_turns f fs n rest);
+    } in x)
+    (append_assoc out shown (shown_in_turns f fs n rest))

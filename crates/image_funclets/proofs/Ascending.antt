@@ -16,15 +16,18 @@ pub inserted_ascends : (low a : ℕ) (b : Bool) (xs : List Funclet) → low ≤ 
 inserted_ascends low a b [] le up = (le, tt)
 inserted_ascends low a b (x ∷ xs) le up = elim (cases_lt a x.address) [
   | inl lt ↦ subst (λ c. AreAscending low (if_below a b x xs (inserted a b xs) c))
-    (sym (lt-ltb a x.address lt)) (le, (omega arith, up.1))
+      (sym (lt-ltb a x.address lt)) (le, (omega arith, up.1))
   | inr ge ↦ subst (λ c. AreAscending low (if_below a b x xs (inserted a b xs) c))
-    (sym (le-ltb a x.address ge)) (elim (cases_eq a x.address) [
-    | inl e ↦ subst (λ c. AreAscending low (if_same a b x xs (inserted a b xs) c))
-      (sym (eq-eqb a x.address e)) up
-    | inr n ↦ subst (λ c. AreAscending low (if_same a b x xs (inserted a b xs) c))
-      (sym (ne_eqb a x.address n)) (up.0, inserted_ascends (x.address + 1) a b xs (omega (arith, n))
-      up.1)
-  ])
+      (sym (le-ltb a x.address ge)) (elim (cases_eq a x.address) [
+        | inl e ↦ subst (λ c. AreAscending low (if_same a b x xs (inserted a b xs) c))
+            (sym (eq-eqb a x.address e)) up
+        | inr n ↦ subst (λ c. AreAscending low (if_same a b x xs (inserted a b xs) c))
+            (sym (ne_eqb a x.address n)) (
+              up.0,
+              inserted_ascends (x.address + 1) a b xs (omega (arith, n))
+                  up.1,
+            )
+      ])
 ]
 
 pub row_ascends : (r : ScopeRecord) (fs : List Funclet) (b : Bool) → AreAscending 0 fs
@@ -74,7 +77,7 @@ pub addresses_rise : (low : ℕ) (xs : List Funclet) → AreAscending low xs
 addresses_rise low xs up i j d le within = elim (cases_lt i j) [
   | inl lt ↦ let r = rises low xs i j d up lt within in omega arith
   | inr ge ↦ let e : i ≡ j = omega arith in subst
-    (λ k. (get_or xs i d).address ≤ (get_or xs k d).address) e (omega arith)
+      (λ k. (get_or xs i d).address ≤ (get_or xs k d).address) e (omega arith)
 ]
 
 none_arrives : (c : Cpu) (rva k : ℕ) (fs : List Funclet) (d : Funclet)
@@ -82,7 +85,7 @@ none_arrives : (c : Cpu) (rva k : ℕ) (fs : List Funclet) (d : Funclet)
 none_arrives c rva k [] d other = refl
 none_arrives c rva k (f ∷ fs) d other =
     ap (if_here (by_kind c k f.is_finally) (arrivals c rva (k + 1) fs))
-      (ne_eqb rva f.address (other 0 (omega arith)))
+    (ne_eqb rva f.address (other 0 (omega arith)))
     ∙ none_arrives c rva (k + 1) fs d (λ j lt. other (suc j) (omega arith))
 
 one_arrives : (c : Cpu) (rva k i : ℕ) (fs : List Funclet) (d : Funclet) → i < length fs
@@ -96,7 +99,7 @@ one_arrives c rva k zero (f ∷ fs) d lt other is =
 one_arrives c rva k (suc i) (f ∷ fs) d lt other is =
     let same : k + 1 + i ≡ k + suc i = omega arith in
     ap (if_here (by_kind c k f.is_finally) (arrivals c rva (k + 1) fs))
-      (ne_eqb rva f.address (other 0 (omega arith)))
+    (ne_eqb rva f.address (other 0 (omega arith)))
     ∙ one_arrives c rva (k + 1) i fs d (omega arith) (λ j h. other (suc j) (omega arith)) is
     ∙ ap (λ n. by_kind c n (get_or fs i d).is_finally ∷ []) same
 
@@ -112,7 +115,7 @@ module _ (c : Cpu) (rva n : ℕ) (fs : List Funclet) (up : AreAscending 0 fs)
   arrives lt here =
       let e : 1 + n ≡ n + 1 = omega arith in
       one_arrives c rva 1 n fs no_funclet lt (λ j h z. let b = below j no_funclet h in
-        absurd (omega arith)) here
+      absurd (omega arith)) here
       ∙ ap (λ k. by_kind c k (get_or fs n no_funclet).is_finally ∷ []) e
 
   pub past_all : length fs ≤ n → arrivals c rva 1 fs ≡ []

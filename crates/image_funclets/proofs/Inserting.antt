@@ -25,7 +25,7 @@ greater a b lt = sym (nat_cmp_is a b Greater lt)
 
 looked : (a : ℕ) (e : ℕ × Bool) (es : List (ℕ × Bool)) (o : Ordering) → nat_cmp a e.0 ≡ o
     → lookup (is_at (nat_cmp a)) (e ∷ es) ≡ cond (is_eq o) (Some e.1)
-      (lookup (is_at (nat_cmp a)) es)
+    (lookup (is_at (nat_cmp a)) es)
 looked a e es o h = ap (λ x. cond (is_eq x) (Some e.1) (lookup (is_at (nat_cmp a)) es)) h
 
 later : (a : ℕ) (e : ℕ × Bool) (es : List (ℕ × Bool)) → a ≢ e.0
@@ -67,14 +67,14 @@ entry_new : (a : ℕ) (b : Bool) (es : List (ℕ × Bool)) → lookup (is_at (na
 entry_new a b [] none = refl
 entry_new a b (e ∷ es) none = elim (cases_lt a e.0) [
   | inl lt ↦ ap funclets_of (entry_in a b e es Less (less a e.0 lt))
-  ∙ sym (below a b (funclet_of e) (funclets_of es) lt)
+      ∙ sym (below a b (funclet_of e) (funclets_of es) lt)
   | inr ge ↦ elim (cases_eq a e.0) [
     | inl is ↦ absurd (never (sym (looked a e es Equal (same a e.0 is)) ∙ none))
     | inr n ↦
         let gt : e.0 < a = omega (arith, n) in
         ap funclets_of (entry_in a b e es Greater (greater a e.0 gt))
         ∙ ap (λ (t : List Funclet). funclet_of e ∷ t)
-          (entry_new a b es (sym (later a e es n) ∙ none))
+        (entry_new a b es (sym (later a e es n) ∙ none))
         ∙ sym (above a b (funclet_of e) (funclets_of es) gt)
   ]
 ]
@@ -99,7 +99,7 @@ entry_old low a b (e ∷ es) up found = elim (cases_eq a e.0) [
   | inl is ↦ there a b (funclet_of e) (funclets_of es) is
   | inr n ↦
       let found' : is_some (lookup (is_at (nat_cmp a)) es)
-        ≡ true = sym (ap is_some (later a e es n)) ∙ found in
+      ≡ true = sym (ap is_some (later a e es n)) ∙ found in
       let more = found_above (e.0 + 1) a es up.1 found' in
       above a b (funclet_of e) (funclets_of es) (omega (arith, more))
       ∙ ap (λ (t : List Funclet). funclet_of e ∷ t) (entry_old (e.0 + 1) a b es up.1 found')

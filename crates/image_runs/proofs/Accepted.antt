@@ -19,8 +19,11 @@ use Rattle.image_runs.specs.AcceptedLaws.{AcceptedReadsNoUnset, AcceptedRealise,
 
 pub linkable : (text : List ℕ) (xs : List ExternalDeclaration) → Within text xs → Accepted text xs
     → FitsProgram (lowered (program_of text xs)) → IsLinkable (program_of text xs)
-linkable text xs within accepted fits = record { sound = accepted_is_sound text xs within accepted;
-    shallow = resolved_is_shallow text xs within; fits = fits }
+linkable text xs within accepted fits = record {
+  sound = accepted_is_sound text xs within accepted;
+  shallow = resolved_is_shallow text xs within;
+  fits = fits;
+}
 
 pub reads_no_unset : AcceptedReadsNoUnset
 reads_no_unset text xs within accepted = scoped_reads_no_unset (program_of text xs)
@@ -34,6 +37,6 @@ pub nothing_more : AcceptedShowNothingMore
 nothing_more text xs bytes within accepted fits w most few arg m n lt paces calm =
     let slow = pace_is_bounded text xs most few in
     let slower = mul-le (m + 1) (pace_of (program_of text xs)) (m + 1) (pace_in most) (omega arith)
-      slow in
+    slow in
     compiled_show_nothing_more (program_of text xs) (linkable text xs within accepted fits)
-      (reads_no_unset text xs within accepted) bytes w arg m n lt (omega arith) calm
+    (reads_no_unset text xs within accepted) bytes w arg m n lt (omega arith) calm

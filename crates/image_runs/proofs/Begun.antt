@@ -54,9 +54,9 @@ module _ (t : Functions) (fs : List Funclet) (program : LinearProgram) (p : Imag
     (fn : LinearFunction) (top : ℕ) (given : ℕ → ℕ)
     (h : IsCalled t fs program p q s source f fn top given)
     (some : 0 < length fn.body.code) (sane : IsSane s) (last : top + 40 ≡ STACK_END)
-      (returns_to : word s.memory top ≡ Ok 0) (arguments : List ℕ)
-      (counted : length arguments ≡ fn.parameters)
-      (same : (i v : ℕ) → slice_get arguments i ≡ Some v → given i ≡ v) where
+    (returns_to : word s.memory top ≡ Ok 0) (arguments : List ℕ)
+    (counted : length arguments ≡ fn.parameters)
+    (same : (i v : ℕ) → slice_get arguments i ≡ Some v → given i ≡ v) where
   abbrev layout : Layout
   layout = p.layout (FunctionBody f)
 
@@ -119,30 +119,34 @@ module _ (t : Functions) (fs : List Funclet) (program : LinearProgram) (p : Imag
       let a = l.locals in
       let n = l.few in
       let fits = h.fits in
-      let few = h.few in
-      (parameters_plain layout.frame 40 layout 0 fn.parameters (omega arith) (omega arith)
-        (λ j lt. inr (omega arith, omega arith)), omega arith)
+      let few = h.few in (
+        parameters_plain layout.frame 40 layout 0 fn.parameters (omega arith) (omega arith)
+            (λ j lt. inr (omega arith, omega arith)),
+        omega arith,
+      )
   arguments_stored false l =
       let a = l.locals in
       let z = l.small in
       let fits = h.fits in
-      let few = h.few in
-      (parameters_plain layout.frame 40 layout 0 fn.parameters (omega arith) (omega arith)
-        (λ j lt. inl (omega arith)), l.small)
+      let few = h.few in (
+        parameters_plain layout.frame 40 layout 0 fn.parameters (omega arith) (omega arith)
+            (λ j lt. inl (omega arith)),
+        l.small,
+      )
 
   keeps_shadow : AllKeep t fs inside.turns first
   keeps_shadow =
       let stored = arguments_stored (p.leaf (FunctionBody f))
-        (image.laid_out (FunctionBody f) o there) in
+      (image.laid_out (FunctionBody f) o there) in
       let lo = h.low in
       let at : register first.cpu Rsp ≡ top = subst (λ (x : State). register x.cpu Rsp ≡ top)
-        first_is h.stack in
+      first_is h.stack in
       (entry_ran t fs program p q image (FunctionBody f) o there some top (top + 40) 0
-        (others_of first.cpu.registers) [] inside.turns first after
-        (arguments_code program p (FunctionBody f)) [] 40
+      (others_of first.cpu.registers) [] inside.turns first after
+      (arguments_code program p (FunctionBody f)) [] 40
       (sym (append-nil (arguments_code program p (FunctionBody f)))) inside.exact
-        (enters_steps inside.turns first after inside.comes) refl at beneath_main h.memory.code
-        stored.1 (omega arith) refl
+      (enters_steps inside.turns first after inside.comes) refl at beneath_main h.memory.code
+      stored.1 (omega arith) refl
       (subst (λ (xs : List Instr). AllPlain layout.frame 40 xs) (sym arguments_are) stored.0)).keeps
 
   pub comes : Comes t fs inside.turns s [] after
@@ -172,8 +176,10 @@ module _ (t : Functions) (fs : List Funclet) (program : LinearProgram) (p : Imag
   protection_same a = ap (λ (g : ℕ → Protection). g a) keeps.protection
 
   image_kept : KeepsImage program.globals s.memory after.memory
-  image_kept = record { byte = λ a l u own. inside.same a own (inr (inl (omega arith)));
-      protection = λ a l u own. protection_same a }
+  image_kept = record {
+    byte = λ a l u own. inside.same a own (inr (inl (omega arith)));
+    protection = λ a l u own. protection_same a;
+  }
 
   memory : IsMachineMemory t fs program p q after.memory source
   memory = memory_stays t fs program p q image s.memory after.memory source source image_kept
@@ -211,7 +217,7 @@ module _ (t : Functions) (fs : List Funclet) (program : LinearProgram) (p : Imag
       let lt = slice_get_within arguments i v e in
       let n = counted in
       let z : inside.sp + layout.locals + 8 * i
-        ≡ inside.sp + (layout.locals + 8 * i) = omega arith in
+      ≡ inside.sp + (layout.locals + 8 * i) = omega arith in
       ap (number_at after.memory.byte 8) z ∙ inside.locals i (omega arith) ∙ same i v e
 
   numbers : HoldsWords after.memory (inside.sp + layout.locals)
@@ -224,10 +230,10 @@ module _ (t : Functions) (fs : List Funclet) (program : LinearProgram) (p : Imag
       let lo = sp_low in
       let fits = h.fits in
       arguments_then_words after.memory (inside.sp + layout.locals)
-        (inside.sp + slots_end layout (p.leaf (FunctionBody f))) arguments
-        (o.locals - fn.parameters) (omega arith) argument_there
+      (inside.sp + slots_end layout (p.leaf (FunctionBody f))) arguments
+      (o.locals - fn.parameters) (omega arith) argument_there
       (λ a v l u e. word_of after.memory a v (omega arith)
-        (λ x g z. may_read_written after.memory x (memory.stack x (omega arith) (omega arith))) e)
+      (λ x g z. may_read_written after.memory x (memory.stack x (omega arith) (omega arith))) e)
 
   -- ---- the return address
 
@@ -236,11 +242,11 @@ module _ (t : Functions) (fs : List Funclet) (program : LinearProgram) (p : Imag
       let l = h.low in
       let e = inside.place in
       word_of after.memory (inside.sp + layout.frame) 0 (omega arith)
-        (λ x g z. may_read_written after.memory x (memory.stack x (omega arith) (omega arith)))
+      (λ x g z. may_read_written after.memory x (memory.stack x (omega arith) (omega arith)))
       (ap (number_at after.memory.byte 8) e
       ∙ same_number after.memory.byte s.memory.byte 8 top (omega arith)
-        (λ a g z. inside.same a (stack_is_reserved program.globals a (omega arith) (omega arith))
-        (inr (inr (omega arith, omega arith))))
+      (λ a g z. inside.same a (stack_is_reserved program.globals a (omega arith) (omega arith))
+      (inr (inr (omega arith, omega arith))))
       ∙ word_is s.memory top 0 returns_to)
 
   -- ---- all of it
@@ -255,11 +261,16 @@ module _ (t : Functions) (fs : List Funclet) (program : LinearProgram) (p : Imag
       (stays_sane first after keeps rip_small (subst IsSane first_is sane)) memory inside.rip some
       (record { space = omega arith; shallow = omega arith }) tt
       (λ leaf. subst (λ x. x + home_end ≤ STACK_END) (sym stack)
-        (at_home (p.leaf (FunctionBody f)) laid leaf))
+      (at_home (p.leaf (FunctionBody f)) laid leaf))
       0 refl (subst (λ x. word after.memory (x + layout.frame) ≡ Ok 0) (sym stack) returns)
       (subst (λ x. HoldsWords after.memory (x + layout.locals)
-        (x + slots_end layout (p.leaf (FunctionBody f))) (arguments ++ others)) (sym stack) numbers)
+      (x + slots_end layout (p.leaf (FunctionBody f))) (arguments ++ others)) (sym stack) numbers)
       [] (λ more n. subst (λ x. On t fs program p after.memory (context_below 0 x more) [] [] [])
-        (sym up)
-      (record { is_there = record { stack = refl;
-        linked = (refl, (let z = h.high in omega arith)) }; data_alone = memory.data_alone }))
+      (sym up)
+      (record {
+        is_there = record {
+          stack = refl;
+          linked = (refl, (let z = h.high in omega arith));
+        };
+        data_alone = memory.data_alone;
+      }))

@@ -35,8 +35,12 @@ front_is (x ∷ xs) ys = ap (λ zs. x ∷ zs) (front_is xs ys)
 
 same_front : (xs ys zs : List ℕ) → xs ++ zs ≡ ys ++ zs → xs ≡ ys
 same_front xs ys zs e =
-    let n : length xs ≡ length ys = omega (arith, length-append xs zs, length-append ys zs,
-      ap (λ (ws : List ℕ). length ws) e) in
+    let n : length xs ≡ length ys = omega (
+      arith,
+      length-append xs zs,
+      length-append ys zs,
+      ap (λ (ws : List ℕ). length ws) e,
+    ) in
     sym (front_is xs zs) ∙ ap (take (length xs)) e ∙ ap (λ n. take n (ys ++ zs)) n ∙ front_is ys zs
 
 abbrev the_last : List (List ℕ) → List ℕ
@@ -57,7 +61,7 @@ held_arguments ts first count e = ap (λ (b : Bool). if b then Some (drop first 
 module _ (t : Functions) (fs : List Funclet) (program : LinearProgram) (p : ImagePlan) (q : Sites)
     (c d : Configuration) (twins : AreTwins program c d) (s : State) (f first count : ℕ)
     (at : instruction_at program d ≡ Some (instructions.Call f first count))
-      (held : length d.frame.temporaries ≡ first + count) where
+    (held : length d.frame.temporaries ≡ first + count) where
   abbrev i : Instruction
   i = instructions.Call f first count
 
@@ -73,7 +77,7 @@ module _ (t : Functions) (fs : List Funclet) (program : LinearProgram) (p : Imag
     ended = Finished (Deep 1001) d.events
 
     goes : (next : Next) → act program i next d
-      ≡ pick deep ended (next (own v.function (drop first d.frame.temporaries)))
+        ≡ pick deep ended (next (own v.function (drop first d.frame.temporaries)))
     goes next = call_acts program d f first count v.function v.there held next
 
     -- it isn't too deep, since it continues
@@ -82,8 +86,8 @@ module _ (t : Functions) (fs : List Funclet) (program : LinearProgram) (p : Imag
     shallow e =
         let next : Next = λ x. Running [] in
         differ (sym (v.acts next) ∙ goes next
-          ∙ ap (λ (b : Bool). pick b ended (next (own v.function (drop first d.frame.temporaries))))
-            e)
+        ∙ ap (λ (b : Bool). pick b ended (next (own v.function (drop first d.frame.temporaries))))
+        e)
       where
         differ : Running [] ≡ Finished (Deep 1001) d.events → ⊥
         differ q = cc
@@ -95,21 +99,21 @@ module _ (t : Functions) (fs : List Funclet) (program : LinearProgram) (p : Imag
         let zeros = replicate (v.function.body.locals - v.function.parameters) 0 in
         let last = drop first d.frame.temporaries in
         let same : own v.function v.arguments
-          ≡ own v.function last = alike_is_same (own v.function v.arguments) (own v.function last)
+        ≡ own v.function last = alike_is_same (own v.function v.arguments) (own v.function last)
         (λ next. sym (v.acts next) ∙ goes next
-          ∙ ap (λ (b : Bool). pick b ended (next (own v.function last))) e) in
+        ∙ ap (λ (b : Bool). pick b ended (next (own v.function last))) e) in
         same_front v.arguments last zeros
         (sym (last_is d.store.activations (v.arguments ++ zeros))
-          ∙ ap (λ (x : Configuration). the_last x.store.activations) same
-          ∙ last_is d.store.activations (last ++ zeros))
+        ∙ ap (λ (x : Configuration). the_last x.store.activations) same
+        ∙ last_is d.store.activations (last ++ zeros))
 
     moves : deep ≡ false → Moves t fs program pace turns_left (ShowsTwin t fs program p q) s c i
     moves e =
         let taken : last_temporaries d.frame.temporaries first count
-          ≡ Some v.arguments = held_arguments d.frame.temporaries first count held
-          ∙ ap (λ (xs : List ℕ). Some xs) (sym (arguments_are e)) in
+        ≡ Some v.arguments = held_arguments d.frame.temporaries first count held
+        ∙ ap (λ (xs : List ℕ). Some xs) (sym (arguments_are e)) in
         let g = twins_call program c d f first count v.function v.arguments v.others twins at taken
-          v.there e v.as_many v.small in
+        v.there e v.as_many v.small in
         let on = called_with c d f first v.function v.arguments v.others in
         let few = v.few in
         let left = same_left g.twins.marks g.on on g.twins.alike in
@@ -131,7 +135,7 @@ module _ (t : Functions) (fs : List Funclet) (program : LinearProgram) (p : Imag
     begins = by deep refl
       where
         by : (b : Bool) → deep ≡ b → IsMatched t fs program pace turns_left
-          (ShowsTwin t fs program p q) s c i
+            (ShowsTwin t fs program p q) s c i
         by true e = absurd (shallow e)
         by false e = inl (moves e)
 

@@ -31,27 +31,27 @@ same_left marks c d a = let f = a.frame in let b = a.below in
 
 module _ (t : Functions) (fs : List Funclet) (program : LinearProgram)
     (X Y : State → Configuration → Type 0) (then : (s : State) (c : Configuration) → X s c → Y s c)
-    where
-  pub moves_as : (s : State) (c : Configuration) (i : Instruction)
-      → Moves t fs program pace turns_left X s c i → Moves t fs program pace turns_left Y s c i
-  moves_as s c i v = record {
-    turns = v.turns;
-    some = v.some;
-    configuration = v.configuration;
-    few = v.few;
-    state = v.state;
-    events = v.events;
-    comes = v.comes;
-    acts = v.acts;
-    shown = v.shown;
-    is_there = then v.state v.configuration v.is_there;
-  }
+  where
+    pub moves_as : (s : State) (c : Configuration) (i : Instruction)
+        → Moves t fs program pace turns_left X s c i → Moves t fs program pace turns_left Y s c i
+    moves_as s c i v = record {
+      turns = v.turns;
+      some = v.some;
+      configuration = v.configuration;
+      few = v.few;
+      state = v.state;
+      events = v.events;
+      comes = v.comes;
+      acts = v.acts;
+      shown = v.shown;
+      is_there = then v.state v.configuration v.is_there;
+    }
 
-  pub matched_as : (s : State) (c : Configuration) (i : Instruction)
-      → IsMatched t fs program pace turns_left X s c i
-      → IsMatched t fs program pace turns_left Y s c i
-  matched_as s c i (inl v) = inl (moves_as s c i v)
-  matched_as s c i (inr v) = inr v
+    pub matched_as : (s : State) (c : Configuration) (i : Instruction)
+        → IsMatched t fs program pace turns_left X s c i
+        → IsMatched t fs program pace turns_left Y s c i
+    matched_as s c i (inl v) = inl (moves_as s c i v)
+    matched_as s c i (inr v) = inr v
 
 -- ---- from a twin
 
@@ -84,7 +84,7 @@ module _ (t : Functions) (fs : List Funclet) (program : LinearProgram) (p : Imag
         comes = v.comes;
         acts = g.goes;
         shown = sym g.twins.alike.events ∙ v.shown
-          ∙ ap (λ (xs : List Event). xs ++ v.events) twins.alike.events;
+            ∙ ap (λ (xs : List Event). xs ++ v.events) twins.alike.events;
         is_there = record { twin = v.configuration; twins = g.twins; is_there = v.is_there };
       }
 

@@ -28,20 +28,25 @@ and_false false = refl
 framed : (b : LinearBody) → 0 < length b.regions → is_leaf b ≡ false
 framed b some =
     let none : (length b.regions == 0) ≡ false = ne_eqb (length b.regions) 0
-      (λ e. (let q : length b.regions ≡ 0 = e in omega arith)) in
+    (λ e. (let q : length b.regions ≡ 0 = e in omega arith)) in
     ap (λ (x : Bool). nat_le (b.locals + b.temporaries) 4 && (x && not (has_call b.code))) none
-      ∙ and_false (nat_le (b.locals + b.temporaries) 4)
+    ∙ and_false (nat_le (b.locals + b.temporaries) 4)
 
 sized : (program : Program) → IsLinkable program → (k : ℕ) (f : LinearFunclet)
     → slice_get (lowered program).funclets k ≡ Some f → IsFuncletSized (lowered program) f
 sized program l k f e =
     let owned = is_owned program k f e in
     let small = all_at (IsSmallFunclet (lowered program)) (lowered program).funclets k f
-      (lowered_is_small program l.sound l.shallow).funclets e in
+    (lowered_is_small program l.sound l.shallow).funclets e in
     let passed = small.body.passed in
     let temporaries = small.body.temporaries in
-    record { function = owned.function.body; there = ap function_body owned.there;
-      framed = framed owned.function.body owned.some; locals = owned.locals; words = omega arith }
+    record {
+      function = owned.function.body;
+      there = ap function_body owned.there;
+      framed = framed owned.function.body owned.some;
+      locals = owned.locals;
+      words = omega arith;
+    }
 
 pub lowered_is_compiled : LoweredIsCompiled
 lowered_is_compiled program l = record {

@@ -93,22 +93,25 @@ module _ (t : Functions) (fs : List Funclet) (program : LinearProgram) (p : Imag
     pub state : State
     pub turns : ℕ
     pub exact : turns ≡ making_steps (p.leaf (FunctionBody f)) layout.frame
-      + length (arguments_code program p (FunctionBody f))
+        + length (arguments_code program p (FunctionBody f))
     pub soon : turns ≤ 16
     pub comes : Enters turns first state
     pub rip : state.cpu.rip ≡ p.address (FunctionBody f) 0
     pub stack : register state.cpu Rsp ≡ sp
     pub locals : (i : ℕ) → i < count → number_at state.memory.byte 8 (sp + (layout.locals + 8 * i))
-      ≡ arguments i
+        ≡ arguments i
     pub bytes : IsBytes state.memory
     pub agrees : Agrees (is_reserved program.globals) state.memory source
     pub same : (a : ℕ) → is_reserved program.globals a ≡ true → Outside a
-      → state.memory.byte a ≡ s.memory.byte a
+        → state.memory.byte a ≡ s.memory.byte a
 
   pub below_top : HasBelow s.memory top 8
   below_top = let l = h.low in let u = h.high in
-      record { enough = omega arith; high = omega arith;
-      writable = λ a x z. h.memory.stack a (omega arith) (omega arith) }
+      record {
+        enough = omega arith;
+        high = omega arith;
+        writable = λ a x z. h.memory.stack a (omega arith) (omega arith);
+      }
 
   -- ---- once the frame is made, the parameters
 
@@ -117,12 +120,12 @@ module _ (t : Functions) (fs : List Funclet) (program : LinearProgram) (p : Imag
       (own_frame program.globals y o sp)) (same_locals : y.locals ≡ layout.locals)
       (short : y.frame + 8 ≤ LARGEST_FRAME)
       (place : sp + layout.frame ≡ top) (code : HasCode s.memory to (parameters_code y 0 count))
-        (ends : to + sizes (parameters_code y 0 count) ≡ p.address (FunctionBody f) 0)
+      (ends : to + sizes (parameters_code y 0 count) ≡ p.address (FunctionBody f) 0)
       (outside : (a : ℕ) → Outside a → InTemporaries y (counts_of o) sp a
-        ⊎ InLocals y (counts_of o) sp a → ⊥)
+      ⊎ InLocals y (counts_of o) sp a → ⊥)
       (counted_turns : n + length (parameters_code y 0 count)
-        ≡ making_steps (p.leaf (FunctionBody f)) layout.frame
-        + length (arguments_code program p (FunctionBody f))) where
+      ≡ making_steps (p.leaf (FunctionBody f)) layout.frame
+      + length (arguments_code program p (FunctionBody f))) where
     abbrev k : State
     k = machine made.after to made.flags
 
@@ -133,7 +136,7 @@ module _ (t : Functions) (fs : List Funclet) (program : LinearProgram) (p : Imag
     made_bytes = elim made.made [
       | inl e ↦ subst IsBytes (sym e) h.memory.data_alone.bytes
       | inr e ↦ subst IsBytes (sym e) (pushed_bytes view top (target + 10)
-        h.memory.data_alone.bytes)
+          h.memory.data_alone.bytes)
     ]
 
     made_agrees : Agrees (is_reserved program.globals) made.after.memory source
@@ -142,16 +145,16 @@ module _ (t : Functions) (fs : List Funclet) (program : LinearProgram) (p : Imag
         let u = h.high in
         elim made.made [
           | inl e ↦ subst (λ (m : Memory). Agrees (is_reserved program.globals) m source) (sym e)
-            h.memory.agrees
+              h.memory.agrees
           | inr e ↦ subst (λ (m : Memory). Agrees (is_reserved program.globals) m source) (sym e)
               (pushed_agrees (is_reserved program.globals) view source top (target + 10) below_top
-                (λ a x z. stack_is_reserved program.globals a (omega arith) (omega arith))
-                h.memory.agrees)
+              (λ a x z. stack_is_reserved program.globals a (omega arith) (omega arith))
+              h.memory.agrees)
         ]
 
     made_may : (a : ℕ) → STACK_START ≤ a → a < STACK_END → may_write made.after.memory a ≡ true
     made_may a l u = ap (λ (g : ℕ → Protection). is_writable (g a).rights) made.protection
-      ∙ h.memory.stack a l u
+        ∙ h.memory.stack a l u
 
     -- no parameter is on the stack
     stack_arguments : OnStack (own_frame program.globals y o sp) made.after.memory count arguments
@@ -164,19 +167,25 @@ module _ (t : Functions) (fs : List Funclet) (program : LinearProgram) (p : Imag
     }
 
     run : ReachesBody (own_frame program.globals y o sp) (length (parameters_code y 0 count)) k
-      (to + sizes (parameters_code y 0 count)) made.after.rest
-        (record { slots = with_arguments (body_in_memory y sp sp made.after.memory source).slots
-          arguments 0 count; memory = source })
+        (to + sizes (parameters_code y 0 count)) made.after.rest
+        (record {
+          slots = with_arguments (body_in_memory y sp sp made.after.memory source).slots
+              arguments 0 count;
+          memory = source;
+        })
     run =
         parameters_run (own_frame program.globals y o sp) count arguments made.after to made.flags
-          (body_in_memory y sp sp made.after.memory source) (roomy_own program.globals y o sp own)
-          whole h.fits made.stack
+        (body_in_memory y sp sp made.after.memory source) (roomy_own program.globals y o sp own)
+        whole h.fits made.stack
         (fresh_holds (own_frame program.globals y o sp) made.after.memory source
-          (fresh_own program.globals y o sp made.after.memory source own made_bytes made_may
-          made_agrees)) made.registers stack_arguments
-        (record { is_there = bytes_kept s.memory made.after.memory to
-          (spelled (parameters_code y 0 count)) made_keeps.fixed made_keeps.protection
-          code.is_there; placed = code.placed })
+        (fresh_own program.globals y o sp made.after.memory source own made_bytes made_may
+        made_agrees)) made.registers stack_arguments
+        (record {
+          is_there = bytes_kept s.memory made.after.memory to
+              (spelled (parameters_code y 0 count)) made_keeps.fixed made_keeps.protection
+              code.is_there;
+          placed = code.placed;
+        })
 
     pub entered : InFunction
     entered =
@@ -191,22 +200,26 @@ module _ (t : Functions) (fs : List Funclet) (program : LinearProgram) (p : Imag
           exact = ap (λ k. k + length (parameters_code y 0 count)) made.exact ∙ counted_turns;
           soon = omega arith;
           comes = enters_then made.turns (length (parameters_code y 0 count)) first k
-            (machine run.after (to + sizes (parameters_code y 0 count)) run.flags) made.comes
-            run.comes;
+              (machine run.after (to + sizes (parameters_code y 0 count)) run.flags) made.comes
+              run.comes;
           rip = ends;
           stack = ap (λ (xs : List ℕ). slice_index xs 1) run.rest ∙ sym (index_of made.after.rest 1)
-            ∙ made.stack;
+              ∙ made.stack;
           locals = λ i lt. (let fits = h.fits in
               let w : sp + (layout.locals + 8 * i) ≡ sp + (y.locals + 8 * i) = omega arith in
               ap (number_at run.after.memory.byte 8) w
-                ∙ run.holds.slot (Local i) (let z : i < o.locals = omega arith in z)
+              ∙ run.holds.slot (Local i) (let z : i < o.locals = omega arith in z)
               ∙ argument_is (body_in_memory y sp sp made.after.memory source).slots arguments 0
-                count i (omega arith) (omega arith));
+              count i (omega arith) (omega arith));
           bytes = run.changes.bytes made_bytes;
           agrees = run.holds.source;
           same = λ a own_byte out. run.changes.byte a own_byte (outside a out) ∙ made.same a
               (let l = h.low in
               let u = h.high in
-              elim out [ inl x ↦ inl (omega arith) | inr (inl x) ↦ inr (omega arith) | inr
-                (inr x) ↦ (let g = x.0 in inr (omega arith)) ]);
+              elim out [
+                | inl x ↦ inl (omega arith)
+                | inr (inl x) ↦ inr (omega arith)
+                | inr
+                    (inr x) ↦ (let g = x.0 in inr (omega arith))
+              ]);
         }

@@ -76,10 +76,10 @@ module _ (t : Functions) (fs : List Funclet) (program : LinearProgram) (p : Imag
       let none : target + sizes (making_frame p q f true) ≡ target = omega arith in
       let same = home_parameters layout 0 count small in
       let made = no_frame view target s.cpu.flags top arguments
-        (entering.view_stack t fs program p q image s source f fn top arguments h) registers
-        h.registers in
+      (entering.view_stack t fs program p q image s source f fn top arguments h) registers
+      h.registers in
       entering.entered t fs program p q image s source f fn top arguments h top target 0 made
-        (with_home layout)
+      (with_home layout)
       (record {
         none = l.none;
         low = omega arith;
@@ -90,18 +90,26 @@ module _ (t : Functions) (fs : List Funclet) (program : LinearProgram) (p : Imag
         apart = inl (omega arith);
       })
       (record { base = refl; temporaries = omega arith; locals = omega arith }) refl (omega arith)
-        (omega arith)
+      (omega arith)
       (subst (λ code. HasCode s.memory target code) (sym same)
-        (subst (λ a. HasCode s.memory a (parameters_code layout 0 count)) none
-        (entry true leaf).storing))
+      (subst (λ a. HasCode s.memory a (parameters_code layout 0 count)) none
+      (entry true leaf).storing))
       (ap (λ code. target + sizes code) same ∙ (let y = (entry true leaf).ends in omega arith))
       (λ a out i. elim i [
         | inl w ↦ (let g = w.0 in let u = w.1 in
-          elim out [ inl o1 ↦ absurd (omega arith) | inr (inl o1) ↦ absurd (omega arith) | inr
-          (inr o1) ↦ (let o2 = o1.0 in let o3 = o1.1 in absurd (omega arith)) ])
+            elim out [
+              | inl o1 ↦ absurd (omega arith)
+              | inr (inl o1) ↦ absurd (omega arith)
+              | inr
+                  (inr o1) ↦ (let o2 = o1.0 in let o3 = o1.1 in absurd (omega arith))
+            ])
         | inr w ↦ (let g = w.0 in let u = w.1 in
-          elim out [ inl o1 ↦ absurd (omega arith) | inr (inl o1) ↦ absurd (omega arith) | inr
-          (inr o1) ↦ (let o2 = o1.0 in let o3 = o1.1 in absurd (omega arith)) ])
+            elim out [
+              | inl o1 ↦ absurd (omega arith)
+              | inr (inl o1) ↦ absurd (omega arith)
+              | inr
+                  (inr o1) ↦ (let o2 = o1.0 in let o3 = o1.1 in absurd (omega arith))
+            ])
       ])
       (ap (λ code. 0 + length code) same ∙ (entry true leaf).turns 0 refl)
 
@@ -115,7 +123,7 @@ module _ (t : Functions) (fs : List Funclet) (program : LinearProgram) (p : Imag
     sp = top - frame
 
     framed_entered : (making : List Instr) (n : ℕ) → making_frame p q f false ≡ making
-      → making_steps false frame ≡ n → Made view target (target + sizes making) s.cpu.flags top sp
+        → making_steps false frame ≡ n → Made view target (target + sizes making) s.cpu.flags top sp
         arguments n → Goal
     framed_entered making n e same made =
         let x = h.low in
@@ -124,7 +132,7 @@ module _ (t : Functions) (fs : List Funclet) (program : LinearProgram) (p : Imag
         let m = l.locals in
         let k = l.small in
         entering.entered t fs program p q image s source f fn top arguments h sp
-          (target + sizes making) n made layout
+        (target + sizes making) n made layout
         (record {
           none = l.none;
           low = omega arith;
@@ -135,18 +143,26 @@ module _ (t : Functions) (fs : List Funclet) (program : LinearProgram) (p : Imag
           apart = inr (omega arith);
         })
         (record { base = refl; temporaries = omega arith; locals = omega arith }) refl k
-          (omega arith)
+        (omega arith)
         (subst (λ i. HasCode s.memory (target + sizes i) (parameters_code layout 0 count)) e
-          (entry false leaf).storing)
+        (entry false leaf).storing)
         (ap (λ i. target + sizes i + sizes (parameters_code layout 0 count)) (sym e)
-          ∙ (entry false leaf).ends)
+        ∙ (entry false leaf).ends)
         (λ a out i. elim i [
           | inl w ↦ (let g = w.0 in let u = w.1 in
-            elim out [ inl o1 ↦ absurd (omega arith) | inr (inl o1) ↦ absurd (omega arith) | inr
-            (inr o1) ↦ (let o2 = o1.0 in let o3 = o1.1 in absurd (omega arith)) ])
+              elim out [
+                | inl o1 ↦ absurd (omega arith)
+                | inr (inl o1) ↦ absurd (omega arith)
+                | inr
+                    (inr o1) ↦ (let o2 = o1.0 in let o3 = o1.1 in absurd (omega arith))
+              ])
           | inr w ↦ (let g = w.0 in let u = w.1 in
-            elim out [ inl o1 ↦ absurd (omega arith) | inr (inl o1) ↦ absurd (omega arith) | inr
-            (inr o1) ↦ (let o2 = o1.0 in let o3 = o1.1 in absurd (omega arith)) ])
+              elim out [
+                | inl o1 ↦ absurd (omega arith)
+                | inr (inl o1) ↦ absurd (omega arith)
+                | inr
+                    (inr o1) ↦ (let o2 = o1.0 in let o3 = o1.1 in absurd (omega arith))
+              ])
         ])
         ((entry false leaf).turns n same)
 
@@ -156,11 +172,11 @@ module _ (t : Functions) (fs : List Funclet) (program : LinearProgram) (p : Imag
         let z = h.high in
         let k = l.small in
         let is : making_frame p q f false ≡ enter_code frame = ap
-          (making frame target q.check_stack) e in
+        (making frame target q.check_stack) e in
         framed_entered (enter_code frame) 1 is (ap (λ x. if x then 1 else 8) e)
         (small_frame view target s.cpu.flags top arguments
-          (entering.view_stack t fs program p q image s source f fn top arguments h) registers
-          h.registers frame (omega arith) (omega arith) (omega arith)
+        (entering.view_stack t fs program p q image s source f fn top arguments h) registers
+        h.registers frame (omega arith) (omega arith) (omega arith)
         (subst (HasCode s.memory target) is (entry false leaf).making))
 
     large_entered : nat_le frame 4096 ≡ false → 4096 < frame → Goal
@@ -169,7 +185,7 @@ module _ (t : Functions) (fs : List Funclet) (program : LinearProgram) (p : Imag
         let z = h.high in
         let k = l.small in
         let is : making_frame p q f false ≡ enter_large frame target q.check_stack = ap
-          (making frame target q.check_stack) e in
+        (making frame target q.check_stack) e in
         let a = image.addresses (FunctionBody f) o there in
         let begin = a.first in
         let a1 = a.inside.low in
@@ -177,18 +193,22 @@ module _ (t : Functions) (fs : List Funclet) (program : LinearProgram) (p : Imag
         let c1 = image.check_stack.low in
         let c2 = image.check_stack.high in
         let reads = λ (i : ℕ) (lo : STACK_START ≤ i) (hi : i < STACK_END). may_read_written s.memory
-          i (h.memory.stack i lo hi) in
+        i (h.memory.stack i lo hi) in
         framed_entered (enter_large frame target q.check_stack) 8 is
-          (ap (λ x. if x then 1 else 8) e)
+        (ap (λ x. if x then 1 else 8) e)
         (large_frame view target s.cpu.flags top arguments
-          (entering.view_stack t fs program p q image s source f fn top arguments h) registers
-          h.registers frame q.check_stack (omega arith)
-          (entering.below_top t fs program p q image s source f fn top arguments h)
-        (record { enough = omega arith; more = omega arith; high = omega arith;
+        (entering.view_stack t fs program p q image s source f fn top arguments h) registers
+        h.registers frame q.check_stack (omega arith)
+        (entering.below_top t fs program p q image s source f fn top arguments h)
+        (record {
+          enough = omega arith;
+          more = omega arith;
+          high = omega arith;
           first = reads (top - 4096) (omega arith) (omega arith);
-          last = reads (top - frame) (omega arith) (omega arith) })
+          last = reads (top - frame) (omega arith) (omega arith);
+        })
         ((omega arith, omega arith, omega arith, omega arith)) (omega arith)
-          h.memory.code.check_stack
+        h.memory.code.check_stack
         (subst (HasCode s.memory target) is (entry false leaf).making))
 
     by_size : (x : Bool) → nat_le frame 4096 ≡ x → Goal
@@ -196,7 +216,7 @@ module _ (t : Functions) (fs : List Funclet) (program : LinearProgram) (p : Imag
     by_size false e = elim (cases_lt 4096 frame) [
       | inl lt ↦ large_entered e lt
       | inr le ↦ absurd (let w : nat_le frame 4096 ≡ true = le-leb frame 4096 le in
-        let no : true ≡ false = sym w ∙ e in cc)
+          let no : true ≡ false = sym w ∙ e in cc)
     ]
 
   pub entered : Goal
@@ -204,6 +224,6 @@ module _ (t : Functions) (fs : List Funclet) (program : LinearProgram) (p : Imag
     where
       by : (leaf : Bool) → p.leaf (FunctionBody f) ≡ leaf → Goal
       by true e = leaf_entered e (subst (λ x. IsLayoutIf program p layout o x) e
-        (image.laid_out (FunctionBody f) o there))
+          (image.laid_out (FunctionBody f) o there))
       by false e = by_size e (subst (λ x. IsLayoutIf program p layout o x) e
-        (image.laid_out (FunctionBody f) o there)) (nat_le layout.frame 4096) refl
+          (image.laid_out (FunctionBody f) o there)) (nat_le layout.frame 4096) refl

@@ -50,7 +50,7 @@ module _ (program : LinearProgram) (c : HasWholeImage program) where
       let long = as_long program c.fits in
       let least = bounds_least (first program.globals) rs program.main 0 (omega arith) in
       let taken = get_or-take (length program.functions) (bounds (first program.globals) rs)
-        program.main 0 main in
+      program.main 0 main in
       let text : text_at (sizes_of p) ≡ text_begin program.globals = omega arith in
       omega arith
 
@@ -60,9 +60,9 @@ module _ (program : LinearProgram) (c : HasWholeImage program) where
   returns_to_zero : word m first_stack ≡ Ok 0
   returns_to_zero =
       word_of m first_stack 0 (omega arith) (λ a l u. may_read_written m a
-        (stack_writes program c a (omega arith) (omega arith)))
+      (stack_writes program c a (omega arith) (omega arith)))
       (zeros m.byte 8 first_stack (omega arith)
-        (λ x l u. stack_zero program c x (omega arith) (omega arith)))
+      (λ x l u. stack_zero program c x (omega arith) (omega arith)))
 
 pub first_states_start : FirstStatesStart
 unfolding start
@@ -75,6 +75,6 @@ first_states_start program c bytes arg = record {
 pub mains_begin : MainsBegin
 mains_begin program c bytes made arg main is_main goes =
     main_is_begun (functions_of program) (funclets_of program) program (plan_of program)
-      (sites_of program) (images_are_programs program c) made arg main
-      (start (image_of (linked program)) arg) is_main goes
+    (sites_of program) (images_are_programs program c) made arg main
+    (start (image_of (linked program)) arg) is_main goes
     (first_states_start program c bytes arg)

@@ -61,11 +61,11 @@ module _ (program : Program) (l : IsLinkable program) where
       → 0 < length b.code
   some_code k b e = every_body (λ (b : LinearBody). 0 < length b.code)
       (λ owner names e. (let n = length-append (expression_code names e 0 0)
-        (instructions.Return (Temporary 0) ∷ []) in omega arith))
+      (instructions.Return (Temporary 0) ∷ []) in omega arith))
       (λ owner names last. (let n = length-append (statements_code (finally_scope names) last 0)
-        (instructions.Return (Local names.free) ∷ []) in omega arith))
+      (instructions.Return (Local names.free) ∷ []) in omega arith))
       (λ f. (let n = length-append (statements_code (scope_of f) f.body 0)
-        (constant 0 0 ∷ instructions.Return (Temporary 0) ∷ []) in omega arith))
+      (constant 0 0 ∷ instructions.Return (Temporary 0) ∷ []) in omega arith))
       program (FunctionBody k) b e
 
   no_function : LinearFunction
@@ -75,10 +75,10 @@ module _ (program : Program) (l : IsLinkable program) where
   apart f k lt within =
       let function = get_or linear.functions f no_function in
       let there : body_of linear (FunctionBody f)
-        ≡ Some function.body = ap function_body
-          (slice_get-get_or linear.functions f no_function lt) in
+      ≡ Some function.body = ap function_body
+      (slice_get-get_or linear.functions f no_function lt) in
       functions_apart linear (lowered_is_compiled program l) f k function.body there
-        (some_code f function.body there) within
+      (some_code f function.body there) within
 
   flags : FlagsFit linear
   flags k flag f at e = has_flags program k flag f at
@@ -88,9 +88,16 @@ module _ (program : Program) (l : IsLinkable program) where
   informs name b label to field is at =
       let filter = lowered_informs_filters program l.sound name b label to field is at in
       let plain = all_at (IsPlain b.locals) b.code label (instructions.Information to field)
-        (body_small program l.sound l.shallow name b is).code at in
-      (record { number = filter.number; is = filter.is; funclet = filter.funclet;
-        there = filter.there; kind = filter.kind }, same_field field plain.1)
+      (body_small program l.sound l.shallow name b is).code at in (
+        record {
+          number = filter.number;
+          is = filter.is;
+          funclet = filter.funclet;
+          there = filter.there;
+          kind = filter.kind;
+        },
+        same_field field plain.1,
+      )
 
   pub image : IsSoundImage (functions_of linear) (funclets_of linear) linear (plan_of linear)
       (sites_of linear)
@@ -101,12 +108,12 @@ module _ (program : Program) (l : IsLinkable program) where
       room = has_room program l.sound l.shallow;
       apart = lowered_is_apart program;
       leaves = λ name b label i is leaf there. leaves_call_nothing linear
-        (lowered_is_compiled program l) name b label i is leaf there;
+          (lowered_is_compiled program l) name b label i is leaf there;
     };
     apart = apart;
     flags = flags;
     separators = λ name b label k is there. lowered_is_followed program name b is label
-      (instructions.CallFinally k) there refl;
+        (instructions.CallFinally k) there refl;
     followed = lowered_is_followed program;
     inside = lowered_stays_inside program;
     informs = informs;

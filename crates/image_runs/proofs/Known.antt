@@ -45,8 +45,11 @@ module _ (program : LinearProgram) where
   continues_alike : (marks : Marks) (c d : Configuration) → AreAlike marks c d
       → CanContinue program c → CanContinue program d
   continues_alike marks c d a h = subst (CanContinue program) (is_over marks c d a)
-      (record { instruction = h.instruction; at = h.at;
-      ready = ready_alike c d.store.activations h.instruction h.ready })
+      (record {
+        instruction = h.instruction;
+        at = h.at;
+        ready = ready_alike c d.store.activations h.instruction h.ready;
+      })
 
   stacked_alike : (marks : Marks) (c d : Configuration) → AreAlike marks c d → IsStacked program c
       → IsStacked program d
@@ -59,35 +62,37 @@ module _ (program : LinearProgram) where
       (record { held = h.held; below = h.below })
 
 module _ (program : Program) (sound : IsSound program) (reads : ReadsNoUnset (lowered program))
-    where
-  is_reached : (c d : Configuration) → AreTwins (lowered program) c d
-      → IsReached (lowered program) c
-  is_reached c d t = marked_is_reached (lowered program) c t.marks t.marked
+  where
+    is_reached : (c d : Configuration) → AreTwins (lowered program) c d
+        → IsReached (lowered program) c
+    is_reached c d t = marked_is_reached (lowered program) c t.marks t.marked
 
-  can_continue : (c d : Configuration) → AreTwins (lowered program) c d
-      → CanContinue (lowered program) d
-  can_continue c d t = continues_alike (lowered program) t.marks c d t.alike
-      (continues program sound c (is_reached c d t))
+    can_continue : (c d : Configuration) → AreTwins (lowered program) c d
+        → CanContinue (lowered program) d
+    can_continue c d t = continues_alike (lowered program) t.marks c d t.alike
+        (continues program sound c (is_reached c d t))
 
-  pub known : (c d : Configuration) → AreTwins (lowered program) c d → IsKnown (lowered program) d
-  known c d t = record {
-    continues = can_continue c d t;
-    stacked = stacked_alike (lowered program) t.marks c d t.alike
-      (is_stacked program sound c (is_reached c d t));
-    activations = has_activations (lowered program) t.marks c d t.alike
-      (reached.has_activations program sound c (is_reached c d t));
-    small = twins_are_small (lowered program) c d t;
-    depths = depths_alike (lowered program) t.marks c d t.alike
-      (has_depths program sound c (is_reached c d t));
-    next = λ i e at acts. (let g = (twins_continue (lowered program) reads c d t i at).back e
-      acts in can_continue g.on e g.twins);
-  }
+    pub known : (c d : Configuration) → AreTwins (lowered program) c d → IsKnown (lowered program) d
+    known c d t = record {
+      continues = can_continue c d t;
+      stacked = stacked_alike (lowered program) t.marks c d t.alike
+          (is_stacked program sound c (is_reached c d t));
+      activations = has_activations (lowered program) t.marks c d t.alike
+          (reached.has_activations program sound c (is_reached c d t));
+      small = twins_are_small (lowered program) c d t;
+      depths = depths_alike (lowered program) t.marks c d t.alike
+          (has_depths program sound c (is_reached c d t));
+      next = λ i e at acts. (let g = (twins_continue (lowered program) reads c d t i at).back e
+          acts in can_continue g.on e g.twins);
+    }
 
-  pub known_next : (c d : Configuration) → AreTwins (lowered program) c d → (i : Instruction)
-      → instruction_at (lowered program) d ≡ Some i → KnownNext (lowered program) d i
-  known_next c d t i at = λ e acts. (let g = (twins_continue (lowered program) reads c d t i
-      at).back e acts in known g.on e g.twins)
+    pub known_next : (c d : Configuration) → AreTwins (lowered program) c d → (i : Instruction)
+        → instruction_at (lowered program) d ≡ Some i → KnownNext (lowered program) d i
+    known_next c d t i at = λ e acts. (let g = (twins_continue (lowered program) reads c d t i
+        at).back e acts in known g.on e g.twins)
 
 pub twins_are_known : TwinsAreKnown
-twins_are_known program sound reads c d t = record { known = known program sound reads c d t;
-    next = known_next program sound reads c d t }
+twins_are_known program sound reads c d t = record {
+  known = known program sound reads c d t;
+  next = known_next program sound reads c d t;
+}

@@ -48,7 +48,7 @@ given_are : (parameters : ℕ) (arg : ℤ) (i v : ℕ)
 given_are parameters arg i v e = by (nat_eq parameters 0) i e
   where
     by : (b : Bool) (i : ℕ) → slice_get (if b then [] else wrapped W64 arg ∷ []) i ≡ Some v
-      → given arg i ≡ v
+        → given arg i ≡ v
     by true zero e = cc
     by true (suc i) e = cc
     by false zero e = cc
@@ -112,7 +112,7 @@ module _ (t : Functions) (fs : List Funclet) (program : LinearProgram) (p : Imag
     rip_small = subst (λ (c : Cpu). c.rip < 2 ^ 64) (sym h.cpu) function_small;
     count = ap (λ (c : Cpu). length c.registers) h.cpu;
     small = subst (λ (c : Cpu). AllSmall c.registers) (sym h.cpu)
-      (first_small (q.function program.main) arg);
+        (first_small (q.function program.main) arg);
   }
 
   called : IsCalled t fs program p q s source program.main main first_stack (given arg)
@@ -126,8 +126,8 @@ module _ (t : Functions) (fs : List Funclet) (program : LinearProgram) (p : Imag
     few = omega (arith, few);
     fits = made.whole.parameters program.main main is_main;
     registers = subst (λ (c : Cpu). InRegisters
-      (seen_by_templates (record { cpu = c; memory = s.memory })) (given arg)) (sym h.cpu)
-      (record { first = refl; second = refl; third = refl; fourth = refl });
+        (seen_by_templates (record { cpu = c; memory = s.memory })) (given arg)) (sym h.cpu)
+        (record { first = refl; second = refl; third = refl; fourth = refl });
     small = given_small arg;
     memory = h.memory;
   }
@@ -139,20 +139,20 @@ module _ (t : Functions) (fs : List Funclet) (program : LinearProgram) (p : Imag
       let same = given_are main.parameters arg in
       record {
         values = begun.others t fs program p q image s source program.main main first_stack
-          (given arg) called some sane refl h.returns arguments counted same;
+            (given arg) called some sane refl h.returns arguments counted same;
         as_many = begun.counted_others t fs program p q image s source program.main main first_stack
-          (given arg) called some sane refl h.returns arguments counted same;
+            (given arg) called some sane refl h.returns arguments counted same;
         small = begun.small_others t fs program p q image s source program.main main first_stack
-          (given arg) called some sane refl h.returns arguments counted same;
+            (given arg) called some sane refl h.returns arguments counted same;
         turns = _;
         few = (let r = begun.soon t fs program p q image s source program.main main first_stack
-          (given arg) called some sane refl h.returns arguments counted same in omega arith);
+            (given arg) called some sane refl h.returns arguments counted same in omega arith);
         state = begun.after t fs program p q image s source program.main main first_stack
-          (given arg) called some sane refl h.returns arguments counted same;
+            (given arg) called some sane refl h.returns arguments counted same;
         comes = begun.comes t fs program p q image s source program.main main first_stack
-          (given arg) called some sane refl h.returns arguments counted same;
+            (given arg) called some sane refl h.returns arguments counted same;
         begins = begun.begins t fs program p q image s source program.main main first_stack
-          (given arg) called some sane refl h.returns arguments counted same;
+            (given arg) called some sane refl h.returns arguments counted same;
       }
 
 pub main_is_begun : MainIsBegun

@@ -26,7 +26,7 @@ counted j n (k ∷ ks) up some le lt =
       | inl q ↦ (let one = same j (k - 1) q in omega arith)
       | inr ne ↦
           (let not_here : n ≤ j = elim (cases_eq (j + 1) n)
-            [ inl q ↦ absurd (ne (omega arith)) | inr other ↦ omega (arith, other) ] in
+          [ inl q ↦ absurd (ne (omega arith)) | inr other ↦ omega (arith, other) ] in
           let rest = counted j (n + 1) ks h.1 (omega arith) (omega arith) (omega arith) in
           omega arith)
     ]
@@ -39,13 +39,13 @@ there j (x ∷ xs) le = by (j == x) refl (there j xs)
     by : (b : Bool) → (j == x) ≡ b → (1 ≤ sum_of (is j) xs → IsMember j xs) → IsMember j (x ∷ xs)
     by true q later = inl (eqb-true j x q)
     by false q later = let none : is j x ≡ 0 = ap (λ (b : Bool). cond b 1 0) q in
-      inr (later (omega arith))
+        inr (later (omega arith))
 
 pub all_named : (program : Program) → IsSound program → (k : ℕ)
     → k < length (lowered program).funclets → IsMember k (named (regions (lowered program)))
 all_named program ok k lt =
     let n = functions_count 0 program.functions in
     let some = counted k 1 (sound.all_funclets program.functions) (counts program ok) (omega arith)
-      (omega arith) (omega arith) in
+    (omega arith) (omega arith) in
     let e = sums_agree (is k) program in
     there k (named (regions (lowered program))) (omega arith)

@@ -85,10 +85,10 @@ kept_same : (s t : State) (i : Instr) → is_quiet i ≡ true → effect s i ≡
     → kept_of t.cpu.registers ≡ kept_of s.cpu.registers
 kept_same s t i q e =
     let w = λ (r : ℕ) (le : 3 ≤ r). writes_no_other s t i r (no_call i q) e
-      (not_written i r le q) in
+    (not_written i r le q) in
     λ j. w 4 (omega arith) j ∷ w 3 (omega arith) j ∷ w 5 (omega arith) j ∷ w 6 (omega arith) j
-      ∷ w 7 (omega arith) j ∷ w 12 (omega arith) j ∷ w 13 (omega arith) j ∷ w 14 (omega arith) j
-      ∷ w 15 (omega arith) j ∷ []
+    ∷ w 7 (omega arith) j ∷ w 12 (omega arith) j ∷ w 13 (omega arith) j ∷ w 14 (omega arith) j
+    ∷ w 15 (omega arith) j ∷ []
 
 -- ---- one step
 
@@ -102,15 +102,15 @@ stepped u i rest q h spelling =
     let high = h.placed.high in
     let parts = bytes_split u.memory u.cpu.rip (chosen i) (spelled rest) h.is_there in
     let read = reads u i (chosen i) (spells i spelling) (longest i) parts.0
-      (record { low = low; high = omega arith }) in
+    (record { low = low; high = omega arith }) in
     let rip : (u.cpu.rip + length (chosen i)) % 2 ^ 64
-      ≡ u.cpu.rip + length (chosen i) = omega arith in
+    ≡ u.cpu.rip + length (chosen i) = omega arith in
     rw (outside_page u.cpu.rip low, read, rip) refl
 
 module _ (t : Functions) (fs : List Funclet) (program : LinearProgram) (p : ImagePlan) (q : Sites)
     (image : IsProgramImage t fs program p q) (s u v : State) (c : Configuration)
     (w : IsWithinInstruction t fs program p q s u c) (quiet : IsQuietHere t fs program p q s u c w)
-      (e : step u ≡ Ok v) where
+    (e : step u ≡ Ok v) where
   abbrev r : IsResumed t fs program p q c.frame.body w.code c.frame.next u.cpu.rip
   r = w.resumed
 
@@ -121,10 +121,10 @@ module _ (t : Functions) (fs : List Funclet) (program : LinearProgram) (p : Imag
   code_here : HasCode u.memory u.cpu.rip (r.item ∷ r.left)
   code_here =
       let is_there = template_is_at t fs program p q image u.memory c.frame.body w.code c.frame.next
-        r.instruction w.program_there w.body r.there in
+      r.instruction w.program_there w.body r.there in
       let split = subst (HasCode u.memory (p.address c.frame.body c.frame.next)) r.parts is_there in
       subst (λ a. HasCode u.memory a (r.item ∷ r.left)) (sym r.here)
-        (code_split u.memory (p.address c.frame.body c.frame.next) r.done (r.item ∷ r.left) split).1
+      (code_split u.memory (p.address c.frame.body c.frame.next) r.done (r.item ∷ r.left) split).1
 
   does : effect (with_rip u (u.cpu.rip + size r.item)) r.item ≡ Ok v
   does = sym (stepped u r.item r.left quiet.quiet code_here quiet.spelling) ∙ e
@@ -143,7 +143,7 @@ module _ (t : Functions) (fs : List Funclet) (program : LinearProgram) (p : Imag
       let n = address_next t fs program p q image c.frame.body w.code c.frame.next w.body g.1 in
       let z = ap (template_size (p.layout c.frame.body)) g.0 in
       let l = template_sizes (links_of p q c.frame.body) (p.layout c.frame.body)
-        (p.address c.frame.body c.frame.next) r.instruction in
+      (p.address c.frame.body c.frame.next) r.instruction in
       let k = ap sizes r.parts in
       let m = ap sizes quiet.more in
       let some = quiet.some in
@@ -165,7 +165,7 @@ module _ (t : Functions) (fs : List Funclet) (program : LinearProgram) (p : Imag
           item = quiet.next;
           left = quiet.rest;
           parts = r.parts ∙ ap (λ (xs : List Instr). r.done ++ (r.item ∷ xs)) quiet.more
-            ∙ sym (append_assoc r.done (r.item ∷ []) (quiet.next ∷ quiet.rest));
+              ∙ sym (append_assoc r.done (r.item ∷ []) (quiet.next ∷ quiet.rest));
           here = omega (arith, sizes_append r.done (r.item ∷ []));
         };
         inside = inside;
@@ -173,7 +173,7 @@ module _ (t : Functions) (fs : List Funclet) (program : LinearProgram) (p : Imag
         kept = kept_same (with_rip u (u.cpu.rip + size r.item)) v r.item quiet.quiet does ∙ w.kept;
         program_there = subst (HasProgram t fs program p q) (sym same_memory) w.program_there;
         stack = subst (λ (m : Memory). KeepsStack s.memory m (register s.cpu Rsp)) (sym same_memory)
-          w.stack;
+            w.stack;
       }
 
 pub quiet_steps_stay_within : QuietStepsStayWithin

@@ -41,14 +41,14 @@ module _ (number count : ℕ) where
 
   mutual
     of_statement : (s : Statement) (owner : Owner) (names : Names) → Owns number count owner
-      → All (statement_funclets owner names s)
+        → All (statement_funclets owner names s)
     of_statement (Declare d) owner names o = tt
     of_statement (Block ss) owner names o = of_statements ss owner names o
     of_statement (Evaluate e) owner names o = tt
     of_statement (If c s) owner names o = of_statement s owner names o
     of_statement (IfElse c s t) owner names o = both (statement_funclets owner names s)
-      (statement_funclets owner names t) (of_statement s owner names o)
-      (of_statement t owner names o)
+        (statement_funclets owner names t) (of_statement s owner names o)
+        (of_statement t owner names o)
     of_statement (For ds first c next s) owner names o = of_statement s owner names o
     of_statement (DoWhile s c) owner names o = of_statement s owner names o
     of_statement (Return e) owner names o = tt
@@ -58,20 +58,21 @@ module _ (number count : ℕ) where
     of_statement (TryExcept body filter block) owner names o =
         both (statements_funclets owner names body) _ (of_statements body owner names o)
         (both (filter_funclets owner (filter_names names) filter) _
-          (of_filter owner (filter_names names) o filter)
-          (of_statements block owner (except_names names) o))
+        (of_filter owner (filter_names names) o filter)
+        (of_statements block owner (except_names names) o))
     of_statement (TryFinally body k last) owner names o =
-        both (statements_funclets owner names body) _ (of_statements body owner names o)
-        (record { function = o.function; locals = o.locals },
+        both (statements_funclets owner names body) _ (of_statements body owner names o) (
+          record { function = o.function; locals = o.locals },
           of_statements last (in_funclet (k - 1) owner) (finally_names names)
-          (record { function = o.function; locals = o.locals }))
+              (record { function = o.function; locals = o.locals }),
+        )
 
     of_statements : (ss : Statements) (owner : Owner) (names : Names) → Owns number count owner
-      → All (statements_funclets owner names ss)
+        → All (statements_funclets owner names ss)
     of_statements Empty owner names o = tt
     of_statements (Then s ss) owner names o = both (statement_funclets owner names s)
-      (statements_funclets owner names ss) (of_statement s owner names o)
-      (of_statements ss owner names o)
+        (statements_funclets owner names ss) (of_statement s owner names o)
+        (of_statements ss owner names o)
 
 -- ---- without a region there is no funclet
 
@@ -88,8 +89,11 @@ mutual
       let l = length-append (statement_regions s begin) (statement_regions t otherwise) in
       let x = none_in s owner names begin (omega arith) in
       let y = none_in t owner names otherwise (omega arith) in
-      omega (arith, length-append (statement_funclets owner names s)
-        (statement_funclets owner names t))
+      omega (
+        arith,
+        length-append (statement_funclets owner names s)
+            (statement_funclets owner names t),
+      )
   none_in (For ds first c next s) owner names at e = none_in s owner names
       (at + all_declared_size ds + discarded_size first + condition_size c) e
   none_in (DoWhile s c) owner names at e = none_in s owner names at e
@@ -100,11 +104,11 @@ mutual
   none_in (TryExcept body filter block) owner names at e =
       let target = at + statements_size body + 1 in
       let l = length-append (statements_regions body at)
-        (region at target (except_kind filter target) ∷ statements_regions block (target + 1)) in
+      (region at target (except_kind filter target) ∷ statements_regions block (target + 1)) in
       absurd (omega arith)
   none_in (TryFinally body k last) owner names at e =
       let l = length-append (statements_regions body at)
-        (region at (at + statements_size body + 1) (kinds.Finally (k - 1)) ∷ []) in
+      (region at (at + statements_size body + 1) (kinds.Finally (k - 1)) ∷ []) in
       absurd (omega arith)
 
   none_of : (ss : Statements) (owner : Owner) (names : Names) (at : ℕ)
@@ -112,11 +116,14 @@ mutual
   none_of Empty owner names at e = refl
   none_of (Then s ss) owner names at e =
       let l = length-append (statement_regions s at)
-        (statements_regions ss (at + statement_size s)) in
+      (statements_regions ss (at + statement_size s)) in
       let x = none_in s owner names at (omega arith) in
       let y = none_of ss owner names (at + statement_size s) (omega arith) in
-      omega (arith, length-append (statement_funclets owner names s)
-        (statements_funclets owner names ss))
+      omega (
+        arith,
+        length-append (statement_funclets owner names s)
+            (statements_funclets owner names ss),
+      )
 
 -- ---- programs
 
@@ -133,9 +140,15 @@ module _ (all : List LinearFunction) where
       → (xs : List LinearFunclet) → AllByRecursion (IsOf number function.body.locals) xs
       → AllByRecursion (IsOwned all) xs
   each_owned number function there some [] h = tt
-  each_owned number function there some (x ∷ xs) h =
-      (record { function = function; there = ap (λ k. slice_get all k) h.0.function ∙ there;
-        locals = h.0.locals; some = some }, each_owned number function there some xs h.1)
+  each_owned number function there some (x ∷ xs) h = (
+    record {
+      function = function;
+      there = ap (λ k. slice_get all k) h.0.function ∙ there;
+      locals = h.0.locals;
+      some = some;
+    },
+    each_owned number function there some xs h.1,
+  )
 
   nothing_owned : (xs : List LinearFunclet) → length xs ≡ 0 → AllByRecursion (IsOwned all) xs
   nothing_owned [] e = tt
@@ -146,15 +159,15 @@ module _ (all : List LinearFunction) where
   own fn number there = by (length (statements_regions fn.body 0)) refl
     where
       by : (n : ℕ) → length (statements_regions fn.body 0) ≡ n
-        → AllByRecursion (IsOwned all) (lowered_funclets number fn)
+          → AllByRecursion (IsOwned all) (lowered_funclets number fn)
       by zero e = nothing_owned (lowered_funclets number fn)
-        (none_of fn.body (record { function = number; locals = all_locals fn; parent = None })
-        (scope_of fn).names 0 e)
+          (none_of fn.body (record { function = number; locals = all_locals fn; parent = None })
+          (scope_of fn).names 0 e)
       by (suc n) e =
           each_owned number (lowered_function fn) there (omega arith) (lowered_funclets number fn)
           (of_statements number (all_locals fn) fn.body
-            (record { function = number; locals = all_locals fn; parent = None })
-            (scope_of fn).names (record { function = refl; locals = refl }))
+          (record { function = number; locals = all_locals fn; parent = None })
+          (scope_of fn).names (record { function = refl; locals = refl }))
 
   owned : (fs : List Function) (number : ℕ) → IsSegmentAt all number (map lowered_function fs)
       → AllByRecursion (IsOwned all) (all_funclets number fs)
@@ -166,5 +179,5 @@ pub is_owned : (program : Program) (k : ℕ) (f : LinearFunclet)
     → slice_get (lowered program).funclets k ≡ Some f → IsOwned (lowered program).functions f
 is_owned program k f e =
     all_at (IsOwned (lowered program).functions) (lowered program).funclets k f
-      (owned (lowered program).functions program.functions 0
-      (whole_is_at (lowered program).functions)) e
+    (owned (lowered program).functions program.functions 0
+    (whole_is_at (lowered program).functions)) e

@@ -42,24 +42,24 @@ change_leaves : (s t : State) (o : Operation) (w : Width) (to : RegisterOrMemory
     → is_free_place to ≡ true → change s o w to from ≡ Ok t → Leaves s t
 change_leaves s t o w to from q e =
     let b = bound (operand s w from) (λ b. may_change s w to >>= λ _. read s w to
-      >>= λ a. write (with_flags s (computed o w a b).1) w to (computed o w a b).0) t e in
+    >>= λ a. write (with_flags s (computed o w a b).1) w to (computed o w a b).0) t e in
     let c = bound (may_change s w to) (λ _. read s w to
-      >>= λ a. write (with_flags s (computed o w a b.value).1) w to (computed o w a b.value).0) t
-        b.then in
+    >>= λ a. write (with_flags s (computed o w a b.value).1) w to (computed o w a b.value).0) t
+    b.then in
     let d = bound (read s w to) (λ a. write (with_flags s (computed o w a b.value).1) w to
-      (computed o w a b.value).0) t c.then in
+    (computed o w a b.value).0) t c.then in
     let r = write_leaves (with_flags s (computed o w d.value b.value).1) t w to
-      (computed o w d.value b.value).0 q d.then in
+    (computed o w d.value b.value).0 q d.then in
     record { memory = r.memory; rip = r.rip }
 
 compare_leaves : (s t : State) (o : Operation) (w : Width) (to : RegisterOrMemory) (from : Operand)
     → compare s o w to from ≡ Ok t → Leaves s t
 compare_leaves s t o w to from e =
     let b = bound (operand s w from) (λ b. read s w to
-      >>= λ a. Ok (with_flags s (computed o w a b).1)) t e in
+    >>= λ a. Ok (with_flags s (computed o w a b).1)) t e in
     let c = bound (read s w to) (λ a. Ok (with_flags s (computed o w a b.value).1)) t b.then in
     same_state s t (with_flags s (computed o w c.value b.value).1) c.then
-      (record { memory = refl; rip = refl })
+    (record { memory = refl; rip = refl })
 
 quotient_leaves : (s t : State) (w : Width) (q : Result (ℕ × ℕ) DivFault)
     → with_quotient s w q ≡ Ok t → Leaves s t

@@ -59,8 +59,8 @@ fetch_some y (Local i) = local_some y.base (local_at y i)
 
 module _ (p : LinearProgram) (m : Memory) (x : Placed) (number : ℕ) (from : Slot)
     (code : IsExecutableAt m (image_base + x.begin)
-      (spelled (routine_code (site_of p) x.begin x.routine)))
-      (h : IsThere (site_of p) (linked p).text (text_begin p.globals) x)
+    (spelled (routine_code (site_of p) x.begin x.routine)))
+    (h : IsThere (site_of p) (linked p).text (text_begin p.globals) x)
     (at : slice_get x.routine.body.code number ≡ Some (instructions.Return from)) where
   returning : HasItem m x (template_at x number)
   returning =
@@ -81,24 +81,24 @@ module _ (p : LinearProgram) (m : Memory) (x : Placed) (number : ℕ) (from : Sl
       let base = image_base + x.begin in
       let body = (code_split m base entry (code_from k y begin r.body.code) code).1 in
       let rest = (code_split m (base + sizes entry) t.before
-        ((fetch y Rax from ++ epilogue y.frame) ++ t.after)
-        (subst (λ (q : List Instr). IsExecutableAt m (base + sizes entry) (spelled q)) t.parts
-        body)).1 in
+      ((fetch y Rax from ++ epilogue y.frame) ++ t.after)
+      (subst (λ (q : List Instr). IsExecutableAt m (base + sizes entry) (spelled q)) t.parts
+      body)).1 in
       let split : (fetch y Rax from ++ epilogue y.frame) ++ t.after
-        ≡ f.item ∷ ((f.left ++ epilogue y.frame) ++ t.after) = ap
-          (λ (q : List Instr). (q ++ epilogue y.frame) ++ t.after) f.parts in
+      ≡ f.item ∷ ((f.left ++ epilogue y.frame) ++ t.after) = ap
+      (λ (q : List Instr). (q ++ epilogue y.frame) ++ t.after) f.parts in
       let last = subst (λ (q : List Instr). IsExecutableAt m (base + sizes entry + sizes t.before)
-        (spelled q)) split rest in
+      (spelled q)) split rest in
       let here' : base + sizes entry + sizes t.before
-        ≡ image_base + template_at x number = omega arith in
+      ≡ image_base + template_at x number = omega arith in
       record {
         item = f.item;
         inner = inner_at [] f.left f.item (subst AllInner f.parts (fetch_inner y from near.0));
         past = omega arith;
         inside = omega arith;
         is_there = subst (λ (n : ℕ). IsExecutableAt m n (chosen f.item)) here'
-          (executable_split m (base + sizes entry + sizes t.before) (chosen f.item)
-          (spelled ((f.left ++ epilogue y.frame) ++ t.after)) last).0;
+            (executable_split m (base + sizes entry + sizes t.before) (chosen f.item)
+            (spelled ((f.left ++ epilogue y.frame) ++ t.after)) last).0;
       }
 
 -- ---- frames
@@ -118,14 +118,14 @@ module _ (p : LinearProgram) (c : HasWholeImage p) (m : Memory) (name : BodyName
 
   code_there : HasProgram (functions_of p) (funclets_of p) p (plan_of p) (sites_of p) m
       → IsExecutableAt m (image_base + x.begin)
-        (spelled (routine_code (site_of p) x.begin x.routine))
+      (spelled (routine_code (site_of p) x.begin x.routine))
   code_there has =
       let begin = begin_of (plan_of p) (sites_of p) name in
       let code = executable_of m begin (spelled (code_of p (plan_of p) (sites_of p) name b))
-        (has.code name b is).is_there in
+      (has.code name b is).is_there in
       subst (λ (n : ℕ). IsExecutableAt m n (spelled (routine_code (site_of p) x.begin x.routine)))
-        (place p c name b is).begin (subst (λ (q : List Instr). IsExecutableAt m begin (spelled q))
-        (code_same p c name b is) code)
+      (place p c name b is).begin (subst (λ (q : List Instr). IsExecutableAt m begin (spelled q))
+      (code_same p c name b is) code)
 
   at_return : (from : Slot) → slice_get b.code label ≡ Some (instructions.Return from)
       → slice_get x.routine.body.code label ≡ Some (instructions.Return from)
@@ -153,18 +153,20 @@ module _ (p : LinearProgram) (c : HasWholeImage p) (m : Memory) (name : BodyName
       let f = framed_of x.routine.frame framed in
       let at = (place p c name b is).at in
       let size : x.routine.layout.frame ≡ f.0.size = sized p (place p c name b is).index x at
-        ∙ ap size_of f.1 in
+      ∙ ap size_of f.1 in
       let first = returning p m x label r.from (code_there has) (here p c name b is)
-        (at_return r.from r.there) in
+      (at_return r.from r.there) in
       let s = frame_there f.0 f.1 first r.here (subst (λ (n : ℕ). rsp k + n + 8 < 2 ^ 64) size room)
-        (subst (λ (n : ℕ). word m (rsp k + n) ≡ Ok back) size returns) in
+      (subst (λ (n : ℕ). word m (rsp k + n) ≡ Ok back) size returns) in
       let same : stack_frame p x f.0 back ≡ frame_with
-        (tables.entry_of (site_of p) x (or_none x.routine.frame)) x.routine.layout.frame
-        (taking_size f.0.size) back =
+      (tables.entry_of (site_of p) x (or_none x.routine.frame)) x.routine.layout.frame
+      (taking_size f.0.size) back =
       λ i. frame_with (tables.entry_of (site_of p) x (or_none (sym f.1 i))) (sym size i)
-        (taking_size f.0.size) back in
-      record { offset = taking_size f.0.size;
-        is_there = subst (FrameIsAt (functions_of p) m k) same s }
+      (taking_size f.0.size) back in
+      record {
+        offset = taking_size f.0.size;
+        is_there = subst (FrameIsAt (functions_of p) m k) same s;
+      }
 
 pub linked_returns_wait : LinkedReturnsWait
 linked_returns_wait p c = record {
@@ -172,18 +174,18 @@ linked_returns_wait p c = record {
       label back kept framed has r room returns;
   leaves = λ m name b label k back is leaf r kept room returns.
       leaf_there p c m name b is k label back kept (leaf_of (routine_of p name).routine.frame leaf)
-        r.here room returns (within p c name b is label r.from r.there);
+      r.here room returns (within p c name b is label r.from r.there);
 }
   where
     within : (p : LinearProgram) (c : HasWholeImage p) (name : BodyName) (b : LinearBody)
-      → body_of p name ≡ Some b → (label : ℕ) (from : Slot)
-      → slice_get b.code label ≡ Some (instructions.Return from)
-      → template_at (routine_of p name) label < end_of (routine_of p name)
+        → body_of p name ≡ Some b → (label : ℕ) (from : Slot)
+        → slice_get b.code label ≡ Some (instructions.Return from)
+        → template_at (routine_of p name) label < end_of (routine_of p name)
     within p c name b is label from there =
         let x = routine_of p name in
         let t = template_there (links p x) x.routine.layout (x.begin + entry_size x.routine)
-          x.routine.body.code label (instructions.Return from)
-          (ap (λ (d : LinearBody). slice_get d.code label) (place p c name b is).body ∙ there) in
+        x.routine.body.code label (instructions.Return from)
+        (ap (λ (d : LinearBody). slice_get d.code label) (place p c name b is).body ∙ there) in
         let some = template_some x.routine.layout (instructions.Return from) in
         let in' = t.inside in
         omega arith

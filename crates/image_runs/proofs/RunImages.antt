@@ -38,14 +38,14 @@ module _ (program : Program) (l : IsLinkable program) (bytes : List ℕ)
 
   pub machine_is : (m : ℕ) → machine bytes arg m
       ≡ run (functions_of linear) (funclets_of linear) m
-        (host (start (image_of (linked linear)) arg)) []
+      (host (start (image_of (linked linear)) arg)) []
   unfolding machine
   machine_is m =
       let c = lowered_is_compiled program l in
       ap (λ (r : Result Image ImageErr). machine_of r arg m) read
       ∙ ap (λ (es : List Entry). run (functions_of linear) (funclets es) m
-        (host (start (image_of (linked linear)) arg)) [])
-        (ap or_none (tables_are_read linear c.fits c.ranges))
+      (host (start (image_of (linked linear)) arg)) [])
+      (ap or_none (tables_are_read linear c.fits c.ranges))
 
 -- `main`, and that the machine comes to its beginning
 module _ (program : Program) (l : IsLinkable program) (octets : HasBytes (lowered program))
@@ -66,25 +66,25 @@ module _ (program : Program) (l : IsLinkable program) (octets : HasBytes (lowere
   main_begins =
       let first = code.start (lowered program) arg main_of in
       mains_begin (lowered program) (lowered_is_compiled program l) octets
-        (lowered_has_image program l).made arg main_of main_is
+      (lowered_has_image program l).made arg main_of main_is
       (continues program l.sound first (record
-        { argument = arg; main = main_of; is_main = main_is; turns = zero; comes = refl }))
+      { argument = arg; main = main_of; is_main = main_is; turns = zero; comes = refl }))
 
 pub linked_images_show_all : LinkedImagesShowAll
 linked_images_show_all program l reads bytes read octets arg n =
     let linear = lowered program in
     subst (ShowsAll (meaning program arg n)) (sym
-      (machine_is program l bytes read arg (256 * n + 256)))
+    (machine_is program l bytes read arg (256 * n + 256)))
     (images_show_all (functions_of linear) (funclets_of linear) program (plan_of linear)
-      (sites_of linear) l.sound reads (lowered_has_image program l) arg
-      (main_of program l octets arg) (start (image_of (linked linear)) arg)
-      (main_is program l octets arg) (main_begins program l octets arg) n)
+    (sites_of linear) l.sound reads (lowered_has_image program l) arg
+    (main_of program l octets arg) (start (image_of (linked linear)) arg)
+    (main_is program l octets arg) (main_begins program l octets arg) n)
 
 pub linked_images_show_no_more : LinkedImagesShowNoMore
 linked_images_show_no_more program l reads bytes read octets arg m n paces calm =
     let linear = lowered program in
     subst (ShowsNoMore (meaning program arg n)) (sym (machine_is program l bytes read arg m))
     (images_show_no_more (functions_of linear) (funclets_of linear) program (plan_of linear)
-      (sites_of linear) l.sound reads (lowered_has_image program l) arg
-      (main_of program l octets arg) (start (image_of (linked linear)) arg)
-      (main_is program l octets arg) (main_begins program l octets arg) m n paces calm)
+    (sites_of linear) l.sound reads (lowered_has_image program l) arg
+    (main_of program l octets arg) (start (image_of (linked linear)) arg)
+    (main_is program l octets arg) (main_begins program l octets arg) m n paces calm)

@@ -29,7 +29,7 @@ module _ (t : Functions) (fs : List Funclet) (program : Program) (p : ImagePlan)
     (sound : IsSound program) (reads : ReadsNoUnset (lowered program))
     (image : IsSoundImage t fs (lowered program) p q) (arg : ℤ) (main : LinearFunction) (s : State)
     (is_main : slice_get (lowered program).functions (lowered program).main ≡ Some main)
-      (b : MainBegins t fs (lowered program) p q arg main s) where
+    (b : MainBegins t fs (lowered program) p q arg main s) where
   pub begins : (n : ℕ) → RunBegins t fs (lowered program) pace turns_left arg b.turns s n
   begins n = record {
     main = main;
@@ -38,9 +38,9 @@ module _ (t : Functions) (fs : List Funclet) (program : Program) (p : ImagePlan)
     comes = b.comes;
     no_credit = refl;
     follows = follows t fs (lowered program) pace turns_left
-      (λ n. ShowsTwin t fs (lowered program) p q)
-      (twins_simulate t fs program p q sound reads image) n b.state
-      (start (lowered program) arg main)
+        (λ n. ShowsTwin t fs (lowered program) p q)
+        (twins_simulate t fs program p q sound reads image) n b.state
+        (start (lowered program) arg main)
         (record {
           twin = started_with (lowered program) arg main b.values;
           twins = twins_start (lowered program) arg main b.values is_main b.as_many b.small;
@@ -51,9 +51,9 @@ module _ (t : Functions) (fs : List Funclet) (program : Program) (p : ImagePlan)
 pub images_show_all : ImagesShowAll
 images_show_all t fs program p q sound reads image arg main s is_main b n =
     runs.all t fs program sound turns_left arg b.turns n s
-      (begins t fs program p q sound reads image arg main s is_main b (16 * n + 2)) b.few
+    (begins t fs program p q sound reads image arg main s is_main b (16 * n + 2)) b.few
 
 pub images_show_no_more : ImagesShowNoMore
 images_show_no_more t fs program p q sound reads image arg main s is_main b m n paces calm =
     runs.no_more t fs program sound turns_left arg b.turns m n s
-      (begins t fs program p q sound reads image arg main s is_main b m) paces calm
+    (begins t fs program p q sound reads image arg main s is_main b m) paces calm

@@ -62,7 +62,7 @@ pub images_walk_the_shadow : ImagesWalkTheShadow
 images_walk_the_shadow t fs program p q sound reads image arg main s is_main b walk m n paces calm
     none =
     runs.shadow t fs program sound turns_left arg b.turns m n s (first_shadow s)
-      (begins t fs program p q sound reads image arg main s is_main b m) paces calm walk none
+    (begins t fs program p q sound reads image arg main s is_main b m) paces calm walk none
 
 -- ---- at the first byte of `main`
 
@@ -70,33 +70,33 @@ module _ (t : Functions) (fs : List Funclet) (program : LinearProgram) (p : Imag
     (image : IsProgramImage t fs program p q) (arg : ℤ) (main : LinearFunction) (s : State)
     (is_main : slice_get program.functions program.main ≡ Some main)
     (goes : CanContinue program (code.start program arg main)) (h : IsFirst t fs program p q arg s)
-      where
-  there : body_of program (FunctionBody program.main) ≡ Some main.body
-  there = ap function_body is_main
+  where
+    there : body_of program (FunctionBody program.main) ≡ Some main.body
+    there = ap function_body is_main
 
-  some : 0 < length main.body.code
-  some = slice_get_within main.body.code 0 goes.instruction
-      (label_in (body_of program (FunctionBody program.main)) main.body 0 goes.instruction there
-      goes.at)
+    some : 0 < length main.body.code
+    some = slice_get_within main.body.code 0 goes.instruction
+        (label_in (body_of program (FunctionBody program.main)) main.body 0 goes.instruction there
+        goes.at)
 
-  -- the walk gives its caller, at RIP 0
-  pub first_gives : WalkGives t s (first_shadow s)
-  first_gives =
-      let sp = register s.cpu Rsp in
-      let others = register s.cpu Rbx ∷ register s.cpu Rbp ∷ register s.cpu Rsi ∷ register s.cpu Rdi
+    -- the walk gives its caller, at RIP 0
+    pub first_gives : WalkGives t s (first_shadow s)
+    first_gives =
+        let sp = register s.cpu Rsp in
+        let others = register s.cpu Rbx ∷ register s.cpu Rbp ∷ register s.cpu Rsi ∷ register s.cpu Rdi
         ∷ register s.cpu R12 ∷ register s.cpu R13 ∷ register s.cpu R14 ∷ register s.cpu R15 ∷ [] in
-      let at : sp ≡ first_stack = ap (λ (c : Cpu). get_or c.registers 4 0) h.cpu in
-      let flat : sp + 0 ≡ first_stack = omega arith in
-      let returns : word s.memory (sp + 0) ≡ Ok 0 = ap (word s.memory) flat ∙ h.returns in
-      let rip : s.cpu.rip ≡ q.function program.main = ap (λ (c : Cpu). c.rip) h.cpu in
-      let found = (image.callers (FunctionBody program.main) main.body there).entries s.memory
+        let at : sp ≡ first_stack = ap (λ (c : Cpu). get_or c.registers 4 0) h.cpu in
+        let flat : sp + 0 ≡ first_stack = omega arith in
+        let returns : word s.memory (sp + 0) ≡ Ok 0 = ap (word s.memory) flat ∙ h.returns in
+        let rip : s.cpu.rip ≡ q.function program.main = ap (λ (c : Cpu). c.rip) h.cpu in
+        let found = (image.callers (FunctionBody program.main) main.body there).entries s.memory
         (λ leaf. some) (context_of s.cpu) 0 rip refl (omega arith) returns in
-      let caller : Context = context_below 0 (sp + 0 + 8) others in
-      let up : sp + 0 + 8 ≡ sp + 8 = omega arith in
-      let number = word_is s.memory sp 0 (ap (word s.memory) at ∙ h.returns) in
-      let same : caller ≡ caller_at s = ap (λ n. context_below 0 n others) up
+        let caller : Context = context_below 0 (sp + 0 + 8) others in
+        let up : sp + 0 + 8 ≡ sp + 8 = omega arith in
+        let number = word_is s.memory sp 0 (ap (word s.memory) at ∙ h.returns) in
+        let same : caller ≡ caller_at s = ap (λ n. context_below 0 n others) up
         ∙ ap (λ v. context_below v (sp + 8) others) (sym number) in
-      subst (λ (c : Context). WalkGives t s (c ∷ [])) same
+        subst (λ (c : Context). WalkGives t s (c ∷ [])) same
         (gives_caller t s.memory (context_of s.cpu) caller [] found
         (at_end t s.memory (state caller 0) refl))
 
@@ -105,7 +105,7 @@ module _ (t : Functions) (fs : List Funclet) (program : LinearProgram) (p : Imag
 module _ (program : Program) (l : IsLinkable program) (reads : ReadsNoUnset (lowered program))
     (bytes : List ℕ) (w : IsImageOf bytes program) (arg : ℤ) (m n : ℕ)
     (paces : (m + 1) * pace_of program ≤ n) (calm : Calm program arg n ≡ true)
-      (none : (machine bytes arg m).end ≡ None) where
+    (none : (machine bytes arg m).end ≡ None) where
   abbrev linear : LinearProgram
   linear = lowered program
 
@@ -117,20 +117,20 @@ module _ (program : Program) (l : IsLinkable program) (reads : ReadsNoUnset (low
       let main = main_of program l (octets program bytes w) arg in
       let is_main = main_is program l (octets program bytes w) arg in
       let goes = continues program l.sound (code.start linear arg main)
-        (record { argument = arg; main = main; is_main = is_main; turns = zero; comes = refl }) in
+      (record { argument = arg; main = main; is_main = is_main; turns = zero; comes = refl }) in
       first_gives (functions_of linear) (funclets_of linear) linear (plan_of linear)
-        (sites_of linear) (lowered_has_image program l).image arg main first is_main goes
+      (sites_of linear) (lowered_has_image program l).image arg main first is_main goes
       (first_states_start linear (lowered_is_compiled program l) (octets program bytes w) arg)
 
   gives : WalkGivesShadow (functions_of linear) (funclets_of linear) m first (first_shadow first)
   gives =
       images_walk_the_shadow (functions_of linear) (funclets_of linear) program (plan_of linear)
-        (sites_of linear) l.sound reads (lowered_has_image program l) arg
+      (sites_of linear) l.sound reads (lowered_has_image program l) arg
       (main_of program l (octets program bytes w) arg) first
-        (main_is program l (octets program bytes w) arg)
-        (main_begins program l (octets program bytes w) arg)
+      (main_is program l (octets program bytes w) arg)
+      (main_begins program l (octets program bytes w) arg)
       begins_first m n paces calm (ap (λ (x : Shown RunEnd). x.end)
-        (sym (machine_is program l bytes w.read arg m)) ∙ none)
+      (sym (machine_is program l bytes w.read arg m)) ∙ none)
 
   pub linked_walks_the_shadow : WalksTheShadow bytes arg m
   linked_walks_the_shadow =
@@ -139,18 +139,18 @@ module _ (program : Program) (l : IsLinkable program) (reads : ReadsNoUnset (low
         image = image_of (linked linear);
         is = w.read;
         gives = subst (λ (es : List Entry). WalkGivesShadow (functions_of linear) (funclets es) m
-          first (first_shadow first)) (sym (ap or_none (tables_are_read linear c.fits c.ranges)))
-          gives;
+            first (first_shadow first)) (sym (ap or_none (tables_are_read linear c.fits c.ranges)))
+            gives;
       }
 
 pub compiled_walk_the_shadow : CompiledWalkTheShadow
-compiled_walk_the_shadow program l reads bytes w arg m n lt paces calm
-    none = linked_walks_the_shadow program l reads bytes w (pos arg) m n paces calm none
+compiled_walk_the_shadow program l reads bytes w arg m n lt paces calm none =
+    linked_walks_the_shadow program l reads bytes w (pos arg) m n paces calm none
 
 pub accepted_walk_the_shadow : AcceptedWalkTheShadow
 accepted_walk_the_shadow text xs bytes within accepted fits w most few arg m n lt paces calm none =
     let slow = pace_is_bounded text xs most few in
     let slower = mul-le (m + 1) (pace_of (program_of text xs)) (m + 1) (pace_in most) (omega arith)
-      slow in
+    slow in
     linked_walks_the_shadow (program_of text xs) (linkable text xs within accepted fits)
-      (reads_no_unset text xs within accepted) bytes w (pos arg) m n (omega arith) calm none
+    (reads_no_unset text xs within accepted) bytes w (pos arg) m n (omega arith) calm none

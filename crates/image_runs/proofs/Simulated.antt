@@ -59,7 +59,7 @@ plainly : (t : Functions) (fs : List Funclet) (program : LinearProgram) (p : Ima
     → StepMatches t fs program p q s d i
 plainly t fs program p q image s d i b known at rule is_plain =
     inl (moves_as t fs program (Begins t fs program p q) (Represents t fs program p q)
-      (λ u e h. inl h) s d i
+    (λ u e h. inl h) s d i
     (within_body t fs program p q image.image image.made s d i b known at is_plain rule))
 
 -- from the beginning of an instruction to that of the next one
@@ -78,8 +78,8 @@ informed : (t : Functions) (fs : List Funclet) (program : LinearProgram) (p : Im
     → StepMatches t fs program p q s d (instructions.Information to field)
 informed t fs program p q image s d to field b known at =
     moved t fs program p q s d (instructions.Information to field)
-      (information_is_matched t fs program p q image.image image.made image.informs s d to field b
-      known at)
+    (information_is_matched t fs program p q image.image image.made image.informs s d to field b
+    known at)
 
 -- a call of a service
 called_built_in : (t : Functions) (fs : List Funclet) (program : LinearProgram) (p : ImagePlan)
@@ -91,12 +91,12 @@ called_built_in : (t : Functions) (fs : List Funclet) (program : LinearProgram) 
     → StepMatches t fs program p q s d (instructions.CallBuiltIn f first)
 called_built_in t fs program p q image s d Put first b known at rule next =
     moved t fs program p q s d (instructions.CallBuiltIn Put first)
-      (puts_are_matched t fs program p q image.image image.made s d first b known at)
+    (puts_are_matched t fs program p q image.image image.made s d first b known at)
 called_built_in t fs program p q image s d Protect first b known at rule next =
     moved t fs program p q s d (instructions.CallBuiltIn Protect first)
-      (protects_are_matched t fs program p q image.image image.made s d first b known at)
-called_built_in t fs program p q image s d RaiseException first b known at rule
-    next = raises_are_matched t fs program p q image.image image.made image.flags s d first b known
+    (protects_are_matched t fs program p q image.image image.made s d first b known at)
+called_built_in t fs program p q image s d RaiseException first b known at rule next =
+    raises_are_matched t fs program p q image.image image.made image.flags s d first b known
     at rule next
 
 -- a return, of a function or of a funclet
@@ -110,14 +110,14 @@ returned : (t : Functions) (fs : List Funclet) (program : LinearProgram) (p : Im
 returned t fs program p q image s d from b known at rule next = by d.frame.body refl
   where
     by : (name : BodyName) → d.frame.body ≡ name
-      → StepMatches t fs program p q s d (instructions.Return from)
+        → StepMatches t fs program p q s d (instructions.Return from)
     by (FunctionBody f) e =
         matched_as t fs program (Begins t fs program p q) (Represents t fs program p q)
-          (λ u x h. inl h) s d (instructions.Return from)
+        (λ u x h. inl h) s d (instructions.Return from)
         (returns_are_matched t fs program p q image.image image.made s d f from b known e at next)
     by (FuncletBody k) e = funclet_returns_are_matched t fs program p q image.image image.made
-      image.flags (bodies_continue t fs program p q image.image image.made) s d k from b known e at
-      rule next
+        image.flags (bodies_continue t fs program p q image.image image.made) s d k from b known e at
+        rule next
 
 -- a body calls its `__finally` block
 called_block : (t : Functions) (fs : List Funclet) (program : LinearProgram) (p : ImagePlan)
@@ -128,9 +128,9 @@ called_block : (t : Functions) (fs : List Funclet) (program : LinearProgram) (p 
     → StepMatches t fs program p q s d (instructions.CallFinally k)
 called_block t fs program p q image s d k b known at next =
     matched_as t fs program (Begins t fs program p q) (Represents t fs program p q) (λ u x h. inl h)
-      s d (instructions.CallFinally k)
+    s d (instructions.CallFinally k)
     (block_calls_are_matched t fs program p q image.image image.made image.flags image.separators s
-      d k b known at next)
+    d k b known at next)
 
 module _ (program : Program) (sound : IsSound program) (reads : ReadsNoUnset (lowered program))
     (t : Functions) (fs : List Funclet) (p : ImagePlan) (q : Sites)
@@ -144,83 +144,83 @@ module _ (program : Program) (sound : IsSound program) (reads : ReadsNoUnset (lo
 
     -- the twin is at the same instruction, and knows what is asked
     at_twin : (i : Instruction) → instruction_at linear c ≡ Some i
-      → instruction_at linear d ≡ Some i
+        → instruction_at linear d ≡ Some i
     at_twin i at = ap (λ (f : Frame). instruction_in (body_of linear f.body) f.next)
-      twins.alike.frame ∙ at
+        twins.alike.frame ∙ at
 
     on_twin : (i : Instruction) → instruction_at linear c ≡ Some i → GoAsTwins linear i c d
     on_twin i at = twins_continue linear reads c d twins i (at_twin i at)
 
     rule_twin : (i : Instruction) → (at : instruction_at linear c ≡ Some i)
-      → HasRule (act linear i (exec linear zero) c) → HasRule (act linear i (exec linear zero) d)
+        → HasRule (act linear i (exec linear zero) c) → HasRule (act linear i (exec linear zero) d)
     rule_twin i at rule = subst HasRule (sym (on_twin i at).seen) rule
 
     -- at the beginning of an instruction
     begun : Begins t fs linear p q s d → (i : Instruction) → instruction_at linear d ≡ Some i
-      → GoAsTwins linear i c d → HasRule (act linear i (exec linear zero) d) → KnownNext linear d i
-      → Goal i
+        → GoAsTwins linear i c d → HasRule (act linear i (exec linear zero) d) → KnownNext linear d i
+        → Goal i
     begun b (instructions.Compute to o first second) at go rule next =
         carried t fs linear p q c d twins s (instructions.Compute to o first second) go
-          (operations t fs linear p q image.image image.made image.flags s d to o first second
-          (inl b) (known program sound reads c d twins) at rule next)
+        (operations t fs linear p q image.image image.made image.flags s d to o first second
+        (inl b) (known program sound reads c d twins) at rule next)
     begun b (instructions.Information to field) at go rule next =
         carried t fs linear p q c d twins s (instructions.Information to field) go
-          (informed t fs linear p q image s d to field b (known program sound reads c d twins) at)
+        (informed t fs linear p q image s d to field b (known program sound reads c d twins) at)
     begun b (instructions.Jump label) at go rule next =
         carried t fs linear p q c d twins s (instructions.Jump label) go
-          (plainly t fs linear p q image s d (instructions.Jump label) b
-          (known program sound reads c d twins) at rule tt)
+        (plainly t fs linear p q image s d (instructions.Jump label) b
+        (known program sound reads c d twins) at rule tt)
     begun b (instructions.JumpIfZero slot label) at go rule next =
         carried t fs linear p q c d twins s (instructions.JumpIfZero slot label) go
-          (plainly t fs linear p q image s d (instructions.JumpIfZero slot label) b
-          (known program sound reads c d twins) at rule tt)
+        (plainly t fs linear p q image s d (instructions.JumpIfZero slot label) b
+        (known program sound reads c d twins) at rule tt)
     begun b (instructions.Call f first count) at go rule next =
         called t fs linear p q c d twins s f first count at
-          (held (known program sound reads c d twins).continues f first count at) go
-          (calls_begin t fs linear p q image.image image.made image.apart s d f first count b
-          (known program sound reads c d twins) at)
+        (held (known program sound reads c d twins).continues f first count at) go
+        (calls_begin t fs linear p q image.image image.made image.apart s d f first count b
+        (known program sound reads c d twins) at)
       where
         ready : (i j : Instruction) → IsReady linear d i → i ≡ j → IsReady linear d j
         ready i j h e = subst (IsReady linear d) e h
 
         held : CanContinue linear d → (f first count : ℕ)
-          → instruction_at linear d ≡ Some (instructions.Call f first count)
-          → length d.frame.temporaries ≡ first + count
+            → instruction_at linear d ≡ Some (instructions.Call f first count)
+            → length d.frame.temporaries ≡ first + count
         held k f first count at = (ready k.instruction (instructions.Call f first count) k.ready
-          (same_instruction k.instruction (instructions.Call f first count) (sym k.at ∙ at))).0
+            (same_instruction k.instruction (instructions.Call f first count) (sym k.at ∙ at))).0
     begun b (instructions.CallBuiltIn f first) at go rule next =
         carried t fs linear p q c d twins s (instructions.CallBuiltIn f first) go
-          (called_built_in t fs linear p q image s d f first b (known program sound reads c d twins)
-          at rule next)
+        (called_built_in t fs linear p q image s d f first b (known program sound reads c d twins)
+        at rule next)
     begun b (instructions.CallFinally k) at go rule next =
         carried t fs linear p q c d twins s (instructions.CallFinally k) go
-          (called_block t fs linear p q image s d k b (known program sound reads c d twins) at next)
+        (called_block t fs linear p q image s d k b (known program sound reads c d twins) at next)
     begun b (instructions.LocalUnwind label) at go rule next =
         carried t fs linear p q c d twins s (instructions.LocalUnwind label) go
-          (local_unwinds_are_matched t fs linear p q image.image image.made image.followed
-          image.inside image.flags s d label b (known program sound reads c d twins) at rule next)
+        (local_unwinds_are_matched t fs linear p q image.image image.made image.followed
+        image.inside image.flags s d label b (known program sound reads c d twins) at rule next)
     begun b (instructions.Landing to) at go rule next =
         carried t fs linear p q c d twins s (instructions.Landing to) go
-          (plainly t fs linear p q image s d (instructions.Landing to) b
-          (known program sound reads c d twins) at rule tt)
+        (plainly t fs linear p q image s d (instructions.Landing to) b
+        (known program sound reads c d twins) at rule tt)
     begun b instructions.Separator at go rule next =
         carried t fs linear p q c d twins s instructions.Separator go
-          (plainly t fs linear p q image s d instructions.Separator b
-          (known program sound reads c d twins) at rule tt)
+        (plainly t fs linear p q image s d instructions.Separator b
+        (known program sound reads c d twins) at rule tt)
     begun b (instructions.Return from) at go rule next =
         carried t fs linear p q c d twins s (instructions.Return from) go
-          (returned t fs linear p q image s d from b (known program sound reads c d twins) at rule
-          next)
+        (returned t fs linear p q image s d from b (known program sound reads c d twins) at rule
+        next)
 
     step : Represents t fs linear p q s d → StepIsMatched t fs linear pace turns_left
-      (ShowsTwin t fs linear p q) s c
+        (ShowsTwin t fs linear p q) s c
     step (inl b) i at rule = begun b i (at_twin i at) (on_twin i at) (rule_twin i at rule)
-      (known_next program sound reads c d twins i (at_twin i at))
+        (known_next program sound reads c d twins i (at_twin i at))
     step (inr w) i at rule =
         carried t fs linear p q c d twins s i (on_twin i at)
         (retries t fs linear p q image.image image.made image.flags s d i w
-          (known program sound reads c d twins) (at_twin i at) (rule_twin i at rule)
-          (known_next program sound reads c d twins i (at_twin i at)))
+        (known program sound reads c d twins) (at_twin i at) (rule_twin i at rule)
+        (known_next program sound reads c d twins i (at_twin i at)))
 
 pub twins_simulate : TwinsSimulate
 twins_simulate t fs program p q sound reads image = record {

@@ -9,10 +9,12 @@ use Rattle.image_runs.proofs.Ending.{of_meaning}
 
 pub accepted_pass_the_frames : AcceptedPassTheFrames
 accepted_pass_the_frames text xs within accepted fits octets arg n running =
-    passes_the_frames (program_of text xs) (record
-      { sound = accepted_is_sound text xs within accepted;
-      shallow = resolved_is_shallow text xs within; fits = fits })
-      (reads_no_unset text xs within accepted) octets arg n running
+    passes_the_frames (program_of text xs) (record {
+      sound = accepted_is_sound text xs within accepted;
+      shallow = resolved_is_shallow text xs within;
+      fits = fits;
+    })
+    (reads_no_unset text xs within accepted) octets arg n running
 
 pub accepted_end_as_programs : AcceptedEndAsPrograms
 accepted_end_as_programs text xs bytes within accepted fits w most few arg m n lt paces calm e end =

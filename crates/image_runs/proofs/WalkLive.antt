@@ -34,8 +34,8 @@ module _ (t : Functions) (fs : List Funclet) (program : LinearProgram) (p : Imag
       below (activations_below b.body acts) l.2 in omega arith
   as_many m c (Leaf back ∷ is) (Waits b ∷ below) acts l = let n = as_many m (after_leaf c back) is
       below (activations_below b.body acts) l.2 in omega arith
-  as_many m c (Searching r ∷ is) (Searches exception resumption asked rest ∷ below) acts
-      l = let n = as_many m (context_of r.saved) is below acts l.1 in omega arith
+  as_many m c (Searching r ∷ is) (Searches exception resumption asked rest ∷ below) acts l =
+      let n = as_many m (context_of r.saved) is below acts l.1 in omega arith
   as_many m c (Unwinding r ∷ is) (Unwinds rest target ∷ below) acts l = let n = as_many m r.walk is
       below acts l.1 in omega arith
   as_many m c is items acts l = absurd l
@@ -55,25 +55,25 @@ module _ (t : Functions) (fs : List Funclet) (program : LinearProgram) (p : Imag
 
   module _ (q : Sites) (image : IsProgramImage t fs program p q) where
     pub are_frames : (m : Memory) (c : Context) (is : List StackItem) (items : List Item)
-      (acts : List Activation) → IsStack t m c is → Linked t fs program p m c is items acts
-      → AreFrames t fs program p m c items acts (frames c is)
+        (acts : List Activation) → IsStack t m c is → Linked t fs program p m c is items acts
+        → AreFrames t fs program p m c items acts (frames c is)
     are_frames m c [] [] acts s l = (s, l.0)
     are_frames m c (Framed f ∷ is) (Waits b ∷ below) acts s l =
         let y = p.layout b.body in
         let w = l.0.waits in
         let size = frame_size t fs program p q image m c f b.body w.code w.body l.0.framed l.0.entry
-          s.0 in
+        s.0 in
         let up = rsp c + f.size + 8 in (
           record {
             waits = subst (λ (leaf : Bool). BodyWaits t fs program p m c (slots_end y leaf)
-              (last_temporary y b.body leaf) b acts) (sym l.0.framed)
+                (last_temporary y b.body leaf) b acts) (sym l.0.framed)
                 (subst (λ n. BodyWaits t fs program p m c n (temporaries_end y b.body n) b acts)
-                  size w);
+                size w);
             at = refl;
             back = back m (after_frame c f) is below (activations_below b.body acts) s.1 l.2
-              l.0.returns;
+                l.0.returns;
             after = set_head c.kept up (let k = s.0.kept in omega arith)
-              ∙ ap (λ n. rsp c + n + 8) size;
+                ∙ ap (λ n. rsp c + n + 8) size;
             kept = set_rest c.kept up;
           },
           are_frames m (after_frame c f) is below (activations_below b.body acts) s.1 l.2,
@@ -82,24 +82,28 @@ module _ (t : Functions) (fs : List Funclet) (program : LinearProgram) (p : Imag
         let y = p.layout b.body in
         let w = l.0.waits in
         let none = leaf_layout t fs program p q b.body w.code l.0.leaf
-          (image.laid_out b.body w.code w.body) in
+        (image.laid_out b.body w.code w.body) in
         let next = rsp c + 8 in (
           record {
             waits = subst (λ (leaf : Bool). BodyWaits t fs program p m c (slots_end y leaf)
-              (last_temporary y b.body leaf) b acts) (sym l.0.leaf) w;
+                (last_temporary y b.body leaf) b acts) (sym l.0.leaf) w;
             at = refl;
             back = back m (after_leaf c up) is below (activations_below b.body acts) s.1 l.2
-              l.0.returns;
+                l.0.returns;
             after = set_head c.kept next (let k = s.0.kept in omega arith)
-              ∙ (let z = none.frame in let e : next ≡ rsp c + y.frame + 8 = omega arith in e);
+                ∙ (let z = none.frame in let e : next ≡ rsp c + y.frame + 8 = omega arith in e);
             kept = set_rest c.kept next;
           },
           are_frames m (after_leaf c up) is below (activations_below b.body acts) s.1 l.2,
         )
-    are_frames m c (Searching r ∷ is) (Searches exception resumption asked rest ∷ below) acts s l =
-        (r, record { here = s.0.at_host; is = s.0.fetches },
-          are_frames m (context_of r.saved) is below acts s.1 l.1)
-    are_frames m c (Unwinding r ∷ is) (Unwinds rest target ∷ below) acts s l =
-        (r, record { here = s.0.at_host; is = s.0.fetches },
-          are_frames m r.walk is below acts s.1 l.1)
+    are_frames m c (Searching r ∷ is) (Searches exception resumption asked rest ∷ below) acts s l = (
+      r,
+      record { here = s.0.at_host; is = s.0.fetches },
+      are_frames m (context_of r.saved) is below acts s.1 l.1,
+    )
+    are_frames m c (Unwinding r ∷ is) (Unwinds rest target ∷ below) acts s l = (
+      r,
+      record { here = s.0.at_host; is = s.0.fetches },
+      are_frames m r.walk is below acts s.1 l.1,
+    )
     are_frames m c is items acts s l = absurd l

@@ -23,7 +23,7 @@ module _ (t : Functions) (fs : List Funclet) (program : LinearProgram) (pace : �
     (credit : Configuration → ℕ) (R : ℕ → State → Configuration → Type 0)
     (Holds : State → Configuration → Type 0)
     (simulates : Simulates t fs program pace credit R)
-      (holds : (n : ℕ) (s : State) (c : Configuration) → R n s c → Holds s c) where
+    (holds : (n : ℕ) (s : State) (c : Configuration) → R n s c → Holds s c) where
   step : (n : ℕ) (s : State) (c : Configuration) (i : Instruction)
       → instruction_at program c ≡ Some i
       → ((u : State) (d : Configuration) → R n u d → IsRunning (exec program n d)
@@ -42,7 +42,7 @@ module _ (t : Functions) (fs : List Funclet) (program : LinearProgram) (pace : �
     shown = v.shown;
     continues = λ k. at_instruction program k c i at ∙ v.acts (exec program k);
     rest = rest v.state v.configuration v.is_there
-      (subst IsRunning (v.acts (exec program n)) running);
+        (subst IsRunning (v.acts (exec program n)) running);
   }
   step n s c i at rest running (inr (inl v)) = absurd
       (subst IsRunning (v.acts (exec program n)) running)
@@ -55,8 +55,10 @@ module _ (t : Functions) (fs : List Funclet) (program : LinearProgram) (pace : �
   pub passes : (n : ℕ) (s : State) (c : Configuration) → R n s c → IsRunning (exec program n c)
       → Passes t fs program pace credit Holds n s c
   passes zero s c r running = holds zero s c r
-  passes (suc n) s c r running = (holds (suc n) s c r,
-      by (instruction_at program c) refl (λ u d. passes n u d))
+  passes (suc n) s c r running = (
+    holds (suc n) s c r,
+    by (instruction_at program c) refl (λ u d. passes n u d),
+  )
     where
       by : (o : Option Instruction) → instruction_at program c ≡ o
           → ((u : State) (d : Configuration) → R n u d → IsRunning (exec program n d)
@@ -66,4 +68,4 @@ module _ (t : Functions) (fs : List Funclet) (program : LinearProgram) (pace : �
       by (Some i) at rest =
           step n s c i at rest (subst IsRunning (at_instruction program n c i at) running)
           (simulates.steps n s c r i at (first_has_rule program n c i at
-            (running_has_rule (exec program (suc n) c) running)))
+          (running_has_rule (exec program (suc n) c) running)))

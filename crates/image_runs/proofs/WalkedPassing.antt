@@ -50,57 +50,57 @@ module _ (program : Program) (l : IsLinkable program) (reads : ReadsNoUnset (low
     twin = r.twin;
     twins = r.twins;
     walk = walks_give_the_frames (functions_of linear) (funclets_of linear) linear (plan_of linear)
-      (sites_of linear) image.image
+        (sites_of linear) image.image
         (linked_returns_wait linear (lowered_is_compiled program l)) s r.twin r.is_there
-          (known program l.sound reads c r.twin r.twins);
+        (known program l.sound reads c r.twin r.twins);
   }
 
   module _ (octets : HasBytes linear) (arg : ℤ) (n : ℕ) (running : IsRunning (seen linear arg n))
-      where
-    abbrev no_function : LinearFunction
-    no_function = record { parameters = 0; body = nothing }
+    where
+      abbrev no_function : LinearFunction
+      no_function = record { parameters = 0; body = nothing }
 
-    abbrev main : LinearFunction
-    main = get_or linear.functions linear.main no_function
+      abbrev main : LinearFunction
+      main = get_or linear.functions linear.main no_function
 
-    is_main : slice_get linear.functions linear.main ≡ Some main
-    is_main = slice_get-get_or linear.functions linear.main no_function l.fits.main
+      is_main : slice_get linear.functions linear.main ≡ Some main
+      is_main = slice_get-get_or linear.functions linear.main no_function l.fits.main
 
-    begins : MainBegins (functions_of linear) (funclets_of linear) linear (plan_of linear)
-      (sites_of linear) arg main (images.start (image_of (linked linear)) arg)
-    begins =
-        mains_begin linear (lowered_is_compiled program l) octets image.made arg main is_main
-        (continues program l.sound (start linear arg main)
+      begins : MainBegins (functions_of linear) (funclets_of linear) linear (plan_of linear)
+          (sites_of linear) arg main (images.start (image_of (linked linear)) arg)
+      begins =
+          mains_begin linear (lowered_is_compiled program l) octets image.made arg main is_main
+          (continues program l.sound (start linear arg main)
           (record { argument = arg; main = main; is_main = is_main; turns = zero; comes = refl }))
 
-    goes : IsRunning (exec linear n (start linear arg main))
-    unfolding with_some
-    goes = subst IsRunning (ap (λ (o : Option LinearFunction). with_some [] o
-      (λ main. exec linear n (start linear arg main))) is_main) running
+      goes : IsRunning (exec linear n (start linear arg main))
+      unfolding with_some
+      goes = subst IsRunning (ap (λ (o : Option LinearFunction). with_some [] o
+          (λ main. exec linear n (start linear arg main))) is_main) running
 
-    pub passes_the_frames : PassesTheFrames program arg n
-    passes_the_frames =
-        let b = begins in
-        record {
-          main = main;
-          is_main = is_main;
-          turns = b.turns;
-          few = b.few;
-          state = b.state;
-          comes = b.comes;
-          passes = passes (functions_of linear) (funclets_of linear) linear pace turns_left
-              (λ k. ShowsTwin (functions_of linear) (funclets_of linear) linear (plan_of linear)
+      pub passes_the_frames : PassesTheFrames program arg n
+      passes_the_frames =
+          let b = begins in
+          record {
+            main = main;
+            is_main = is_main;
+            turns = b.turns;
+            few = b.few;
+            state = b.state;
+            comes = b.comes;
+            passes = passes (functions_of linear) (funclets_of linear) linear pace turns_left
+                (λ k. ShowsTwin (functions_of linear) (funclets_of linear) linear (plan_of linear)
                 (sites_of linear)) (ShowsFramesOf program)
-              (twins_simulate (functions_of linear) (funclets_of linear) program (plan_of linear)
+                (twins_simulate (functions_of linear) (funclets_of linear) program (plan_of linear)
                 (sites_of linear) l.sound reads image)
-              (λ k s c r. shows s c r) n b.state (start linear arg main)
-              (record {
-                twin = started_with linear arg main b.values;
-                twins = twins_start linear arg main b.values is_main b.as_many b.small;
-                is_there = inl b.begins;
-              })
-              goes;
-        }
+                (λ k s c r. shows s c r) n b.state (start linear arg main)
+                (record {
+                  twin = started_with linear arg main b.values;
+                  twins = twins_start linear arg main b.values is_main b.as_many b.small;
+                  is_there = inl b.begins;
+                })
+                goes;
+          }
 
 pub runs_pass_the_frames : RunsPassTheFrames
 runs_pass_the_frames program l reads octets arg n running = passes_the_frames program l reads octets

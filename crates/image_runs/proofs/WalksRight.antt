@@ -65,13 +65,13 @@ module _ (t : Functions) (fs : List Funclet) (program : LinearProgram) (p : Imag
       let top = h.top in
       let is_there = top.on.is_there in
       let n = as_many t fs program p m from top.is (Waits c.frame ∷ c.below) h.acts
-        is_there.linked in
+      is_there.linked in
       record {
         acts = h.acts;
         store = h.store;
         frames = frames from top.is;
         live = are_frames t fs program p q image m from top.is (Waits c.frame ∷ c.below) h.acts
-          is_there.stack is_there.linked;
+            is_there.stack is_there.linked;
         walks = λ k le. gives t m from 0 top.is k is_there.stack (omega arith);
       }
 
@@ -86,7 +86,7 @@ module _ (t : Functions) (fs : List Funclet) (program : LinearProgram) (p : Imag
 
     -- where a return begins
     module _ (still : ReturnsWait t fs program p q) (has : HasProgram t fs program p q s.memory)
-      (r : IsReturning t fs program p q at.slots.code c.frame.body c.frame.next s.cpu.rip) where
+        (r : IsReturning t fs program p q at.slots.code c.frame.body c.frame.next s.cpu.rip) where
       abbrev sp : ℕ
       sp = register s.cpu Rsp
 
@@ -97,23 +97,23 @@ module _ (t : Functions) (fs : List Funclet) (program : LinearProgram) (p : Imag
       below_end =
           let rest = at.below (others_of t fs program p q s) refl in
           let top = in_stack t fs program p s.memory
-            (context_below at.back (sp + size + 8) (others_of t fs program p q s)) at.is c.below
-            (activations_below c.frame.body at.acts) rest.is_there.stack rest.is_there.linked in
+          (context_below at.back (sp + size + 8) (others_of t fs program p q s)) at.is c.below
+          (activations_below c.frame.body at.acts) rest.is_there.stack rest.is_there.linked in
           omega arith
 
       returning_top : (leaf : Bool) → p.leaf c.frame.body ≡ leaf
-        → OnTop t fs program p q s c at.acts
+          → OnTop t fs program p q s c at.acts
       returning_top false e = framed_top t fs program p q s c at e
-        (still.frames s.memory c.frame.body at.slots.code c.frame.next (context_of s.cpu) at.back
-        at.slots.body e has r refl below_end at.returns)
+          (still.frames s.memory c.frame.body at.slots.code c.frame.next (context_of s.cpu) at.back
+          at.slots.body e has r refl below_end at.returns)
       returning_top true e =
           let z = (leaf_layout t fs program p q c.frame.body at.slots.code e
-            (image.laid_out c.frame.body at.slots.code at.slots.body)).frame in
+          (image.laid_out c.frame.body at.slots.code at.slots.body)).frame in
           let lt = below_end in
           let here : sp + size ≡ sp = omega arith in
           leaf_top t fs program p q image s c at e
           (still.leaves s.memory c.frame.body at.slots.code c.frame.next (context_of s.cpu) at.back
-            at.slots.body e r refl (omega arith) (ap (word s.memory) (sym here) ∙ at.returns))
+          at.slots.body e r refl (omega arith) (ap (word s.memory) (sym here) ∙ at.returns))
 
   -- where an instruction begins
   begun : ReturnsWait t fs program p q → (s : State) (c : Configuration) (i : Instruction)
@@ -122,12 +122,12 @@ module _ (t : Functions) (fs : List Funclet) (program : LinearProgram) (p : Imag
     where
       code : List Instr
       code = template (links_of p q c.frame.body) (p.layout c.frame.body)
-        (p.address c.frame.body c.frame.next) i
+          (p.address c.frame.body c.frame.next) i
 
       some : 1 ≤ sizes code
       some =
           let n = template_sizes (links_of p q c.frame.body) (p.layout c.frame.body)
-            (p.address c.frame.body c.frame.next) i in
+          (p.address c.frame.body c.frame.next) i in
           let k = template_some (p.layout c.frame.body) i in
           omega arith
 
@@ -136,16 +136,28 @@ module _ (t : Functions) (fs : List Funclet) (program : LinearProgram) (p : Imag
           let x = is_some code some in
           let here = b.rip in
           let resumed : IsResumed t fs program p q c.frame.body b.body.slots.code c.frame.next
-            s.cpu.rip =
-          record { instruction = i; there = in_code s c i b.body e; continues = goes; done = [];
-            item = x.item; left = x.left; parts = x.parts; here = omega arith } in
+          s.cpu.rip =
+          record {
+            instruction = i;
+            there = in_code s c i b.body e;
+            continues = goes;
+            done = [];
+            item = x.item;
+            left = x.left;
+            parts = x.parts;
+            here = omega arith;
+          } in
           is_top s c b.body (body_on_top t fs program p q image s c c.frame.next b.body resumed
-            b.memory.code)
+          b.memory.code)
       by (inr r) =
           is_top s c b.body
           (returning_top s c b.body still b.memory.code
-            (record { from = r.0; there = in_code s c i b.body e
-            ∙ ap (λ (j : Instruction). Some j) r.1; here = b.rip }) (p.leaf c.frame.body) refl)
+          (record {
+            from = r.0;
+            there = in_code s c i b.body e
+                ∙ ap (λ (j : Instruction). Some j) r.1;
+            here = b.rip;
+          }) (p.leaf c.frame.body) refl)
 
   -- in the midst of an operation that is made again
   working : (s : State) (c : Configuration) → WorksOn t fs program p q s c → IsTop s c
@@ -154,19 +166,19 @@ module _ (t : Functions) (fs : List Funclet) (program : LinearProgram) (p : Imag
     where
       ops : List Instr
       ops = operands_code (p.layout c.frame.body) w.again.operation (Temporary w.again.first)
-        (Temporary w.again.second)
+          (Temporary w.again.second)
 
       finish : List Instr
       finish = finish_code (p.layout c.frame.body) w.again.operation w.again.to
 
       i : Instruction
       i = instructions.Compute w.again.to w.again.operation (Temporary w.again.first)
-        (Temporary w.again.second)
+          (Temporary w.again.second)
 
       resumed : IsResumed t fs program p q c.frame.body w.body.slots.code c.frame.next s.cpu.rip
       resumed =
           let x = is_some finish (some_finish (p.layout c.frame.body) w.again.operation
-            w.again.to) in
+          w.again.to) in
           record {
             instruction = i;
             there = in_code s c i w.body w.again.works;

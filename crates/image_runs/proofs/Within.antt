@@ -57,14 +57,14 @@ module _ (t : Functions) (fs : List Funclet) (program : LinearProgram) (p : Imag
   module _ (m : Memory) (c : Context) (rip : ℕ) (b : Frame) (below : List Item)
       (acts : List Activation) (code : LinearBody)
       (there : body_of program b.body ≡ Some code)
-        (resumed : IsResumed t fs program p q b.body code b.next rip)
-        (inside : InCode p b.body b.next rip) (small : rip < 2 ^ 64)
-        (has : HasProgram t fs program p q m) where
+      (resumed : IsResumed t fs program p q b.body code b.next rip)
+      (inside : InCode p b.body b.next rip) (small : rip < 2 ^ 64)
+      (has : HasProgram t fs program p q m) where
     abbrev to : Context
     to = record { rip = rip; kept = c.kept }
 
     waits_there : (size end : ℕ) → BodyWaits t fs program p m c size end b acts
-      → BodyWaits t fs program p m to size end b acts
+        → BodyWaits t fs program p m to size end b acts
     waits_there size end w = record {
       code = w.code;
       body = w.body;
@@ -78,23 +78,23 @@ module _ (t : Functions) (fs : List Funclet) (program : LinearProgram) (p : Imag
     }
 
     frame_there : (f : StackFrame) → p.leaf b.body ≡ false → f.entry ≡ p.entry b.body
-      → FrameIsAt t m c f → FrameIsAt t m to f
+        → FrameIsAt t m c f → FrameIsAt t m to f
     frame_there f framed entry s =
         let y = p.layout b.body in
         let size = frame_size t fs program p q image m c f b.body code there framed entry s in
         let room = s.room in
         let x = (image.frames m b.body code b.next to f.return_address there framed has resumed
-          s.kept (subst (λ n. rsp c + n + 8 < 2 ^ 64) size room)
-          (subst (λ n. word m (rsp c + n) ≡ Ok f.return_address) size s.returns)).is_there in
+        s.kept (subst (λ n. rsp c + n + 8 < 2 ^ 64) size room)
+        (subst (λ n. word m (rsp c + n) ≡ Ok f.return_address) size s.returns)).is_there in
         record {
           live = x.live;
           not_filter = x.not_filter;
           not_finally = x.not_finally;
           found = x.found ∙ ap (λ (e : Entry). Some e) (sym entry);
           past_prologue = subst (λ (e : Entry). nat_lt (distance t.base rip - e.range.begin)
-            e.info.prologue_size ≡ false) (sym entry) x.past_prologue;
+              e.info.prologue_size ≡ false) (sym entry) x.past_prologue;
           not_epilogue = subst (λ (e : Entry). ◌≡◌ {A = Option (List Instr)}
-            (tail_at e.info.frame_register m rip) None) (sym entry) x.not_epilogue;
+              (tail_at e.info.frame_register m rip) None) (sym entry) x.not_epilogue;
           codes = s.codes;
           no_register = s.no_register;
           no_parents = s.no_parents;
@@ -105,19 +105,39 @@ module _ (t : Functions) (fs : List Funclet) (program : LinearProgram) (p : Imag
 
     -- the same list from another address of the instruction
     there_too : (is : List StackItem) → IsStack t m c is
-      → Linked t fs program p m c is (Waits b ∷ below) acts
-      → linked.IsLinkedStack t fs program p m to is (Waits b ∷ below) acts
+        → Linked t fs program p m c is (Waits b ∷ below) acts
+        → linked.IsLinkedStack t fs program p m to is (Waits b ∷ below) acts
     there_too (Framed f ∷ is) s l = record {
       stack = (frame_there f l.0.framed l.0.entry s.0, s.1);
-      linked = (record { framed = l.0.framed; entry = l.0.entry;
-        waits = waits_there f.size _ l.0.waits; pointers = l.0.pointers; returns = l.0.returns },
-        l.1, l.2);
+      linked = (
+        record {
+          framed = l.0.framed;
+          entry = l.0.entry;
+          waits = waits_there f.size _ l.0.waits;
+          pointers = l.0.pointers;
+          returns = l.0.returns;
+        },
+        l.1,
+        l.2,
+      );
     }
     there_too (Leaf back ∷ is) s l = record {
-      stack = (image.leaves m b.body code b.next to back there l.0.leaf resumed s.0.kept s.0.room
-        s.0.returns, s.1);
-      linked = (record { leaf = l.0.leaf; home = l.0.home; none = l.0.none;
-        waits = waits_there _ _ l.0.waits; returns = l.0.returns }, l.1, l.2);
+      stack = (
+        image.leaves m b.body code b.next to back there l.0.leaf resumed s.0.kept s.0.room
+            s.0.returns,
+        s.1,
+      );
+      linked = (
+        record {
+          leaf = l.0.leaf;
+          home = l.0.home;
+          none = l.0.none;
+          waits = waits_there _ _ l.0.waits;
+          returns = l.0.returns;
+        },
+        l.1,
+        l.2,
+      );
     }
     there_too is s l = absurd l
 
@@ -130,21 +150,21 @@ module _ (t : Functions) (fs : List Funclet) (program : LinearProgram) (p : Imag
       let was = top.on.is_there in
       let low = from_start s.memory from top.is c.frame c.below h.acts was.linked in
       let now = kept_by_other_memories t fs program p s.memory u.memory from top.is items h.acts
-        w.stack low was in
+      w.stack low was in
       let moved = there_too u.memory from u.cpu.rip c.frame c.below h.acts w.code w.body w.resumed
-        w.inside w.small w.program_there top.is now.stack now.linked in
+      w.inside w.small w.program_there top.is now.stack now.linked in
       let same : context_of u.cpu ≡ record { rip = u.cpu.rip; kept = from.kept } = ap
-        (λ (ks : List ℕ). let x : Context = record { rip = u.cpu.rip; kept = ks } in x) w.kept in
+      (λ (ks : List ℕ). let x : Context = record { rip = u.cpu.rip; kept = ks } in x) w.kept in
       let here : linked.IsLinkedStack t fs program p u.memory (context_of u.cpu) top.is items
-        h.acts = subst (λ (x : Context). linked.IsLinkedStack t fs program p u.memory x top.is items
-        h.acts) (sym same) moved in
+      h.acts = subst (λ (x : Context). linked.IsLinkedStack t fs program p u.memory x top.is items
+      h.acts) (sym same) moved in
       let n = as_many t fs program p u.memory (context_of u.cpu) top.is items h.acts here.linked in
       record {
         acts = h.acts;
         store = h.store;
         frames = frames (context_of u.cpu) top.is;
         live = are_frames t fs program p q image u.memory (context_of u.cpu) top.is items h.acts
-          here.stack here.linked;
+            here.stack here.linked;
         walks = λ k le. gives t u.memory (context_of u.cpu) 0 top.is k here.stack (omega arith);
       }
 

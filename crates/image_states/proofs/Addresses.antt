@@ -46,11 +46,11 @@ pub reserved : (globals : List ℕ) (a : ℕ) → image_base + text_begin global
 reserved globals a le lt =
     let e = data_ends globals in
     let past : is_data globals a ≡ false = and_right (leb 0x140001000 a) (ltb a (data_end globals))
-      (le-ltb a (data_end globals) (omega arith)) in
+    (le-ltb a (data_end globals) (omega arith)) in
     or_right _ (is_between IMAGE_BASE IMAGE_RANGE_END a && not (is_data globals a))
     (and_from (is_between IMAGE_BASE IMAGE_RANGE_END a) (not (is_data globals a))
     (and_from (leb IMAGE_BASE a) (ltb a IMAGE_RANGE_END) (le-leb IMAGE_BASE a (omega arith))
-      (lt-ltb a IMAGE_RANGE_END lt))
+    (lt-ltb a IMAGE_RANGE_END lt))
     (not_from_false (is_data globals a) past))
 
 -- ---- routines
@@ -112,8 +112,11 @@ module _ (program : LinearProgram) (c : HasWholeImage program) where
   in_image from to low high =
       let end = end_inside program fits in
       let small = c.small in
-      record { low = omega arith; high = omega arith;
-        own = λ a le lt. reserved program.globals a (omega arith) (omega arith) }
+      record {
+        low = omega arith;
+        high = omega arith;
+        own = λ a le lt. reserved program.globals a (omega arith) (omega arith);
+      }
 
   pub check_stack_inside : InImage (sites_of program).check_stack
       ((sites_of program).check_stack + sizes check_stack)
@@ -121,9 +124,9 @@ module _ (program : LinearProgram) (c : HasWholeImage program) where
       let long = check_stack_size in
       let at = check_stack_at (site_of program).text in
       let n : image_base + (at + sizes check_stack)
-        ≡ (sites_of program).check_stack + sizes check_stack = omega arith in
+      ≡ (sites_of program).check_stack + sizes check_stack = omega arith in
       subst (InImage (image_base + at)) n (in_image at (at + sizes check_stack) (omega arith)
-        (omega arith))
+      (omega arith))
 
 -- ---- a body
 
@@ -144,9 +147,9 @@ module _ (program : LinearProgram) (c : HasWholeImage program) (name : BodyName)
   label_rises label lt =
       let next = offset_next x.routine.layout x.routine.body.code label some_instruction lt in
       let some = template_some x.routine.layout
-        (get_or x.routine.body.code label some_instruction) in
+      (get_or x.routine.body.code label some_instruction) in
       let e = ap (offset_of x.routine.layout x.routine.body.code)
-        (let q : suc label ≡ label + 1 = omega arith in q) in
+      (let q : suc label ≡ label + 1 = omega arith in q) in
       omega arith
 
   -- all of them up to the body's end
@@ -173,7 +176,7 @@ entry_some program c name b is fl e =
     let h = here program c name b is in
     let x = routine_of program name in
     let framed : x.routine.frame ≡ Some (funclet_frame fl.body) = ap (λ (r : RoutineView). r.frame)
-      e in
+    e in
     let size = subst IsFrameNear framed h.near.frame in
     let least = entry_least x.routine (funclet_frame fl.body) h.near framed size.0 in
     let few = taking_few (funclet_frame fl.body).size size.0 (let m = size.1 in omega arith) in
@@ -191,7 +194,7 @@ module _ (program : LinearProgram) (c : HasWholeImage program) where
       let long = as_long program fits in
       let n = length program.functions + k in
       let below = bounds_below (first program.globals) (routines program) n 0 no_routine
-        (omega arith) in
+      (omega arith) in
       let begin = begin_is program fits k in
       let some = funclet_size program fits k lt in
       omega arith
@@ -201,7 +204,7 @@ module _ (program : LinearProgram) (c : HasWholeImage program) where
       let fits = c.fits in
       let long = as_long program fits in
       let least = bounds_least (first program.globals) (routines program)
-        (length program.functions + k) 0 (omega arith) in
+      (length program.functions + k) 0 (omega arith) in
       let begin = begin_is program fits k in
       omega arith
 
@@ -226,16 +229,16 @@ module _ (program : LinearProgram) (c : HasWholeImage program) where
       let size = ap (λ (r : RoutineView). routine_size r) p.own in
       elim (cases_lt p.index n) [
         | inl before ↦ let r = bounds_rise (first program.globals) rs p.index n 0 no_routine before
-          (omega arith) in omega arith
+            (omega arith) in omega arith
         | inr rest ↦ elim (cases_lt n p.index) [
           | inl after ↦ let r = bounds_rise (first program.globals) rs n p.index 0 no_routine after
-            (let low = p.below in omega arith) in omega arith
+              (let low = p.below in omega arith) in omega arith
           | inr equal ↦
               let same' : p.index ≡ n = omega arith in
               let at = ap (λ (i : ℕ). get_or (bounds (first program.globals) rs) i 0) same' in
               let entry = entry_some program c name b is (get_or program.funclets k no_funclet)
-                (p.own ∙ ap (λ (i : ℕ). get_or rs i no_routine) same'
-                ∙ funclet_is program fits k in') in
+              (p.own ∙ ap (λ (i : ℕ). get_or rs i no_routine) same'
+              ∙ funclet_is program fits k in') in
               omega arith
         ]
       ]

@@ -102,10 +102,10 @@ module _ (program : LinearProgram) (c : HasWholeImage program) (name : BodyName)
   leaf_at none rva low high =
       let s = small rva high in
       by_popping t m (image_base + rva) (omega arith) (λ z. absurd (omega arith))
-        (λ z. absurd (omega arith))
+      (λ z. absurd (omega arith))
       (λ k at. ap (of_entry m k (distance image_base k.rip))
-        (ap (entry_of t) at ∙ none_in program index x rva c.fits c.ranges at_index none low high
-        (omega arith)))
+      (ap (entry_of t) at ∙ none_in program index x rva c.fits c.ranges at_index none low high
+      (omega arith)))
 
   -- ---- with one
 
@@ -123,22 +123,24 @@ module _ (program : LinearProgram) (c : HasWholeImage program) (name : BodyName)
     least = entry_least x.routine f (here program c name b is).near framed near.0
 
     entry_here : (rva : ℕ) → x.begin ≤ rva → rva < end_of x → (k : Context)
-      → k.rip ≡ image_base + rva → (entry_of t k.rip ≡ Some e) × (distance image_base k.rip ≡ rva)
+        → k.rip ≡ image_base + rva → (entry_of t k.rip ≡ Some e) × (distance image_base k.rip ≡ rva)
     entry_here rva low high k at =
-        let s = small rva high in
-        (ap (entry_of t) at ∙ found_in program index x f rva c.fits c.ranges at_index framed low
-          high (omega arith), ap (distance image_base) at ∙ away rva (omega arith))
+        let s = small rva high in (
+          ap (entry_of t) at ∙ found_in program index x f rva c.fits c.ranges at_index framed low
+              high (omega arith),
+          ap (distance image_base) at ∙ away rva (omega arith),
+        )
 
     -- before the frame is made
     pub making_at : (d : ℕ) → d < taking_size f.size
-      → FindsReturn t m (image_base + (x.begin + d)) 0
+        → FindsReturn t m (image_base + (x.begin + d)) 0
     making_at d lt =
         let l = least in
         let rva = x.begin + d in
         let high : rva < end_of x = omega arith in
         let s = small rva high in
         by_popping t m (image_base + rva) (omega arith) (λ z. absurd (omega arith))
-          (λ z. absurd (omega arith))
+        (λ z. absurd (omega arith))
         (λ k at.
         (let h = entry_here rva (omega arith) high k at in
         let d' = distance image_base k.rip - x.begin in
@@ -147,11 +149,11 @@ module _ (program : LinearProgram) (c : HasWholeImage program) (name : BodyName)
         ap (of_entry m k (distance image_base k.rip)) h.0
         ∙ ap (by_distance m e.info [] k d') (lt-ltb d' (taking_size f.size) before)
         ∙ ap (λ q. in_prologue m e.info [] (operations (run_or e.info.codes [] q)) k)
-          (lt-leb (taking_size f.size) d' before)))
+        (lt-leb (taking_size f.size) d' before)))
 
     -- past it
     past_at : (rva : ℕ) → x.begin + taking_size f.size ≤ rva → rva < end_of x → (k : Context)
-      → k.rip ≡ image_base + rva
+        → k.rip ≡ image_base + rva
         → (o : Option (List Instr)) → tail_at 0 m (image_base + rva) ≡ o
         → of_entry m k (distance image_base k.rip) (entry_of t k.rip)
         ≡ past_prologue m e.info [] k o
@@ -165,8 +167,8 @@ module _ (program : LinearProgram) (c : HasWholeImage program) (name : BodyName)
 
     -- an instruction of the body
     inner_at' : (rva : ℕ) (i : Instr) → x.begin + taking_size f.size ≤ rva → rva < end_of x
-      → Inner i → IsExecutableAt m (image_base + rva) (chosen i)
-      → FindsReturn t m (image_base + rva) f.size
+        → Inner i → IsExecutableAt m (image_base + rva) (chosen i)
+        → FindsReturn t m (image_base + rva) f.size
     inner_at' rva i low high inner is_there =
         let s = small rva high in
         by_frame t m (image_base + rva) f.size
@@ -178,14 +180,14 @@ module _ (program : LinearProgram) (c : HasWholeImage program) (name : BodyName)
           record {
             live = ne_eqb k.rip 0 (λ z. (let q : k.rip ≡ 0 = z in absurd (omega arith)));
             not_filter = ne_eqb k.rip filter_return
-              (λ z. (let q : k.rip ≡ filter_return = z in absurd (omega arith)));
+                (λ z. (let q : k.rip ≡ filter_return = z in absurd (omega arith)));
             not_finally = ne_eqb k.rip finally_return
-              (λ z. (let q : k.rip ≡ finally_return = z in absurd (omega arith)));
+                (λ z. (let q : k.rip ≡ finally_return = z in absurd (omega arith)));
             found = h.0;
             past_prologue = le-ltb (distance image_base k.rip - x.begin) (taking_size f.size)
-              (omega arith);
+                (omega arith);
             not_epilogue = ap (tail_at 0 m) at
-              ∙ no_epilogue (image_base + rva) m i inner is_there (omega arith);
+                ∙ no_epilogue (image_base + rva) m i inner is_there (omega arith);
             codes = refl;
             no_register = refl;
             no_parents = refl;
@@ -197,41 +199,41 @@ module _ (program : LinearProgram) (c : HasWholeImage program) (name : BodyName)
 
     -- the epilogue, and its return
     epilogue_at : (rva : ℕ) → x.begin + taking_size f.size ≤ rva → rva < end_of x
-      → IsExecutableAt m (image_base + rva) (chosen (give_back f.size))
-      → IsExecutableAt m (image_base + rva + length (chosen (give_back f.size)))
+        → IsExecutableAt m (image_base + rva) (chosen (give_back f.size))
+        → IsExecutableAt m (image_base + rva + length (chosen (give_back f.size)))
         (chosen instrs.Return) → FindsReturn t m (image_base + rva) f.size
     epilogue_at rva low high is_there more =
         let s = small rva high in
         let most = near.1 in
         by_epilogue t m (image_base + rva) (omega arith) (λ z. absurd (omega arith))
-          (λ z. absurd (omega arith)) f.size
+        (λ z. absurd (omega arith)) f.size
         (λ k at. past_at rva low high k at (Some (give_back f.size ∷ instrs.Return ∷ []))
-          (at_epilogue m (image_base + rva) f.size (omega arith) is_there more (omega arith)))
+        (at_epilogue m (image_base + rva) f.size (omega arith) is_there more (omega arith)))
 
     return_at' : (rva : ℕ) → x.begin + taking_size f.size ≤ rva → rva < end_of x
-      → IsExecutableAt m (image_base + rva) (chosen instrs.Return)
-      → FindsReturn t m (image_base + rva) 0
+        → IsExecutableAt m (image_base + rva) (chosen instrs.Return)
+        → FindsReturn t m (image_base + rva) 0
     return_at' rva low high is_there =
         let s = small rva high in
         by_return t m (image_base + rva) (omega arith) (λ z. absurd (omega arith))
-          (λ z. absurd (omega arith))
+        (λ z. absurd (omega arith))
         (λ k at. past_at rva low high k at (Some (instrs.Return ∷ []))
-          (at_return m (image_base + rva) is_there (omega arith)))
+        (at_return m (image_base + rva) is_there (omega arith)))
 
   -- ---- its code
 
   code_there : HasProgram t (funclets_of program) program (plan_of program) (sites_of program) m
       → IsExecutableAt m (image_base + x.begin)
-        (spelled (routine_code (site_of program) x.begin x.routine))
+      (spelled (routine_code (site_of program) x.begin x.routine))
   code_there has =
       let begin = begin_of (plan_of program) (sites_of program) name in
       let code = executable_of m begin (spelled
-        (code_of program (plan_of program) (sites_of program) name b))
-        (has.code name b is).is_there in
+      (code_of program (plan_of program) (sites_of program) name b))
+      (has.code name b is).is_there in
       subst (λ (n : ℕ). IsExecutableAt m n (spelled
-        (routine_code (site_of program) x.begin x.routine))) (place program c name b is).begin
-        (subst (λ (q : List Instr). IsExecutableAt m begin (spelled q))
-        (code_same program c name b is) code)
+      (routine_code (site_of program) x.begin x.routine))) (place program c name b is).begin
+      (subst (λ (q : List Instr). IsExecutableAt m begin (spelled q))
+      (code_same program c name b is) code)
 
   abbrev check : ℕ
   check = check_stack_at (site_of program).text
@@ -250,20 +252,23 @@ module _ (program : LinearProgram) (c : HasWholeImage program) (name : BodyName)
       let h = here program c name b is in
       let room = h.room in
       ap sizes (frame_same x.routine.frame y.frame x.begin check
-        (begin_of (plan_of program) (sites_of program) name) (sites_of program).check_stack
-        (sized program index x at_index) h.near.frame (place program c name b is).begin refl
-        (omega arith))
+      (begin_of (plan_of program) (sites_of program) name) (sites_of program).check_stack
+      (sized program index x at_index) h.near.frame (place program c name b is).begin refl
+      (omega arith))
 
   entry_is : sizes making + sizes arguments ≡ entry_size x.routine
-  entry_is = omega (arith, sizes_append making arguments,
-      entry_sizes x.begin check x.routine (here program c name b is).near)
+  entry_is = omega (
+    arith,
+    sizes_append making arguments,
+    entry_sizes x.begin check x.routine (here program c name b is).near,
+  )
 
   arguments_there : HasProgram t (funclets_of program) program (plan_of program) (sites_of program)
       m → IsExecutableAt m (image_base + x.begin + sizes making) (spelled arguments)
   arguments_there has =
       let base = image_base + x.begin in
       (code_split m base making arguments (code_split m base (making ++ arguments) body
-        (code_there has)).0).1
+      (code_there has)).0).1
 
   body_there : HasProgram t (funclets_of program) program (plan_of program) (sites_of program) m
       → IsExecutableAt m (image_base + body_begin x) (spelled body)
@@ -271,45 +276,45 @@ module _ (program : LinearProgram) (c : HasWholeImage program) (name : BodyName)
       let base = image_base + x.begin in
       let e = entry_is in
       let at : base + sizes (making ++ arguments)
-        ≡ image_base + body_begin x = omega (arith, sizes_append making arguments) in
+      ≡ image_base + body_begin x = omega (arith, sizes_append making arguments) in
       subst (λ n. IsExecutableAt m n (spelled body)) at
-        (code_split m base (making ++ arguments) body (code_there has)).1
+      (code_split m base (making ++ arguments) body (code_there has)).1
 
   -- ---- arguments
 
   module _ (done left : List Instr) (item : Instr) (parts : arguments ≡ done ++ (item ∷ left)) where
     item_inner : Inner item
     item_inner = inner_at done left item (subst AllInner parts
-      (arguments_inner y x.routine.entry (here program c name b is).near.entry))
+        (arguments_inner y x.routine.entry (here program c name b is).near.entry))
 
     abbrev pub argument_at : ℕ
     argument_at = x.begin + sizes making + sizes done
 
     argument_high : argument_at < end_of x
     argument_high = let e = entry_is in let some = item_some item item_inner in
-      omega (arith, ap sizes parts, sizes_append done (item ∷ left))
+        omega (arith, ap sizes parts, sizes_append done (item ∷ left))
 
     argument_is_at : HasProgram t (funclets_of program) program (plan_of program) (sites_of program)
-      m → IsExecutableAt m (image_base + argument_at) (chosen item)
+        m → IsExecutableAt m (image_base + argument_at) (chosen item)
     argument_is_at has =
         let at = image_base + x.begin + sizes making in
         let rest = (code_split m at done (item ∷ left)
-          (subst (λ (q : List Instr). IsExecutableAt m at (spelled q)) parts
-          (arguments_there has))).1 in
+        (subst (λ (q : List Instr). IsExecutableAt m at (spelled q)) parts
+        (arguments_there has))).1 in
         let e : at + sizes done ≡ image_base + (x.begin + sizes making + sizes done) = omega
-          arith in
+        arith in
         subst (λ n. IsExecutableAt m n (chosen item)) e
-          (executable_split m (at + sizes done) (chosen item) (spelled left) rest).0
+        (executable_split m (at + sizes done) (chosen item) (spelled left) rest).0
 
     pub argument_found : HasProgram t (funclets_of program) program (plan_of program)
-      (sites_of program) m → (o : Option FrameLayout) → x.routine.frame ≡ o
-      → FindsReturn t m (image_base + argument_at) (size_of o)
+        (sites_of program) m → (o : Option FrameLayout) → x.routine.frame ≡ o
+        → FindsReturn t m (image_base + argument_at) (size_of o)
     argument_found has None none = leaf_at none argument_at (omega arith) argument_high
     argument_found has (Some f) framed =
         let size = ap (λ o. sizes (texts.frame_code x.begin check o)) framed
-          ∙ prologue_sizes f _ (near f framed).0 in
+        ∙ prologue_sizes f _ (near f framed).0 in
         inner_at' f framed argument_at item (omega arith) argument_high item_inner
-          (argument_is_at has)
+        (argument_is_at has)
 
   -- ---- returns
 
@@ -326,52 +331,52 @@ module _ (program : LinearProgram) (c : HasWholeImage program) (name : BodyName)
 
     near_return : IsInstructionNear y i
     near_return = near_at (IsInstructionNear y) x.routine.body.code label i
-      (here program c name b is).near.code at
+        (here program c name b is).near.code at
 
     fits : sizes fetching + sizes (epilogue y.frame) + template_at x label ≤ end_of x
     fits = let h = th.inside in let s = template_sizes (links program x) y (template_at x label)
-      i in omega (arith, sizes_append fetching (epilogue y.frame))
+        i in omega (arith, sizes_append fetching (epilogue y.frame))
 
     return_there : HasProgram t (funclets_of program) program (plan_of program) (sites_of program) m
-      → IsExecutableAt m (image_base + template_at x label)
+        → IsExecutableAt m (image_base + template_at x label)
         (spelled (fetching ++ (epilogue y.frame ++ th.after)))
     return_there has =
         let begin = image_base + body_begin x in
         let rest = (code_split m begin th.before (return_code y from ++ th.after)
-          (subst (λ (q : List Instr). IsExecutableAt m begin (spelled q)) th.parts
-          (body_there has))).1 in
+        (subst (λ (q : List Instr). IsExecutableAt m begin (spelled q)) th.parts
+        (body_there has))).1 in
         let h = th.here in
         let e : begin + sizes th.before ≡ image_base + template_at x label = omega arith in
         subst (λ (q : List Instr). IsExecutableAt m (image_base + template_at x label) (spelled q))
-          (append_assoc fetching (epilogue y.frame) th.after)
-          (subst (λ n. IsExecutableAt m n (spelled (return_code y from ++ th.after))) e rest)
+        (append_assoc fetching (epilogue y.frame) th.after)
+        (subst (λ n. IsExecutableAt m n (spelled (return_code y from ++ th.after))) e rest)
 
     -- where the epilogue begins
     epilogue_there : HasProgram t (funclets_of program) program (plan_of program) (sites_of program)
-      m → IsExecutableAt m (image_base + (template_at x label + sizes fetching))
-      (spelled (epilogue y.frame ++ th.after))
+        m → IsExecutableAt m (image_base + (template_at x label + sizes fetching))
+        (spelled (epilogue y.frame ++ th.after))
     epilogue_there has =
         let e : image_base + template_at x label + sizes fetching
-          ≡ image_base + (template_at x label + sizes fetching) = omega arith in
+        ≡ image_base + (template_at x label + sizes fetching) = omega arith in
         subst (λ n. IsExecutableAt m n (spelled (epilogue y.frame ++ th.after))) e
-          (code_split m (image_base + template_at x label) fetching (epilogue y.frame ++ th.after)
-          (return_there has)).1
+        (code_split m (image_base + template_at x label) fetching (epilogue y.frame ++ th.after)
+        (return_there has)).1
 
     module _ (has : HasProgram t (funclets_of program) program (plan_of program) (sites_of program)
-      m) where
+        m) where
       low_here : (rva : ℕ) → template_at x label ≤ rva → x.begin ≤ rva
       low_here rva le = omega arith
 
       ends_are_at : (n k rva : ℕ) → n ≡ suc k → rva ≡ template_at x label + sizes fetching
-        → IsExecutableAt m (image_base + rva) (spelled (epilogue n ++ th.after))
-        → IsExecutableAt m (image_base + rva) (chosen (give_back n))
-        × IsExecutableAt m (image_base + rva + length (chosen (give_back n))) (chosen instrs.Return)
+          → IsExecutableAt m (image_base + rva) (spelled (epilogue n ++ th.after))
+          → IsExecutableAt m (image_base + rva) (chosen (give_back n))
+          × IsExecutableAt m (image_base + rva + length (chosen (give_back n))) (chosen instrs.Return)
       ends_are_at zero k rva e r is_there = absurd (omega arith)
       ends_are_at (suc n) k rva e r is_there =
           let first = executable_split m (image_base + rva) (chosen (give_back (suc n)))
-            (spelled (instrs.Return ∷ th.after)) is_there in
+          (spelled (instrs.Return ∷ th.after)) is_there in
           let second = executable_split m (image_base + rva + length (chosen (give_back (suc n))))
-            (chosen instrs.Return) (spelled th.after) first.1 in
+          (chosen instrs.Return) (spelled th.after) first.1 in
           (first.0, second.0)
 
       ends_size : (n k : ℕ) → n ≡ suc k → sizes (epilogue n) ≡ length (chosen (give_back n)) + 1
@@ -380,7 +385,7 @@ module _ (program : LinearProgram) (c : HasWholeImage program) (name : BodyName)
       ends_size (suc n) k e = refl
 
       framed_return : (f : FrameLayout) → x.routine.frame ≡ Some f → (done left : List Instr)
-        → fetching ≡ done ++ left → FindsReturn t m
+          → fetching ≡ done ++ left → FindsReturn t m
           (image_base + (template_at x label + sizes done)) f.size
       framed_return f framed done [] parts =
           let some = (near f framed).0 in
@@ -390,56 +395,56 @@ module _ (program : LinearProgram) (c : HasWholeImage program) (name : BodyName)
           let k : f.size ≡ suc (f.size - 1) = omega arith in
           let rva = template_at x label + sizes fetching in
           let z = ends_are_at f.size (f.size - 1) rva k refl
-            (subst (λ n. IsExecutableAt m (image_base + rva) (spelled (epilogue n ++ th.after)))
-            same (epilogue_there has)) in
+          (subst (λ n. IsExecutableAt m (image_base + rva) (spelled (epilogue n ++ th.after)))
+          same (epilogue_there has)) in
           let size = ends_size f.size (f.size - 1) k in
           let fit = subst (λ n. sizes fetching + sizes (epilogue n) + template_at x label
-            ≤ end_of x) same fits in
+          ≤ end_of x) same fits in
           subst (λ (q : List Instr). FindsReturn t m (image_base + (template_at x label + sizes q))
-            f.size) (sym whole)
+          f.size) (sym whole)
           (epilogue_at f framed rva (omega arith) (omega arith) z.0 z.1)
       framed_return f framed done (item ∷ left) parts =
           let l = least f framed in
           let inner = inner_at done left item
-            (subst AllInner parts (fetch_inner y from near_return.0)) in
+          (subst AllInner parts (fetch_inner y from near_return.0)) in
           let some = item_some item inner in
           let rva = template_at x label + sizes done in
           let split : fetching ++ (epilogue y.frame ++ th.after)
-            ≡ done ++ ((item ∷ left) ++ (epilogue y.frame ++ th.after)) = ap
-              (λ (q : List Instr). q ++ (epilogue y.frame ++ th.after)) parts
-            ∙ append_assoc done (item ∷ left) (epilogue y.frame ++ th.after) in
+          ≡ done ++ ((item ∷ left) ++ (epilogue y.frame ++ th.after)) = ap
+          (λ (q : List Instr). q ++ (epilogue y.frame ++ th.after)) parts
+          ∙ append_assoc done (item ∷ left) (epilogue y.frame ++ th.after) in
           let rest = (code_split m (image_base + template_at x label) done
-            ((item ∷ left) ++ (epilogue y.frame ++ th.after))
-            (subst (λ (q : List Instr). IsExecutableAt m (image_base + template_at x label)
-            (spelled q)) split (return_there has))).1 in
+          ((item ∷ left) ++ (epilogue y.frame ++ th.after))
+          (subst (λ (q : List Instr). IsExecutableAt m (image_base + template_at x label)
+          (spelled q)) split (return_there has))).1 in
           let e : image_base + template_at x label + sizes done ≡ image_base + rva = omega arith in
           let f' = fits in
           inner_at' f framed rva item (omega arith)
-            (omega (arith, ap sizes parts, sizes_append done (item ∷ left))) inner
+          (omega (arith, ap sizes parts, sizes_append done (item ∷ left))) inner
           (subst (λ n. IsExecutableAt m n (chosen item)) e
-            (executable_split m (image_base + template_at x label + sizes done) (chosen item)
-            (spelled (left ++ (epilogue y.frame ++ th.after))) rest).0)
+          (executable_split m (image_base + template_at x label + sizes done) (chosen item)
+          (spelled (left ++ (epilogue y.frame ++ th.after))) rest).0)
 
       leaf_return : x.routine.frame ≡ None → (done left : List Instr) → fetching ≡ done ++ left
-        → FindsReturn t m (image_base + (template_at x label + sizes done)) 0
+          → FindsReturn t m (image_base + (template_at x label + sizes done)) 0
       leaf_return none done left parts =
           let f' = fits in
           let some = epilogue_some y.frame in
           leaf_at none (template_at x label + sizes done) (omega arith)
-            (omega (arith, ap sizes parts, sizes_append done left))
+          (omega (arith, ap sizes parts, sizes_append done left))
 
       pub return_found : (o : Option FrameLayout) → x.routine.frame ≡ o → (done left : List Instr)
-        → fetching ≡ done ++ left → FindsReturn t m
+          → fetching ≡ done ++ left → FindsReturn t m
           (image_base + (template_at x label + sizes done)) (size_of o)
       return_found None none done left parts = leaf_return none done left parts
       return_found (Some f) framed done left parts = framed_return f framed done left parts
 
       pub end_found : (o : Option FrameLayout) → x.routine.frame ≡ o → (k : ℕ) → y.frame ≡ suc k
-        → FindsReturn t m (image_base + (template_at x label + sizes fetching
-        + size (give_back y.frame))) 0
+          → FindsReturn t m (image_base + (template_at x label + sizes fetching
+          + size (give_back y.frame))) 0
       unfolding size
       end_found None none k e = absurd (let z = sized program index x at_index ∙ ap size_of none in
-        omega arith)
+          omega arith)
       end_found (Some f) framed k e =
           let l = least f framed in
           let rva = template_at x label + sizes fetching in
@@ -447,6 +452,6 @@ module _ (program : LinearProgram) (c : HasWholeImage program) (name : BodyName)
           let size' = ends_size y.frame k e in
           let fit = fits in
           let same : image_base + rva + length (chosen (give_back y.frame))
-            ≡ image_base + (rva + length (chosen (give_back y.frame))) = omega arith in
+          ≡ image_base + (rva + length (chosen (give_back y.frame))) = omega arith in
           return_at' f framed (rva + length (chosen (give_back y.frame))) (omega arith)
-            (omega arith) (subst (λ n. IsExecutableAt m n (chosen instrs.Return)) same z.1)
+          (omega arith) (subst (λ n. IsExecutableAt m n (chosen instrs.Return)) same z.1)

@@ -57,7 +57,7 @@ code_at m at (b ∷ bytes) s fixed =
     let z : at ≡ at + 0 = omega arith in (
       record { byte = s.0; executes = s.1; fixed = ap (may_write m) z ∙ fixed 0 (omega arith) },
       code_at m (at + 1) bytes s.2 (λ k lt. (let e : at + 1 + k ≡ at + suc k = omega arith in
-        ap (may_write m) e ∙ fixed (suc k) (omega arith))),
+          ap (may_write m) e ∙ fixed (suc k) (omega arith))),
     )
 
 pub code_split : (m : Memory) (at : ℕ) (a b : List ℕ) → IsCodeAt m at (a ++ b)
@@ -99,7 +99,7 @@ module _ (program : LinearProgram) (c : HasWholeImage program) where
 
   body_code : (name : BodyName) (b : LinearBody) → body_of program name ≡ Some b
       → HasCode m (begin_of (plan_of program) (sites_of program) name)
-        (code_of program (plan_of program) (sites_of program) name b)
+      (code_of program (plan_of program) (sites_of program) name b)
   unfolding routine_bytes
   body_code name b is' =
       let q = place program c name b is' in
@@ -111,17 +111,19 @@ module _ (program : LinearProgram) (c : HasWholeImage program) where
       let before = h.here in
       let at : T + length h.before ≡ image_base + x.begin = omega arith in
       let all = (code_split m T h.before (spelled code ++ h.after)
-        (subst (IsCodeAt m T) h.bytes text_code)).1 in
+      (subst (IsCodeAt m T) h.bytes text_code)).1 in
       let own = (code_split m (image_base + x.begin) (spelled code) h.after
-        (subst (λ (n : ℕ). IsCodeAt m n (spelled code ++ h.after)) at all)).0 in
+      (subst (λ (n : ℕ). IsCodeAt m n (spelled code ++ h.after)) at all)).0 in
       let long = code_length s x.begin x.routine h.near in
       let wide : sizes code ≡ routine_size x.routine = sym (sizes_spelled code) ∙ long in
       let placed : HasCode m (image_base + x.begin)
-        code = record { is_there = own; placed = record { low = omega arith; high = omega arith }
-        } in
+      code = record {
+        is_there = own;
+        placed = record { low = omega arith; high = omega arith };
+      } in
       subst (λ (n : ℕ). HasCode m n (code_of program (plan_of program) (sites_of program) name b))
-        (sym q.begin) (subst (HasCode m (image_base + x.begin))
-        (sym (code_same program c name b is')) placed)
+      (sym q.begin) (subst (HasCode m (image_base + x.begin))
+      (sym (code_same program c name b is')) placed)
 
   -- ---- the front
 
@@ -143,34 +145,34 @@ module _ (program : LinearProgram) (c : HasWholeImage program) where
       let rest = routines_bytes s (first program.globals) (routines program) in
       let all = (code_split m T (spelled (front_code s.text s.rdata)) rest text_code).0 in
       let a = code_split m T (t imports.RaiseException)
-        (t imports.CSpecificHandler ++ (t imports.LocalUnwind
-        ++ (t imports.Protect ++ (t imports.Put ++ spelled check_stack)))) all in
+      (t imports.CSpecificHandler ++ (t imports.LocalUnwind
+      ++ (t imports.Protect ++ (t imports.Put ++ spelled check_stack)))) all in
       let b = code_split m (T + length (t imports.RaiseException)) (t imports.CSpecificHandler)
-        (t imports.LocalUnwind ++ (t imports.Protect ++ (t imports.Put ++ spelled check_stack)))
-        a.1 in
+      (t imports.LocalUnwind ++ (t imports.Protect ++ (t imports.Put ++ spelled check_stack)))
+      a.1 in
       let d = code_split m (T + length (t imports.RaiseException)
-        + length (t imports.CSpecificHandler)) (t imports.LocalUnwind)
-          (t imports.Protect ++ (t imports.Put ++ spelled check_stack)) b.1 in
+      + length (t imports.CSpecificHandler)) (t imports.LocalUnwind)
+      (t imports.Protect ++ (t imports.Put ++ spelled check_stack)) b.1 in
       let e = code_split m (T + length (t imports.RaiseException)
-        + length (t imports.CSpecificHandler) + length (t imports.LocalUnwind)) (t imports.Protect)
-          (t imports.Put ++ spelled check_stack) d.1 in
+      + length (t imports.CSpecificHandler) + length (t imports.LocalUnwind)) (t imports.Protect)
+      (t imports.Put ++ spelled check_stack) d.1 in
       let f = code_split m (T + length (t imports.RaiseException)
-        + length (t imports.CSpecificHandler) + length (t imports.LocalUnwind)
-        + length (t imports.Protect)) (t imports.Put) (spelled check_stack) e.1 in
+      + length (t imports.CSpecificHandler) + length (t imports.LocalUnwind)
+      + length (t imports.Protect)) (t imports.Put) (spelled check_stack) e.1 in
       let n0 = six imports.RaiseException in
       let n1 = six imports.CSpecificHandler in
       let n2 = six imports.LocalUnwind in
       let n3 = six imports.Protect in
       let n4 = six imports.Put in
       let p2 : T + length (t imports.RaiseException) + length (t imports.CSpecificHandler)
-        ≡ T + 12 = omega arith in
+      ≡ T + 12 = omega arith in
       let p3 : T + length (t imports.RaiseException) + length (t imports.CSpecificHandler)
-        + length (t imports.LocalUnwind) ≡ T + 18 = omega arith in
+      + length (t imports.LocalUnwind) ≡ T + 18 = omega arith in
       let p4 : T + length (t imports.RaiseException) + length (t imports.CSpecificHandler)
-        + length (t imports.LocalUnwind) + length (t imports.Protect) ≡ T + 24 = omega arith in
+      + length (t imports.LocalUnwind) + length (t imports.Protect) ≡ T + 24 = omega arith in
       let p5 : T + length (t imports.RaiseException) + length (t imports.CSpecificHandler)
-        + length (t imports.LocalUnwind) + length (t imports.Protect) + length (t imports.Put)
-        ≡ T + 30 = omega arith in
+      + length (t imports.LocalUnwind) + length (t imports.Protect) + length (t imports.Put)
+      ≡ T + 30 = omega arith in
       record {
         raise = a.0;
         unwind = subst (λ (n : ℕ). IsCodeAt m n (t imports.LocalUnwind)) p2 d.0;
@@ -185,8 +187,10 @@ module _ (program : LinearProgram) (c : HasWholeImage program) where
       let end = end_inside program c.fits in
       let l = low in
       let at : T + 30 ≡ (sites_of program).check_stack = omega arith in
-      record { is_there = subst (λ (n : ℕ). IsCodeAt m n (spelled check_stack)) at front.check;
-        placed = record { low = omega arith; high = omega arith } }
+      record {
+        is_there = subst (λ (n : ℕ). IsCodeAt m n (spelled check_stack)) at front.check;
+        placed = record { low = omega arith; high = omega arith };
+      }
 
   -- ---- slots
 
@@ -221,12 +225,12 @@ module _ (program : LinearProgram) (c : HasWholeImage program) where
   reads : (before : List Import) (i : Import) (later : List Import) (service : Service)
       → before ++ (i ∷ later) ≡ imports_of p → image_base + i.slot + 8 ≤ 2 ^ 64
       → service_named i.name ≡ Some service → AllByRecursion
-        (λ (j : Import). SlotsAreApart (image_base + i.slot) (image_base + j.slot)) later
+      (λ (j : Import). SlotsAreApart (image_base + i.slot) (image_base + j.slot)) later
       → number_at m.byte 8 (image_base + i.slot) ≡ address_of service
   unfolding mapped
   reads before i later service same fits name apart =
       ap (λ (is : List Import). number_at (with_slots image_base (stored_byte (image_of p)) is) 8
-        (image_base + i.slot)) (listed p (is program c.fits) ∙ sym same)
+      (image_base + i.slot)) (listed p (is program c.fits) ∙ sym same)
       ∙ slots_read image_base (stored_byte (image_of p)) before i later service fits name apart
 
   apart_after : (x y : ℕ) → x + 8 ≤ y → y + 8 ≤ 2 ^ 48
@@ -236,26 +240,32 @@ module _ (program : LinearProgram) (c : HasWholeImage program) where
   raise_reads : number_at m.byte 8 (image_base + (r + 88)) ≡ address_of services.RaiseException
   raise_reads =
       let l = low in
-      reads [] i0 (i1 ∷ i2 ∷ i3 ∷ i4 ∷ []) services.RaiseException refl (omega arith) refl
-      (apart_after (r + 88) (r + 88 + 8) (omega arith) (omega arith),
-        (apart_after (r + 88) (r + 88 + 8 + 8) (omega arith) (omega arith),
-        (apart_after (r + 88) (r + 88 + 8 + 8 + 8) (omega arith) (omega arith),
-        (apart_after (r + 88) (r + 88 + 8 + 8 + 8 + 8) (omega arith) (omega arith), tt))))
+      reads [] i0 (i1 ∷ i2 ∷ i3 ∷ i4 ∷ []) services.RaiseException refl (omega arith) refl (
+        apart_after (r + 88) (r + 88 + 8) (omega arith) (omega arith),
+        (
+          apart_after (r + 88) (r + 88 + 8 + 8) (omega arith) (omega arith),
+          (
+            apart_after (r + 88) (r + 88 + 8 + 8 + 8) (omega arith) (omega arith),
+            (apart_after (r + 88) (r + 88 + 8 + 8 + 8 + 8) (omega arith) (omega arith), tt),
+          ),
+        ),
+      )
 
   unwind_reads : number_at m.byte 8 (image_base + (r + 88 + 8 + 8))
       ≡ address_of services.LocalUnwind
   unwind_reads =
       let l = low in
-      reads (i0 ∷ i1 ∷ []) i2 (i3 ∷ i4 ∷ []) services.LocalUnwind refl (omega arith) refl
-      (apart_after (r + 88 + 8 + 8) (r + 88 + 8 + 8 + 8) (omega arith) (omega arith),
-        (apart_after (r + 88 + 8 + 8) (r + 88 + 8 + 8 + 8 + 8) (omega arith) (omega arith), tt))
+      reads (i0 ∷ i1 ∷ []) i2 (i3 ∷ i4 ∷ []) services.LocalUnwind refl (omega arith) refl (
+        apart_after (r + 88 + 8 + 8) (r + 88 + 8 + 8 + 8) (omega arith) (omega arith),
+        (apart_after (r + 88 + 8 + 8) (r + 88 + 8 + 8 + 8 + 8) (omega arith) (omega arith), tt),
+      )
 
   protect_reads : number_at m.byte 8 (image_base + (r + 88 + 8 + 8 + 8))
       ≡ address_of services.Protect
   protect_reads =
       let l = low in
       reads (i0 ∷ i1 ∷ i2 ∷ []) i3 (i4 ∷ []) services.Protect refl (omega arith) refl
-        (apart_after (r + 88 + 8 + 8 + 8) (r + 88 + 8 + 8 + 8 + 8) (omega arith) (omega arith), tt)
+      (apart_after (r + 88 + 8 + 8 + 8) (r + 88 + 8 + 8 + 8 + 8) (omega arith) (omega arith), tt)
 
   put_reads : number_at m.byte 8 (image_base + (r + 88 + 8 + 8 + 8 + 8)) ≡ address_of services.Put
   put_reads = let l = low in reads (i0 ∷ i1 ∷ i2 ∷ i3 ∷ []) i4 [] services.Put refl (omega arith)
@@ -282,26 +292,34 @@ module _ (program : LinearProgram) (c : HasWholeImage program) where
       let d : distance (thunk_at s.text v + 6) (s.rdata + slot_of v) ≡ away = omega arith in
       let own : T + n ≡ at = omega arith in
       let spells : t v ≡ spelled (thunk away ∷ []) = ap (λ (k : ℕ). chosen (thunk k)) d
-        ∙ sym (append-nil (chosen (thunk away))) in
+      ∙ sym (append-nil (chosen (thunk away))) in
       let long : length (t v) ≡ 6 = six v in
       let wide : sizes (thunk away ∷ []) ≡ 6 = sym (sizes_spelled (thunk away ∷ []))
-        ∙ sym (ap length spells) ∙ long in
+      ∙ sym (ap length spells) ∙ long in
       let is_there = subst (λ (k : ℕ). IsCodeAt m k (spelled (thunk away ∷ []))) own
-        (subst (IsCodeAt m (T + n)) spells code) in
+      (subst (IsCodeAt m (T + n)) spells code) in
       record {
         thunk = record {
           away = away;
           near = omega arith;
-          code = record { is_there = is_there;
-            placed = record { low = omega arith; high = omega arith } };
+          code = record {
+            is_there = is_there;
+            placed = record { low = omega arith; high = omega arith };
+          };
           readable = λ a le lt. readable a (omega arith) (omega arith);
           fixed = λ a le lt. fixed a (omega arith) (omega arith);
           bound = ap (number_at m.byte 8) (sym far) ∙ bound;
         };
-        inside = record { low = omega arith; high = omega arith;
-          own = λ a le lt. reserved program.globals a (omega arith) (omega arith) };
-        slot = record { low = omega arith; high = omega arith;
-          own = λ a le lt. reserved program.globals a (omega arith) (omega arith) };
+        inside = record {
+          low = omega arith;
+          high = omega arith;
+          own = λ a le lt. reserved program.globals a (omega arith) (omega arith);
+        };
+        slot = record {
+          low = omega arith;
+          high = omega arith;
+          own = λ a le lt. reserved program.globals a (omega arith) (omega arith);
+        };
       }
 
   thunks : (f : BuiltIn) → Serves ((sites_of program).thunk f) (service_of f)
@@ -316,9 +334,9 @@ module _ (program : LinearProgram) (c : HasWholeImage program) where
   thunks RaiseException =
       let z : T ≡ T + 0 = omega arith in
       serves imports.RaiseException services.RaiseException
-        ((sites_of program).thunk RaiseException) 0
-        (subst (λ (k : ℕ). IsCodeAt m k (t imports.RaiseException)) z front.raise) refl
-        (omega arith) (omega arith) (omega arith) (omega arith) raise_reads
+      ((sites_of program).thunk RaiseException) 0
+      (subst (λ (k : ℕ). IsCodeAt m k (t imports.RaiseException)) z front.raise) refl
+      (omega arith) (omega arith) (omega arith) (omega arith) raise_reads
 
   unwinds : Serves (sites_of program).local_unwind services.LocalUnwind
   unwinds = serves imports.LocalUnwind services.LocalUnwind (sites_of program).local_unwind 12
@@ -328,5 +346,9 @@ module _ (program : LinearProgram) (c : HasWholeImage program) where
 
   pub has_program : HasProgram (functions_of program) (funclets_of program) program
       (plan_of program) (sites_of program) m
-  has_program = record { code = body_code; thunks = thunks; local_unwind = unwinds;
-      check_stack = check_code }
+  has_program = record {
+    code = body_code;
+    thunks = thunks;
+    local_unwind = unwinds;
+    check_stack = check_code;
+  }

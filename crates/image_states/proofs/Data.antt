@@ -39,7 +39,7 @@ written_raw : (p : ImageContents) → AllBytes (written (parts_of p))
 unfolding written
 written_raw p h = bytes_back (dos_header ++ file_header (parts_of p) ++ standard_fields (parts_of p)
     ++ windows_fields (parts_of p) ++ directories (parts_of p) ++ table_of (parts_of p))
-      (flat_map raw_data (parts_of p).sections) h
+    (flat_map raw_data (parts_of p).sections) h
 
 raws : (p : ImageContents) → AllBytes (written (parts_of p))
     → AllByRecursion (λ (s : Section). AllBytes s.raw) (sections_of p)
@@ -58,16 +58,19 @@ raws p h =
       bytes_front d (t ++ (r ++ (x ++ (q ++ [])))) all,
       (
         bytes_front p.text (zeros (raw_size (text_section p) - length p.text))
-          (bytes_front t (r ++ (x ++ (q ++ []))) a1),
+            (bytes_front t (r ++ (x ++ (q ++ []))) a1),
         (
           bytes_front (import_tables (rdata_at (sizes_of p)))
-            (zeros (raw_size (rdata_section p) - length (import_tables (rdata_at (sizes_of p)))))
-            (bytes_front r (x ++ (q ++ [])) a2),
+              (zeros (raw_size (rdata_section p) - length (import_tables (rdata_at (sizes_of p)))))
+              (bytes_front r (x ++ (q ++ [])) a2),
           (
             bytes_front p.xdata (zeros (raw_size (xdata_section p) - length p.xdata))
-              (bytes_front x (q ++ []) a3),
-            (bytes_front p.pdata (zeros (raw_size (pdata_section p) - length p.pdata))
-              (bytes_front q [] a4), tt),
+                (bytes_front x (q ++ []) a3),
+            (
+              bytes_front p.pdata (zeros (raw_size (pdata_section p) - length p.pdata))
+                  (bytes_front q [] a4),
+              tt,
+            ),
           ),
         ),
       ),
@@ -91,23 +94,39 @@ module _ (program : LinearProgram) (c : HasWholeImage program) where
   r = rdata_at (sizes_of p)
 
   abbrev pub globals : Section
-  globals = record { address = 0x1000; size = p.data_size; raw = raw_data (data_section p);
-      flags = 0xC0000040 }
+  globals = record {
+    address = 0x1000;
+    size = p.data_size;
+    raw = raw_data (data_section p);
+    flags = 0xC0000040;
+  }
 
   abbrev pub text : Section
-  text = record { address = text_at (sizes_of p); size = length p.text; raw = p.text;
-      flags = 0x60000020 }
+  text = record {
+    address = text_at (sizes_of p);
+    size = length p.text;
+    raw = p.text;
+    flags = 0x60000020;
+  }
 
   abbrev pub tables : Section
   tables = record { address = r; size = 222; raw = import_tables r; flags = 0x40000040 }
 
   abbrev pub infos : Section
-  infos = record { address = xdata_at (sizes_of p); size = length p.xdata; raw = p.xdata;
-      flags = 0x40000040 }
+  infos = record {
+    address = xdata_at (sizes_of p);
+    size = length p.xdata;
+    raw = p.xdata;
+    flags = 0x40000040;
+  }
 
   abbrev pub functions : Section
-  functions = record { address = pdata_at (sizes_of p); size = length p.pdata; raw = p.pdata;
-      flags = 0x40000040 }
+  functions = record {
+    address = pdata_at (sizes_of p);
+    size = length p.pdata;
+    raw = p.pdata;
+    flags = 0x40000040;
+  }
 
   low : end_at (sizes_of p) ≤ MOST_IMAGE
   low = c.small
@@ -124,18 +143,18 @@ module _ (program : LinearProgram) (c : HasWholeImage program) where
   outside a (inl lt) =
       let l = low in
       past image_base a globals (text ∷ tables ∷ infos ∷ functions ∷ [])
-        (below image_base a globals (omega arith))
+      (below image_base a globals (omega arith))
       ∙ past image_base a text (tables ∷ infos ∷ functions ∷ [])
-        (below image_base a text (omega arith))
+      (below image_base a text (omega arith))
       ∙ past image_base a tables (infos ∷ functions ∷ []) (below image_base a tables (omega arith))
       ∙ past image_base a infos (functions ∷ []) (below image_base a infos (omega arith))
       ∙ past image_base a functions [] (below image_base a functions (omega arith))
   outside a (inr le) =
       let l = low in
       past image_base a globals (text ∷ tables ∷ infos ∷ functions ∷ [])
-        (above image_base a globals (omega arith))
+      (above image_base a globals (omega arith))
       ∙ past image_base a text (tables ∷ infos ∷ functions ∷ [])
-        (above image_base a text (omega arith))
+      (above image_base a text (omega arith))
       ∙ past image_base a tables (infos ∷ functions ∷ []) (above image_base a tables (omega arith))
       ∙ past image_base a infos (functions ∷ []) (above image_base a infos (omega arith))
       ∙ past image_base a functions [] (above image_base a functions (omega arith))
@@ -145,32 +164,44 @@ module _ (program : LinearProgram) (c : HasWholeImage program) where
   tables_there a le lt =
       let text' = text_is program c.fits in
       past image_base a globals (text ∷ tables ∷ infos ∷ functions ∷ [])
-        (above image_base a globals (omega arith))
+      (above image_base a globals (omega arith))
       ∙ past image_base a text (tables ∷ infos ∷ functions ∷ [])
-        (above image_base a text (omega arith))
+      (above image_base a text (omega arith))
       ∙ here image_base a tables (infos ∷ functions ∷ [])
-        (covered image_base a tables (omega arith) (omega arith))
+      (covered image_base a tables (omega arith) (omega arith))
 
   -- ---- slots lie in `.rdata`
 
   beside : (a : ℕ) → (a < image_base + r) ⊎ (IMAGE_RANGE_END ≤ a)
       → AllByRecursion (λ (i : Import). IsBeside a (image_base + i.slot))
-        (imported (r + 88) services)
+      (imported (r + 88) services)
   beside a (inl lt) =
       let l = low in (
         record { apart = inl (omega arith); fits = omega arith },
-        (record { apart = inl (omega arith); fits = omega arith },
-          (record { apart = inl (omega arith); fits = omega arith },
-          (record { apart = inl (omega arith); fits = omega arith },
-          (record { apart = inl (omega arith); fits = omega arith }, tt)))),
+        (
+          record { apart = inl (omega arith); fits = omega arith },
+          (
+            record { apart = inl (omega arith); fits = omega arith },
+            (
+              record { apart = inl (omega arith); fits = omega arith },
+              (record { apart = inl (omega arith); fits = omega arith }, tt),
+            ),
+          ),
+        ),
       )
   beside a (inr le) =
       let l = low in (
         record { apart = inr (omega arith); fits = omega arith },
-        (record { apart = inr (omega arith); fits = omega arith },
-          (record { apart = inr (omega arith); fits = omega arith },
-          (record { apart = inr (omega arith); fits = omega arith },
-          (record { apart = inr (omega arith); fits = omega arith }, tt)))),
+        (
+          record { apart = inr (omega arith); fits = omega arith },
+          (
+            record { apart = inr (omega arith); fits = omega arith },
+            (
+              record { apart = inr (omega arith); fits = omega arith },
+              (record { apart = inr (omega arith); fits = omega arith }, tt),
+            ),
+          ),
+        ),
       )
 
   stored_there : (a : ℕ) → (a < image_base + r) ⊎ (IMAGE_RANGE_END ≤ a)
@@ -178,7 +209,7 @@ module _ (program : LinearProgram) (c : HasWholeImage program) where
   unfolding mapped
   stored_there a h =
       ap (λ (is : List Import). with_slots image_base (stored_byte image) is a)
-        (listed p (is program c.fits))
+      (listed p (is program c.fits))
       ∙ (elim (cases_lt a (2 ^ 64)) [
         | inl lt ↦ slots-beside image_base (stored_byte image) a (imports_of p) lt (beside a h)
         | inr le ↦ slots_past image_base (stored_byte image) a (imports_of p) le
@@ -201,10 +232,10 @@ module _ (program : LinearProgram) (c : HasWholeImage program) where
     | inr le ↦ elim (cases_lt a IMAGE_RANGE_END) [
       | inl lt ↦
           let yes' : (is_between IMAGE_BASE IMAGE_RANGE_END a && not (is_data program.globals a))
-            ≡ true =
+          ≡ true =
           and_from (is_between IMAGE_BASE IMAGE_RANGE_END a) (not (is_data program.globals a))
-            (and_from (leb IMAGE_BASE a) (ltb a IMAGE_RANGE_END) (le-leb IMAGE_BASE a le)
-            (lt-ltb a IMAGE_RANGE_END lt)) (ap not e) in
+          (and_from (leb IMAGE_BASE a) (ltb a IMAGE_RANGE_END) (le-leb IMAGE_BASE a le)
+          (lt-ltb a IMAGE_RANGE_END lt)) (ap not e) in
           absurd (false≢true (sym off ∙ yes'))
       | inr le' ↦ inr (inr le')
     ]
@@ -215,7 +246,7 @@ module _ (program : LinearProgram) (c : HasWholeImage program) where
       → (is_between GUARD_START STACK_END a ≡ false) × (Place a)
   free a e =
       let q = or_none (is_between GUARD_START STACK_END a)
-        (is_between IMAGE_BASE IMAGE_RANGE_END a && not (is_data program.globals a)) e in
+      (is_between IMAGE_BASE IMAGE_RANGE_END a && not (is_data program.globals a)) e in
       (q.0, place_by a (is_data program.globals a) refl q.1)
 
   not_stack : (a : ℕ) → is_between GUARD_START STACK_END a ≡ false → in_stack a ≡ false
@@ -223,7 +254,7 @@ module _ (program : LinearProgram) (c : HasWholeImage program) where
     | inl lt ↦ and_left (leb STACK_START a) (ltb a STACK_END) (lt-leb STACK_START a lt)
     | inr le ↦ elim (cases_lt a STACK_END) [
       | inl lt ↦ absurd (false≢true (sym e ∙ and_from (leb GUARD_START a) (ltb a STACK_END)
-        (le-leb GUARD_START a (omega arith)) (lt-ltb a STACK_END lt)))
+          (le-leb GUARD_START a (omega arith)) (lt-ltb a STACK_END lt)))
       | inr le' ↦ and_right (leb STACK_START a) (ltb a STACK_END) (le-ltb a STACK_END le')
     ]
   ]
@@ -245,20 +276,20 @@ module _ (program : LinearProgram) (c : HasWholeImage program) where
       ∙ data_raw (a - (image_base + 0x1000))
       ∙ ap (λ (i : ℕ). get_or program.globals i 0) same
       ∙ sym (ap (λ (b : Bool). cond b 0 (get_or program.globals (a - FIRST_DATA) 0))
-        (le-ltb a FIRST_DATA h.0))
+      (le-ltb a FIRST_DATA h.0))
   byte_by a (inr (inl lt)) =
       let l = low in
       stored_there a (inl (omega arith))
       ∙ ap (λ (o : Option Section). byte_in image_base o a) (outside a (inl lt))
       ∙ sym (ap (λ (b : Bool). cond b 0 (get_or program.globals (a - FIRST_DATA) 0))
-        (lt-ltb a FIRST_DATA lt))
+      (lt-ltb a FIRST_DATA lt))
   byte_by a (inr (inr le)) =
       let few = c.fits.globals in
       stored_there a (inr le)
       ∙ ap (λ (o : Option Section). byte_in image_base o a) (outside a (inr le))
       ∙ sym (ap (λ (b : Bool). cond b 0 (get_or program.globals (a - FIRST_DATA) 0))
-        (le-ltb a FIRST_DATA (omega arith)) ∙ get_or_past program.globals (a - FIRST_DATA) 0
-        (omega arith))
+      (le-ltb a FIRST_DATA (omega arith)) ∙ get_or_past program.globals (a - FIRST_DATA) 0
+      (omega arith))
 
   not_data : (a : ℕ) → (a < FIRST_DATA) ⊎ (IMAGE_RANGE_END ≤ a) → is_data program.globals a ≡ false
   not_data a (inl lt) = and_left (leb FIRST_DATA a) (ltb a (data_end program.globals))
@@ -273,8 +304,8 @@ module _ (program : LinearProgram) (c : HasWholeImage program) where
   mode_by a off (inl h) =
       ap (λ (o : Option Section). mode_in o a) (data_there a h.0 h.1)
       ∙ sym (ap (λ (b : Bool). cond b (plain_mode ReadWrite) (plain_mode Nothing))
-        (and_from (leb FIRST_DATA a) (ltb a (data_end program.globals)) (le-leb FIRST_DATA a h.0)
-        (lt-ltb a (data_end program.globals) h.1)))
+      (and_from (leb FIRST_DATA a) (ltb a (data_end program.globals)) (le-leb FIRST_DATA a h.0)
+      (lt-ltb a (data_end program.globals) h.1)))
   mode_by a off (inr h) =
       ap (λ (o : Option Section). mode_in o a) (outside a h)
       ∙ ap stack_mode (not_stack a off)
@@ -285,9 +316,9 @@ module _ (program : LinearProgram) (c : HasWholeImage program) where
     byte = λ a e. byte_by a (free a e).1;
     protection = λ a e. mode_by a (free a e).0 (free a e).1;
     guard = λ a e. (let q = and_parts (leb GUARD_START a) (ltb a STACK_START) e in
-      let lt = ltb-true a STACK_START q.1 in or_left (is_between GUARD_START STACK_END a)
-      (is_between IMAGE_BASE IMAGE_RANGE_END a && not (is_data program.globals a))
-      (and_from (leb GUARD_START a) (ltb a STACK_END) q.0 (lt-ltb a STACK_END (omega arith))));
+        let lt = ltb-true a STACK_START q.1 in or_left (is_between GUARD_START STACK_END a)
+        (is_between IMAGE_BASE IMAGE_RANGE_END a && not (is_data program.globals a))
+        (and_from (leb GUARD_START a) (ltb a STACK_END) q.0 (lt-ltb a STACK_END (omega arith))));
   }
 
   -- ---- the stack
@@ -297,15 +328,15 @@ module _ (program : LinearProgram) (c : HasWholeImage program) where
   stack_writes a le lt =
       ap (λ (o : Option Section). is_writable (mode_in o a).rights) (outside a (inl (omega arith)))
       ∙ ap (λ (b : Bool). is_writable (stack_mode b).rights)
-        (and_from (leb STACK_START a) (ltb a STACK_END) (le-leb STACK_START a le)
-        (lt-ltb a STACK_END lt))
+      (and_from (leb STACK_START a) (ltb a STACK_END) (le-leb STACK_START a le)
+      (lt-ltb a STACK_END lt))
 
   -- where it is 0 at first
   pub stack_zero : (a : ℕ) → STACK_START ≤ a → a < STACK_END → m.byte a ≡ 0
   stack_zero a le lt =
       let l = low in
       stored_there a (inl (omega arith)) ∙ ap (λ (o : Option Section). byte_in image_base o a)
-        (outside a (inl (omega arith)))
+      (outside a (inl (omega arith)))
 
   -- ---- the arena
 
@@ -315,9 +346,9 @@ module _ (program : LinearProgram) (c : HasWholeImage program) where
       let q = and_parts (leb ARENA_START a) (ltb a ARENA_END) e in
       let high : a < ARENA_END = ltb-true a ARENA_END q.1 in
       let off : in_stack a ≡ false = and_left (leb STACK_START a) (ltb a STACK_END)
-        (lt-leb STACK_START a (omega arith)) in
+      (lt-leb STACK_START a (omega arith)) in
       ap (λ (o : Option Section). (mode_in o a).execute) (outside a (inl (omega arith)))
-        ∙ ap (λ (b : Bool). (stack_mode b).execute) off
+      ∙ ap (λ (b : Bool). (stack_mode b).execute) off
 
   -- ---- data alone
 
@@ -329,10 +360,19 @@ module _ (program : LinearProgram) (c : HasWholeImage program) where
   unfolding mapped
   data_alone bytes = record {
     bytes = slots_small image_base (stored_byte image) (importing.imports_of image)
-      (λ a. stored_small image_base a (sections_of p) (raws p bytes));
+        (λ a. stored_small image_base a (sections_of p) (raws p bytes));
     no_code = λ a. of_section (λ (o : Option Section). IsApart (mode_in o a)) image_base a
-      (sections_of p) (apart_by a (in_stack a))
-        ((λ e. refl), ((λ e. absurd (false≢true e)),
-          ((λ e. absurd (false≢true e)), ((λ e. absurd (false≢true e)),
-          ((λ e. absurd (false≢true e)), tt)))));
+        (sections_of p) (apart_by a (in_stack a)) (
+          (λ e. refl),
+          (
+            (λ e. absurd (false≢true e)),
+            (
+              (λ e. absurd (false≢true e)),
+              (
+                (λ e. absurd (false≢true e)),
+                ((λ e. absurd (false≢true e)), tt),
+              ),
+            ),
+          ),
+        );
   }

@@ -53,9 +53,9 @@ making_same : (n at check at' check' : ℕ) (small : Bool) → at' ≡ image_bas
 making_same n at check at' check' true e f lt = refl
 making_same n at check at' check' false e f lt =
     ap (λ (i : Instr). instrs.Move W32 (places.Register Rax) (operands.Immediate n) ∷ i
-      ∷ instrs.Arithmetic arithmetic.Sub W64 (places.Register Rsp) (operands.Register Rax) ∷ [])
+    ∷ instrs.Arithmetic arithmetic.Sub W64 (places.Register Rsp) (operands.Register Rax) ∷ [])
     (call_moved image_base (omega arith) (at + 10) check (at' + 10) check' (omega arith) f
-      (omega arith))
+    (omega arith))
 
 pub frame_same : (o : Option FrameLayout) (size at check at' check' : ℕ) → size ≡ size_of o
     → IsFrameNear o → at' ≡ image_base + at → check' ≡ image_base + check → at + 10 < 2 ^ 48
@@ -85,62 +85,66 @@ kind_same y Filter parent slot e = (λ i. base_same parent slot i ++ keep_argume
     ++ keep_argument y Filter) (sym e)
 kind_same y (Finally flag) parent slot e = (λ i. base_same parent slot i
     ++ keep_argument y (Finally flag)) ∙ ap (λ (o : Option ℕ). link_entries.keep_base parent
-      (texts.base_of y o) ++ keep_argument y (Finally flag)) (sym e)
+    (texts.base_of y o) ++ keep_argument y (Finally flag)) (sym e)
 
 module _ (program : LinearProgram) (c : HasWholeImage program) where
   parent_is : (parent : Option ℕ) → HasParent program parent
       → parent_base (plan_of program) parent ≡ kept_by program parent
   parent_is None h = refl
   parent_is (Some k) h =
-      let d : LinearFunclet = record { kind = Filter; function = 0; parent = None;
-        body = nothing } in
+      let d : LinearFunclet = record {
+        kind = Filter;
+        function = 0;
+        parent = None;
+        body = nothing;
+      } in
       let g = is_funclet program c.fits k (get_or program.funclets k d)
-        (slice_get-get_or program.funclets k d h) in
+      (slice_get-get_or program.funclets k d h) in
       ap (λ (r : RoutineView). r.layout.base) g.routine
 
   funclet_same : (k : ℕ) (fl : LinearFunclet) → slice_get program.funclets k ≡ Some fl
       → funclet_arguments (plan_of program) (routine_of program (FuncletBody k)).routine.layout
-        (Some fl) ≡ argument_code (routine_of program (FuncletBody k)).routine.layout
-        (routine_of program (FuncletBody k)).routine.entry
+      (Some fl) ≡ argument_code (routine_of program (FuncletBody k)).routine.layout
+      (routine_of program (FuncletBody k)).routine.entry
   funclet_same k fl e =
       let g = is_funclet program c.fits k fl e in
       let lt = slice_get_within program.funclets k fl e in
       let fit = subst (FitsFunclet program) (get_or_from_slice_get program.funclets k fl fl e)
-        (all_at (FitsFunclet program) program.funclets k fl c.fits.funclets lt) in
+      (all_at (FitsFunclet program) program.funclets k fl c.fits.funclets lt) in
       let own : (r : RoutineView) → r ≡ funclet program fl
-        → funclet_arguments (plan_of program) r.layout (Some fl) ≡ argument_code r.layout r.entry =
+      → funclet_arguments (plan_of program) r.layout (Some fl) ≡ argument_code r.layout r.entry =
       λ r same. subst (λ (q : RoutineView). funclet_arguments (plan_of program) q.layout (Some fl)
-        ≡ argument_code q.layout q.entry) (sym same)
+      ≡ argument_code q.layout q.entry) (sym same)
       (ap (λ (o : Option ℕ). keep_base o (funclet_frame fl.body).kept
-        ++ keep_argument (funclet program fl).layout fl.kind) (parent_is fl.parent fit.parent)
+      ++ keep_argument (funclet program fl).layout fl.kind) (parent_is fl.parent fit.parent)
       ∙ kind_same (funclet program fl).layout fl.kind (kept_by program fl.parent)
-        (funclet_frame fl.body).kept refl) in
+      (funclet_frame fl.body).kept refl) in
       own (routine_of program (FuncletBody k)).routine g.routine
 
   arguments_by_function : (f : ℕ) (o : Option LinearFunction) (b : LinearBody)
       → slice_get program.functions f ≡ o → function_body o ≡ Some b
       → function_arguments (routine_of program (FunctionBody f)).routine.layout o
       ≡ argument_code (routine_of program (FunctionBody f)).routine.layout
-        (routine_of program (FunctionBody f)).routine.entry
+      (routine_of program (FunctionBody f)).routine.entry
   arguments_by_function f None b e h = absurd (none_some h)
   arguments_by_function f (Some fn) b e h =
       let g = is_function program c.fits f fn e in
       let leaf = not (f == program.main) && link.is_leaf fn.body in
       subst (λ (r : RoutineView). parameters_code r.layout 0 fn.parameters
-        ≡ argument_code r.layout r.entry) (sym g.routine) (function_same leaf fn)
+      ≡ argument_code r.layout r.entry) (sym g.routine) (function_same leaf fn)
 
   arguments_by_funclet : (k : ℕ) (o : Option LinearFunclet) (b : LinearBody)
       → slice_get program.funclets k ≡ o → funclet_body o ≡ Some b
       → funclet_arguments (plan_of program) (routine_of program (FuncletBody k)).routine.layout o
       ≡ argument_code (routine_of program (FuncletBody k)).routine.layout
-        (routine_of program (FuncletBody k)).routine.entry
+      (routine_of program (FuncletBody k)).routine.entry
   arguments_by_funclet k None b e h = absurd (none_some h)
   arguments_by_funclet k (Some fl) b e h = funclet_same k fl e
 
   pub arguments_same : (name : BodyName) (b : LinearBody) → body_of program name ≡ Some b
       → arguments_code program (plan_of program) name
       ≡ argument_code (routine_of program name).routine.layout
-        (routine_of program name).routine.entry
+      (routine_of program name).routine.entry
   arguments_same (FunctionBody f) b h = arguments_by_function f (slice_get program.functions f) b
       refl h
   arguments_same (FuncletBody k) b h = arguments_by_funclet k (slice_get program.funclets k) b refl
@@ -177,14 +181,14 @@ module _ (program : LinearProgram) (c : HasWholeImage program) (name : BodyName)
       let room = h.room in
       let size = sized program p.index x p.at in
       (λ i. frame_same x.routine.frame x.routine.layout.frame x.begin check
-        (begin_of (plan_of program) (sites_of program) name) (sites_of program).check_stack size
-        h.near.frame p.begin refl (omega arith) i ++ arguments_same program c name b is i)
+      (begin_of (plan_of program) (sites_of program) name) (sites_of program).check_stack size
+      h.near.frame p.begin refl (omega arith) i ++ arguments_same program c name b is i)
 
   pub moved : AreMoved image_base (links program x)
       (links_of (plan_of program) (sites_of program) name)
   moved = record {
     label = λ l. (let e = label_is x.routine.layout (body_begin x) x.routine.body.code l
-      (own_addresses x.begin x.routine).end (omega arith) in omega arith);
+        (own_addresses x.begin x.routine).end (omega arith) in omega arith);
     function = λ f. refl;
     known = λ f. refl;
     funclet = λ f. refl;
@@ -202,7 +206,7 @@ module _ (program : LinearProgram) (c : HasWholeImage program) (name : BodyName)
       let at : address_of program name 0 ≡ image_base + body_begin x = omega arith in
       let entry = entry_small x.routine h.near in
       ap (λ (d : LinearBody). entry_code program (plan_of program) (sites_of program) name
-        ++ code_from k y (address_of program name 0) d.code) (sym p.body)
+      ++ code_from k y (address_of program name 0) d.code) (sym p.body)
       ∙ (λ i. entry_same i ++ code_moved image_base (omega arith) (links program x) k y
-        (body_begin x) (address_of program name 0) x.routine.body.code moved at (omega arith)
-        h.near.code i)
+      (body_begin x) (address_of program name 0) x.routine.body.code moved at (omega arith)
+      h.near.code i)

@@ -73,17 +73,17 @@ module _ (program : LinearProgram) (c : HasWholeImage program) where
   -- where a body waits is in its routine
   in_body : (name : BodyName) (b : LinearBody) (is : body_of program name ≡ Some b) (label rip : ℕ)
       → (r : IsResumed (functions_of program) (funclets_of program) program (plan_of program)
-        (sites_of program) name b label rip)
+      (sites_of program) name b label rip)
       → IsInBody program (routine_of program name)
-        (template_at (routine_of program name) label + sizes r.done)
+      (template_at (routine_of program name) label + sizes r.done)
   in_body name b is label rip r =
       let p = place program c name b is in
       let h = here program c name b is in
       let x = routine_of program name in
       let at : slice_get x.routine.body.code label
-        ≡ Some r.instruction = ap (λ (d : LinearBody). slice_get d.code label) p.body ∙ r.there in
+      ≡ Some r.instruction = ap (λ (d : LinearBody). slice_get d.code label) p.body ∙ r.there in
       let near = near_at (IsInstructionNear x.routine.layout) x.routine.body.code label
-        r.instruction h.near.code at in
+      r.instruction h.near.code at in
       let inside = label_inside program c name b is label in
       let room = h.room in
       let small = routine_small x.routine h.near in
@@ -96,29 +96,29 @@ module _ (program : LinearProgram) (c : HasWholeImage program) where
         item = r.item;
         left = r.left;
         parts = sym (template_moved image_base (omega arith) (links program x)
-          (links_of (plan_of program) (sites_of program) name) x.routine.layout
-          (template_at x label) (address_of program name label) r.instruction
-          (moved program c name b is) refl (omega arith) near) ∙ r.parts;
+            (links_of (plan_of program) (sites_of program) name) x.routine.layout
+            (template_at x label) (address_of program name label) r.instruction
+            (moved program c name b is) refl (omega arith) near) ∙ r.parts;
         here = refl;
       }
 
   code_there : (name : BodyName) (b : LinearBody) (is : body_of program name ≡ Some b) (m : Memory)
       → HasProgram (functions_of program) (funclets_of program) program (plan_of program)
-        (sites_of program) m
+      (sites_of program) m
       → IsExecutableAt m (image_base + (routine_of program name).begin)
-        (spelled (routine_code (site_of program) (routine_of program name).begin
-        (routine_of program name).routine))
+      (spelled (routine_code (site_of program) (routine_of program name).begin
+      (routine_of program name).routine))
   code_there name b is m has =
       let p = place program c name b is in
       let x = routine_of program name in
       let begin = begin_of (plan_of program) (sites_of program) name in
       let code = executable_of m begin (spelled
-        (code_of program (plan_of program) (sites_of program) name b))
-        (has.code name b is).is_there in
+      (code_of program (plan_of program) (sites_of program) name b))
+      (has.code name b is).is_there in
       subst (λ (n : ℕ). IsExecutableAt m n (spelled
-        (routine_code (site_of program) x.begin x.routine))) p.begin
-        (subst (λ (q : List Instr). IsExecutableAt m begin (spelled q))
-        (code_same program c name b is) code)
+      (routine_code (site_of program) x.begin x.routine))) p.begin
+      (subst (λ (q : List Instr). IsExecutableAt m begin (spelled q))
+      (code_same program c name b is) code)
 
   pub frames_are_at : FramesAreWaiting (functions_of program) (funclets_of program) program
       (plan_of program) (sites_of program)
@@ -127,22 +127,24 @@ module _ (program : LinearProgram) (c : HasWholeImage program) where
       let x = routine_of program name in
       let f = framed_of x.routine.frame framed in
       let size : x.routine.layout.frame ≡ f.0.size = sized program p.index x p.at
-        ∙ ap size_of f.1 in
+      ∙ ap size_of f.1 in
       let rva = template_at x label + sizes r.done in
       let here' : k.rip ≡ image_base + rva = r.here
-        ∙ (let q : image_base + template_at x label + sizes r.done
-        ≡ image_base + rva = omega arith in q) in
+      ∙ (let q : image_base + template_at x label + sizes r.done
+      ≡ image_base + rva = omega arith in q) in
       let s = frame_is_at program m p.index x f.0 k rva back c.fits c.ranges p.at f.1
-        (code_there name b is m has) (in_body name b is label k.rip r) here' kept
-        (subst (λ (n : ℕ). rsp k + n + 8 < 2 ^ 64) size room)
-        (subst (λ (n : ℕ). word m (rsp k + n) ≡ Ok back) size returns) in
+      (code_there name b is m has) (in_body name b is label k.rip r) here' kept
+      (subst (λ (n : ℕ). rsp k + n + 8 < 2 ^ 64) size room)
+      (subst (λ (n : ℕ). word m (rsp k + n) ≡ Ok back) size returns) in
       let same : stack_frame program x f.0 back
-        ≡ frame_with (tables.entry_of (site_of program) x (or_none x.routine.frame))
-          x.routine.layout.frame (taking_size f.0.size) back =
+      ≡ frame_with (tables.entry_of (site_of program) x (or_none x.routine.frame))
+      x.routine.layout.frame (taking_size f.0.size) back =
       λ i. frame_with (tables.entry_of (site_of program) x (or_none (sym f.1 i))) (sym size i)
-        (taking_size f.0.size) back in
-      record { offset = taking_size f.0.size;
-        is_there = subst (FrameIsAt (functions_of program) m k) same s }
+      (taking_size f.0.size) back in
+      record {
+        offset = taking_size f.0.size;
+        is_there = subst (FrameIsAt (functions_of program) m k) same s;
+      }
 
   pub leaves_are_at' : LeavesAreWaiting (functions_of program) (funclets_of program) program
       (plan_of program) (sites_of program)
@@ -151,22 +153,30 @@ module _ (program : LinearProgram) (c : HasWholeImage program) where
       let x = routine_of program name in
       let rva = template_at x label + sizes r.done in
       let here' : k.rip ≡ image_base + rva = r.here
-        ∙ (let q : image_base + template_at x label + sizes r.done
-        ≡ image_base + rva = omega arith in q) in
+      ∙ (let q : image_base + template_at x label + sizes r.done
+      ≡ image_base + rva = omega arith in q) in
       leaves_are_at program m p.index x k rva back c.fits c.ranges p.at
-        (leaf_of x.routine.frame leaf) (record
-        { body = in_body name b is label k.rip r; here = here'; kept = kept; room = room;
-        returns = returns })
+      (leaf_of x.routine.frame leaf) (record {
+        body = in_body name b is label k.rip r;
+        here = here';
+        kept = kept;
+        room = room;
+        returns = returns;
+      })
 
   pub allocation : (name : BodyName) (b : LinearBody) → body_of program name ≡ Some b
       → HasAllocation (functions_of program) (funclets_of program) program (plan_of program)
-        (sites_of program) name
+      (sites_of program) name
   allocation name b is =
       let p = place program c name b is in
       let x = routine_of program name in
       let size : (or_none x.routine.frame).size ≡ x.routine.layout.frame = same_size x.routine.frame
-        ∙ sym (sized program p.index x p.at) in
-      let code : ℕ → UnwindCode = λ n. record { offset = taking_size (or_none x.routine.frame).size;
-        operation = Allocate n } in
-      record { offset = taking_size (or_none x.routine.frame).size;
-        codes = ap (λ (n : ℕ). code n ∷ []) size }
+      ∙ sym (sized program p.index x p.at) in
+      let code : ℕ → UnwindCode = λ n. record {
+        offset = taking_size (or_none x.routine.frame).size;
+        operation = Allocate n;
+      } in
+      record {
+        offset = taking_size (or_none x.routine.frame).size;
+        codes = ap (λ (n : ℕ). code n ∷ []) size;
+      }

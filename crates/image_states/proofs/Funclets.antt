@@ -93,11 +93,15 @@ module _ (program : LinearProgram) where
 
   pub kind_fits : (name : BodyName) (end : ℕ) (k : RegionKind) → IsKindOf program name end k
       → KindFits k
-  kind_fits name end (kinds.Finally k) h = (slice_get_within program.funclets k h.funclet h.there,
-      ap kind_if h.there ∙ finally_true h.funclet.kind h.fits)
-  kind_fits name end (kinds.Filter k target) h =
-      (slice_get_within program.funclets k h.0.funclet h.0.there, ap kind_if h.0.there
-      ∙ filter_false h.0.funclet.kind h.0.fits)
+  kind_fits name end (kinds.Finally k) h = (
+    slice_get_within program.funclets k h.funclet h.there,
+    ap kind_if h.there ∙ finally_true h.funclet.kind h.fits,
+  )
+  kind_fits name end (kinds.Filter k target) h = (
+    slice_get_within program.funclets k h.0.funclet h.0.there,
+    ap kind_if h.0.there
+        ∙ filter_false h.0.funclet.kind h.0.fits,
+  )
   kind_fits name end (kinds.Always target) h = tt
 
   abbrev AllFit : List Region → Type 0
@@ -120,13 +124,13 @@ module _ (program : LinearProgram) (c : HasWholeImage program) where
   functions_fit [] index h = tt
   functions_fit (f ∷ fs) index h =
       let here : slice_get program.functions index
-        ≡ Some f = ap (slice_get program.functions) (let q : index ≡ index + 0 = omega arith in q)
-        ∙ h 0 f refl in
+      ≡ Some f = ap (slice_get program.functions) (let q : index ≡ index + 0 = omega arith in q)
+      ∙ h 0 f refl in
       fit_both program f.body.regions (regions_in (function_bodies fs))
       (fit_of program (FunctionBody index) f.body.regions
-        (c.whole.bodies (FunctionBody index) f.body (ap function_body here)).regions)
+      (c.whole.bodies (FunctionBody index) f.body (ap function_body here)).regions)
       (functions_fit fs (index + 1) (λ j g e. ap (slice_get program.functions)
-        (let q : index + 1 + j ≡ index + suc j = omega arith in q) ∙ h (suc j) g e))
+      (let q : index + 1 + j ≡ index + suc j = omega arith in q) ∙ h (suc j) g e))
 
   funclets_fit : (fs : List LinearFunclet) (index : ℕ)
       → ((j : ℕ) (f : LinearFunclet) → slice_get fs j ≡ Some f
@@ -135,21 +139,21 @@ module _ (program : LinearProgram) (c : HasWholeImage program) where
   funclets_fit [] index h = tt
   funclets_fit (f ∷ fs) index h =
       let here : slice_get program.funclets index
-        ≡ Some f = ap (slice_get program.funclets) (let q : index ≡ index + 0 = omega arith in q)
-        ∙ h 0 f refl in
+      ≡ Some f = ap (slice_get program.funclets) (let q : index ≡ index + 0 = omega arith in q)
+      ∙ h 0 f refl in
       fit_both program f.body.regions (regions_in (funclet_bodies fs))
       (fit_of program (FuncletBody index) f.body.regions
-        (c.whole.bodies (FuncletBody index) f.body (ap funclet_body here)).regions)
+      (c.whole.bodies (FuncletBody index) f.body (ap funclet_body here)).regions)
       (funclets_fit fs (index + 1) (λ j g e. ap (slice_get program.funclets)
-        (let q : index + 1 + j ≡ index + suc j = omega arith in q) ∙ h (suc j) g e))
+      (let q : index + 1 + j ≡ index + suc j = omega arith in q) ∙ h (suc j) g e))
 
   all_fit : AllFit program (regions program)
   all_fit = fit_both program (regions_in (function_bodies program.functions))
       (regions_in (funclet_bodies program.funclets))
       (functions_fit program.functions 0 (λ j f e. ap (slice_get program.functions)
-        (let q : 0 + j ≡ j = omega arith in q) ∙ e))
+      (let q : 0 + j ≡ j = omega arith in q) ∙ e))
       (funclets_fit program.funclets 0 (λ j f e. ap (slice_get program.funclets)
-        (let q : 0 + j ≡ j = omega arith in q) ∙ e))
+      (let q : 0 + j ≡ j = omega arith in q) ∙ e))
 
   -- ---- the funclets of the table
 
@@ -183,7 +187,7 @@ module _ (program : LinearProgram) (c : HasWholeImage program) where
   rows_step [] [] m are fit = refl
   rows_step (row ∷ rows) (r ∷ rs) m are fit =
       ap (of_rows rows) (row_step row r.kind m
-        (record { finally = are.0.finally; always = are.0.always; handler = are.0.handler }) fit.0)
+      (record { finally = are.0.finally; always = are.0.always; handler = are.0.handler }) fit.0)
       ∙ rows_step rows rs (mask_with (funclet_in r.kind) m) are.1 fit.1
       ∙ ap part (sym (mask_both (funclet_in r.kind) (named rs) m))
   rows_step [] (r ∷ rs) m are fit = absurd are
@@ -200,7 +204,7 @@ module _ (program : LinearProgram) (c : HasWholeImage program) where
       ∙ ap (of_rows (rows_of (entries program))) (none_yet 0 n)
       ∙ rows_step (rows_of (entries program)) (regions program) (λ j. false) shape.rows all_fit
       ∙ same_sub b (kind program) (mask_with (named (regions program)) (λ j. false)) (λ j. true) 0 n
-        (λ j le lt. mask_has (named (regions program)) (λ k. false) j (c.all_named j (omega arith)))
+      (λ j le lt. mask_has (named (regions program)) (λ k. false) j (c.all_named j (omega arith)))
 
   -- ---- arrivals
 
@@ -220,12 +224,12 @@ module _ (program : LinearProgram) (c : HasWholeImage program) where
   at_none cpu a lt none =
       ap (arrivals cpu (distance image_base a) 1) funclets_are
       ∙ arrives_at_none b (kind program) n up cpu (distance image_base a) 0 n
-        (λ k le lt' e. none k (omega arith) (let q : distance image_base a ≡ b k = e in
-        let s = begin_small k (omega arith) in omega arith))
+      (λ k le lt' e. none k (omega arith) (let q : distance image_base a ≡ b k = e in
+      let s = begin_small k (omega arith) in omega arith))
 
   same_kind : (k : FuncletKind) → is_finally k
       ≡ states.is_finally (functions_of program) (funclets_of program) program (plan_of program)
-        (sites_of program) k
+      (sites_of program) k
   same_kind Filter = refl
   same_kind (Finally flag) = refl
 
@@ -233,7 +237,7 @@ module _ (program : LinearProgram) (c : HasWholeImage program) where
       (plan_of program) (sites_of program)
   funclets_begin = record {
     named = λ k f e cpu. at_funclet cpu k (slice_get_within program.funclets k f e)
-      ∙ ap (λ (o : Option LinearFunclet). by_kind cpu (k + 1) (kind_if o) ∷ []) e
-      ∙ ap (λ (z : Bool). by_kind cpu (k + 1) z ∷ []) (same_kind f.kind);
+        ∙ ap (λ (o : Option LinearFunclet). by_kind cpu (k + 1) (kind_if o) ∷ []) e
+        ∙ ap (λ (z : Bool). by_kind cpu (k + 1) z ∷ []) (same_kind f.kind);
     none = λ a lt none cpu. at_none cpu a lt none;
   }

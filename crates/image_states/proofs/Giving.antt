@@ -167,7 +167,7 @@ module _ (program : LinearProgram) (c : HasWholeImage program) (name : BodyName)
       let l : label < length code = elim (cases_lt label (length code)) [
         | inl lt ↦ lt
         | inr le ↦ let p = past y code label le in let q = past y code (label + 1) (omega arith) in
-          absurd (omega arith)
+            absurd (omega arith)
       ] in
       record { low = omega arith; high = omega arith; there = l }
 
@@ -188,14 +188,14 @@ module _ (program : LinearProgram) (c : HasWholeImage program) (name : BodyName)
         let n = next t (omega arith) in
         let e = at_label t in
         ne_eqb (L t) (T label) (λ z. (let q : L t ≡ T label = z in omega arith))
-          ∙ sym (ne_eqb t label (λ z. (let q : t ≡ label = z in omega arith)))
+        ∙ sym (ne_eqb t label (λ z. (let q : t ≡ label = z in omega arith)))
     | inr le ↦ elim (cases_lt label t) [
       | inl more ↦
           let r = rises (label + 1) t (omega arith) in
           let n = next label lt in
           let e = at_label t in
           ne_eqb (L t) (T label) (λ z. (let q : L t ≡ T label = z in omega arith))
-            ∙ sym (ne_eqb t label (λ z. (let q : t ≡ label = z in omega arith)))
+          ∙ sym (ne_eqb t label (λ z. (let q : t ≡ label = z in omega arith)))
       | inr le' ↦
           let same : t ≡ label = omega arith in
           eq-eqb (L t) (T label) (at_label t ∙ ap T same) ∙ sym (eq-eqb t label same)
@@ -208,9 +208,9 @@ module _ (program : LinearProgram) (c : HasWholeImage program) (name : BodyName)
 
   leads : (k : RegionKind) (label : ℕ) → label < length code
       → (not (jump_target (own_addresses x.begin x.routine).labels
-        (own_addresses x.begin x.routine).end k == 0)
+      (own_addresses x.begin x.routine).end k == 0)
       && (jump_target (own_addresses x.begin x.routine).labels (own_addresses x.begin x.routine).end
-        k == T label)) ≡ leads_to k label
+      k == T label)) ≡ leads_to k label
   leads (kinds.Finally k) label lt = refl
   leads (kinds.Filter k t) label lt = ap (λ (z : Bool). not z && eqb (L t) (T label)) (not_zero t)
       ∙ same_label t label lt
@@ -223,9 +223,9 @@ module _ (program : LinearProgram) (c : HasWholeImage program) (name : BodyName)
   ended label r lt =
       let e = away (T label) (small label) in
       or_both _ _ (linear.holds label r) (leads_to r.kind label)
-        (held label (distance image_base (address_of program name label)) r (at_itself label lt))
+      (held label (distance image_base (address_of program name label)) r (at_itself label lt))
       (ap (λ (n : ℕ). not ((row r).jump_target == 0) && ((row r).jump_target == n)) e
-        ∙ leads r.kind label lt)
+      ∙ leads r.kind label lt)
 
   -- ---- what a record names
 
@@ -234,7 +234,7 @@ module _ (program : LinearProgram) (c : HasWholeImage program) (name : BodyName)
 
   named_by : (k : ℕ) (kd : Bool) → k < length program.funclets → kind program k ≡ kd → (cpu : Cpu)
       → arrivals cpu (distance image_base (image_base + funclet_begin program k)) 1
-        (funclets_of program) ≡ by_kind cpu (k + 1) kd ∷ []
+      (funclets_of program) ≡ by_kind cpu (k + 1) kd ∷ []
   named_by k kd lt e cpu = at_funclet program c cpu k lt
       ∙ ap (λ (z : Bool). by_kind cpu (k + 1) z ∷ []) e
 
@@ -249,17 +249,17 @@ module _ (program : LinearProgram) (c : HasWholeImage program) (name : BodyName)
       let s = begin_small k lt in
       record {
         parent = ap parent_body f.there ∙ ap (λ (q : BodyName). Some q)
-          (parents_same f.funclet.function f.funclet.parent ∙ f.parent);
+            (parents_same f.funclet.function f.funclet.parent ∙ f.parent);
         small = omega arith;
       }
 
   jumps_to : (r : Region) (t : ℕ) → IsLanding program name t → (row r).jump_target ≡ L t
       → JumpsTo (functions_of program) (funclets_of program) program (plan_of program) name (row r)
-        t
+      t
   jumps_to r t landing e =
       let there : slice_get code t ≡ Some (instructions.Landing (Local landing.0)) = ap
-        (λ (d : LinearBody). slice_get d.code t) (place program c name b is).body
-        ∙ sym (ap (λ (o : Option LinearBody). instruction_in o t) is) ∙ landing.1 in
+      (λ (d : LinearBody). slice_get d.code t) (place program c name b is).body
+      ∙ sym (ap (λ (o : Option LinearBody). instruction_in o t) is) ∙ landing.1 in
       let lt = slice_get_within code t (instructions.Landing (Local landing.0)) there in
       let s = small t in
       let at = at_label t in
@@ -272,38 +272,40 @@ module _ (program : LinearProgram) (c : HasWholeImage program) (name : BodyName)
 
   kind_is : (r : Region) (k : RegionKind) → r.kind ≡ k → IsKindOf program name r.end k
       → IsOfKind (functions_of program) (funclets_of program) program (plan_of program) name (row r)
-        k
+      k
   kind_is r (kinds.Finally k) e f =
       let fits = kind_fits program name r.end (kinds.Finally k) f in
       record {
         none = ap (λ (q : RegionKind). jump_target labels end' q == 0) e;
         handler = ap (λ (q : RegionKind). (image_base
-          + handler_address (site_of program).funclets q) % 2 ^ 64) e
-          ∙ module_small (funclet_begin program k) (begin_small k fits.0);
+            + handler_address (site_of program).funclets q) % 2 ^ 64) e
+            ∙ module_small (funclet_begin program k) (begin_small k fits.0);
         funclet = funclet_of k f;
         named = named_by k true fits.0 fits.1;
       }
   kind_is r (kinds.Filter k t) e f =
       let fits = kind_fits program name r.end (kinds.Filter k t) f in
       let far : eqb (funclet_begin program k) 1
-        ≡ false = ne_eqb (funclet_begin program k) 1
-          (λ z. (let q : funclet_begin program k ≡ 1 = z in
-          let l = begin_least program c k fits.0 in omega arith)) in
+      ≡ false = ne_eqb (funclet_begin program k) 1
+      (λ z. (let q : funclet_begin program k ≡ 1 = z in
+      let l = begin_least program c k fits.0 in omega arith)) in
       record {
         to = jumps_to r t f.1 (ap (jump_target labels end') e);
         asks = ap (λ (q : RegionKind). handler_address (site_of program).funclets q == 1) e ∙ far;
         handler = ap (λ (q : RegionKind). (image_base
-          + handler_address (site_of program).funclets q) % 2 ^ 64) e
-          ∙ module_small (funclet_begin program k) (begin_small k fits.0);
+            + handler_address (site_of program).funclets q) % 2 ^ 64) e
+            ∙ module_small (funclet_begin program k) (begin_small k fits.0);
         funclet = funclet_of k f.0;
         named = named_by k false fits.0 fits.1;
       }
-  kind_is r (kinds.Always t) e f = record { to = jumps_to r t f.0 (ap (jump_target labels end') e);
-      accepts = ap (λ (q : RegionKind). handler_address (site_of program).funclets q == 1) e }
+  kind_is r (kinds.Always t) e f = record {
+    to = jumps_to r t f.0 (ap (jump_target labels end') e);
+    accepts = ap (λ (q : RegionKind). handler_address (site_of program).funclets q == 1) e;
+  }
 
   region_is : (r : Region) → IsRegionOf program name r
       → IsRegion (functions_of program) (funclets_of program) program (plan_of program) name (row r)
-        r
+      r
   region_is r of = record {
     holds = λ label rip i. held label (distance image_base rip) r (within label rip i);
     ends = λ label lands. ended label r (ltb-true label (length code) lands);
@@ -312,7 +314,7 @@ module _ (program : LinearProgram) (c : HasWholeImage program) (name : BodyName)
 
   regions_are : (rs : List Region) → AllByRecursion (IsRegionOf program name) rs
       → AreRegions (functions_of program) (funclets_of program) program (plan_of program) name
-        (map row rs) rs
+      (map row rs) rs
   regions_are [] all = tt
   regions_are (r ∷ rs) all = (region_is r all.0, regions_are rs all.1)
 
@@ -320,34 +322,39 @@ module _ (program : LinearProgram) (c : HasWholeImage program) (name : BodyName)
 
   all_finally : (rs : List Region) → has_except rs ≡ false
       → AllFinally (functions_of program) (funclets_of program) program (plan_of program)
-        (map row rs)
+      (map row rs)
   all_finally [] e = tt
-  all_finally (r ∷ rs) e = (go r.kind refl e,
-      all_finally rs (or_second (not (tables.is_finally r.kind)) (has_except rs) e))
+  all_finally (r ∷ rs) e = (
+    go r.kind refl e,
+    all_finally rs (or_second (not (tables.is_finally r.kind)) (has_except rs) e),
+  )
     where
       go : (k : RegionKind) → r.kind ≡ k → (not (tables.is_finally r.kind) || has_except rs) ≡ false
-        → (jump_target labels end' r.kind == 0) ≡ true
+          → (jump_target labels end' r.kind == 0) ≡ true
       go (kinds.Finally k) q z = ap (λ (w : RegionKind). jump_target labels end' w == 0) q
       go (kinds.Filter k t) q z = absurd (false≢true
-        (sym z ∙ ap (λ (w : RegionKind). not (tables.is_finally w) || has_except rs) q))
+          (sym z ∙ ap (λ (w : RegionKind). not (tables.is_finally w) || has_except rs) q))
       go (kinds.Always t) q z = absurd (false≢true
-        (sym z ∙ ap (λ (w : RegionKind). not (tables.is_finally w) || has_except rs) q))
+          (sym z ∙ ap (λ (w : RegionKind). not (tables.is_finally w) || has_except rs) q))
 
   all_except : (rs : List Region) → has_finally rs ≡ false
       → AllExcept (functions_of program) (funclets_of program) program (plan_of program)
-        (map row rs)
+      (map row rs)
   all_except [] e = tt
-  all_except (r ∷ rs) e = (go r.kind refl e, all_except rs
-      (or_second (tables.is_finally r.kind) (has_finally rs) e))
+  all_except (r ∷ rs) e = (
+    go r.kind refl e,
+    all_except rs
+        (or_second (tables.is_finally r.kind) (has_finally rs) e),
+  )
     where
       go : (k : RegionKind) → r.kind ≡ k → (tables.is_finally r.kind || has_finally rs) ≡ false
-        → (jump_target labels end' r.kind == 0) ≡ false
+          → (jump_target labels end' r.kind == 0) ≡ false
       go (kinds.Finally k) q z = absurd (false≢true
-        (sym z ∙ ap (λ (w : RegionKind). tables.is_finally w || has_finally rs) q))
+          (sym z ∙ ap (λ (w : RegionKind). tables.is_finally w || has_finally rs) q))
       go (kinds.Filter k t) q z = ap (λ (w : RegionKind). jump_target labels end' w == 0) q
-        ∙ not_zero t
+          ∙ not_zero t
       go (kinds.Always t) q z = ap (λ (w : RegionKind). jump_target labels end' w == 0) q
-        ∙ not_zero t
+          ∙ not_zero t
 
   flag_of : (flag has : Bool) {All : Type 0} → flag ≡ has → (has ≡ false → All)
       → (flag ≡ true) ⊎ All
@@ -360,9 +367,9 @@ module _ (program : LinearProgram) (c : HasWholeImage program) (name : BodyName)
       let f = entries_are_flagged (site_of program) x (or_none x.routine.frame) in
       record {
         searched = flag_of _ (has_except x.routine.body.regions) f.searched
-          (all_finally x.routine.body.regions);
+            (all_finally x.routine.body.regions);
         unwound = flag_of _ (has_finally x.routine.body.regions) f.unwound
-          (all_except x.routine.body.regions);
+            (all_except x.routine.body.regions);
       }
 
   -- ---- an entry
@@ -376,24 +383,24 @@ module _ (program : LinearProgram) (c : HasWholeImage program) (name : BodyName)
       let long = length-map x.routine.body.regions row in
       record {
         rows = subst (λ (d : LinearBody). AreRegions (functions_of program) (funclets_of program)
-          program (plan_of program) name (map row x.routine.body.regions) d.regions) p.body
+            program (plan_of program) name (map row x.routine.body.regions) d.regions) p.body
             (regions_are x.routine.body.regions
-              (subst (λ (d : LinearBody). AllByRecursion (IsRegionOf program name) d.regions)
-              (sym p.body) own));
+            (subst (λ (d : LinearBody). AllByRecursion (IsRegionOf program name) d.regions)
+            (sym p.body) own));
         flagged = flagged;
         few = omega arith;
         landings = λ label lands cpu. at_none program c cpu (address_of program name label)
-          (let s = small label in omega arith)
-          (λ k lt. not_first program c name b is label k
-          (let l = ltb-true label (length code) lands in
-          let same = ap (λ (d : LinearBody). length d.code) p.body in omega arith) lt);
+            (let s = small label in omega arith)
+            (λ k lt. not_first program c name b is label k
+            (let l = ltb-true label (length code) lands in
+            let same = ap (λ (d : LinearBody). length d.code) p.body in omega arith) lt);
       }
 
   pub leaf_given : (plan_of program).leaf name ≡ true → b.regions ≡ []
   leaf_given leaf =
       let p = place program c name b is in
       let bare = placed_has IsBare (site_of program) (infos_begin program) (first program.globals)
-        (routines program) p.index x (routines_bare program) p.at in
+      (routines program) p.index x (routines_bare program) p.at in
       ap (λ (d : LinearBody). d.regions) (sym p.body) ∙ bare (leaf_of x.routine.frame leaf)
 
   given_by : (leaf : Bool) → (plan_of program).leaf name ≡ leaf

@@ -33,8 +33,8 @@ module _ (program : LinearProgram) (c : HasWholeImage program) (name : BodyName)
   first_is =
       let p = place program c name b is in
       let size = ap sizes (entry_same program c name b is)
-        ∙ entry_sizes x.begin (check_stack_at (site_of program).text) x.routine
-          (here program c name b is).near in
+      ∙ entry_sizes x.begin (check_stack_at (site_of program).text) x.routine
+      (here program c name b is).near in
       let begin = p.begin in
       omega arith
 
@@ -57,15 +57,20 @@ module _ (program : LinearProgram) (c : HasWholeImage program) (name : BodyName)
       let p = place program c name b is in
       let size = ap (λ (d : LinearBody). body_size x.routine.layout d.code) p.body in
       let end : image_base + end_of x ≡ address_of program name 0
-        + body_size x.routine.layout b.code = omega arith in
+      + body_size x.routine.layout b.code = omega arith in
       subst (λ (from : ℕ). InImage program c from
-        (address_of program name 0 + body_size x.routine.layout b.code)) (sym p.begin)
+      (address_of program name 0 + body_size x.routine.layout b.code)) (sym p.begin)
       (subst (InImage program c (image_base + x.begin)) end (body_inside program c name b is))
 
   pub addresses : HasAddresses (functions_of program) (funclets_of program) program
       (plan_of program) (sites_of program) name b
-  addresses = record { first = first_is; labels = labels_are; rises = rises; inside = inside;
-      not_first = λ label k lt lt'. not_first program c name b is label k lt lt' }
+  addresses = record {
+    first = first_is;
+    labels = labels_are;
+    rises = rises;
+    inside = inside;
+    not_first = λ label k lt lt'. not_first program c name b is label k lt lt';
+  }
 
 pub images_are_programs : ImagesArePrograms
 images_are_programs program c = record {

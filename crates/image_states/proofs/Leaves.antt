@@ -75,12 +75,12 @@ module _ (program : LinearProgram) (c : HasWholeImage program) where
   function_calls f (Some fn) b e h leaf = λ label i there. (
       let flag = not (f == program.main) && link.is_leaf fn.body in
       let is : is_leaf (leaf_if flag fn).frame
-        ≡ true = sym (ap (λ (r : RoutineView). is_leaf r.frame)
-          (is_function program c.fits f fn e).routine) ∙ leaf in
+      ≡ true = sym (ap (λ (r : RoutineView). is_leaf r.frame)
+      (is_function program c.fits f fn e).routine) ∙ leaf in
       let own = (and_parts (not (f == program.main)) (link.is_leaf fn.body)
-        (leaf_then flag fn is)).1 in
+      (leaf_then flag fn is)).1 in
       no_call fn.body.code (leaf_code fn.body own) label i
-        (ap (λ (d : LinearBody). slice_get d.code label) (some_same h) ∙ there))
+      (ap (λ (d : LinearBody). slice_get d.code label) (some_same h) ∙ there))
 
   funclet_calls : (k : ℕ) (o : Option LinearFunclet) (b : LinearBody)
       → slice_get program.funclets k ≡ o → funclet_body o ≡ Some b
@@ -123,10 +123,10 @@ module _ (program : LinearProgram) (c : HasWholeImage program) where
   pub apart : (f k : ℕ) (b : LinearBody) → body_of program (FunctionBody f) ≡ Some b
       → 0 < length b.code → k < length program.funclets
       → image_base + address_or (site_of program).functions f 0
-        ≢ image_base + funclet_begin program k
+      ≢ image_base + funclet_begin program k
   apart f k b is some lt e =
       let q : image_base + address_or (site_of program).functions f 0
-        ≡ image_base + funclet_begin program k = e in
+      ≡ image_base + funclet_begin program k = e in
       let fits = c.fits in
       let rs = routines program in
       let x = routine_of program (FunctionBody f) in
@@ -140,7 +140,7 @@ module _ (program : LinearProgram) (c : HasWholeImage program) where
       let size = ap (λ (r : RoutineView). routine_size r) (own_size f o b refl is) in
       let more = label_below program c (FunctionBody f) b is 0 (omega arith) in
       let r = bounds_rise (first program.globals) rs f (length program.functions + k) 0 no_routine
-        (omega arith) (omega arith) in
+      (omega arith) (omega arith) in
       omega arith
 
 pub functions_apart : FunctionsApart

@@ -45,12 +45,12 @@ function_from main index f [] fn d e = absurd (none_some e)
 function_from main index zero (g ∷ fs) fn d e =
     let z : index ≡ index + 0 = omega arith in
     ap (λ (h : LinearFunction). leaf_if (not (index == main) && link.is_leaf h.body) h)
-      (some_same e)
+    (some_same e)
     ∙ ap (λ (n : ℕ). leaf_if (not (n == main) && link.is_leaf fn.body) fn) z
 function_from main index (suc f) (g ∷ fs) fn d e =
     let z : suc index + f ≡ index + suc f = omega arith in
     function_from main (suc index) f fs fn d e
-      ∙ ap (λ (n : ℕ). leaf_if (not (n == main) && link.is_leaf fn.body) fn) z
+    ∙ ap (λ (n : ℕ). leaf_if (not (n == main) && link.is_leaf fn.body) fn) z
 
 -- ---- functions
 
@@ -64,11 +64,11 @@ module _ (program : LinearProgram) (fits : FitsProgram program) where
   pub record IsFunction (f : ℕ) (fn : LinearFunction) : Type 0 where
     pub at : slice_get (placed program) f ≡ Some (routine_of program (FunctionBody f))
     pub routine : (routine_of program (FunctionBody f)).routine
-      ≡ leaf_if (not (f == program.main) && link.is_leaf fn.body) fn
+        ≡ leaf_if (not (f == program.main) && link.is_leaf fn.body) fn
     pub begin : address_or (site_of program).functions f 0
-      ≡ (routine_of program (FunctionBody f)).begin
+        ≡ (routine_of program (FunctionBody f)).begin
     pub bound : (routine_of program (FunctionBody f)).begin
-      ≡ get_or (bounds (first program.globals) rs) f 0
+        ≡ get_or (bounds (first program.globals) rs) f 0
     pub own : (routine_of program (FunctionBody f)).routine ≡ get_or rs f no_routine
     pub below : f < length rs
 
@@ -78,22 +78,22 @@ module _ (program : LinearProgram) (fits : FitsProgram program) where
       let lt = slice_get_within program.functions f fn e in
       let long = as_long program fits in
       let h = is_placed (site_of program) (infos_begin program) (first program.globals) rs f
-        no_routine (omega arith) in
+      no_routine (omega arith) in
       let is : routine_of program (FunctionBody f)
-        ≡ h.placed = ap or_nowhere (slice_take (placed program) n f lt ∙ h.there) in
+      ≡ h.placed = ap or_nowhere (slice_take (placed program) n f lt ∙ h.there) in
       let zero-more : 0 + f ≡ f = omega arith in
       let count = functions_count program.main 0 program.functions in
       let own : get_or rs f no_routine ≡ leaf_if (not (f == program.main) && link.is_leaf fn.body)
-        fn =
+      fn =
       get_or_append_left (functions_from program.main 0 program.functions)
-        (map (funclet program) program.funclets) no_routine f (omega arith)
+      (map (funclet program) program.funclets) no_routine f (omega arith)
       ∙ function_from program.main 0 f program.functions fn no_routine e
       ∙ ap (λ (k : ℕ). leaf_if (not (k == program.main) && link.is_leaf fn.body) fn) zero-more in
       record {
         at = h.there ∙ ap (λ (x : Placed). Some x) (sym is);
         routine = ap (λ (x : Placed). x.routine) is ∙ h.routine ∙ own;
         begin = get_or-take n (bounds (first program.globals) rs) f 0 lt ∙ sym h.begins
-          ∙ ap (λ (x : Placed). x.begin) (sym is);
+            ∙ ap (λ (x : Placed). x.begin) (sym is);
         bound = ap (λ (x : Placed). x.begin) is ∙ h.begins;
         own = ap (λ (x : Placed). x.routine) is ∙ h.routine;
         below = omega arith;
@@ -106,7 +106,7 @@ module _ (program : LinearProgram) (fits : FitsProgram program) where
     pub routine : (routine_of program (FuncletBody k)).routine ≡ funclet program fl
     pub begin : funclet_begin program k ≡ (routine_of program (FuncletBody k)).begin
     pub bound : (routine_of program (FuncletBody k)).begin
-      ≡ get_or (bounds (first program.globals) rs) (n + k) 0
+        ≡ get_or (bounds (first program.globals) rs) (n + k) 0
     pub own : (routine_of program (FuncletBody k)).routine ≡ get_or rs (n + k) no_routine
     pub below : n + k < length rs
 
@@ -116,13 +116,13 @@ module _ (program : LinearProgram) (fits : FitsProgram program) where
       let lt = slice_get_within program.funclets k fl e in
       let long = as_long program fits in
       let h = is_placed (site_of program) (infos_begin program) (first program.globals) rs (n + k)
-        no_routine (omega arith) in
+      no_routine (omega arith) in
       let is : routine_of program (FuncletBody k)
-        ≡ h.placed = ap or_nowhere (slice_drop (placed program) n k (n + k) refl ∙ h.there) in
+      ≡ h.placed = ap or_nowhere (slice_drop (placed program) n k (n + k) refl ∙ h.there) in
       record {
         at = h.there ∙ ap (λ (x : Placed). Some x) (sym is);
         routine = ap (λ (x : Placed). x.routine) is ∙ h.routine ∙ funclet_is program fits k lt
-          ∙ ap (funclet program) (get_or_from_slice_get program.funclets k fl no_funclet e);
+            ∙ ap (funclet program) (get_or_from_slice_get program.funclets k fl no_funclet e);
         begin = begin_is program fits k ∙ sym h.begins ∙ ap (λ (x : Placed). x.begin) (sym is);
         bound = ap (λ (x : Placed). x.begin) is ∙ h.begins;
         own = ap (λ (x : Placed). x.routine) is ∙ h.routine;
@@ -136,7 +136,7 @@ module _ (program : LinearProgram) (fits : FitsProgram program) where
     pub at : slice_get (placed program) index ≡ Some (routine_of program name)
     pub body : (routine_of program name).routine.body ≡ b
     pub begin : begin_of (plan_of program) (sites_of program) name
-      ≡ image_base + (routine_of program name).begin
+        ≡ image_base + (routine_of program name).begin
     pub bound : (routine_of program name).begin ≡ get_or (bounds (first program.globals) rs) index 0
     pub own : (routine_of program name).routine ≡ get_or rs index no_routine
     pub below : index < length rs
@@ -154,7 +154,7 @@ module _ (program : LinearProgram) (fits : FitsProgram program) where
         index = f;
         at = g.at;
         body = ap (λ (r : RoutineView). r.body) g.routine
-          ∙ same_body (not (f == program.main) && link.is_leaf fn.body) fn ∙ some_same h;
+            ∙ same_body (not (f == program.main) && link.is_leaf fn.body) fn ∙ some_same h;
         begin = ap (λ (a : ℕ). image_base + a) g.begin;
         bound = g.bound;
         own = g.own;

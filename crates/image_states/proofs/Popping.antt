@@ -43,7 +43,7 @@ popped_above m rip (k ∷ ks) n back lt room w =
     let e : (k + n) % 2 ^ 64 ≡ k + n = omega arith in
     let f : ((k + n) % 2 ^ 64 + 8) % 2 ^ 64 ≡ k + n + 8 = omega arith in
     ap (λ (o : Answer ℕ). o >>= up_by ((k + n) % 2 ^ 64) ks) (ap (word m) e ∙ w)
-      ∙ ap (λ x. Ok (record { rip = back; kept = x ∷ ks })) f
+    ∙ ap (λ x. Ok (record { rip = back; kept = x ∷ ks })) f
 
 popped_here : (m : Memory) (rip : ℕ) (kept : List ℕ) (back : ℕ) → 0 < length kept
     → slice_index kept 0 + 0 + 8 < 2 ^ 64 → word m (slice_index kept 0 + 0) ≡ Ok back
@@ -55,7 +55,7 @@ popped_here m rip (k ∷ ks) back lt room w =
     let e : k ≡ k + 0 = omega arith in
     let f : (k + 8) % 2 ^ 64 ≡ k + 0 + 8 = omega arith in
     ap (λ (o : Answer ℕ). o >>= up_by k ks) (ap (word m) e ∙ w)
-      ∙ ap (λ x. Ok (record { rip = back; kept = x ∷ ks })) f
+    ∙ ap (λ x. Ok (record { rip = back; kept = x ∷ ks })) f
 
 -- ---- a step of the walk
 
@@ -70,15 +70,15 @@ module _ (t : Functions) (m : Memory) (rip : ℕ) (live : 0 < rip) (not_filter :
       let f : CallerFrame = record { frame = rsp c; context = k; asked = None } in
       let w = state c 0 in
       let called : caller_in t m c ≡ Ok f = ap (λ (r : Answer CallerFrame). r >>= rising c)
-        (e ∙ ap (found (rsp c) None) is) ∙ ap (risen c f) (lt-ltb (rsp c) (rsp k) up) in
+      (e ∙ ap (found (rsp c) None) is) ∙ ap (risen c f) (lt-ltb (rsp c) (rsp k) up) in
       record {
         frame = f;
         visits = ap (if_over t m w) (ne_eqb c.rip 0
-          (λ z. (let q : c.rip ≡ 0 = z in absurd (omega arith))))
+            (λ z. (let q : c.rip ≡ 0 = z in absurd (omega arith))))
             ∙ ap (if_filter t m w) (ne_eqb c.rip filter_return
-              (λ z. absurd (not_filter (sym at ∙ z))))
+            (λ z. absurd (not_filter (sym at ∙ z))))
             ∙ ap (if_finally t m w) (ne_eqb c.rip finally_return
-              (λ z. absurd (not_finally (sym at ∙ z))))
+            (λ z. absurd (not_finally (sym at ∙ z))))
             ∙ ap framed called;
         context = refl;
       }
@@ -101,8 +101,8 @@ module _ (t : Functions) (m : Memory) (rip : ℕ) (live : 0 < rip) (not_filter :
       ≡ found (rsp c) None (left m (instrs.Return ∷ []) c)) → FindsReturn t m rip 0
   by_return e c back at nine room w =
       visits c (caller_above c 0 back) (left m (instrs.Return ∷ []) c) at (e c at)
-        (ap (λ (a : Answer Context). a >>= left m [])
-        (popped_here m c.rip c.kept back (omega arith) room w)) (risen_by c 0 back nine)
+      (ap (λ (a : Answer Context). a >>= left m [])
+      (popped_here m c.rip c.kept back (omega arith) room w)) (risen_by c 0 back nine)
 
   -- where the whole of it is left
   pub by_epilogue : (n : ℕ) → ((c : Context) → c.rip ≡ rip
@@ -110,21 +110,28 @@ module _ (t : Functions) (m : Memory) (rip : ℕ) (live : 0 < rip) (not_filter :
       ≡ found (rsp c) None (left m (give_back n ∷ instrs.Return ∷ []) c)) → FindsReturn t m rip n
   by_epilogue n e c back at nine room w =
       visits c (caller_above c n back) (left m (give_back n ∷ instrs.Return ∷ []) c) at (e c at)
-        (ap (λ (a : Answer Context). a >>= left m [])
-        (popped_above m c.rip c.kept n back (omega arith) room w)) (risen_by c n back nine)
+      (ap (λ (a : Answer Context). a >>= left m [])
+      (popped_above m c.rip c.kept n back (omega arith) room w)) (risen_by c n back nine)
 
 -- where a frame is
 pub by_frame : (t : Functions) (m : Memory) (rip size : ℕ)
     → ((c : Context) (back : ℕ) → c.rip ≡ rip → length c.kept ≡ 9 → rsp c + size + 8 < 2 ^ 64
     → word m (rsp c + size) ≡ Ok back → (entry : Entry) × (offset : ℕ)
-    × FrameIsAt t m c (record { entry = entry; size = size; offset = offset;
-      return_address = back }))
+    × FrameIsAt t m c (record {
+      entry = entry;
+      size = size;
+      offset = offset;
+      return_address = back;
+    }))
     → FindsReturn t m rip size
 by_frame t m rip size h c back at nine room w =
     let s = h c back at nine room w in
-    record { frame = _; visits = frame_is_visited t m c 0
-      (record { entry = s.0; size = size; offset = s.1; return_address = back }) s.2;
-      context = refl }
+    record {
+      frame = _;
+      visits = frame_is_visited t m c 0
+          (record { entry = s.0; size = size; offset = s.1; return_address = back }) s.2;
+      context = refl;
+    }
 
 -- ---- what is left of an epilogue
 
@@ -150,8 +157,8 @@ at_epilogue m at n small is_there more lt =
     let enc = and_from (is_encodable i) true (signed n small) refl in
     let wraps : (at + length (chosen i)) % 2 ^ 64 ≡ at + length (chosen i) = omega arith in
     tail-more 0xFFFF_FFFF_FFFF_FFFF 0xFFFF_FFFF_FFFF_FFFE true 0 m at (spell i) (omega arith)
-      (items_are_at m at (i ∷ []) enc (omega arith)
-      (subst (IsExecutableAt m at) (sym one) is_there)).0
+    (items_are_at m at (i ∷ []) enc (omega arith)
+    (subst (IsExecutableAt m at) (sym one) is_there)).0
     ∙ ap (λ a. prepend_instr i (tail 0xFFFF_FFFF_FFFF_FFFE false 0 m a)) wraps
     ∙ ap (prepend_instr i) (return_tail m (at + length (chosen i)) 0xFFFF_FFFF_FFFF_FFFD false more
-      (omega arith))
+    (omega arith))

@@ -74,14 +74,18 @@ module _ (program : LinearProgram) (b : Frame) (saved : Cpu) where
   returns_says h =
       ap (returns_there y at saved) h.calls
       ∙ and_from (saved.rip == return_at y h.first (at + 5)) (register saved Rax == 0)
-        (eq-eqb saved.rip (return_at y h.first (at + 5)) h.here)
-        (eq-eqb (register saved Rax) 0 h.no_result)
+      (eq-eqb saved.rip (return_at y h.first (at + 5)) h.here)
+      (eq-eqb (register saved Rax) 0 h.no_result)
 
   returns_said : (o : Option Instruction) → here ≡ o → returns_there y at saved o ≡ true → Returns
   returns_said (Some (instructions.CallBuiltIn RaiseException first)) e t =
       let p = and_parts (saved.rip == return_at y first (at + 5)) (register saved Rax == 0) t in
-      record { first = first; calls = e; here = eqb-true saved.rip (return_at y first (at + 5)) p.0;
-        no_result = eqb-true (register saved Rax) 0 p.1 }
+      record {
+        first = first;
+        calls = e;
+        here = eqb-true saved.rip (return_at y first (at + 5)) p.0;
+        no_result = eqb-true (register saved Rax) 0 p.1;
+      }
   returns_said o e t = absurd (false≢true t)
 
   -- ---- at the instruction that faulted
@@ -94,12 +98,12 @@ module _ (program : LinearProgram) (b : Frame) (saved : Cpu) where
       let o = h.operation in
       ap (works_again y at b.temporaries saved) h.works
       ∙ and_from (saved.rip == place o h.first h.second) _
-        (eq-eqb saved.rip (place o h.first h.second) h.here)
+      (eq-eqb saved.rip (place o h.first h.second) h.here)
       (and_from (is_some (slice_get b.temporaries h.first) (register saved Rax)) _
-        (is_some_of (slice_get b.temporaries h.first) (register saved Rax) h.has_first)
+      (is_some_of (slice_get b.temporaries h.first) (register saved Rax) h.has_first)
       (and_from (is_some (slice_get b.temporaries h.second) (register saved Rcx))
-        (is_ready o (view_of saved)) (is_some_of (slice_get b.temporaries h.second)
-        (register saved Rcx) h.has_second) (is_ready_of o (view_of saved) h.ready)))
+      (is_ready o (view_of saved)) (is_some_of (slice_get b.temporaries h.second)
+      (register saved Rcx) h.has_second) (is_ready_of o (view_of saved) h.ready)))
 
   works_said : (o : Option Instruction) → here ≡ o → works_again y at b.temporaries saved o ≡ true
       → Works
@@ -107,7 +111,7 @@ module _ (program : LinearProgram) (b : Frame) (saved : Cpu) where
       let has = is_some (slice_get b.temporaries first) (register saved Rax) in
       let has' = is_some (slice_get b.temporaries second) (register saved Rcx) in
       let p = and_parts (saved.rip == place o first second)
-        (has && (has' && is_ready o (view_of saved))) t in
+      (has && (has' && is_ready o (view_of saved))) t in
       let q = and_parts has (has' && is_ready o (view_of saved)) p.1 in
       let r = and_parts has' (is_ready o (view_of saved)) q.1 in
       record {
@@ -125,6 +129,6 @@ module _ (program : LinearProgram) (b : Frame) (saved : Cpu) where
 
   pub resumptions : (resumption : Resumption)
       → SaysResumptions (functions_of program) (funclets_of program) program (plan_of program)
-        (sites_of program) resumption b saved
+      (sites_of program) resumption b saved
   resumptions AfterCall = record { says = returns_says; said = returns_said here refl }
   resumptions SameOperation = record { says = works_says; said = works_said here refl }

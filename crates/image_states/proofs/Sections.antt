@@ -77,7 +77,7 @@ stored_small base a ss all = of_section (λ (o : Option Section). byte_in base o
     (omega arith) (each ss all)
   where
     each : (qs : List Section) → AllByRecursion (λ (s : Section). AllBytes s.raw) qs
-      → AllByRecursion (λ (s : Section). byte_in base (Some s) a < 256) qs
+        → AllByRecursion (λ (s : Section). byte_in base (Some s) a < 256) qs
     each [] h = tt
     each (q ∷ qs) h = (byte_small q.raw (a - (base + q.address)) h.0, each qs h.1)
 

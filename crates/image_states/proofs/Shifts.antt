@@ -71,8 +71,8 @@ module _ (base : ℕ) (small : base ≤ 2 ^ 48) where
       let few = arguments_small y first in
       let args = arguments_code y first in
       ap (λ (i : Instr). (args ++ (i ∷ [])) ++ keep y result)
-        (call_moved (at + sizes args + 5) to (at' + sizes args + 5) to' (omega arith) f
-        (omega arith))
+      (call_moved (at + sizes args + 5) to (at' + sizes args + 5) to' (omega arith) f
+      (omega arith))
 
   finally_size : sizes finally_arguments ≡ 8
   unfolding size modrm opcode_register
@@ -90,31 +90,31 @@ module _ (base : ℕ) (small : base ≤ 2 ^ 48) where
   template_moved k k' y at at' (instructions.JumpIfZero slot label) links e lt near =
       let few = test_small y slot in
       ap (λ (i : Instr). fetch y Rax slot ++ (compare_zero ∷ i ∷ []))
-        (equal_moved (at + sizes (test_code y slot) + 6) (k.label label)
-        (at' + sizes (test_code y slot) + 6) (k'.label label) (omega arith) (links.label label)
-        (omega arith))
+      (equal_moved (at + sizes (test_code y slot) + 6) (k.label label)
+      (at' + sizes (test_code y slot) + 6) (k'.label label) (omega arith) (links.label label)
+      (omega arith))
   template_moved k k' y at at' (instructions.Call function first count) links e lt near =
       let few = passing_small y first count near.few in
       let passing = passing_code y first 4 (count - 4) in
       ap (λ (is : List Instr). passing ++ is)
-        (call_code_moved y (Temporary first) first (at + sizes passing) (k.function function)
-        (at' + sizes passing) (k'.function function) (omega arith) (links.function function)
-        (omega arith))
+      (call_code_moved y (Temporary first) first (at + sizes passing) (k.function function)
+      (at' + sizes passing) (k'.function function) (omega arith) (links.function function)
+      (omega arith))
   template_moved k k' y at at' (instructions.CallBuiltIn function first) links e lt near =
       ap (λ (is : List Instr). clear_result ∷ is)
-        (call_code_moved y (Temporary first) first (at + 5) (k.known function) (at' + 5)
-        (k'.known function) (omega arith) (links.known function) (omega arith))
+      (call_code_moved y (Temporary first) first (at + 5) (k.known function) (at' + 5)
+      (k'.known function) (omega arith) (links.known function) (omega arith))
   template_moved k k' y at at' (instructions.CallFinally funclet) links e lt near =
       let few = finally_size in
       ap (λ (i : Instr). finally_arguments ++ (i ∷ []))
-        (call_moved (at + sizes finally_arguments + 5) (k.funclet funclet)
-        (at' + sizes finally_arguments + 5) (k'.funclet funclet) (omega arith)
-        (links.funclet funclet) (omega arith))
+      (call_moved (at + sizes finally_arguments + 5) (k.funclet funclet)
+      (at' + sizes finally_arguments + 5) (k'.funclet funclet) (omega arith)
+      (links.funclet funclet) (omega arith))
   template_moved k k' y at at' (instructions.LocalUnwind label) links e lt near =
       λ i. move W64 Rcx Rsp ∷ address_moved (at + 10) (k.label label) (at' + 10) (k'.label label)
-        (omega arith) (links.label label) (omega arith) i
-        ∷ call_moved (at + 15) k.local_unwind (at' + 15) k'.local_unwind (omega arith)
-          links.local_unwind (omega arith) i ∷ []
+      (omega arith) (links.label label) (omega arith) i
+      ∷ call_moved (at + 15) k.local_unwind (at' + 15) k'.local_unwind (omega arith)
+      links.local_unwind (omega arith) i ∷ []
   template_moved k k' y at at' instructions.Separator links e lt near = refl
   template_moved k k' y at at' (instructions.Return from) links e lt near = refl
 
@@ -125,5 +125,5 @@ module _ (base : ℕ) (small : base ≤ 2 ^ 48) where
   code_moved k k' y at at' (i ∷ is) links e lt near =
       let few = instruction_in_room y i near.0 in
       λ j. template_moved k k' y at at' i links e (omega arith) near.0 j
-        ++ code_moved k k' y (at + template_size y i) (at' + template_size y i) is links
-          (omega arith) (omega arith) near.1 j
+      ++ code_moved k k' y (at + template_size y i) (at' + template_size y i) is links
+      (omega arith) (omega arith) near.1 j

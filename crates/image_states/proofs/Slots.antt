@@ -24,18 +24,28 @@ leaf_few : (b : LinearBody) (other leaf : Bool) → (other && link.is_leaf b) �
 leaf_few b other leaf e holds =
     let p = and_parts other (link.is_leaf b) (e ∙ holds) in
     leb-true (b.locals + b.temporaries) 4 (and_parts (nat_le (b.locals + b.temporaries) 4)
-      ((length b.regions == 0) && not (has_call b.code)) p.1).0
+    ((length b.regions == 0) && not (has_call b.code)) p.1).0
 
 module _ (program : LinearProgram) (p : ImagePlan) where
   function_by : (leaf : Bool) (fn : LinearFunction) → FitsBody fn.body
       → (leaf ≡ true → fn.body.locals + fn.body.temporaries ≤ 4)
       → IsLayoutIf program p (leaf_if leaf fn).layout fn.body (is_leaf (leaf_if leaf fn).frame)
-  function_by true fn fits few = record { none = refl; frame = refl; locals = refl;
-      temporaries = refl; few = few refl }
+  function_by true fn fits few = record {
+    none = refl;
+    frame = refl;
+    locals = refl;
+    temporaries = refl;
+    few = few refl;
+  }
   function_by false fn fits few =
       let w = fits.words in
-      record { none = refl; passed = omega arith; temporaries = omega arith; locals = omega arith;
-        small = omega arith }
+      record {
+        none = refl;
+        passed = omega arith;
+        temporaries = omega arith;
+        locals = omega arith;
+        small = omega arith;
+      }
 
 -- ---- funclets
 
@@ -45,9 +55,9 @@ funclet_by : (program : LinearProgram) (fl : LinearFunclet) (fn : LinearFunction
     → IsFuncletLayout (funclet program fl).layout y fl.body
 funclet_by program fl fn y e same few =
     let get = get_or_from_slice_get program.functions fl.function fn
-      (record { parameters = 0; body = nothing }) e in
+    (record { parameters = 0; body = nothing }) e in
     let locals : (funclet program fl).layout.locals
-      ≡ y.locals = ap (λ (g : LinearFunction). (function_frame g.body).locals) get ∙ sym same in
+    ≡ y.locals = ap (λ (g : LinearFunction). (function_frame g.body).locals) get ∙ sym same in
     record {
       slot = (funclet_frame fl.body).kept;
       base = refl;
@@ -71,14 +81,14 @@ module _ (program : LinearProgram) (c : HasWholeImage program) where
       let leaf = not (f == program.main) && link.is_leaf fn.body in
       let lt = slice_get_within program.functions f fn e in
       let fit = subst FitsFunction (get_or_from_slice_get program.functions f fn fn e)
-        (all_at FitsFunction program.functions f fn c.fits.functions lt) in
+      (all_at FitsFunction program.functions f fn c.fits.functions lt) in
       let own = function_by program (plan_of program) leaf fn fit.body
-        (leaf_few fn.body (not (f == program.main)) leaf refl) in
+      (leaf_few fn.body (not (f == program.main)) leaf refl) in
       subst (λ (d : LinearBody). IsLayoutIf program (plan_of program)
-        (routine_of program (FunctionBody f)).routine.layout d
-        (is_leaf (routine_of program (FunctionBody f)).routine.frame)) (some_same h)
+      (routine_of program (FunctionBody f)).routine.layout d
+      (is_leaf (routine_of program (FunctionBody f)).routine.frame)) (some_same h)
       (subst (λ (r : RoutineView). IsLayoutIf program (plan_of program) r.layout fn.body
-        (is_leaf r.frame)) (sym g.routine) own)
+      (is_leaf r.frame)) (sym g.routine) own)
 
   -- the function of a funclet has a frame
   owner_framed : (f : ℕ) (fn : LinearFunction) → slice_get program.functions f ≡ Some fn
@@ -86,8 +96,8 @@ module _ (program : LinearProgram) (c : HasWholeImage program) where
       ≡ leaf_if false fn
   owner_framed f fn e bare =
       (is_function program c.fits f fn e).routine
-        ∙ ap (λ (b : Bool). leaf_if b fn) (and_right (not (f == program.main))
-          (link.is_leaf fn.body) bare)
+      ∙ ap (λ (b : Bool). leaf_if b fn) (and_right (not (f == program.main))
+      (link.is_leaf fn.body) bare)
 
   owner_there : (fl : LinearFunclet) (o : Option LinearFunction) → IsFuncletSized program fl
       → slice_get program.functions fl.function ≡ o
@@ -105,12 +115,12 @@ module _ (program : LinearProgram) (c : HasWholeImage program) where
       let owner = owner_there fl (slice_get program.functions fl.function) sized refl in
       let fn = owner.0 in
       let body : fn.body ≡ sized.function = some_same
-        (sym (ap function_body owner.1) ∙ sized.there) in
+      (sym (ap function_body owner.1) ∙ sized.there) in
       let framed = owner_framed fl.function fn owner.1 (ap link.is_leaf body ∙ sized.framed) in
       let same = some_same h in
       let y = (routine_of program (FunctionBody fl.function)).routine.layout in
       let own = funclet_by program fl fn y owner.1
-        (ap (λ (r : RoutineView). r.layout.locals) framed) sized.words in
+      (ap (λ (r : RoutineView). r.layout.locals) framed) sized.words in
       record {
         funclet = fl;
         there = e;
@@ -120,8 +130,8 @@ module _ (program : LinearProgram) (c : HasWholeImage program) where
         function_there = sized.there;
         same_locals = ap (λ (d : LinearBody). d.locals) (sym same) ∙ sized.locals;
         layout = subst (λ (d : LinearBody). IsFuncletLayout
-          (routine_of program (FuncletBody k)).routine.layout y d) same
-          (subst (λ (r : RoutineView). IsFuncletLayout r.layout y fl.body) (sym g.routine) own);
+            (routine_of program (FuncletBody k)).routine.layout y d) same
+            (subst (λ (r : RoutineView). IsFuncletLayout r.layout y fl.body) (sym g.routine) own);
       }
 
   pub laid_out : AreLaidOut program (plan_of program)

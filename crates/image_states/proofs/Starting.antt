@@ -21,9 +21,13 @@ use Rattle.image_states.proofs.Data.{globals, text, tables, infos, functions, ag
 use Rattle.image_states.proofs.CodePlaced.{has_program}
 
 pub images_start : ImagesStart
-images_start program c bytes = record { data_alone = data_alone program c bytes;
-    agrees = agrees program c; stack = stack_writes program c; arena = arena_alone program c;
-    code = has_program program c }
+images_start program c bytes = record {
+  data_alone = data_alone program c bytes;
+  agrees = agrees program c;
+  stack = stack_writes program c;
+  arena = arena_alone program c;
+  code = has_program program c;
+}
 
 -- ---- the load
 
@@ -56,16 +60,16 @@ module _ (program : LinearProgram) (c : HasWholeImage program) where
       let e = d.entry in
       ap is_code
       (past 0 image.entry (globals program c)
-        (text program c ∷ tables program c ∷ infos program c ∷ functions program c ∷ [])
-        (above 0 image.entry (globals program c) (omega arith))
+      (text program c ∷ tables program c ∷ infos program c ∷ functions program c ∷ [])
+      (above 0 image.entry (globals program c) (omega arith))
       ∙ here 0 image.entry (text program c) (tables program c ∷ infos program c
       ∷ functions program c ∷ []) (covered 0 image.entry (text program c) (omega arith)
-        (omega arith)))
+      (omega arith)))
 
   pub loads : load_refusal image ≡ None
   loads =
       none_of (table_refusal image) (place_refusal image) (import_refusal image)
-        (entry_refusal image)
+      (entry_refusal image)
       (ap (λ (t : Table (List Entry)). of_tables t) (tables_are_read program c.fits c.ranges))
       (ap (λ (b : Bool). reason_unless b (refusals.Place image.base)) placed)
       known

@@ -45,13 +45,26 @@ module _ (program : Program) (h : functions_sound program.functions program.func
   few k fn e = few_parameters program.functions program.functions h k fn e
 
   abbrev inside : Function → Inside
-  inside fn = record { scope = record { functions = program.functions;
-      sizes = fn.parameters ++ fn.locals; code = false; information = false; abnormal = false };
-      returns = fn.returns; loop = false; body = false; function = true }
+  inside fn = record {
+    scope = record {
+      functions = program.functions;
+      sizes = fn.parameters ++ fn.locals;
+      code = false;
+      information = false;
+      abnormal = false;
+    };
+    returns = fn.returns;
+    loop = false;
+    body = false;
+    function = true;
+  }
 
   knows : (fn : Function) → Knows program (own_locals fn) false (inside fn).scope
-  knows fn = record { functions = refl; sizes = length-append fn.parameters fn.locals;
-      information = refl }
+  knows fn = record {
+    functions = refl;
+    sizes = length-append fn.parameters fn.locals;
+    information = refl;
+  }
 
   among : (fn : Function) → NamesAmong (all_locals fn) (scope_of fn).names
   among fn = record { source = tt; flag = tt }
@@ -63,7 +76,7 @@ module _ (program : Program) (h : functions_sound program.functions program.func
       let nested = shallow.expressions in
       let noted = shallow.blocks in
       let ps : length fn.parameters ≤ 8 = leb-true (length fn.parameters) 8
-        (both_right _ _ (both_left _ _ ok)) in
+      (both_right _ _ (both_left _ _ ok)) in
       let ls : length fn.locals ≤ 256 = leb-true (length fn.locals) 256 (both_right _ _ ok) in
       let wide : own_locals fn ≤ n = omega arith in
       let most : 456 ≤ 456 = omega arith in
@@ -71,18 +84,23 @@ module _ (program : Program) (h : functions_sound program.functions program.func
       let code = statements_code (scope_of fn) fn.body 0 in
       let ends = constant 0 0 ∷ instructions.Return (Temporary 0) ∷ [] in
       let good = append 456 n code ends (statements_good program (lowered program) 456 n
-        (own_locals fn) wide (omega arith) few fn.body (inside fn) (knows fn) (scope_of fn)
-        (among fn) 0 (both_left _ _ (both_left _ _ ok)) (omega arith) (omega arith)
-        shallow.parameters)
+      (own_locals fn) wide (omega arith) few fn.body (inside fn) (knows fn) (scope_of fn)
+      (among fn) 0 (both_left _ _ (both_left _ _ ok)) (omega arith) (omega arith)
+      shallow.parameters)
       (constant_good 456 n 0 0 (omega arith), ((omega arith, omega arith, tt), tt)) in
-      record { parameters = ps; body = small_body program (lowered program) 456 n (own_locals fn)
-        wide (omega arith) few most room (code ++ ends) (statements_regions fn.body 0) good }
+      record {
+        parameters = ps;
+        body = small_body program (lowered program) 456 n (own_locals fn)
+            wide (omega arith) few most room (code ++ ends) (statements_regions fn.body 0) good;
+      }
 
   functions_small : (fs : List Function) → functions_sound program.functions fs ≡ true
       → AreShallow fs → AllByRecursion IsSmallFunction (map lowered_function fs)
   functions_small [] ok shallow = tt
-  functions_small (f ∷ fs) ok shallow = (function_small f (both_left _ _ ok) shallow.0,
-      functions_small fs (both_right _ _ ok) shallow.1)
+  functions_small (f ∷ fs) ok shallow = (
+    function_small f (both_left _ _ ok) shallow.0,
+    functions_small fs (both_right _ _ ok) shallow.1,
+  )
 
   own_small : (fn : Function) (number j : ℕ) → number < length program.functions
       → function_sound program.functions fn ≡ true → IsShallow fn
@@ -94,7 +112,7 @@ module _ (program : Program) (h : functions_sound program.functions program.func
       let nested = shallow.expressions in
       let noted = shallow.blocks in
       let ps : length fn.parameters ≤ 8 = leb-true (length fn.parameters) 8
-        (both_right _ _ (both_left _ _ ok)) in
+      (both_right _ _ (both_left _ _ ok)) in
       let ls : length fn.locals ≤ 256 = leb-true (length fn.locals) 256 (both_right _ _ ok) in
       let wide : own_locals fn ≤ n = omega arith in
       let most : 456 ≤ 456 = omega arith in
@@ -102,10 +120,10 @@ module _ (program : Program) (h : functions_sound program.functions program.func
       let l = length-map program.functions lowered_function in
       let owner : Owner = record { function = number; locals = n; parent = None } in
       all_funclets_small program (lowered program) 456 n (own_locals fn) wide (omega arith) few most
-        room fn.body (inside fn) (knows fn) owner
-        (record { function = omega arith; locals = refl; parent = tt }) (scope_of fn).names
-        (among fn) j (both_left _ _ (both_left _ _ ok)) (omega arith) (omega arith)
-        shallow.parameters f c
+      room fn.body (inside fn) (knows fn) owner
+      (record { function = omega arith; locals = refl; parent = tt }) (scope_of fn).names
+      (among fn) j (both_left _ _ (both_left _ _ ok)) (omega arith) (omega arith)
+      shallow.parameters f c
 
   funclets_small : (fs : List Function) (number j : ℕ)
       → number + length fs ≤ length program.functions → functions_sound program.functions fs ≡ true
@@ -121,12 +139,12 @@ module _ (program : Program) (h : functions_sound program.functions program.func
       let count = statements_count owner (scope_of fn).names fn.body in
       all_append (IsSmallFunclet (lowered program)) own rest
       (own_small fn number j (omega arith) (both_left _ _ ok) shallow.0
-        (front (lowered program).funclets j own rest f)
-        (count_front (j + 1) (funclets fn.body) (sound.all_funclets fs) c))
+      (front (lowered program).funclets j own rest f)
+      (count_front (j + 1) (funclets fn.body) (sound.all_funclets fs) c))
       (funclets_small fs (number + 1) (j + length own) (omega arith) (both_right _ _ ok) shallow.1
-        (back (lowered program).funclets j (j + length own) own rest refl f)
+      (back (lowered program).funclets j (j + length own) own rest refl f)
       (count_back (j + 1) (j + length own + 1) (funclets fn.body) (sound.all_funclets fs)
-        (omega arith) c))
+      (omega arith) c))
 
 pub lowered_is_small : LoweredIsSmall
 lowered_is_small program h shallow =
@@ -135,11 +153,11 @@ lowered_is_small program h shallow =
     let fine = both_left _ _ starts in
     let l = length-map program.functions lowered_function in
     let main = main_there program.functions program.main (slice_get program.functions program.main)
-      refl (both_right _ _ starts) in
+    refl (both_right _ _ starts) in
     record {
       globals = leb-true (length program.globals) MOST_GLOBALS (both_right _ _ h);
       main = omega arith;
       functions = functions_small program fine program.functions fine shallow;
       funclets = funclets_small program fine program.functions 0 0 (omega arith) fine shallow
-        (whole_is_at (lowered program).funclets) (both_right _ _ counts);
+          (whole_is_at (lowered program).funclets) (both_right _ _ counts);
     }

@@ -92,10 +92,10 @@ pub assign_is : (names : Names) (p : Lvalue) (e : Expression) (n : Node) (d from
 assign_is names p e n d from old one two three is more a b c =
     of names n (nodes.Assign p e) d old three is
     (after_locate names p d old one three (λ at. expression_code names e (d + address_count p) at
-      ++ write_code p d (d + address_count p) d ∷ []) a
+    ++ write_code p d (d + address_count p) d ∷ []) a
     (after_expression names e (d + address_count p) one two three
-      (λ at. write_code p d (d + address_count p) d ∷ [])
-      (b ∙ ap (λ x. one ++ expression_code names e x (length one)) more) c))
+    (λ at. write_code p d (d + address_count p) d ∷ [])
+    (b ∙ ap (λ x. one ++ expression_code names e x (length one)) more) c))
 
 pub compound_is : (names : Names) (p : Lvalue) (before : Conversion) (o : Operation)
     (e : Expression) (after' : Conversion) (n : Node) (d old' next : ℕ)
@@ -109,21 +109,21 @@ compound_is names p before o e after' n d old' next old l0 l1 l2 l3 is at more h
     let z : next ≡ x + 1 = omega arith in
     let valued = λ (at : ℕ). expression_code names e (x + 1) at ++ compound_ended p o after' d in
     let h2' : l2 ≡ l1 ++ expression_code names e (x + 1) (length l1) = h2
-      ∙ ap (λ k. l1 ++ expression_code names e k (length l1)) z in
+    ∙ ap (λ k. l1 ++ expression_code names e k (length l1)) z in
     let g2 = after_expression names e (x + 1) l1 l2 l3 (λ at. compound_ended p o after' d) h2' h3 in
     let g1 = after (compound_begun p before d) begun l0 l1 l3 valued (begun_length p before d) h1
-      g2 in
+    g2 in
     let g0 = after_locate names p d old l0 l3
-      (λ at. compound_begun p before d ++ valued (at + begun)) h0 g1 in
+    (λ at. compound_begun p before d ++ valued (at + begun)) h0 g1 in
     let place : length old + locate_size p + begun
-      ≡ length old + (locate_size p + begun) = omega arith in
+    ≡ length old + (locate_size p + begun) = omega arith in
     let front = locate_code names p d (length old) in
     let rest = valued (length old + (locate_size p + begun)) in
     of names n (nodes.CompoundAssign p before o e after') d old l3 is
     (moved (length old + locate_size p + begun) (length old + (locate_size p + begun)) old l3
-      (λ at. front ++ (compound_begun p before d ++ valued at)) place g0
+    (λ at. front ++ (compound_begun p before d ++ valued at)) place g0
     ∙ ap (λ t. old ++ (front ++ t)) (append_assoc (read_code p d x) (conversion_code before x)
-      rest))
+    rest))
 
 pub increment_is : (names : Names) (m : Fixity) (p : Lvalue) (before : Conversion) (o : Operation)
     (k : ℕ) (after' : Conversion) (n : Node) (d : ℕ) (old one two : List Instruction)
@@ -137,7 +137,7 @@ increment_is names m p before o k after' n d old one two is a b =
     (joined old one two front (incremented p m before o k after' d) a b
     ∙ ap (λ t. old ++ (front ++ (read_code p d x ++ copy (Temporary (x + 1)) (Temporary x) ∷ t)))
     (append_assoc (conversion_code before (x + 1))
-      (constant (x + 2) k ∷ combine (x + 1) o ∷ conversion_code after' (x + 1)) last))
+    (constant (x + 2) k ∷ combine (x + 1) o ∷ conversion_code after' (x + 1)) last))
 
 pub unary_is : (names : Names) (o : Pure') (e : Expression) (n : Node) (d : ℕ)
     (old one two : List Instruction) → n ≡ nodes.Unary o e
@@ -153,7 +153,7 @@ pub binary_is : (names : Names) (o : Operation) (e f : Expression) (n : Node) (d
     → Made names n d old three
 binary_is names o e f n d old one two three is a b c =
     of names n (nodes.Binary o e f) d old three is
-      (after_operands names e f d old one two three (combine d o ∷ []) a b c)
+    (after_operands names e f d old one two three (combine d o ∷ []) a b c)
 
 pub difference_is : (names : Names) (k : ℕ) (e f : Expression) (n : Node) (d : ℕ)
     (old one two three : List Instruction) → n ≡ nodes.PointerDifference k e f
@@ -162,7 +162,7 @@ pub difference_is : (names : Names) (k : ℕ) (e f : Expression) (n : Node) (d :
     → three ≡ two ++ difference_ended k d → Made names n d old three
 difference_is names k e f n d old one two three is a b c =
     of names n (nodes.PointerDifference k e f) d old three is
-      (after_operands names e f d old one two three (difference_ended k d) a b c)
+    (after_operands names e f d old one two three (difference_ended k d) a b c)
 
 pub not_is : (names : Names) (e : Expression) (n : Node) (d : ℕ) (old one two : List Instruction)
     → n ≡ nodes.Not e → one ≡ old ++ expression_code names e d (length old)
@@ -189,7 +189,7 @@ and_is names e f n d old one two three is a b c =
     let z : label ≡ length one + 1 + s + 3 = omega arith in
     of names n (nodes.And e f) d old three is
     (after_expression names e d old one three
-      (λ at. JumpIfZero (Temporary d) (at + 1 + s + 3) ∷ rest (at + 1)) a
+    (λ at. JumpIfZero (Temporary d) (at + 1 + s + 3) ∷ rest (at + 1)) a
     (h ∙ ap (λ k. one ++ JumpIfZero (Temporary d) k ∷ rest (length one + 1)) z))
 
 pub or_is : (names : Names) (e f : Expression) (n : Node) (d : ℕ)
@@ -205,18 +205,18 @@ or_is names e f n d old one two three four five is a b c k l =
     let end = length three + (s + 5) in
     let rest = λ (at : ℕ). expression_code names f d at ++ choice_code d (at + s) 0 1 in
     let h = after_one (JumpIfZero (Temporary d) label) one two five
-      (λ at. constant d 1 ∷ Jump end ∷ rest (at + 1 + 1)) b
-      (after_one (constant d 1) two three five (λ at. Jump end ∷ rest (at + 1)) c
-      (after_one (Jump end) three four five rest k l)) in
+    (λ at. constant d 1 ∷ Jump end ∷ rest (at + 1 + 1)) b
+    (after_one (constant d 1) two three five (λ at. Jump end ∷ rest (at + 1)) c
+    (after_one (Jump end) three four five rest k l)) in
     let t : length two ≡ length one + 1 = longer one two (JumpIfZero (Temporary d) label ∷ []) 1
-      refl b in
+    refl b in
     let u : length three ≡ length two + 1 = longer two three (constant d 1 ∷ []) 1 refl c in
     let y : label ≡ length one + 3 = omega arith in
     let z : end ≡ length one + 3 + s + 4 = omega arith in
     let w : length one + 1 + 1 + 1 ≡ length one + 3 = omega arith in
     of names n (nodes.Or e f) d old five is
     (after_expression names e d old one five (λ at. JumpIfZero (Temporary d) (at + 3) ∷ constant d 1
-      ∷ Jump (at + 3 + s + 4) ∷ rest (at + 3)) a
+    ∷ Jump (at + 3 + s + 4) ∷ rest (at + 3)) a
     (h ∙ ap (λ k. one ++ JumpIfZero (Temporary d) label ∷ constant d 1 ∷ Jump end ∷ rest k) w
     ∙ ap (λ k. one ++ JumpIfZero (Temporary d) label ∷ constant d 1 ∷ Jump k
     ∷ rest (length one + 3)) z
@@ -237,23 +237,23 @@ conditional_is names c e f n d old one two three four five is a b k l m =
     let end = length three + (y + 1) in
     let g = after_one (Jump end) three four five (λ at. expression_code names f d at) l m in
     let h = after_expression names e d two three five
-      (λ at. Jump end ∷ expression_code names f d (at + 1)) k g in
+    (λ at. Jump end ∷ expression_code names f d (at + 1)) k g in
     let i = after_one (JumpIfZero (Temporary d) label) one two five
-      (λ at. expression_code names e d at ++ Jump end ∷ expression_code names f d (at + x + 1)) b
-      h in
+    (λ at. expression_code names e d at ++ Jump end ∷ expression_code names f d (at + x + 1)) b
+    h in
     let t : length two ≡ length one + 1 = longer one two (JumpIfZero (Temporary d) label ∷ []) 1
-      refl b in
+    refl b in
     let u : length three ≡ length two + x = longer two three
-      (expression_code names e d (length two)) x (expression_length names e d (length two)) k in
+    (expression_code names e d (length two)) x (expression_length names e d (length two)) k in
     let z : label ≡ length one + 1 + x + 1 = omega arith in
     let w : end ≡ length one + 1 + x + 1 + y = omega arith in
     of names n (nodes.Conditional c e f) d old five is
     (after_expression names c d old one five (λ at. JumpIfZero (Temporary d) (at + 1 + x + 1)
-      ∷ (expression_code names e d (at + 1) ++ Jump (at + 1 + x + 1 + y)
-      ∷ expression_code names f d (at + 1 + x + 1))) a
+    ∷ (expression_code names e d (at + 1) ++ Jump (at + 1 + x + 1 + y)
+    ∷ expression_code names f d (at + 1 + x + 1))) a
     (i ∙ ap (λ k. one ++ JumpIfZero (Temporary d) label
-      ∷ (expression_code names e d (length one + 1) ++ Jump k
-      ∷ expression_code names f d (length one + 1 + x + 1))) w
+    ∷ (expression_code names e d (length one + 1) ++ Jump k
+    ∷ expression_code names f d (length one + 1 + x + 1))) w
     ∙ ap (λ k. one ++ JumpIfZero (Temporary d) k
     ∷ (expression_code names e d (length one + 1) ++ Jump (length one + 1 + x + 1 + y)
     ∷ expression_code names f d (length one + 1 + x + 1))) z))
@@ -265,8 +265,8 @@ pub comma_is : (names : Names) (e f : Expression) (n : Node) (d : ℕ)
     → three ≡ two ++ copy (Temporary d) (Temporary (d + 1)) ∷ [] → Made names n d old three
 comma_is names e f n d old one two three is a b c =
     of names n (nodes.Comma e f) d old three is
-      (after_operands names e f d old one two three (copy (Temporary d) (Temporary (d + 1)) ∷ []) a
-      b c)
+    (after_operands names e f d old one two three (copy (Temporary d) (Temporary (d + 1)) ∷ []) a
+    b c)
 
 -- ---- calls
 
@@ -281,14 +281,14 @@ length_mapped (x ∷ xs) = ap (λ k. suc k) (length_mapped xs)
 pub call_is : (names : Names) (f : ℕ) (items : List Expr) (n : Node) (d count : ℕ)
     (old one two : List Instruction) → n ≡ nodes.Call f (arguments (map expression items))
     → count ≡ length items → one ≡ old ++ arguments_code names (arguments (map expression items)) d
-      (length old) → two ≡ one ++ Call f d count ∷ [] → Made names n d old two
+    (length old) → two ≡ one ++ Call f d count ∷ [] → Made names n d old two
 call_is names f items n d count old one two is size a b =
     let e : count ≡ argument_count (arguments (map expression items)) = size
-      ∙ sym (length_mapped items) ∙ sym (count_is (map expression items)) in
+    ∙ sym (length_mapped items) ∙ sym (count_is (map expression items)) in
     of names n (nodes.Call f (arguments (map expression items))) d old two is
     (joined old one two (arguments_code names (arguments (map expression items)) d (length old))
-      (Call f d (argument_count (arguments (map expression items))) ∷ []) a
-      (b ∙ ap (λ k. one ++ Call f d k ∷ []) e))
+    (Call f d (argument_count (arguments (map expression items))) ∷ []) a
+    (b ∙ ap (λ k. one ++ Call f d k ∷ []) e))
 
 pub call_built_in_is : (names : Names) (f : BuiltIn) (es : Arguments) (n : Node) (d : ℕ)
     (old one two : List Instruction) → n ≡ nodes.CallBuiltIn f es
@@ -296,7 +296,7 @@ pub call_built_in_is : (names : Names) (f : BuiltIn) (es : Arguments) (n : Node)
     → Made names n d old two
 call_built_in_is names f es n d old one two is a b =
     of names n (nodes.CallBuiltIn f es) d old two is
-      (joined old one two (arguments_code names es d (length old)) (CallBuiltIn f d ∷ []) a b)
+    (joined old one two (arguments_code names es d (length old)) (CallBuiltIn f d ∷ []) a b)
 
 -- ---- arguments, one after another
 
@@ -304,14 +304,14 @@ more_arguments : (names : Names) (items : List Expr) (i : ℕ) (x : Expr) (d at 
     → i < length items → arguments_code names (arguments (map expression (take (suc i) items))) d at
     ≡ arguments_code names (arguments (map expression (take i items))) d at
     ++ expression_code names (expression (get_or items i x)) (d + i)
-      (at + length (arguments_code names (arguments (map expression (take i items))) d at))
+    (at + length (arguments_code names (arguments (map expression (take i items))) d at))
 more_arguments names [] i x d at lt = absurd (omega arith)
 more_arguments names (y ∷ ys) zero x d at lt =
     let e : at ≡ at + 0 = omega arith in
     let f : d ≡ d + 0 = omega arith in
     append-nil (expression_code names (expression y) d at)
-      ∙ ap (λ k. expression_code names (expression y) d k) e
-      ∙ ap (λ k. expression_code names (expression y) k (at + 0)) f
+    ∙ ap (λ k. expression_code names (expression y) d k) e
+    ∙ ap (λ k. expression_code names (expression y) k (at + 0)) f
 more_arguments names (y ∷ ys) (suc i) x d at lt =
     let s = expression_size (expression y) in
     let front = expression_code names (expression y) d at in
@@ -319,31 +319,31 @@ more_arguments names (y ∷ ys) (suc i) x d at lt =
     let h = more_arguments names ys i x (d + 1) (at + s) (omega arith) in
     let e : d + 1 + i ≡ d + suc i = omega arith in
     let l : at + s + length made ≡ at + length (front ++ made) = omega
-      (arith, length-append front made, expression_length names (expression y) d at) in
+    (arith, length-append front made, expression_length names (expression y) d at) in
     ap (λ t. front ++ t) h ∙ sym (append_assoc front made
-      (expression_code names (expression (get_or ys i x)) (d + 1 + i) (at + s + length made)))
+    (expression_code names (expression (get_or ys i x)) (d + 1 + i) (at + s + length made)))
     ∙ ap (λ k. (front ++ made) ++ expression_code names (expression (get_or ys i x)) k
-      (at + s + length made)) e
+    (at + s + length made)) e
     ∙ ap (λ k. (front ++ made) ++ expression_code names (expression (get_or ys i x)) (d + suc i) k)
-      l
+    l
 
 pub arguments_next : (names : Names) (items : List Expr) (i d next : ℕ) (x : Expr)
     (old mid new : List Instruction) → i < length items → x ≡ get_or items i x → next ≡ d + i
     → mid ≡ old ++ arguments_code names (arguments (map expression (take i items))) d (length old)
     → new ≡ mid ++ expression_code names (expression x) next (length mid)
     → new ≡ old ++ arguments_code names (arguments (map expression (take (i + 1) items))) d
-      (length old)
+    (length old)
 arguments_next names items i d next x old mid new lt is at h k =
     let made = arguments_code names (arguments (map expression (take i items))) d (length old) in
     let l : length mid ≡ length old + length made = longer old mid made (length made) refl h in
     let one : suc i ≡ i + 1 = omega arith in
     let k' : new ≡ mid ++ expression_code names (expression (get_or items i x)) (d + i)
-      (length old + length made) = k ∙ ap (λ y. mid
-      ++ expression_code names (expression y) next (length mid)) is
-      ∙ ap (λ y. mid ++ expression_code names (expression (get_or items i x)) y (length mid)) at
-      ∙ ap (λ y. mid ++ expression_code names (expression (get_or items i x)) (d + i) y) l in
+    (length old + length made) = k ∙ ap (λ y. mid
+    ++ expression_code names (expression y) next (length mid)) is
+    ∙ ap (λ y. mid ++ expression_code names (expression (get_or items i x)) y (length mid)) at
+    ∙ ap (λ y. mid ++ expression_code names (expression (get_or items i x)) (d + i) y) l in
     joined old mid new made (expression_code names (expression (get_or items i x)) (d + i)
-      (length old + length made)) h k'
+    (length old + length made)) h k'
     ∙ ap (λ t. old ++ t) (sym (more_arguments names items i x d (length old) lt))
     ∙ ap (λ j. old ++ arguments_code names (arguments (map expression (take j items))) d
-      (length old)) one
+    (length old)) one

@@ -87,19 +87,19 @@ mutual
   locate_length names (Indirection access e) d at = expression_length names e d at
   locate_length names (Element access e i) d at =
       two (expression_code names e d at) (expression_code names i (d + 1) (at + expression_size e)
-        ++ combine d (Pure (Add Long)) ∷ []) (expression_size e) (expression_size i + 1)
-          (expression_length names e d at)
+      ++ combine d (Pure (Add Long)) ∷ []) (expression_size e) (expression_size i + 1)
+      (expression_length names e d at)
       (two (expression_code names i (d + 1) (at + expression_size e))
-        (combine d (Pure (Add Long)) ∷ []) (expression_size i) 1
-        (expression_length names i (d + 1) (at + expression_size e)) refl)
+      (combine d (Pure (Add Long)) ∷ []) (expression_size i) 1
+      (expression_length names i (d + 1) (at + expression_size e)) refl)
 
   pub arguments_length : (names : Names) (es : Arguments) (d at : ℕ)
       → length (arguments_code names es d at) ≡ arguments_size es
   arguments_length names Done d at = refl
   arguments_length names (Next e es) d at =
       two (expression_code names e d at) (arguments_code names es (d + 1) (at + expression_size e))
-        (expression_size e) (arguments_size es) (expression_length names e d at)
-        (arguments_length names es (d + 1) (at + expression_size e))
+      (expression_size e) (arguments_size es) (expression_length names e d at)
+      (arguments_length names es (d + 1) (at + expression_size e))
 
   pub node_length : (names : Names) (n : Node) (d at : ℕ)
       → length (node_code names n d at) ≡ node_size n
@@ -112,114 +112,114 @@ mutual
       let from = d + address_count p in
       let place = at + locate_size p in
       two (locate_code names p d at) (expression_code names e from place ++ write_code p d from d
-        ∷ []) (locate_size p) (expression_size e + 1) (locate_length names p d at)
+      ∷ []) (locate_size p) (expression_size e + 1) (locate_length names p d at)
       (two (expression_code names e from place) (write_code p d from d ∷ []) (expression_size e) 1
-        (expression_length names e from place) refl)
+      (expression_length names e from place) refl)
   node_length names (nodes.CompoundAssign p before o e after) d at =
       let old = d + address_count p in
       let place = at + (locate_size p + (read_size p + conversion_size before)) in
       let last = conversion_code after old ++ write_code p d old d ∷ [] in
       let made = two (conversion_code after old) (write_code p d old d ∷ []) (conversion_size after)
-        1 (conversion_length after old) refl in
+      1 (conversion_length after old) refl in
       let valued = two (expression_code names e (old + 1) place) (combine old o ∷ last)
-        (expression_size e) (1 + (conversion_size after + 1))
-        (expression_length names e (old + 1) place)
-        (more (combine old o) last (conversion_size after + 1) made) in
+      (expression_size e) (1 + (conversion_size after + 1))
+      (expression_length names e (old + 1) place)
+      (more (combine old o) last (conversion_size after + 1) made) in
       let begun = two (conversion_code before old)
-        (expression_code names e (old + 1) place ++ combine old o ∷ last) (conversion_size before)
-        (expression_size e + (1 + (conversion_size after + 1))) (conversion_length before old)
-        valued in
+      (expression_code names e (old + 1) place ++ combine old o ∷ last) (conversion_size before)
+      (expression_size e + (1 + (conversion_size after + 1))) (conversion_length before old)
+      valued in
       two (locate_code names p d at) (read_code p d old
-        ++ (conversion_code before old ++ (expression_code names e (old + 1) place ++ combine old o
-        ∷ last))) (locate_size p) (read_size p
-        + (conversion_size before + (expression_size e + (1 + (conversion_size after + 1)))))
-          (locate_length names p d at)
+      ++ (conversion_code before old ++ (expression_code names e (old + 1) place ++ combine old o
+      ∷ last))) (locate_size p) (read_size p
+      + (conversion_size before + (expression_size e + (1 + (conversion_size after + 1)))))
+      (locate_length names p d at)
       (two (read_code p d old) (conversion_code before old
-        ++ (expression_code names e (old + 1) place ++ combine old o ∷ last)) (read_size p)
-          (conversion_size before + (expression_size e + (1 + (conversion_size after + 1))))
-          (read_length p d old) begun)
+      ++ (expression_code names e (old + 1) place ++ combine old o ∷ last)) (read_size p)
+      (conversion_size before + (expression_size e + (1 + (conversion_size after + 1))))
+      (read_length p d old) begun)
   node_length names (nodes.Increment m p before o n after) d at =
       let old = d + address_count p in
       let last = write_code p d (old + 1) (old + 1)
-        ∷ copy (Temporary d) (Temporary (chosen_of m old)) ∷ [] in
+      ∷ copy (Temporary d) (Temporary (chosen_of m old)) ∷ [] in
       let made = two (conversion_code after (old + 1)) last (conversion_size after) 2
-        (conversion_length after (old + 1)) refl in
+      (conversion_length after (old + 1)) refl in
       let from = constant (old + 2) n ∷ combine (old + 1) o
-        ∷ (conversion_code after (old + 1) ++ last) in
+      ∷ (conversion_code after (old + 1) ++ last) in
       let begun = two (conversion_code before (old + 1)) from (conversion_size before)
-        (2 + (conversion_size after + 2)) (conversion_length before (old + 1))
-        (more_by_two (constant (old + 2) n) (combine (old + 1) o)
-        (conversion_code after (old + 1) ++ last) (conversion_size after + 2) made) in
+      (2 + (conversion_size after + 2)) (conversion_length before (old + 1))
+      (more_by_two (constant (old + 2) n) (combine (old + 1) o)
+      (conversion_code after (old + 1) ++ last) (conversion_size after + 2) made) in
       let copied = more (copy (Temporary (old + 1)) (Temporary old))
-        (conversion_code before (old + 1) ++ from)
-        (conversion_size before + (2 + (conversion_size after + 2))) begun in
+      (conversion_code before (old + 1) ++ from)
+      (conversion_size before + (2 + (conversion_size after + 2))) begun in
       two (locate_code names p d at) (read_code p d old
-        ++ copy (Temporary (old + 1)) (Temporary old) ∷ (conversion_code before (old + 1) ++ from))
-          (locate_size p) (read_size p + (1 +
-          (conversion_size before + (2 + (conversion_size after + 2)))))
-          (locate_length names p d at)
+      ++ copy (Temporary (old + 1)) (Temporary old) ∷ (conversion_code before (old + 1) ++ from))
+      (locate_size p) (read_size p + (1 +
+      (conversion_size before + (2 + (conversion_size after + 2)))))
+      (locate_length names p d at)
       (two (read_code p d old) (copy (Temporary (old + 1)) (Temporary old)
-        ∷ (conversion_code before (old + 1) ++ from)) (read_size p)
-          (1 + (conversion_size before + (2 + (conversion_size after + 2)))) (read_length p d old)
-          copied)
+      ∷ (conversion_code before (old + 1) ++ from)) (read_size p)
+      (1 + (conversion_size before + (2 + (conversion_size after + 2)))) (read_length p d old)
+      copied)
   node_length names (nodes.Unary o e) d at = two (expression_code names e d at) (unary_code o d)
       (expression_size e) (unary_size o) (expression_length names e d at) (unary_length o d)
   node_length names (nodes.Binary o e f) d at =
       two (expression_code names e d at) (expression_code names f (d + 1) (at + expression_size e)
-        ++ combine d o ∷ []) (expression_size e) (expression_size f + 1)
-          (expression_length names e d at)
+      ++ combine d o ∷ []) (expression_size e) (expression_size f + 1)
+      (expression_length names e d at)
       (two (expression_code names f (d + 1) (at + expression_size e)) (combine d o ∷ [])
-        (expression_size f) 1 (expression_length names f (d + 1) (at + expression_size e)) refl)
+      (expression_size f) 1 (expression_length names f (d + 1) (at + expression_size e)) refl)
   node_length names (nodes.PointerDifference n e f) d at =
       let last = combine d (Pure (Subtract Long)) ∷ constant (d + 1) n
-        ∷ combine d (Divide Signed Long) ∷ [] in
+      ∷ combine d (Divide Signed Long) ∷ [] in
       two (expression_code names e d at) (expression_code names f (d + 1) (at + expression_size e)
-        ++ last) (expression_size e) (expression_size f + 3) (expression_length names e d at)
+      ++ last) (expression_size e) (expression_size f + 3) (expression_length names e d at)
       (two (expression_code names f (d + 1) (at + expression_size e)) last (expression_size f) 3
-        (expression_length names f (d + 1) (at + expression_size e)) refl)
+      (expression_length names f (d + 1) (at + expression_size e)) refl)
   node_length names (nodes.Not e) d at = two (expression_code names e d at)
       (choice_code d (at + expression_size e) 1 0) (expression_size e) 4
       (expression_length names e d at) refl
   node_length names (nodes.And e f) d at =
       let second = at + expression_size e + 1 in
       let rest = expression_code names f d second
-        ++ choice_code d (second + expression_size f) 0 1 in
+      ++ choice_code d (second + expression_size f) 0 1 in
       two (expression_code names e d at) (JumpIfZero (Temporary d) (second + expression_size f + 3)
-        ∷ rest) (expression_size e) (1 + (expression_size f + 4)) (expression_length names e d at)
+      ∷ rest) (expression_size e) (1 + (expression_size f + 4)) (expression_length names e d at)
       (more (JumpIfZero (Temporary d) (second + expression_size f + 3)) rest (expression_size f + 4)
-        (two (expression_code names f d second) (choice_code d (second + expression_size f) 0 1)
-        (expression_size f) 4 (expression_length names f d second) refl))
+      (two (expression_code names f d second) (choice_code d (second + expression_size f) 0 1)
+      (expression_size f) 4 (expression_length names f d second) refl))
   node_length names (nodes.Or e f) d at =
       let second = at + expression_size e + 3 in
       let rest = expression_code names f d second
-        ++ choice_code d (second + expression_size f) 0 1 in
+      ++ choice_code d (second + expression_size f) 0 1 in
       two (expression_code names e d at) (JumpIfZero (Temporary d) second ∷ constant d 1
-        ∷ Jump (second + expression_size f + 4) ∷ rest) (expression_size e)
-          (3 + (expression_size f + 4)) (expression_length names e d at)
+      ∷ Jump (second + expression_size f + 4) ∷ rest) (expression_size e)
+      (3 + (expression_size f + 4)) (expression_length names e d at)
       (more_by_three (JumpIfZero (Temporary d) second) (constant d 1)
-        (Jump (second + expression_size f + 4)) rest (expression_size f + 4)
-        (two (expression_code names f d second) (choice_code d (second + expression_size f) 0 1)
-        (expression_size f) 4 (expression_length names f d second) refl))
+      (Jump (second + expression_size f + 4)) rest (expression_size f + 4)
+      (two (expression_code names f d second) (choice_code d (second + expression_size f) 0 1)
+      (expression_size f) 4 (expression_length names f d second) refl))
   node_length names (nodes.Conditional c e f) d at =
       let yes' = at + expression_size c + 1 in
       let no' = yes' + expression_size e + 1 in
       let rest = expression_code names e d yes' ++ Jump (no' + expression_size f)
-        ∷ expression_code names f d no' in
+      ∷ expression_code names f d no' in
       two (expression_code names c d at) (JumpIfZero (Temporary d) no' ∷ rest) (expression_size c)
-        (1 + (expression_size e + (1 + expression_size f))) (expression_length names c d at)
+      (1 + (expression_size e + (1 + expression_size f))) (expression_length names c d at)
       (more (JumpIfZero (Temporary d) no') rest (expression_size e + (1 + expression_size f))
-        (two (expression_code names e d yes')
-        (Jump (no' + expression_size f) ∷ expression_code names f d no') (expression_size e)
-        (1 + expression_size f) (expression_length names e d yes')
-        (more (Jump (no' + expression_size f)) (expression_code names f d no') (expression_size f)
-        (expression_length names f d no'))))
+      (two (expression_code names e d yes')
+      (Jump (no' + expression_size f) ∷ expression_code names f d no') (expression_size e)
+      (1 + expression_size f) (expression_length names e d yes')
+      (more (Jump (no' + expression_size f)) (expression_code names f d no') (expression_size f)
+      (expression_length names f d no'))))
   node_length names (nodes.Comma e f) d at =
       two (expression_code names e d at) (expression_code names f (d + 1) (at + expression_size e)
-        ++ copy (Temporary d) (Temporary (d + 1)) ∷ []) (expression_size e) (expression_size f + 1)
-          (expression_length names e d at)
+      ++ copy (Temporary d) (Temporary (d + 1)) ∷ []) (expression_size e) (expression_size f + 1)
+      (expression_length names e d at)
       (two (expression_code names f (d + 1) (at + expression_size e))
-        (copy (Temporary d) (Temporary (d + 1)) ∷ []) (expression_size f) 1
-        (expression_length names f (d + 1) (at + expression_size e)) refl)
+      (copy (Temporary d) (Temporary (d + 1)) ∷ []) (expression_size f) 1
+      (expression_length names f (d + 1) (at + expression_size e)) refl)
   node_length names (nodes.Call f es) d at = two (arguments_code names es d at)
       (Call f d (argument_count es) ∷ []) (arguments_size es) 1 (arguments_length names es d at)
       refl

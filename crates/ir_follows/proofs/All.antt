@@ -22,8 +22,8 @@ use Rattle.ir_follows.proofs.Functions.{call_runs}
 module _ (program : Program) (linear : LinearProgram) (pace body : ℕ)
     (same_globals : linear.globals ≡ program.globals) (roomy : 4 ≤ pace)
     (placed : (k : ℕ) (fn : Function) → slice_get program.functions k ≡ Some fn
-      → (lf : LinearFunction) × (slice_get linear.functions k ≡ Some lf)
-      × FunctionPlaced program linear pace body k fn lf) where
+    → (lf : LinearFunction) × (slice_get linear.functions k ≡ Some lf)
+    × FunctionPlaced program linear pace body k fn lf) where
   functions_at : (k : ℕ) (fn : Function) → slice_get program.functions k ≡ Some fn
       → (lf : LinearFunction) × (slice_get linear.functions k ≡ Some lf)
   functions_at k fn h = let p = placed k fn h in (p.0, p.1)
@@ -42,95 +42,95 @@ module _ (program : Program) (linear : LinearProgram) (pace body : ℕ)
   bodies_zero : BodyRuns program linear pace body zero
   bodies_zero = record {
     run = λ s scope z shapes context site base pc st store steps light has inner standing kept
-      held. stopped linear pace (at (conf context site pc [] st store)) st 0 0 (statement_weight s)
-      (omega arith) (shown_none program linear pace body (conf context site pc [] st store));
+        held. stopped linear pace (at (conf context site pc [] st store)) st 0 0 (statement_weight s)
+        (omega arith) (shown_none program linear pace body (conf context site pc [] st store));
     for_run = λ c next s scope z shapes context site base pc st store steps light has inner standing
-      kept held.
+        kept held.
         stopped linear pace (at (conf context site pc [] st store)) st 0 0
-          (1 + optional_weight c + statement_weight s + optional_weight next) (omega arith)
-          (shown_none program linear pace body (conf context site pc [] st store));
+        (1 + optional_weight c + statement_weight s + optional_weight next) (omega arith)
+        (shown_none program linear pace body (conf context site pc [] st store));
     do_run = λ s c scope z shapes context site base pc st store steps light has inner standing kept
-      held.
+        held.
         stopped linear pace (at (conf context site pc [] st store)) st 0 0
-          (1 + statement_weight s + expression_weight c) (omega arith)
-          (shown_none program linear pace body (conf context site pc [] st store));
+        (1 + statement_weight s + expression_weight c) (omega arith)
+        (shown_none program linear pace body (conf context site pc [] st store));
     try_run = λ ss scope z shapes context site base pc st store steps light has inner standing kept
-      held. stopped linear pace (at (conf context site pc [] st store)) st 0 0
-      (1 + statements_weight ss) (omega arith)
-      (shown_none program linear pace body (conf context site pc [] st store));
+        held. stopped linear pace (at (conf context site pc [] st store)) st 0 0
+        (1 + statements_weight ss) (omega arith)
+        (shown_none program linear pace body (conf context site pc [] st store));
     finally_run = λ k last flag held below names z shapes context site base pc temps st store steps
-      light has isf standing kept same_held.
+        light has isf standing kept same_held.
         let begins = begin_finally (k - 1) names.free flag held below
-          (conf context site pc temps st store) in
+        (conf context site pc temps st store) in
         stopped linear pace (λ next. deeper 2 held store st.events (next begins)) st 0 0
-          (1 + statements_weight last) (omega arith)
+        (1 + statements_weight last) (omega arith)
         (shown_deep linear pace 2 held store st.events (exec linear zero begins)
-          (shown_more program linear pace body st.events _ (events.Finally (k - 1 + 1) flag)
-          (shown_none program linear pace body begins)));
+        (shown_more program linear pace body st.events _ (events.Finally (k - 1 + 1) flag)
+        (shown_none program linear pace body begins)));
   }
 
   tasks_zero : Runs program linear pace body zero
   tasks_zero = record {
     eval = λ e names info z shapes context site base pc temps st store steps light fits has around
-      kept held. stopped linear pace (at (conf context site pc temps st store)) st 0 0
-      (expression_weight e) (omega arith) (shown_none program linear pace body
-      (conf context site pc temps st store));
+        kept held. stopped linear pace (at (conf context site pc temps st store)) st 0 0
+        (expression_weight e) (omega arith) (shown_none program linear pace body
+        (conf context site pc temps st store));
     locate = λ p names info z shapes context site base pc temps st store steps light fits has around
-      kept held. stopped linear pace (at (conf context site pc temps st store)) st 0 0
-      (1 + lvalue_weight p) (omega arith) (shown_none program linear pace body
-      (conf context site pc temps st store));
+        kept held. stopped linear pace (at (conf context site pc temps st store)) st 0 0
+        (1 + lvalue_weight p) (omega arith) (shown_none program linear pace body
+        (conf context site pc temps st store));
     raised = λ exc resumption names info z shapes context site base pc temps st store steps t around
-      kept held.
+        kept held.
         stopped linear pace (λ next. raise linear next exc resumption
-          (conf context site pc temps st store)) st 0 0 pace (omega arith)
-          (shown_raise program linear pace body exc resumption
-          (conf context site pc temps st store));
+        (conf context site pc temps st store)) st 0 0 pace (omega arith)
+        (shown_raise program linear pace body exc resumption
+        (conf context site pc temps st store));
     retry = λ o x y to first second a b after names info z shapes context site base pc temps st
-      store c steps has r alike around kept held. stopped linear pace
-      (at (conf context site pc temps st store)) st 0 0 1 (omega arith)
-      (shown_none program linear pace body (conf context site pc temps st store));
+        store c steps has r alike around kept held. stopped linear pace
+        (at (conf context site pc temps st store)) st 0 0 1 (omega arith)
+        (shown_none program linear pace body (conf context site pc temps st store));
     filter = λ k j e h f rest exc resumption names info z shapes context site base pc temps st store
-      steps t a fit around kept held.
+        steps t a fit around kept held.
         let begins = begin_filter j f rest exc resumption (conf context site pc temps st store) in
         stopped linear pace (λ next. deeper 2 site.held store st.events (next begins)) st 0 1
-          (2 + expression_weight e) (omega arith)
+        (2 + expression_weight e) (omega arith)
         (shown_deep linear pace 2 site.held store st.events (exec linear zero begins)
-          (shown_more program linear pace body st.events _ (events.Filter (j + 1))
-          (shown_none program linear pace body begins)));
+        (shown_more program linear pace body st.events _ (events.Filter (j + 1))
+        (shown_none program linear pace body begins)));
     call = λ k fn lf vs names info z shapes context site base pc temps st store steps h there len t
-      around kept held. call_runs program linear pace body zero bodies_zero k fn lf vs names info z
-      shapes context site base pc temps st store (placed_at k fn lf h there) steps len t around kept
-      held;
+        around kept held. call_runs program linear pace body zero bodies_zero k fn lf vs names info z
+        shapes context site base pc temps st store (placed_at k fn lf h there) steps len t around kept
+        held;
   }
 
   tasks_next : (n : ℕ) → Both n → BodyRuns program linear pace body (suc n)
       → Runs program linear pace body (suc n)
   tasks_next n b bodies = record {
     eval = λ e names info z shapes context site base pc temps st store steps light fits has around
-      kept held. eval_next program linear pace body same_globals roomy functions_at n b.tasks names
-      info z shapes context site base around e pc temps st store steps light fits has kept held;
+        kept held. eval_next program linear pace body same_globals roomy functions_at n b.tasks names
+        info z shapes context site base around e pc temps st store steps light fits has kept held;
     locate = λ p names info z shapes context site base pc temps st store steps light fits has around
-      kept held. locate_next program linear pace body same_globals roomy functions_at n b.tasks
-      names info z shapes context site base around p pc temps st store steps light fits has kept
-      held;
+        kept held. locate_next program linear pace body same_globals roomy functions_at n b.tasks
+        names info z shapes context site base around p pc temps st store steps light fits has kept
+        held;
     raised = λ exc resumption names info z shapes context site base pc temps st store steps t around
-      kept held. raised_next program linear pace body same_globals roomy functions_at n b.tasks
-      names info z shapes context site base around exc resumption pc temps st store steps t kept
-      held;
+        kept held. raised_next program linear pace body same_globals roomy functions_at n b.tasks
+        names info z shapes context site base around exc resumption pc temps st store steps t kept
+        held;
     retry = λ o x y to first second a c after names info z shapes context site base pc temps st
-      store plain steps has r alike around kept held.
+        store plain steps has r alike around kept held.
         retry_next program linear pace body same_globals roomy functions_at n b.tasks names info z
-          shapes context site base around o x y to first second a c after pc temps st store plain
-          steps has r alike kept held;
+        shapes context site base around o x y to first second a c after pc temps st store plain
+        steps has r alike kept held;
     filter = λ k j e h f rest exc resumption names info z shapes context site base pc temps st store
-      steps t a fit around kept held.
+        steps t a fit around kept held.
         filter_next program linear pace body same_globals roomy functions_at n b.tasks names info z
-          shapes context site base around k j e h f rest exc resumption pc temps st store steps
-          fit.light t a fit kept held;
+        shapes context site base around k j e h f rest exc resumption pc temps st store steps
+        fit.light t a fit kept held;
     call = λ k fn lf vs names info z shapes context site base pc temps st store steps h there len t
-      around kept held. call_runs program linear pace body (suc n) bodies k fn lf vs names info z
-      shapes context site base pc temps st store (placed_at k fn lf h there) steps len t around kept
-      held;
+        around kept held. call_runs program linear pace body (suc n) bodies k fn lf vs names info z
+        shapes context site base pc temps st store (placed_at k fn lf h there) steps len t around kept
+        held;
   }
 
   pub both : (n : ℕ) → Both n

@@ -102,19 +102,28 @@ comes_there linear next target out (r ∷ rs) c d (inl h) = lands linear next ta
     (or_left (holds target.label r) (leads_to r.kind target.label) h)
 comes_there linear next target out (r ∷ rs) c d (inr p) =
     either_way (stops target r (length c.below)) (arrive target target.code next c)
-      (leave_region linear next target r.kind rs (unwind_body linear next target out rs c) c)
+    (leave_region linear next target r.kind rs (unwind_body linear next target out rs c) c)
     (except_left linear next target r.kind r.end rs (unwind_body linear next target out rs c) c p.0
-      ∙ comes_there linear next target out rs c d p.1)
+    ∙ comes_there linear next target out rs c d p.1)
 
 -- an unwinding within a body
 abbrev pub own_target : Site → ℕ → machine.Target
-own_target site label = record { depth = length site.below; label = label; code = None;
-    held = site.held }
+own_target site label = record {
+  depth = length site.below;
+  label = label;
+  code = None;
+  held = site.held;
+}
 
 -- a `__finally` block as a body of its own
 abbrev pub finally_site : ℕ → List Item → ℕ → Site
-finally_site j below held = record { body = FuncletBody j; regions = []; below = below;
-    exception = no_exception; held = held + 2 }
+finally_site j below held = record {
+  body = FuncletBody j;
+  regions = [];
+  below = below;
+  exception = no_exception;
+  held = held + 2;
+}
 
 module _ (program : Program) (linear : LinearProgram) (pace body : ℕ) where
   abbrev pub exit_way : Context → Site → jumps.Way → ℕ → Way
@@ -158,7 +167,7 @@ module _ (program : Program) (linear : LinearProgram) (pace body : ℕ) where
   pub record Surroundings (names : Names) (z : Shape) (shapes : List Shape) (context : Context)
       (site : Site) (base : Store) (notes : ℕ) : Type 0 where
     pub env : Env program linear pace body (below_slot context.activation names.free) names false z
-      shapes context site base
+        shapes context site base
     pub past : z.own ≤ names.free
     pub room : names.free + notes ≤ z.all
     pub plain : names.exception ≡ OfFilter → ⊥
@@ -173,69 +182,69 @@ module _ (program : Program) (linear : LinearProgram) (pace body : ℕ) where
   -- what is claimed of each kind of task of statements, inside at most n others
   pub record BodyRuns (n : ℕ) : Type 0 where
     pub run : (s : Statement) (scope : LoweringContext) (z : Shape) (shapes : List Shape)
-      (context : Context) (site : Site) (base : Store) (pc : ℕ) (st : State) (store : Store)
+        (context : Context) (site : Site) (base : Store) (pc : ℕ) (st : State) (store : Store)
         → st.steps_left ≤ n → statement_weight s + body + 4 ≤ pace
         → Placed program linear pace body z.own site.body scope s site.regions pc
         → Inner linear site.body scope site.regions pc (pc + statement_size s)
         → Surroundings scope.names z shapes context site base (statement_notes s)
         → Stays scope.names shapes context base st store → st.held ≡ site.held
         → Claim linear pace (at (conf context site pc [] st store)) st
-          (price 0 0 (statement_weight s) (statement_weight s))
-          (statement_ways scope context site (Stays scope.names shapes context base)
-          (pc + statement_size s)) (within program n (Run s) context st)
+        (price 0 0 (statement_weight s) (statement_weight s))
+        (statement_ways scope context site (Stays scope.names shapes context base)
+        (pc + statement_size s)) (within program n (Run s) context st)
     pub for_run : (c next : Option Expression) (s : Statement) (scope : LoweringContext) (z : Shape)
-      (shapes : List Shape) (context : Context) (site : Site) (base : Store) (pc : ℕ) (st : State)
-      (store : Store)
+        (shapes : List Shape) (context : Context) (site : Site) (base : Store) (pc : ℕ) (st : State)
+        (store : Store)
         → st.steps_left ≤ n → 1 + optional_weight c + statement_weight s + optional_weight next
         + body + 4 ≤ pace → ForPlaced program linear pace body z.own site.body scope c next s
-          site.regions pc → Inner linear site.body scope site.regions pc (for_end c next s pc)
+        site.regions pc → Inner linear site.body scope site.regions pc (for_end c next s pc)
         → Surroundings scope.names z shapes context site base (statement_notes s)
         → Stays scope.names shapes context base st store → st.held ≡ site.held
         → Claim linear pace (at (conf context site pc [] st store)) st
-          (price 0 0 (1 + optional_weight c + statement_weight s + optional_weight next)
-          (1 + optional_weight c + statement_weight s + optional_weight next))
+        (price 0 0 (1 + optional_weight c + statement_weight s + optional_weight next)
+        (1 + optional_weight c + statement_weight s + optional_weight next))
         (statement_ways scope context site (Stays scope.names shapes context base)
-          (for_end c next s pc)) (within program n (ForIteration c next s) context st)
+        (for_end c next s pc)) (within program n (ForIteration c next s) context st)
     pub do_run : (s : Statement) (c : Expression) (scope : LoweringContext) (z : Shape)
-      (shapes : List Shape) (context : Context) (site : Site) (base : Store) (pc : ℕ) (st : State)
-      (store : Store)
+        (shapes : List Shape) (context : Context) (site : Site) (base : Store) (pc : ℕ) (st : State)
+        (store : Store)
         → st.steps_left ≤ n → 1 + statement_weight s + expression_weight c + body + 4 ≤ pace
         → DoPlaced program linear pace body z.own site.body scope s c site.regions pc
         → Inner linear site.body scope site.regions pc (do_end s c pc)
         → Surroundings scope.names z shapes context site base (statement_notes s)
         → Stays scope.names shapes context base st store → st.held ≡ site.held
         → Claim linear pace (at (conf context site pc [] st store)) st
-          (price 0 0 (1 + statement_weight s + expression_weight c)
-          (1 + statement_weight s + expression_weight c))
+        (price 0 0 (1 + statement_weight s + expression_weight c)
+        (1 + statement_weight s + expression_weight c))
         (statement_ways scope context site (Stays scope.names shapes context base) (do_end s c pc))
-          (within program n (DoIteration s c) context st)
+        (within program n (DoIteration s c) context st)
     pub try_run : (ss : Statements) (scope : LoweringContext) (z : Shape) (shapes : List Shape)
-      (context : Context) (site : Site) (base : Store) (pc : ℕ) (st : State) (store : Store)
+        (context : Context) (site : Site) (base : Store) (pc : ℕ) (st : State) (store : Store)
         → st.steps_left ≤ n → 1 + statements_weight ss + body + 4 ≤ pace
         → AllPlaced program linear pace body z.own site.body scope ss site.regions pc
         → Inner linear site.body scope site.regions pc (pc + statements_size ss)
         → Surroundings scope.names z shapes context site base (statements_notes ss)
         → Stays scope.names shapes context base st store → st.held ≡ site.held
         → Claim linear pace (at (conf context site pc [] st store)) st
-          (price 0 0 (1 + statements_weight ss) (1 + statements_weight ss))
-          (statement_ways scope context site (Stays scope.names shapes context base)
-          (pc + statements_size ss)) (within program n (TryBody ss) context st)
+        (price 0 0 (1 + statements_weight ss) (1 + statements_weight ss))
+        (statement_ways scope context site (Stays scope.names shapes context base)
+        (pc + statements_size ss)) (within program n (TryBody ss) context st)
     pub finally_run : (k : ℕ) (last : Statements) (flag : Bool) (held : ℕ) (below : List Item)
-      (names : Names) (z : Shape) (shapes : List Shape) (context : Context) (site : Site)
-      (base : Store) (pc : ℕ) (temps : List ℕ) (st : State) (store : Store)
+        (names : Names) (z : Shape) (shapes : List Shape) (context : Context) (site : Site)
+        (base : Store) (pc : ℕ) (temps : List ℕ) (st : State) (store : Store)
         → st.steps_left ≤ n → 1 + statements_weight last + body + 4 ≤ pace
         → FinallyPlaced program linear pace body z.own names k last
         → IsFunclet program linear pace body (k - 1) (finally_site (k - 1) below held) context site
-          pc temps
+        pc temps
         → Surroundings names z shapes context site base (1 + statements_notes last)
         → Stays names shapes context base st store → st.held ≡ held
         → Claim linear pace (λ next. deeper 2 held store st.events
-          (next (begin_finally (k - 1) names.free flag held below
-          (conf context site pc temps st store)))) st
-          (price 0 0 (1 + statements_weight last) (1 + statements_weight last))
+        (next (begin_finally (k - 1) names.free flag held below
+        (conf context site pc temps st store)))) st
+        (price 0 0 (1 + statements_weight last) (1 + statements_weight last))
         (record (normal_ways (λ st store next. end_finally linear next below st.events store)
-          (Stays names shapes context base) context site) { held = held })
-          (within program n (RunFinally k last flag) context st)
+        (Stays names shapes context base) context site) { held = held })
+        (within program n (RunFinally k last flag) context st)
 
   -- ---- expressions of statements
 
@@ -243,22 +252,24 @@ module _ (program : Program) (linear : LinearProgram) (pace body : ℕ) where
   pub env_now : (names : Names) (z : Shape) (shapes : List Shape) (context : Context) (site : Site)
       (base now : Store) → NotesKept (below_slot context.activation names.free) shapes base now
       → Env program linear pace body (below_slot context.activation names.free) names false z shapes
-        context site base → Env program linear pace body everywhere names false z shapes context
-        site now
+      context site base → Env program linear pace body everywhere names false z shapes context
+      site now
   env_now names z shapes context site base now k e =
       env_among program linear pace body (below_slot context.activation names.free) everywhere names
-        false z shapes context site now (λ j x p. tt)
+      false z shapes context site now (λ j x p. tt)
       (env_later program linear pace body (below_slot context.activation names.free) names false z
-        shapes context site base now k e)
+      shapes context site base now k e)
 
   pub stays_through : (names : Names) (shapes : List Shape) (context : Context) (base now : Store)
       → NotesKept (below_slot context.activation names.free) shapes base now
       → (st : State) (store : Store) → Within program linear pace body shapes now st store
       → Stays names shapes context base st store
-  stays_through names shapes context base now k st store p =
-      (p.0, kept_through (below_slot context.activation names.free) shapes base now store k
+  stays_through names shapes context base now k st store p = (
+    p.0,
+    kept_through (below_slot context.activation names.free) shapes base now store k
         (kept_fewer everywhere (below_slot context.activation names.free) shapes now store
-        (λ j x o. tt) p.1))
+        (λ j x o. tt) p.1),
+  )
 
   -- an expression's value, and what a statement does with it
   pub statement_eval : (n : ℕ) (ih : Runs program linear pace body n) (e : Expression)
@@ -268,33 +279,45 @@ module _ (program : Program) (linear : LinearProgram) (pace body : ℕ) where
       → st.steps_left ≤ n → expression_weight e + body + 4 ≤ pace
       → Join (price 0 0 (expression_weight e) (expression_weight e)) q r
       → ExpressionFits program z.own false e → HasAt linear site.body site.regions pc
-        (expression_code names e 0 pc)
+      (expression_code names e 0 pc)
       → Surroundings names z shapes context site base notes
       → Stays names shapes context base st store → st.held ≡ site.held
       → ((v : ℕ) (mid : State) (after : Store) → mid.steps_left ≤ n
       → Stays names shapes context base mid after → mid.held ≡ site.held
       → Claim linear pace (at (conf context site (pc + expression_size e) (v ∷ []) mid after)) mid q
-        (record w { context = context; site = site; held = site.held;
-        kept = Stays names shapes context base }) (f v mid))
+      (record w {
+        context = context;
+        site = site;
+        held = site.held;
+        kept = Stays names shapes context base;
+      }) (f v mid))
       → Claim linear pace (at (conf context site pc [] st store)) st r
-        (record w { context = context; site = site; held = site.held;
-        kept = Stays names shapes context base })
-        (with_value (within program n (Eval e) context st) f)
+      (record w {
+        context = context;
+        site = site;
+        held = site.held;
+        kept = Stays names shapes context base;
+      })
+      (with_value (within program n (Eval e) context st) f)
   statement_eval n ih e names z shapes context site base notes pc st store q r w f steps light j
       fits has standing kept held go =
       then_value linear pace (at (conf context site pc [] st store))
-        (pushed context site (pc + expression_size e) [])
-        (record w { context = context; site = site; held = site.held;
-        kept = Stays names shapes context base }) st
+      (pushed context site (pc + expression_size e) [])
+      (record w {
+        context = context;
+        site = site;
+        held = site.held;
+        kept = Stays names shapes context base;
+      }) st
       (price 0 0 (expression_weight e) (expression_weight e)) q r
-        (within program n (Eval e) context st) f j
+      (within program n (Eval e) context st) f j
       (claim_kept linear pace (at (conf context site pc [] st store)) st
-        (price 0 0 (expression_weight e) (expression_weight e))
-        (value_ways (pushed context site (pc + expression_size e) [])
-        (Within program linear pace body shapes store) context site)
-        (Stays names shapes context base)
+      (price 0 0 (expression_weight e) (expression_weight e))
+      (value_ways (pushed context site (pc + expression_size e) [])
+      (Within program linear pace body shapes store) context site)
+      (Stays names shapes context base)
       (within program n (Eval e) context st) (stays_through names shapes context base store kept.1)
       (ih.eval e names false z shapes context site store pc [] st store steps light fits has
-        (env_now names z shapes context site base store kept.1 standing.env)
-        (kept.0, kept_itself everywhere shapes store) held))
+      (env_now names z shapes context site base store kept.1 standing.env)
+      (kept.0, kept_itself everywhere shapes store) held))
       (λ v mid after lower kept held. go v mid after (omega arith) kept held)

@@ -36,51 +36,55 @@ module _ (program : Program) (linear : LinearProgram) (pace body : ℕ) (n : ℕ
     S done = statement_ways program linear pace body scope context site Ks done
 
     abbrev G : (pc : ℕ) (temps : List ℕ) (st : State) (store : Store) → Price → (done : ℕ) → Outcome
-      → Type 0
+        → Type 0
     G pc temps st store p done out = Claim linear pace (at (conf context site pc temps st store)) st
-      p (S done) out
+        p (S done) out
 
     -- statements in order
     pub all_runs : (ss : Statements) (pc : ℕ) (st : State) (store : Store) → st.steps_left ≤ n
-      → statements_weight ss + body + 4 ≤ pace
-      → AllPlaced program linear pace body z.own site.body scope ss site.regions pc
+        → statements_weight ss + body + 4 ≤ pace
+        → AllPlaced program linear pace body z.own site.body scope ss site.regions pc
         → Inner linear site.body scope site.regions pc (pc + statements_size ss)
         → Surroundings program linear pace body scope.names z shapes context site base
-          (statements_notes ss) → Ks st store → st.held ≡ site.held
+        (statements_notes ss) → Ks st store → st.held ≡ site.held
         → G pc [] st store (price 0 0 (statements_weight ss) (statements_weight ss))
-          (pc + statements_size ss) (all (within program n) ss context st)
+        (pc + statements_size ss) (all (within program n) ss context st)
     all_runs Empty pc st store steps light has inner standing kept held = subst
-      (λ d. G pc [] st store (price 0 0 0 0) d (Gives Normal st)) (omega arith)
-        (record { store = store; fits = kept; same = held;
+        (λ d. G pc [] st store (price 0 0 0 0) d (Gives Normal st)) (omega arith)
+        (record {
+          store = store;
+          fits = kept;
+          same = held;
           reaches = still linear pace (at (conf context site pc [] st store))
-          (at (conf context site pc [] st store)) st st 0 0 0 refl (omega arith)
-          (prefix_self linear pace st.events) (λ k. refl) })
+              (at (conf context site pc [] st store)) st st 0 0 0 refl (omega arith)
+              (prefix_self linear pace st.events) (λ k. refl);
+        })
     all_runs (Then s ss) pc st store steps light has inner standing kept held =
         let a = statement_weight s in
         let b = statements_weight ss in
         let pc1 = pc + statement_size s in
         let end : pc1 + statements_size ss ≡ pc
-          + (statement_size s + statements_size ss) = omega arith in
+        + (statement_size s + statements_size ss) = omega arith in
         let done = pc1 + statements_size ss in
         let hi = pc + (statement_size s + statements_size ss) in
         subst (λ d. G pc [] st store (price 0 0 (a + b) (a + b)) d
-          (and_then (within program n (Run s) context st)
-          (λ st. all (within program n) ss context st))) end
+        (and_then (within program n (Run s) context st)
+        (λ st. all (within program n) ss context st))) end
         (then_normal linear pace (at (conf context site pc [] st store))
-          (λ st store. at (conf context site pc1 [] st store)) (S done) st (price 0 0 a a)
-          (price 0 0 b b) (price 0 0 (a + b) (a + b)) (within program n (Run s) context st)
-          (λ st. all (within program n) ss context st)
+        (λ st store. at (conf context site pc1 [] st store)) (S done) st (price 0 0 a a)
+        (price 0 0 b b) (price 0 0 (a + b) (a + b)) (within program n (Run s) context st)
+        (λ st. all (within program n) ss context st)
         (joins (omega arith) (omega arith) (omega arith) (omega arith)) (omega arith)
         (bih.run s scope z shapes context site base pc st store steps (omega arith) has.0
-          (inner_part linear site.body scope site.regions pc hi pc pc1 (omega arith) (omega arith)
-          inner)
+        (inner_part linear site.body scope site.regions pc hi pc pc1 (omega arith) (omega arith)
+        inner)
         (surroundings_less program linear pace body scope.names z shapes context site base
-          (max (statement_notes s) (statements_notes ss)) (statement_notes s)
-          (max_left (statement_notes s) (statements_notes ss)) standing) kept held)
+        (max (statement_notes s) (statements_notes ss)) (statement_notes s)
+        (max_left (statement_notes s) (statements_notes ss)) standing) kept held)
         (λ mid after low kept held.
         all_runs ss pc1 mid after (omega arith) (omega arith) has.1
-          (inner_part linear site.body scope site.regions pc hi pc1 done (omega arith) (omega arith)
-          inner)
+        (inner_part linear site.body scope site.regions pc hi pc1 done (omega arith) (omega arith)
+        inner)
         (surroundings_less program linear pace body scope.names z shapes context site base
-          (max (statement_notes s) (statements_notes ss)) (statements_notes ss)
-          (max_right (statement_notes s) (statements_notes ss)) standing) kept held))
+        (max (statement_notes s) (statements_notes ss)) (statements_notes ss)
+        (max_right (statement_notes s) (statements_notes ss)) standing) kept held))

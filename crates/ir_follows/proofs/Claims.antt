@@ -79,79 +79,79 @@ module _ (program : Program) (linear : LinearProgram) (pace body : ℕ) where
   -- what is claimed of each kind of task, inside at most n others
   pub record Runs (n : ℕ) : Type 0 where
     pub eval : (e : Expression) (names : Names) (info : Bool) (z : Shape) (shapes : List Shape)
-      (context : Context) (site : Site) (base : Store) (pc : ℕ) (temps : List ℕ) (st : State)
-      (store : Store)
+        (context : Context) (site : Site) (base : Store) (pc : ℕ) (temps : List ℕ) (st : State)
+        (store : Store)
         → st.steps_left ≤ n → expression_weight e + body + 4 ≤ pace
         → ExpressionFits program z.own info e
         → HasAt linear site.body site.regions pc (expression_code names e (length temps) pc)
         → Around names info z shapes context site base → Within shapes base st store
         → st.held ≡ site.held
         → Claim linear pace (at (conf context site pc temps st store)) st
-          (price 0 0 (expression_weight e) (expression_weight e))
-          (value_ways (pushed context site (pc + expression_size e) temps) (Within shapes base)
-          context site) (within program n (Eval e) context st)
+        (price 0 0 (expression_weight e) (expression_weight e))
+        (value_ways (pushed context site (pc + expression_size e) temps) (Within shapes base)
+        context site) (within program n (Eval e) context st)
     pub locate : (p : Lvalue) (names : Names) (info : Bool) (z : Shape) (shapes : List Shape)
-      (context : Context) (site : Site) (base : Store) (pc : ℕ) (temps : List ℕ) (st : State)
-      (store : Store)
+        (context : Context) (site : Site) (base : Store) (pc : ℕ) (temps : List ℕ) (st : State)
+        (store : Store)
         → st.steps_left ≤ n → 1 + lvalue_weight p + body + 4 ≤ pace
         → LvalueFits program z.own info p → HasAt linear site.body site.regions pc
-          (locate_code names p (length temps) pc)
+        (locate_code names p (length temps) pc)
         → Around names info z shapes context site base → Within shapes base st store
         → st.held ≡ site.held
         → Claim linear pace (at (conf context site pc temps st store)) st
-          (price 0 0 (1 + lvalue_weight p) (1 + lvalue_weight p))
-          (value_ways (with_address context site (pc + locate_size p) p temps) (Within shapes base)
-          context site) (within program n (Locate p) context st)
+        (price 0 0 (1 + lvalue_weight p) (1 + lvalue_weight p))
+        (value_ways (with_address context site (pc + locate_size p) p temps) (Within shapes base)
+        context site) (within program n (Locate p) context st)
     pub raised : (exc : Exception) (resumption : Resumption) (names : Names) (info : Bool)
-      (z : Shape) (shapes : List Shape) (context : Context) (site : Site) (base : Store) (pc : ℕ)
-      (temps : List ℕ) (st : State) (store : Store)
+        (z : Shape) (shapes : List Shape) (context : Context) (site : Site) (base : Store) (pc : ℕ)
+        (temps : List ℕ) (st : State) (store : Store)
         → st.steps_left ≤ n → regions_at linear site.body pc ≡ site.regions
         → Around names info z shapes context site base → Within shapes base st store
         → st.held ≡ site.held
         → Claim linear pace (λ next. raise linear next exc resumption
-          (conf context site pc temps st store)) st (price 0 0 1 pace)
-          (normal_ways (resumes resumption context site pc temps) (Within shapes base) context site)
-          (within program n (Raise exc) context st)
+        (conf context site pc temps st store)) st (price 0 0 1 pace)
+        (normal_ways (resumes resumption context site pc temps) (Within shapes base) context site)
+        (within program n (Raise exc) context st)
     pub retry : (o : Operation) (x y to first second a b : ℕ) (after : ℕ → List ℕ) (names : Names)
-      (info : Bool) (z : Shape) (shapes : List Shape) (context : Context) (site : Site)
-      (base : Store) (pc : ℕ) (temps : List ℕ) (st : State) (store : Store)
+        (info : Bool) (z : Shape) (shapes : List Shape) (context : Context) (site : Site)
+        (base : Store) (pc : ℕ) (temps : List ℕ) (st : State) (store : Store)
         → is_constant o ≡ false → st.steps_left ≤ n
         → HasAt linear site.body site.regions pc
-          (instructions.Compute (Temporary to) o (Temporary first) (Temporary second) ∷ [])
+        (instructions.Compute (Temporary to) o (Temporary first) (Temporary second) ∷ [])
         → Operands temps to first second a b after → SameOperation' o x y a b
         → Around names info z shapes context site base → Within shapes base st store
         → st.held ≡ site.held
         → Claim linear pace (at (conf context site pc temps st store)) st (price 0 0 0 1)
-          (value_ways (λ v st store. at (conf context site (pc + 1) (after v) st store))
-          (Within shapes base) context site) (within program n (Retry o x y) context st)
+        (value_ways (λ v st store. at (conf context site (pc + 1) (after v) st store))
+        (Within shapes base) context site) (within program n (Retry o x y) context st)
     pub filter : (k j : ℕ) (e : Expression) (h : Handler) (f : machine.Handler)
-      (rest : List machine.Handler) (exc : Exception) (resumption : Resumption)
+        (rest : List machine.Handler) (exc : Exception) (resumption : Resumption)
         (names : Names) (info : Bool) (z : Shape) (shapes : List Shape) (context : Context)
-          (site : Site) (base : Store) (pc : ℕ) (temps : List ℕ) (st : State) (store : Store)
+        (site : Site) (base : Store) (pc : ℕ) (temps : List ℕ) (st : State) (store : Store)
         → st.steps_left ≤ n → regions_at linear site.body pc ≡ site.regions
         → h.activation ≡ f.activation → FilterFits program linear pace body everywhere shapes base
-          h.activation h.abnormal k j e
+        h.activation h.abnormal k j e
         → Around names info z shapes context site base → Within shapes base st store
         → st.held ≡ site.held
         → Claim linear pace (λ next. deeper 2 site.held store st.events
-          (next (begin_filter j f rest exc resumption (conf context site pc temps st store)))) st
-          (price 0 1 0 (2 + expression_weight e))
+        (next (begin_filter j f rest exc resumption (conf context site pc temps st store)))) st
+        (price 0 1 0 (2 + expression_weight e))
         (value_ways (answers_search exc resumption f rest context site pc temps)
-          (Within shapes base) context site) (within program n (RunFilter k e h exc) context st)
+        (Within shapes base) context site) (within program n (RunFilter k e h exc) context st)
     pub call : (k : ℕ) (fn : Function) (lf : LinearFunction) (vs : List ℕ) (names : Names)
-      (info : Bool) (z : Shape) (shapes : List Shape) (context : Context) (site : Site)
-      (base : Store) (pc : ℕ) (temps : List ℕ) (st : State) (store : Store)
+        (info : Bool) (z : Shape) (shapes : List Shape) (context : Context) (site : Site)
+        (base : Store) (pc : ℕ) (temps : List ℕ) (st : State) (store : Store)
         → st.steps_left ≤ n → slice_get program.functions k ≡ Some fn
         → slice_get linear.functions k ≡ Some lf → length vs ≡ length fn.parameters
         → regions_at linear site.body pc ≡ site.regions
         → Around names info z shapes context site base → Within shapes base st store
         → st.held ≡ site.held
         → Claim linear pace (λ next. deeper 1 site.held store st.events
-          (next (begin_function k lf vs site.held
-          (Waits (frame_of context site pc temps) ∷ site.below) store st.events))) st
-          (price 2 0 body body)
+        (next (begin_function k lf vs site.held
+        (Waits (frame_of context site pc temps) ∷ site.below) store st.events))) st
+        (price 2 0 body body)
         (value_ways (pushed context site (pc + 1) temps) (Within shapes base) context site)
-          (enter (within program n) (Some fn) vs context st)
+        (enter (within program n) (Some fn) vs context st)
 
   pub shown_all : (es : List Event) → (rest : List Event) × (es ≡ es ++ rest)
   shown_all es = ([], sym (append-nil es))

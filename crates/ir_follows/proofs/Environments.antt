@@ -99,7 +99,7 @@ module _ (program : Program) (linear : LinearProgram) (pace body : ℕ) where
     pub has_shape : slice_get shapes activation ≡ Some shape
     pub flag : FlagBound ok shape names.abnormal activation abnormal store
     pub code : HasAt linear (FuncletBody j) [] 0
-      (expression_code names e 0 0 ++ Return (Temporary 0) ∷ [])
+        (expression_code names e 0 0 ++ Return (Temporary 0) ∷ [])
     pub fits : ExpressionFits program shape.own true e
     pub light : expression_weight e + body + 4 ≤ pace
 
@@ -146,7 +146,7 @@ module _ (program : Program) (linear : LinearProgram) (pace body : ℕ) where
     shape = h.shape;
     has_shape = h.has_shape;
     flag = flag_kept ok shapes h.shape h.names.abnormal activation abnormal s t h.has_shape k
-      h.flag;
+        h.flag;
     code = h.code;
     fits = h.fits;
     light = h.light;
@@ -157,8 +157,10 @@ module _ (program : Program) (linear : LinearProgram) (pace body : ℕ) where
       → Match ok shapes t hs fs
   match_kept ok shapes s t [] [] k m = m
   match_kept ok shapes s t (h ∷ hs) (f ∷ fs) k
-      m = ((m.0.0, how_kept ok shapes s t h.activation h.abnormal h.filter f.filter k m.0.1),
-      match_kept ok shapes s t hs fs k m.1)
+      m = (
+        (m.0.0, how_kept ok shapes s t h.activation h.abnormal h.filter f.filter k m.0.1),
+        match_kept ok shapes s t hs fs k m.1,
+      )
   match_kept ok shapes s t [] (f ∷ fs) k m = absurd m
   match_kept ok shapes s t (h ∷ hs) [] k m = absurd m
 
@@ -189,8 +191,10 @@ module _ (program : Program) (linear : LinearProgram) (pace body : ℕ) where
       → Match ok' shapes s hs fs
   match_among ok ok' shapes s [] [] g m = m
   match_among ok ok' shapes s (h ∷ hs) (f ∷ fs) g
-      m = ((m.0.0, how_among ok ok' shapes s h.activation h.abnormal h.filter f.filter g m.0.1),
-      match_among ok ok' shapes s hs fs g m.1)
+      m = (
+        (m.0.0, how_among ok ok' shapes s h.activation h.abnormal h.filter f.filter g m.0.1),
+        match_among ok ok' shapes s hs fs g m.1,
+      )
   match_among ok ok' shapes s [] (f ∷ fs) g m = absurd m
   match_among ok ok' shapes s (h ∷ hs) [] g m = absurd m
 
@@ -218,10 +222,10 @@ module _ (program : Program) (linear : LinearProgram) (pace body : ℕ) where
     shape = s.shape;
     code = code_kept ok shapes z names.exception context site.exception base later s.shape k s.code;
     flag = flag_kept ok shapes z names.abnormal context.activation context.abnormal base later
-      s.shape k s.flag;
+        s.shape k s.flag;
     informed = s.informed;
     handlers = match_kept ok shapes base later context.handlers (found linear pace context site) k
-      s.handlers;
+        s.handlers;
   }
 
   pub env_among : (ok ok' : Places) (names : Names) (info : Bool) (z : Shape) (shapes : List Shape)
@@ -233,5 +237,5 @@ module _ (program : Program) (linear : LinearProgram) (pace body : ℕ) where
     flag = flag_among ok ok' z names.abnormal context.activation context.abnormal base f s.flag;
     informed = s.informed;
     handlers = match_among ok ok' shapes base context.handlers (found linear pace context site) f
-      s.handlers;
+        s.handlers;
   }

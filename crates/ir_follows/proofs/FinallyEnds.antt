@@ -77,18 +77,18 @@ module _ (program : Program) (linear : LinearProgram) (pace body : ℕ) where
   unfolding with_some
   run_is k names flag held below next c f =
       ap (λ o. with_some c.events (flag_of o)
-        (λ x. deeper 2 held c.store c.events (next (begin_finally (k - 1) x flag held below c))))
-        f.1
+      (λ x. deeper 2 held c.store c.events (next (begin_finally (k - 1) x flag held below c))))
+      f.1
       ∙ ap (λ kd. with_some c.events (flag_in kd)
-        (λ x. deeper 2 held c.store c.events (next (begin_finally (k - 1) x flag held below c))))
-        f.2
+      (λ x. deeper 2 held c.store c.events (next (begin_finally (k - 1) x flag held below c))))
+      f.2
 
   module _ (n : ℕ) (bih : BodyRuns program linear pace body n) (k : ℕ) (last : Statements)
       (begin end hi : ℕ) (forth : begin ≤ end + 1) (le : end + 1 < hi) (scope : LoweringContext)
       (z : Shape) (shapes : List Shape) (context : Context) (site : Site) (base : Store)
       (placed : FinallyPlaced program linear pace body z.own scope.names k last)
-        (standing : Surroundings program linear pace body scope.names z shapes context site base
-        (1 + statements_notes last)) (light : 1 + statements_weight last + body + 4 ≤ pace) where
+      (standing : Surroundings program linear pace body scope.names z shapes context site base
+      (1 + statements_notes last)) (light : 1 + statements_weight last + body + 4 ≤ pace) where
     abbrev R : Region
     R = region begin (end + 1) (regions.Finally (k - 1))
 
@@ -102,135 +102,143 @@ module _ (program : Program) (linear : LinearProgram) (pace body : ℕ) where
     y = 1 + statements_weight last
 
     abbrev begun : Bool → ℕ → List Item → (pc : ℕ) (temps : List ℕ) (st : State) (store : Store)
-      → Part
+        → Part
     begun flag held below pc temps st store next = deeper 2 held store st.events
-      (next (begin_finally (k - 1) scope.names.free flag held below
-      (conf context site pc temps st store)))
+        (next (begin_finally (k - 1) scope.names.free flag held below
+        (conf context site pc temps st store)))
 
     -- it runs for an unwinding, and then that continues
     unwinds_on : (s : Part) (from : State) (x pc : ℕ) (temps : List ℕ) (to : machine.Target)
-      (how : Result) (st : State) (store : Store) (w : Ways) → st.steps_left ≤ n → st.held ≡ to.held
-      → Kf st store → Outward to R (length site.below)
+        (how : Result) (st : State) (store : Store) (w : Ways) → st.steps_left ≤ n → st.held ≡ to.held
+        → Kf st store → Outward to R (length site.below)
         → Reaches linear pace s (unwound linear pace context inside to temps st store pc) from st 0
-          0 x
+        0 x
         → ((mid : State) (store' : Store) → mid.steps_left ≤ st.steps_left → Kf mid store'
         → mid.held ≡ to.held → Claim linear pace
-          (unwound linear pace context site to temps mid store' pc) mid (price 1 0 0 0)
-          (record w { context = context; site = site; kept = Kf }) (Gives how mid))
+        (unwound linear pace context site to temps mid store' pc) mid (price 1 0 0 0)
+        (record w { context = context; site = site; kept = Kf }) (Gives how mid))
         → Claim linear pace s from (price 1 0 (x + y) (x + y))
-          (record w { context = context; site = site; kept = Kf })
-          (and_then (within program n (RunFinally k last true) context st) (λ st. Gives how st))
+        (record w { context = context; site = site; kept = Kf })
+        (and_then (within program n (RunFinally k last true) context st) (λ st. Gives how st))
     unwinds_on s from x pc temps to how st store w steps held kept o p go =
         let below : List Item = Unwinds site.regions to ∷ Waits (frame_of context site pc temps)
-          ∷ site.below in
+        ∷ site.below in
         let s' : Part = begun true to.held below pc temps st store in
         let w' : Ways = record w { context = context; site = site; kept = Kf } in
         let isf : IsFunclet program linear pace body (k - 1) (finally_site (k - 1) below to.held)
-          context site pc temps = record { named = refl; bare = refl; same_found = refl;
-          onward = λ next target st store. refl } in
+        context site pc temps = record {
+          named = refl;
+          bare = refl;
+          same_found = refl;
+          onward = λ next target st store. refl;
+        } in
         after linear pace s s' from st 0 0 x (price 1 0 y y) (price 1 0 (x + y) (x + y)) w'
-          (and_then (within program n (RunFinally k last true) context st) (λ st. Gives how st))
-          (omega arith, omega arith, omega arith)
+        (and_then (within program n (RunFinally k last true) context st) (λ st. Gives how st))
+        (omega arith, omega arith, omega arith)
         (onto linear pace s (unwound linear pace context inside to temps st store pc) s' from st 0 0
-          x
+        x
         (λ j. starts linear (exec linear j) to
-          (λ store. unwind linear (exec linear j) (target_past site.body to) site.below None
-          st.events store) begin (end + 1) (k - 1) site.regions
-          (conf context site pc temps st store) forth o
+        (λ store. unwind linear (exec linear j) (target_past site.body to) site.below None
+        st.events store) begin (end + 1) (k - 1) site.regions
+        (conf context site pc temps st store) forth o
         ∙ run_is k scope.names true to.held below (exec linear j)
-          (conf context site pc temps st store) placed.funclet) p)
+        (conf context site pc temps st store) placed.funclet) p)
         (then_held linear pace s' (λ mid store'. unwound linear pace context site to temps mid
-          store' pc) to.held w' st (price 0 0 y y) (price 1 0 0 0) (price 1 0 y y)
-          (within program n (RunFinally k last true) context st) (λ st. Gives how st)
+        store' pc) to.held w' st (price 0 0 y y) (price 1 0 0 0) (price 1 0 y y)
+        (within program n (RunFinally k last true) context st) (λ st. Gives how st)
         (joins (omega arith) (omega arith) (omega arith) (omega arith))
         (bih.finally_run k last true to.held below scope.names z shapes context site base pc temps
-          st store steps light placed isf standing kept held) go)
+        st store steps light placed isf standing kept held) go)
 
     -- it runs at a body's normal end
     called : (st : State) (store : Store) → st.steps_left ≤ n
-      → HasAt linear site.body site.regions (end + 1) (CallFinally (k - 1) ∷ Separator ∷ [])
-      → Kf st store → st.held ≡ site.held
+        → HasAt linear site.body site.regions (end + 1) (CallFinally (k - 1) ∷ Separator ∷ [])
+        → Kf st store → st.held ≡ site.held
         → Claim linear pace (at (conf context site (end + 1) [] st store)) st (price 2 0 y y)
-          (statement_ways program linear pace body scope context site Kf (end + 1 + 1 + 1))
-          (within program n (RunFinally k last false) context st)
+        (statement_ways program linear pace body scope context site Kf (end + 1 + 1 + 1))
+        (within program n (RunFinally k last false) context st)
     called st store steps has kept held =
         let pc = end + 1 in
         let below : List Item = Waits (frame_of context site pc []) ∷ site.below in
         let s' : Part = begun false site.held below pc [] st store in
         let w = statement_ways program linear pace body scope context site Kf (end + 1 + 1 + 1) in
         let walked : handlers linear below None
-          ≡ found linear pace context site = ap
-            (λ rs. handlers_in rs context.activation (length site.below)
-          ++ handlers linear site.below None) has.1 in
+        ≡ found linear pace context site = ap
+        (λ rs. handlers_in rs context.activation (length site.below)
+        ++ handlers linear site.below None) has.1 in
         let isf : IsFunclet program linear pace body (k - 1) (finally_site (k - 1) below site.held)
-          context site pc [] = record { named = refl; bare = refl; same_found = walked;
+        context site pc [] = record {
+          named = refl;
+          bare = refl;
+          same_found = walked;
           onward = λ next target st store. unwound_is program linear pace body target context site
-          pc [] st store next has.1 } in
+              pc [] st store next has.1;
+        } in
         first linear pace (conf context site pc [] st store) s' st st (price 1 0 y y)
-          (price 2 0 y y) w (within program n (RunFinally k last false) context st)
-          (omega arith, omega arith, omega arith) refl refl (prefix_self linear pace st.events)
+        (price 2 0 y y) w (within program n (RunFinally k last false) context st)
+        (omega arith, omega arith, omega arith) refl refl (prefix_self linear pace st.events)
         (λ j. fetch linear pace (conf context site pc [] st store) (CallFinally (k - 1)) j has.0
-          ∙ run_is k scope.names false site.held below (exec linear j)
-            (conf context site pc [] st store) placed.funclet)
+        ∙ run_is k scope.names false site.held below (exec linear j)
+        (conf context site pc [] st store) placed.funclet)
         (plain_then s' (λ st store. at (conf context site (pc + 1) [] st store)) w st
-          (price 0 0 y y) (price 1 0 0 0) (price 1 0 y y)
-          (within program n (RunFinally k last false) context st)
-          (joins (omega arith) (omega arith) (omega arith) (omega arith))
+        (price 0 0 y y) (price 1 0 0 0) (price 1 0 y y)
+        (within program n (RunFinally k last false) context st)
+        (joins (omega arith) (omega arith) (omega arith) (omega arith))
         (bih.finally_run k last false site.held below scope.names z shapes context site base pc []
-          st store steps light placed isf standing kept held)
+        st store steps light placed isf standing kept held)
         (λ mid store' low kept' held'. record {
           store = store';
           fits = kept';
           same = held';
           reaches = stepped linear pace (conf context site (pc + 1) [] mid store')
-            (at (conf context site (end + 1 + 1 + 1) [] mid store')) mid mid 1 0 0 refl
-            (omega arith) (omega arith) refl (prefix_self linear pace mid.events)
+              (at (conf context site (end + 1 + 1 + 1) [] mid store')) mid mid 1 0 0 refl
+              (omega arith) (omega arith) refl (prefix_self linear pace mid.events)
               (λ j. fetch linear pace (conf context site (pc + 1) [] mid store') Separator j
-                has.2.0);
+              has.2.0);
         }))
 
     -- the separator after the body, and then the block
     ended_body : (st : State) (store : Store) → st.steps_left ≤ n
-      → HasAt linear site.body (R ∷ site.regions) end (Separator ∷ [])
-      → HasAt linear site.body site.regions (end + 1) (CallFinally (k - 1) ∷ Separator ∷ [])
-      → Kf st store → st.held ≡ site.held
+        → HasAt linear site.body (R ∷ site.regions) end (Separator ∷ [])
+        → HasAt linear site.body site.regions (end + 1) (CallFinally (k - 1) ∷ Separator ∷ [])
+        → Kf st store → st.held ≡ site.held
         → Claim linear pace (at (conf context site end [] st store)) st (price 3 0 y y)
-          (statement_ways program linear pace body scope context site Kf (end + 1 + 1 + 1))
-          (within program n (RunFinally k last false) context st)
+        (statement_ways program linear pace body scope context site Kf (end + 1 + 1 + 1))
+        (within program n (RunFinally k last false) context st)
     ended_body st store steps parted has kept held =
         first linear pace (conf context site end [] st store)
-          (at (conf context site (end + 1) [] st store)) st st (price 2 0 y y) (price 3 0 y y)
-          (statement_ways program linear pace body scope context site Kf (end + 1 + 1 + 1))
-          (within program n (RunFinally k last false) context st)
+        (at (conf context site (end + 1) [] st store)) st st (price 2 0 y y) (price 3 0 y y)
+        (statement_ways program linear pace body scope context site Kf (end + 1 + 1 + 1))
+        (within program n (RunFinally k last false) context st)
         (omega arith, omega arith, omega arith) refl refl (prefix_self linear pace st.events)
-          (λ j. fetch linear pace (conf context site end [] st store) Separator j parted.0)
-          (called st store steps has kept held)
+        (λ j. fetch linear pace (conf context site end [] st store) Separator j parted.0)
+        (called st store steps has kept held)
 
     returns : (label v : ℕ) (mid : State) (store' : Store) (j : ℕ)
-      → instruction_in (machine.body_of linear site.body) label
-      ≡ Some (instructions.Return (Temporary 0))
+        → instruction_in (machine.body_of linear site.body) label
+        ≡ Some (instructions.Return (Temporary 0))
         → exec linear (suc j) (conf context site label (v ∷ []) mid store')
         ≡ end_body linear (exec linear j) site.body v (conf context site label (v ∷ []) mid store')
     unfolding with_some
     returns label v mid store' j h = fetch linear pace (conf context site label (v ∷ []) mid store')
-      (instructions.Return (Temporary 0)) j h
+        (instructions.Return (Temporary 0)) j h
 
     by_exit : (s : Part) (from : State) (x : ℕ) (way : jumps.Way) (v done : ℕ) (st : State)
-      → st.steps_left ≤ n → ExitFits linear site.body site.regions hi way
+        → st.steps_left ≤ n → ExitFits linear site.body site.regions hi way
         → Arrives linear pace s from (price 0 0 x x) Kf site.held st
-          (exit_way program linear pace body context inside (scopes.unwound way) v)
+        (exit_way program linear pace body context inside (scopes.unwound way) v)
         → Claim linear pace s from (price 1 0 (x + y) (x + y))
-          (statement_ways program linear pace body (record scope { exit = way }) context site Kf
-          done) (and_then (within program n (RunFinally k last true) context st)
-          (λ st. Gives (Returned v) st))
+        (statement_ways program linear pace body (record scope { exit = way }) context site Kf
+        done) (and_then (within program n (RunFinally k last true) context st)
+        (λ st. Gives (Returned v) st))
     by_exit s from x Nowhere v done st steps f p = absurd p
     by_exit s from x (Jumps label) v done st steps f p =
         let to = own_target site label in
         let w = statement_ways program linear pace body (record scope { exit = Jumps label })
-          context site Kf done in
+        context site Kf done in
         let far = f.0 in
         unwinds_on s from x p.0 (v ∷ []) to (Returned v) st p.1.store w steps p.1.same p.1.fits
-          (inr (inl (omega arith))) p.1.reaches
+        (inr (inl (omega arith))) p.1.reaches
         (λ mid store' low kept held. (
           label,
           record {
@@ -239,152 +247,159 @@ module _ (program : Program) (linear : LinearProgram) (pace body : ℕ) where
             same = held;
             reaches =
                 reaches_after linear pace (unwound linear pace context site to (v ∷ []) mid store'
-                  p.0) (at (conf context site label (v ∷ []) mid store'))
-                  (λ next. end_body linear next site.body v
-                  (conf context site label (v ∷ []) mid store')) mid mid mid 0 0 0 1 0 0 1 0 0
-                  (omega arith) (omega arith)
+                p.0) (at (conf context site label (v ∷ []) mid store'))
+                (λ next. end_body linear next site.body v
+                (conf context site label (v ∷ []) mid store')) mid mid mid 0 0 0 1 0 0 1 0 0
+                (omega arith) (omega arith)
                 (still linear pace (unwound linear pace context site to (v ∷ []) mid store' p.0)
-                  (at (conf context site label (v ∷ []) mid store')) mid mid 0 0 0 refl
-                  (omega arith) (prefix_self linear pace mid.events)
+                (at (conf context site label (v ∷ []) mid store')) mid mid 0 0 0 refl
+                (omega arith) (prefix_self linear pace mid.events)
                 (λ j. comes_there linear (exec linear j) to
-                  (λ store. unwind linear (exec linear j) (target_past site.body to) site.below None
-                  mid.events store) site.regions (conf context site p.0 (v ∷ []) mid store') refl
-                  f.1))
+                (λ store. unwind linear (exec linear j) (target_past site.body to) site.below None
+                mid.events store) site.regions (conf context site p.0 (v ∷ []) mid store') refl
+                f.1))
                 (stepped linear pace (conf context site label (v ∷ []) mid store')
-                  (λ next. end_body linear next site.body v
-                  (conf context site label (v ∷ []) mid store')) mid mid 1 0 0 refl (omega arith)
-                  (omega arith) refl (prefix_self linear pace mid.events)
+                (λ next. end_body linear next site.body v
+                (conf context site label (v ∷ []) mid store')) mid mid 1 0 0 refl (omega arith)
+                (omega arith) refl (prefix_self linear pace mid.events)
                 (λ j. returns label v mid store' j f.2));
           },
         ))
     by_exit s from x (UnwindsTo label) v done st steps f p =
         let to = own_target site label in
         let w = statement_ways program linear pace body (record scope { exit = UnwindsTo label })
-          context site Kf done in
+        context site Kf done in
         unwinds_on s from x p.0 (v ∷ []) to (Returned v) st p.1.store w steps p.1.same p.1.fits
-          (inr (inl (omega arith))) p.1.reaches
+        (inr (inl (omega arith))) p.1.reaches
         (λ mid store' low kept held. (
           p.0,
-          record { store = store'; fits = kept; same = held;
+          record {
+            store = store';
+            fits = kept;
+            same = held;
             reaches = still linear pace (unwound linear pace context site to (v ∷ []) mid store'
-            p.0) (unwound linear pace context site to (v ∷ []) mid store' p.0) mid mid 1 0 0 refl
-            (omega arith) (prefix_self linear pace mid.events) (λ j. refl) },
+                p.0) (unwound linear pace context site to (v ∷ []) mid store' p.0) mid mid 1 0 0 refl
+                (omega arith) (prefix_self linear pace mid.events) (λ j. refl);
+          },
         ))
 
     -- what leads to a place of a loop
     by_jump : (s : Part) (from : State) (x : ℕ) (way : jumps.Way) (how : Result) (st : State)
-      (w : Ways) → st.steps_left ≤ n → JumpFits site.regions hi way
+        (w : Ways) → st.steps_left ≤ n → JumpFits site.regions hi way
         → Arrives linear pace s from (price 0 0 x x) Kf site.held st
-          (jump_way program linear pace body context inside (scopes.unwound way))
+        (jump_way program linear pace body context inside (scopes.unwound way))
         → ((p : Part) (mid : State) → Arrives linear pace p mid (price 1 0 0 0) Kf site.held mid
-          (jump_way program linear pace body context site way)
+        (jump_way program linear pace body context site way)
         → Claim linear pace p mid (price 1 0 0 0)
-          (record w { context = context; site = site; kept = Kf }) (Gives how mid))
+        (record w { context = context; site = site; kept = Kf }) (Gives how mid))
         → Claim linear pace s from (price 1 0 (x + y) (x + y))
-          (record w { context = context; site = site; kept = Kf })
-          (and_then (within program n (RunFinally k last true) context st) (λ st. Gives how st))
+        (record w { context = context; site = site; kept = Kf })
+        (and_then (within program n (RunFinally k last true) context st) (λ st. Gives how st))
     by_jump s from x Nowhere how st w steps f p go = absurd p
     by_jump s from x (Jumps label) how st w steps f p go =
         let to = own_target site label in
         let far = f.0 in
         unwinds_on s from x p.0 [] to how st p.1.store w steps p.1.same p.1.fits
-          (inr (inl (omega arith))) p.1.reaches
+        (inr (inl (omega arith))) p.1.reaches
         (λ mid store' low kept held. go (unwound linear pace context site to [] mid store' p.0) mid
-          (record {
+        (record {
           store = store';
           fits = kept;
           same = held;
           reaches = still linear pace (unwound linear pace context site to [] mid store' p.0)
-            (at (conf context site label [] mid store')) mid mid 1 0 0 refl (omega arith)
-            (prefix_self linear pace mid.events)
+              (at (conf context site label [] mid store')) mid mid 1 0 0 refl (omega arith)
+              (prefix_self linear pace mid.events)
               (λ j. comes_there linear (exec linear j) to
-                (λ store. unwind linear (exec linear j) (target_past site.body to) site.below None
-                mid.events store) site.regions (conf context site p.0 [] mid store') refl f.1);
+              (λ store. unwind linear (exec linear j) (target_past site.body to) site.below None
+              mid.events store) site.regions (conf context site p.0 [] mid store') refl f.1);
         }))
     by_jump s from x (UnwindsTo label) how st w steps f p go =
         let to = own_target site label in
         unwinds_on s from x p.0 [] to how st p.1.store w steps p.1.same p.1.fits
-          (inr (inl (omega arith))) p.1.reaches
-        (λ mid store' low kept held. go (unwound linear pace context site to [] mid store' p.0) mid
-          (
+        (inr (inl (omega arith))) p.1.reaches
+        (λ mid store' low kept held. go (unwound linear pace context site to [] mid store' p.0) mid (
           p.0,
-          record { store = store'; fits = kept; same = held;
+          record {
+            store = store';
+            fits = kept;
+            same = held;
             reaches = still linear pace (unwound linear pace context site to [] mid store' p.0)
-            (unwound linear pace context site to [] mid store' p.0) mid mid 1 0 0 refl (omega arith)
-            (prefix_self linear pace mid.events) (λ j. refl) },
+                (unwound linear pace context site to [] mid store' p.0) mid mid 1 0 0 refl (omega arith)
+                (prefix_self linear pace mid.events) (λ j. refl);
+          },
         ))
 
     -- an arrival has no more steps
     lower : (s : Part) (from : State) (x : ℕ) (way : Way) (st : State) → from.steps_left ≤ n
-      → Arrives linear pace s from (price 0 0 x x) Kf site.held st way → st.steps_left ≤ n
+        → Arrives linear pace s from (price 0 0 x x) Kf site.held st way → st.steps_left ≤ n
     lower s from x Never st le p = absurd p
     lower s from x (To t) st le p = let low = p.reaches.low in omega arith
     lower s from x (Out t) st le p = let low = p.1.reaches.low in omega arith
 
     -- the end of a `__try` with a `__finally`
     pub finally_ends : (lo x : ℕ) (s : Part) (from : State) (o : Outcome) → from.steps_left ≤ n
-      → Inner linear site.body scope site.regions lo hi
+        → Inner linear site.body scope site.regions lo hi
         → HasAt linear site.body (R ∷ site.regions) end (Separator ∷ [])
         → HasAt linear site.body site.regions (end + 1) (CallFinally (k - 1) ∷ Separator ∷ [])
         → Claim linear pace s from (price 0 0 x x)
-          (statement_ways program linear pace body (in_guarded end scope) context inside Kf end) o
+        (statement_ways program linear pace body (in_guarded end scope) context inside Kf end) o
         → Claim linear pace s from (price 3 0 (x + y) (x + y))
-          (statement_ways program linear pace body scope context site Kf (end + 1 + 1 + 1))
-          (finally_after o (λ flag st. within program n (RunFinally k last flag) context st))
+        (statement_ways program linear pace body scope context site Kf (end + 1 + 1 + 1))
+        (finally_after o (λ flag st. within program n (RunFinally k last flag) context st))
     unfolding finally_after
     finally_ends lo x s from (Gives (Value v) st) steps fits parted has p = absurd p
     finally_ends lo x s from (Gives Normal st) steps fits parted has p =
         let low = p.reaches.low in
         after linear pace s (at (conf context site end [] st p.store)) from st 0 0 x (price 3 0 y y)
-          (price 3 0 (x + y) (x + y)) (statement_ways program linear pace body scope context site Kf
-          (end + 1 + 1 + 1)) (within program n (RunFinally k last false) context st)
-          (omega arith, omega arith, omega arith) p.reaches
+        (price 3 0 (x + y) (x + y)) (statement_ways program linear pace body scope context site Kf
+        (end + 1 + 1 + 1)) (within program n (RunFinally k last false) context st)
+        (omega arith, omega arith, omega arith) p.reaches
         (ended_body st p.store (omega arith) parted has p.fits p.same)
     finally_ends lo x s from (Gives LeftTry st) steps fits parted has p =
         let low = p.reaches.low in
         after linear pace s (at (conf context site end [] st p.store)) from st 0 0 x (price 3 0 y y)
-          (price 3 0 (x + y) (x + y)) (statement_ways program linear pace body scope context site Kf
-          (end + 1 + 1 + 1)) (within program n (RunFinally k last false) context st)
-          (omega arith, omega arith, omega arith) p.reaches
+        (price 3 0 (x + y) (x + y)) (statement_ways program linear pace body scope context site Kf
+        (end + 1 + 1 + 1)) (within program n (RunFinally k last false) context st)
+        (omega arith, omega arith, omega arith) p.reaches
         (ended_body st p.store (omega arith) parted has p.fits p.same)
     finally_ends lo x s from (Gives (End (Some e)) st) steps fits parted has p = finishes_more
-      linear pace s from st 0 3 (Finished e st.events) (omega arith) p
+        linear pace s from st 0 3 (Finished e st.events) (omega arith) p
     finally_ends lo x s from (Gives (End None) st) steps fits parted has p = stops_more linear pace
-      s from st 0 0 x 3 0 (x + y) (omega arith) (omega arith) p
+        s from st 0 0 x 3 0 (x + y) (omega arith) (omega arith) p
     finally_ends lo x s from (Gives (Returned v) st) steps fits parted has p =
         more linear pace s from (price 1 0 (x + y) (x + y)) (price 3 0 (x + y) (x + y))
-          (statement_ways program linear pace body scope context site Kf (end + 1 + 1 + 1))
-          (and_then (within program n (RunFinally k last true) context st)
-          (λ st. Gives (Returned v) st)) (omega arith, omega arith, omega arith)
+        (statement_ways program linear pace body scope context site Kf (end + 1 + 1 + 1))
+        (and_then (within program n (RunFinally k last true) context st)
+        (λ st. Gives (Returned v) st)) (omega arith, omega arith, omega arith)
         (by_exit s from x scope.exit v (end + 1 + 1 + 1) st
-          (lower s from x (exit_way program linear pace body context inside
-          (scopes.unwound scope.exit) v) st steps p) fits.exit p)
+        (lower s from x (exit_way program linear pace body context inside
+        (scopes.unwound scope.exit) v) st steps p) fits.exit p)
     finally_ends lo x s from (Gives Broke st) steps fits parted has p =
         let w = statement_ways program linear pace body scope context site Kf (end + 1 + 1 + 1) in
         more linear pace s from (price 1 0 (x + y) (x + y)) (price 3 0 (x + y) (x + y)) w
-          (and_then (within program n (RunFinally k last true) context st) (λ st. Gives Broke st))
-          (omega arith, omega arith, omega arith)
+        (and_then (within program n (RunFinally k last true) context st) (λ st. Gives Broke st))
+        (omega arith, omega arith, omega arith)
         (by_jump s from x scope.loop_end Broke st w
-          (lower s from x (jump_way program linear pace body context inside
-          (scopes.unwound scope.loop_end)) st steps p) fits.loop_end p (λ t mid a. a))
+        (lower s from x (jump_way program linear pace body context inside
+        (scopes.unwound scope.loop_end)) st steps p) fits.loop_end p (λ t mid a. a))
     finally_ends lo x s from (Gives Continued st) steps fits parted has p =
         let w = statement_ways program linear pace body scope context site Kf (end + 1 + 1 + 1) in
         more linear pace s from (price 1 0 (x + y) (x + y)) (price 3 0 (x + y) (x + y)) w
-          (and_then (within program n (RunFinally k last true) context st)
-          (λ st. Gives Continued st)) (omega arith, omega arith, omega arith)
+        (and_then (within program n (RunFinally k last true) context st)
+        (λ st. Gives Continued st)) (omega arith, omega arith, omega arith)
         (by_jump s from x scope.loop_next Continued st w
-          (lower s from x (jump_way program linear pace body context inside
-          (scopes.unwound scope.loop_next)) st steps p) fits.loop_next p (λ t mid a. a))
+        (lower s from x (jump_way program linear pace body context inside
+        (scopes.unwound scope.loop_next)) st steps p) fits.loop_next p (λ t mid a. a))
     finally_ends lo x s from (Gives (Target level exc) st) steps fits parted has p =
         let to = target_of p.handler exc.code st.held in
         let low = p.reaches.low in
         let w = statement_ways program linear pace body scope context site Kf (end + 1 + 1 + 1) in
         more linear pace s from (price 1 0 (x + y) (x + y)) (price 3 0 (x + y) (x + y)) w
-          (and_then (within program n (RunFinally k last true) context st)
-          (λ st. Gives (Target level exc) st)) (omega arith, omega arith, omega arith)
+        (and_then (within program n (RunFinally k last true) context st)
+        (λ st. Gives (Target level exc) st)) (omega arith, omega arith, omega arith)
         (unwinds_on s from x p.pc p.temps to (Target level exc) st p.store w (omega arith) refl
-          p.fits (outward program linear pace body context site lo hi level p.handler exc.code
-          st.held R fits.around (omega arith) p.picked) p.reaches
+        p.fits (outward program linear pace body context site lo hi level p.handler exc.code
+        st.held R fits.around (omega arith) p.picked) p.reaches
         (λ mid store' low kept held. record {
           handler = p.handler;
           picked = p.picked;
@@ -393,8 +408,8 @@ module _ (program : Program) (linear : LinearProgram) (pace body : ℕ) where
           store = store';
           fits = kept;
           reaches = still linear pace (unwound linear pace context site to p.temps mid store' p.pc)
-            (unwound linear pace context site (target_of p.handler exc.code mid.held) p.temps mid
-            store' p.pc) mid mid 1 0 0 refl (omega arith) (prefix_self linear pace mid.events)
+              (unwound linear pace context site (target_of p.handler exc.code mid.held) p.temps mid
+              store' p.pc) mid mid 1 0 0 refl (omega arith) (prefix_self linear pace mid.events)
               (λ j. ap (λ h. unwound linear pace context site (target_of p.handler exc.code h)
-                p.temps mid store' p.pc (exec linear j)) (sym held));
+              p.temps mid store' p.pc (exec linear j)) (sym held));
         }))

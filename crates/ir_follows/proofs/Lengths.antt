@@ -61,17 +61,17 @@ mutual
       let x = expression_code names e d at in
       let y = expression_code names i (d + 1) (at + expression_size e) in
       appended x (y ++ _ ∷ []) (expression_size e) (expression_size i + 1)
-        (expression_length names e d at) (appended y (_ ∷ []) (expression_size i) 1
-        (expression_length names i (d + 1) (at + expression_size e)) refl)
+      (expression_length names e d at) (appended y (_ ∷ []) (expression_size i) 1
+      (expression_length names i (d + 1) (at + expression_size e)) refl)
 
   pub arguments_length : (names : Names) (es : Arguments) (d at : ℕ)
       → length (arguments_code names es d at) ≡ arguments_size es
   arguments_length names Done d at = refl
   arguments_length names (Next e es) d at =
       appended (expression_code names e d at)
-        (arguments_code names es (d + 1) (at + expression_size e)) (expression_size e)
-        (arguments_size es) (expression_length names e d at)
-        (arguments_length names es (d + 1) (at + expression_size e))
+      (arguments_code names es (d + 1) (at + expression_size e)) (expression_size e)
+      (arguments_size es) (expression_length names e d at)
+      (arguments_length names es (d + 1) (at + expression_size e))
 
   pub node_length : (names : Names) (n : Node) (d at : ℕ)
       → length (node_code names n d at) ≡ node_size n
@@ -82,81 +82,81 @@ mutual
       (locate_code names p d at) (locate_length names p d at)
   node_length names (nodes.Assign p e) d at =
       appended (locate_code names p d at) _ (locate_size p) (expression_size e + 1)
-        (locate_length names p d at)
+      (locate_length names p d at)
       (appended (expression_code names e (d + address_count p) (at + locate_size p)) (_ ∷ [])
-        (expression_size e) 1 (expression_length names e (d + address_count p) (at + locate_size p))
-        refl)
+      (expression_size e) 1 (expression_length names e (d + address_count p) (at + locate_size p))
+      refl)
   node_length names (nodes.CompoundAssign p before o e after) d at =
       let old = d + address_count p in
       let place = at + (locate_size p + (read_size p + conversion_size before)) in
       appended (locate_code names p d at) _ (locate_size p) _ (locate_length names p d at)
       (appended (read_code p d old) _ (read_size p) _ (read_length p d old)
       (appended (conversion_code before old) _ (conversion_size before) _
-        (conversion_length before old)
+      (conversion_length before old)
       (appended (expression_code names e (old + 1) place)
-        (_ ∷ (conversion_code after old ++ _ ∷ [])) (expression_size e)
-        (1 + (conversion_size after + 1)) (expression_length names e (old + 1) place)
+      (_ ∷ (conversion_code after old ++ _ ∷ [])) (expression_size e)
+      (1 + (conversion_size after + 1)) (expression_length names e (old + 1) place)
       (one_more (conversion_code after old ++ _ ∷ []) (conversion_size after + 1)
-        (appended (conversion_code after old) (_ ∷ []) (conversion_size after) 1
-        (conversion_length after old) refl)))))
+      (appended (conversion_code after old) (_ ∷ []) (conversion_size after) 1
+      (conversion_length after old) refl)))))
   node_length names (nodes.Increment m p before o n after) d at =
       let old = d + address_count p in
       let end = conversion_code after (old + 1) in
       let x = appended end (_ ∷ _ ∷ []) (conversion_size after) 2
-        (conversion_length after (old + 1)) refl in
+      (conversion_length after (old + 1)) refl in
       let y = appended (conversion_code before (old + 1)) (_ ∷ _ ∷ (end ++ _ ∷ _ ∷ []))
-        (conversion_size before) (2 + (conversion_size after + 2))
-        (conversion_length before (old + 1)) (two_more (end ++ _ ∷ _ ∷ [])
-        (conversion_size after + 2) x) in
+      (conversion_size before) (2 + (conversion_size after + 2))
+      (conversion_length before (old + 1)) (two_more (end ++ _ ∷ _ ∷ [])
+      (conversion_size after + 2) x) in
       appended (locate_code names p d at) _ (locate_size p) _ (locate_length names p d at)
       (appended (read_code p d old) _ (read_size p) _ (read_length p d old)
       (one_more (conversion_code before (old + 1) ++ (_ ∷ _ ∷ (end ++ _ ∷ _ ∷ [])))
-        (conversion_size before + (2 + (conversion_size after + 2))) y ∙ omega arith))
+      (conversion_size before + (2 + (conversion_size after + 2))) y ∙ omega arith))
   node_length names (nodes.Unary o e) d at = appended (expression_code names e d at)
       (unary_code o d) (expression_size e) (unary_size o) (expression_length names e d at)
       (unary_length o d)
   node_length names (nodes.Binary o e f) d at =
       appended (expression_code names e d at) _ (expression_size e) (expression_size f + 1)
-        (expression_length names e d at)
+      (expression_length names e d at)
       (appended (expression_code names f (d + 1) (at + expression_size e)) (_ ∷ [])
-        (expression_size f) 1 (expression_length names f (d + 1) (at + expression_size e)) refl)
+      (expression_size f) 1 (expression_length names f (d + 1) (at + expression_size e)) refl)
   node_length names (nodes.PointerDifference n e f) d at =
       appended (expression_code names e d at) _ (expression_size e) (expression_size f + 3)
-        (expression_length names e d at)
+      (expression_length names e d at)
       (appended (expression_code names f (d + 1) (at + expression_size e)) (_ ∷ _ ∷ _ ∷ [])
-        (expression_size f) 3 (expression_length names f (d + 1) (at + expression_size e)) refl)
+      (expression_size f) 3 (expression_length names f (d + 1) (at + expression_size e)) refl)
   node_length names (nodes.Not e) d at = appended (expression_code names e d at)
       (_ ∷ _ ∷ _ ∷ _ ∷ []) (expression_size e) 4 (expression_length names e d at) refl
   node_length names (nodes.And e f) d at =
       let second = at + expression_size e + 1 in
       let y = appended (expression_code names f d second) (_ ∷ _ ∷ _ ∷ _ ∷ []) (expression_size f) 4
-        (expression_length names f d second) refl in
+      (expression_length names f d second) refl in
       appended (expression_code names e d at) _ (expression_size e) (1 + (expression_size f + 4))
-        (expression_length names e d at) (one_more
-        (expression_code names f d second ++ (_ ∷ _ ∷ _ ∷ _ ∷ [])) (expression_size f + 4) y)
+      (expression_length names e d at) (one_more
+      (expression_code names f d second ++ (_ ∷ _ ∷ _ ∷ _ ∷ [])) (expression_size f + 4) y)
   node_length names (nodes.Or e f) d at =
       let second = at + expression_size e + 3 in
       let y = appended (expression_code names f d second) (_ ∷ _ ∷ _ ∷ _ ∷ []) (expression_size f) 4
-        (expression_length names f d second) refl in
+      (expression_length names f d second) refl in
       appended (expression_code names e d at) _ (expression_size e) (3 + (expression_size f + 4))
-        (expression_length names e d at) (three_more
-        (expression_code names f d second ++ (_ ∷ _ ∷ _ ∷ _ ∷ [])) (expression_size f + 4) y)
+      (expression_length names e d at) (three_more
+      (expression_code names f d second ++ (_ ∷ _ ∷ _ ∷ _ ∷ [])) (expression_size f + 4) y)
   node_length names (nodes.Conditional c e f) d at =
       let yes = at + expression_size c + 1 in
       let no = yes + expression_size e + 1 in
       let z = one_more (expression_code names f d no) (expression_size f)
-        (expression_length names f d no) in
+      (expression_length names f d no) in
       let y = appended (expression_code names e d yes) (_ ∷ expression_code names f d no)
-        (expression_size e) (1 + expression_size f) (expression_length names e d yes) z in
+      (expression_size e) (1 + expression_size f) (expression_length names e d yes) z in
       appended (expression_code names c d at) _ (expression_size c)
-        (1 + (expression_size e + (1 + expression_size f))) (expression_length names c d at)
+      (1 + (expression_size e + (1 + expression_size f))) (expression_length names c d at)
       (one_more (expression_code names e d yes ++ (_ ∷ expression_code names f d no))
-        (expression_size e + (1 + expression_size f)) y)
+      (expression_size e + (1 + expression_size f)) y)
   node_length names (nodes.Comma e f) d at =
       appended (expression_code names e d at) _ (expression_size e) (expression_size f + 1)
-        (expression_length names e d at)
+      (expression_length names e d at)
       (appended (expression_code names f (d + 1) (at + expression_size e)) (_ ∷ [])
-        (expression_size f) 1 (expression_length names f (d + 1) (at + expression_size e)) refl)
+      (expression_size f) 1 (expression_length names f (d + 1) (at + expression_size e)) refl)
   node_length names (nodes.Call f es) d at = appended (arguments_code names es d at) (_ ∷ [])
       (arguments_size es) 1 (arguments_length names es d at) refl
   node_length names (nodes.CallBuiltIn k es) d at = appended (arguments_code names es d at) (_ ∷ [])

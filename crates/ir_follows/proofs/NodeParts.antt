@@ -76,252 +76,256 @@ module _ (program : Program) (linear : LinearProgram) (pace body : ℕ)
 
     -- a place from which a claim is made
     abbrev pub From : (pc : ℕ) (temps : List ℕ) (st : State) (store : Store) (t x s o : ℕ)
-      (part : ℕ → State → Store → Part) → Outcome → Type 0
+        (part : ℕ → State → Store → Part) → Outcome → Type 0
     From pc temps st store t x s o part out = Claim linear pace
-      (at (conf context site pc temps st store)) st (price t x s o) (Wv part) out
+        (at (conf context site pc temps st store)) st (price t x s o) (Wv part) out
 
     pub from_at : (pc pc' : ℕ) (temps : List ℕ) (st : State) (store : Store) (t x s o : ℕ)
-      (part : ℕ → State → Store → Part) (out : Outcome) → pc ≡ pc'
-      → From pc temps st store t x s o part out → From pc' temps st store t x s o part out
+        (part : ℕ → State → Store → Part) (out : Outcome) → pc ≡ pc'
+        → From pc temps st store t x s o part out → From pc' temps st store t x s o part out
     from_at pc pc' temps st store t x s o part out e h = subst
-      (λ p. From p temps st store t x s o part out) e h
+        (λ p. From p temps st store t x s o part out) e h
 
     -- a subexpression, and what is done with its value
     pub sub_eval : (e : Expression) (pc : ℕ) (temps : List ℕ) (st : State) (store : Store)
-      (t x s o : ℕ) (part : ℕ → State → Store → Part) (k : ℕ → State → Outcome) → st.steps_left ≤ n
-      → expression_weight e + body + 4 ≤ pace → x + expression_weight e ≤ o
+        (t x s o : ℕ) (part : ℕ → State → Store → Part) (k : ℕ → State → Outcome) → st.steps_left ≤ n
+        → expression_weight e + body + 4 ≤ pace → x + expression_weight e ≤ o
         → ExpressionFits program z.own info e
         → HasAt linear site.body site.regions pc (expression_code names e (length temps) pc)
         → Kp st store → st.held ≡ site.held
         → ((v : ℕ) (mid : State) (after : Store) → mid.steps_left ≤ n → Kp mid after
         → mid.held ≡ site.held → From (pc + expression_size e) (temps ++ v ∷ []) mid after t
-          (x + expression_weight e) s o part (k v mid))
+        (x + expression_weight e) s o part (k v mid))
         → From pc temps st store t x s o part (with_value (within program n (Eval e) context st) k)
     sub_eval e pc temps st store t x s o part k steps light fit_o fits has kept held go =
         then_value linear pace _ (pushed context site (pc + expression_size e) temps) (Wv part) st
-          (price 0 0 (expression_weight e) (expression_weight e))
-          (price t (x + expression_weight e) s o) (price t x s o)
-          (within program n (Eval e) context st) k
+        (price 0 0 (expression_weight e) (expression_weight e))
+        (price t (x + expression_weight e) s o) (price t x s o)
+        (within program n (Eval e) context st) k
         (joins (omega arith) (omega arith) (omega arith) (omega arith))
-          (ih.eval e names info z shapes context site base pc temps st store steps light fits has
-          around kept held)
+        (ih.eval e names info z shapes context site base pc temps st store steps light fits has
+        around kept held)
         (λ v mid after lower kept held. go v mid after (omega arith) kept held)
 
     -- a target, and what is done with its address
     pub sub_target : (p : Lvalue) (pc : ℕ) (temps : List ℕ) (st : State) (store : Store)
-      (t x s o : ℕ) (part : ℕ → State → Store → Part) (k : ℕ → State → Outcome) → st.steps_left ≤ n
-      → 1 + lvalue_weight p + body + 4 ≤ pace → x + (1 + lvalue_weight p) ≤ o
+        (t x s o : ℕ) (part : ℕ → State → Store → Part) (k : ℕ → State → Outcome) → st.steps_left ≤ n
+        → 1 + lvalue_weight p + body + 4 ≤ pace → x + (1 + lvalue_weight p) ≤ o
         → LvalueFits program z.own info p → HasAt linear site.body site.regions pc
-          (locate_code names p (length temps) pc) → Kp st store → st.held ≡ site.held
+        (locate_code names p (length temps) pc) → Kp st store → st.held ≡ site.held
         → ((a : ℕ) (mid : State) (after : Store) → mid.steps_left ≤ n → Kp mid after
         → mid.held ≡ site.held → From (pc + locate_size p) (located p temps a) mid after t
-          (x + (1 + lvalue_weight p)) s o part (k a mid))
+        (x + (1 + lvalue_weight p)) s o part (k a mid))
         → From pc temps st store t x s o part
-          (with_value (within program n (Locate p) context st) k)
+        (with_value (within program n (Locate p) context st) k)
     sub_target p pc temps st store t x s o part k steps light fit_o fits has kept held go =
         then_value linear pace _ (with_address context site (pc + locate_size p) p temps) (Wv part)
-          st (price 0 0 (1 + lvalue_weight p) (1 + lvalue_weight p))
-          (price t (x + (1 + lvalue_weight p)) s o) (price t x s o)
-          (within program n (Locate p) context st) k
+        st (price 0 0 (1 + lvalue_weight p) (1 + lvalue_weight p))
+        (price t (x + (1 + lvalue_weight p)) s o) (price t x s o)
+        (within program n (Locate p) context st) k
         (joins (omega arith) (omega arith) (omega arith) (omega arith))
-          (ih.locate p names info z shapes context site base pc temps st store steps light fits has
-          around kept held)
+        (ih.locate p names info z shapes context site base pc temps st store steps light fits has
+        around kept held)
         (λ v mid after lower kept held. go v mid after (omega arith) kept held)
 
     -- a place that is no target
     pub sub_locate : (p : Lvalue) (pc : ℕ) (temps : List ℕ) (st : State) (store : Store)
-      (t x s o : ℕ) (part : ℕ → State → Store → Part) (k : ℕ → State → Outcome) → st.steps_left ≤ n
-      → lvalue_weight p + body + 4 ≤ pace → x + lvalue_weight p ≤ o
+        (t x s o : ℕ) (part : ℕ → State → Store → Part) (k : ℕ → State → Outcome) → st.steps_left ≤ n
+        → lvalue_weight p + body + 4 ≤ pace → x + lvalue_weight p ≤ o
         → LvalueFits program z.own info p → HasAt linear site.body site.regions pc
-          (locate_code names p (length temps) pc) → Kp st store → st.held ≡ site.held
+        (locate_code names p (length temps) pc) → Kp st store → st.held ≡ site.held
         → ((a : ℕ) (mid : State) (after : Store) → mid.steps_left ≤ n → Kp mid after
         → mid.held ≡ site.held → From (pc + locate_size p) (located p temps a) mid after t
-          (x + lvalue_weight p) s o part (k a mid))
+        (x + lvalue_weight p) s o part (k a mid))
         → From pc temps st store (1 + t) x s o part
-          (with_value (locate (within program n) p context st) k)
+        (with_value (locate (within program n) p context st) k)
     sub_locate p pc temps st store t x s o part k steps light fit_o fits has kept held go =
         then_value linear pace _ (with_address context site (pc + locate_size p) p temps) (Wv part)
-          st (price 1 0 (lvalue_weight p) (lvalue_weight p)) (price t (x + lvalue_weight p) s o)
-          (price (1 + t) x s o) (locate (within program n) p context st) k
+        st (price 1 0 (lvalue_weight p) (lvalue_weight p)) (price t (x + lvalue_weight p) s o)
+        (price (1 + t) x s o) (locate (within program n) p context st) k
         (joins (omega arith) (omega arith) (omega arith) (omega arith))
-          (locate_runs program linear pace body same_globals roomy n ih names info z shapes context
-          site base around p pc temps st store steps light fits has kept held)
+        (locate_runs program linear pace body same_globals roomy n ih names info z shapes context
+        site base around p pc temps st store steps light fits has kept held)
         (λ v mid after lower kept held. go v mid after (omega arith) kept held)
 
     pub sub_read : (p : Lvalue) (a address : ℕ) (ts : List ℕ) (pc : ℕ) (temps : List ℕ) (st : State)
-      (store : Store) (t x s o : ℕ) (part : ℕ → State → Store → Part) (k : ℕ → State → Outcome)
-      → st.steps_left ≤ n → x + 1 ≤ pace → x ≤ o
+        (store : Store) (t x s o : ℕ) (part : ℕ → State → Store → Part) (k : ℕ → State → Outcome)
+        → st.steps_left ≤ n → x + 1 ≤ pace → x ≤ o
         → LvalueFits program z.own info p → HasAt linear site.body site.regions pc
-          (read_code p address (length ts)) → ReadFits program linear pace body same_globals roomy n
-          ih names info z shapes context site base around p temps address a ts → Kp st store
+        (read_code p address (length ts)) → ReadFits program linear pace body same_globals roomy n
+        ih names info z shapes context site base around p temps address a ts → Kp st store
         → st.held ≡ site.held
         → ((v : ℕ) (mid : State) (after : Store) → mid.steps_left ≤ n → Kp mid after
         → mid.held ≡ site.held → From (pc + read_size p) (ts ++ v ∷ []) mid after t 0 s o part
-          (k v mid))
+        (k v mid))
         → From pc temps st store (2 + t) x s o part
-          (with_value (read program (within program n) p a context st) k)
+        (with_value (read program (within program n) p a context st) k)
     sub_read p a address ts pc temps st store t x s o part k steps le fit_o fits has r kept held
-      go =
+        go =
         then_value linear pace _ (pushed context site (pc + read_size p) ts) (Wv part) st
-          (price 2 x 0 x) (price t 0 s o) (price (2 + t) x s o)
-          (read program (within program n) p a context st) k
+        (price 2 x 0 x) (price t 0 s o) (price (2 + t) x s o)
+        (read program (within program n) p a context st) k
         (joins (omega arith) (omega arith) (omega arith) (omega arith))
-          (read_runs program linear pace body same_globals roomy n ih names info z shapes context
-          site base around p a address ts pc temps st store x steps le fits has r kept held)
+        (read_runs program linear pace body same_globals roomy n ih names info z shapes context
+        site base around p a address ts pc temps st store x steps le fits has r kept held)
         (λ v mid after lower kept held. go v mid after (omega arith) kept held)
 
     pub sub_operate : (op : Operation) (x' y to left right a b : ℕ) (result : ℕ → List ℕ) (pc : ℕ)
-      (temps : List ℕ) (st : State) (store : Store) (t x s o : ℕ) (part : ℕ → State → Store → Part)
-      (k : ℕ → State → Outcome)
+        (temps : List ℕ) (st : State) (store : Store) (t x s o : ℕ) (part : ℕ → State → Store → Part)
+        (k : ℕ → State → Outcome)
         → is_constant op ≡ false → st.steps_left ≤ n → x + 1 ≤ pace → x ≤ o
         → HasAt linear site.body site.regions pc
-          (Compute (Temporary to) op (Temporary left) (Temporary right) ∷ [])
+        (Compute (Temporary to) op (Temporary left) (Temporary right) ∷ [])
         → Operands temps to left right a b result
         → SameOperation' program linear pace body op x' y a b → Kp st store → st.held ≡ site.held
         → ((v : ℕ) (mid : State) (after : Store) → mid.steps_left ≤ n → Kp mid after
         → mid.held ≡ site.held → From (pc + 1) (result v) mid after t 0 s o part (k v mid))
         → From pc temps st store (1 + t) x s o part
-          (with_value (operate program (within program n) op x' y context st) k)
+        (with_value (operate program (within program n) op x' y context st) k)
     sub_operate op x' y to left right a b result pc temps st store t x s o part k c steps le fit_o
-      has r alike kept held go =
+        has r alike kept held go =
         then_value linear pace _ (λ v st store. at (conf context site (pc + 1) (result v) st store))
-          (Wv part) st (price 1 x 0 x) (price t 0 s o) (price (1 + t) x s o)
-          (operate program (within program n) op x' y context st) k
+        (Wv part) st (price 1 x 0 x) (price t 0 s o) (price (1 + t) x s o)
+        (operate program (within program n) op x' y context st) k
         (joins (omega arith) (omega arith) (omega arith) (omega arith))
-          (operate_runs program linear pace body same_globals roomy n ih names info z shapes context
-          site base around op x' y to left right a b result pc temps st store x c steps le has r
-          alike kept held)
+        (operate_runs program linear pace body same_globals roomy n ih names info z shapes context
+        site base around op x' y to left right a b result pc temps st store x c steps le has r
+        alike kept held)
         (λ v mid after lower kept held. go v mid after (omega arith) kept held)
 
     -- a turn that changes temporaries alone
     pub turn : (pc pc' : ℕ) (temps temps' : List ℕ) (st : State) (store : Store) (t x s o : ℕ)
-      (part : ℕ → State → Store → Part) (out : Outcome)
+        (part : ℕ → State → Store → Part) (out : Outcome)
         → ((k : ℕ) → exec linear (suc k) (conf context site pc temps st store)
         ≡ exec linear k (conf context site pc' temps' st store))
         → From pc' temps' st store t x s o part out → From pc temps st store (1 + t) x s o part out
     turn pc pc' temps temps' st store t x s o part out h q =
         first linear pace (conf context site pc temps st store)
-          (at (conf context site pc' temps' st store)) st st (price t x s o) (price (1 + t) x s o)
-          (Wv part) out (omega arith, omega arith, omega arith) refl refl
-          (prefix_self linear pace st.events) h q
+        (at (conf context site pc' temps' st store)) st st (price t x s o) (price (1 + t) x s o)
+        (Wv part) out (omega arith, omega arith, omega arith) refl refl
+        (prefix_self linear pace st.events) h q
 
     -- the value is there
     pub here_value : (pc : ℕ) (temps : List ℕ) (v : ℕ) (st : State) (store : Store) (t x s o : ℕ)
-      → x ≤ s → Kp st store → st.held ≡ site.held
-      → From pc (temps ++ v ∷ []) st store t x s o (pushed context site pc temps)
+        → x ≤ s → Kp st store → st.held ≡ site.held
+        → From pc (temps ++ v ∷ []) st store t x s o (pushed context site pc temps)
         (Gives (Value v) st)
     here_value pc temps v st store t x s o le kept held =
-        record { store = store; fits = kept; same = held;
+        record {
+          store = store;
+          fits = kept;
+          same = held;
           reaches = still linear pace (at (conf context site pc (temps ++ v ∷ []) st store))
-          (at (conf context site pc (temps ++ v ∷ []) st store)) st st t x s refl le
-          (prefix_self linear pace st.events) (λ k. refl) }
+              (at (conf context site pc (temps ++ v ∷ []) st store)) st st t x s refl le
+              (prefix_self linear pace st.events) (λ k. refl);
+        }
 
     pub here_other : (pc pc' : ℕ) (temps : List ℕ) (v : ℕ) (st : State) (store : Store)
-      (t x s o : ℕ) → pc ≡ pc' → x ≤ s → Kp st store → st.held ≡ site.held
-      → From pc (temps ++ v ∷ []) st store t x s o (pushed context site pc' temps)
+        (t x s o : ℕ) → pc ≡ pc' → x ≤ s → Kp st store → st.held ≡ site.held
+        → From pc (temps ++ v ∷ []) st store t x s o (pushed context site pc' temps)
         (Gives (Value v) st)
     here_other pc pc' temps v st store t x s o e le kept held =
         subst (λ p. From pc (temps ++ v ∷ []) st store t x s o (pushed context site p temps)
-          (Gives (Value v) st)) e (here_value pc temps v st store t x s o le kept held)
+        (Gives (Value v) st)) e (here_value pc temps v st store t x s o le kept held)
 
     -- ---- conversions
 
     constant_low : (k to : ℕ) (result : List ℕ) (pc : ℕ) (temps : List ℕ) (st : State)
-      (store : Store) (j : ℕ) → HasAt linear site.body site.regions pc (constant to k ∷ [])
-      → with_temporary temps to (low W64 k) ≡ Some result
+        (store : Store) (j : ℕ) → HasAt linear site.body site.regions pc (constant to k ∷ [])
+        → with_temporary temps to (low W64 k) ≡ Some result
         → exec linear (suc j) (conf context site pc temps st store)
         ≡ exec linear j (conf context site (pc + 1) result st store)
     unfolding with_some
     constant_low k to result pc temps st store j has h =
         fetch linear pace (conf context site pc temps st store) (constant to k) j has.0
-          ∙ computed_gives linear pace context site to pc temps result st store (low W64 k)
-            store.memory (exec linear j) h
+        ∙ computed_gives linear pace context site to pc temps result st store (low W64 k)
+        store.memory (exec linear j) h
 
     pub conversion_then : (c : Conversion) (v : ℕ) (ts : List ℕ) (pc : ℕ) (st : State)
-      (store : Store) (t x s o : ℕ) (part : ℕ → State → Store → Part) (out : Outcome)
-      → HasAt linear site.body site.regions pc (conversion_code c (length ts))
+        (store : Store) (t x s o : ℕ) (part : ℕ → State → Store → Part) (out : Outcome)
+        → HasAt linear site.body site.regions pc (conversion_code c (length ts))
         → From (pc + conversion_size c) (ts ++ converted c v ∷ []) st store t x s o part out
         → From pc (ts ++ v ∷ []) st store (3 + t) x s o part out
     conversion_then Kept v ts pc st store t x s o part out has h =
         from_at (pc + 0) pc (ts ++ v ∷ []) st store (3 + t) x s o part out (omega arith)
-          (more linear pace _ st (price t x s o) (price (3 + t) x s o) (Wv part) out
-          (omega arith, omega arith, omega arith) h)
+        (more linear pace _ st (price t x s o) (price (3 + t) x s o) (Wv part) out
+        (omega arith, omega arith, omega arith) h)
     conversion_then (Extend sign from size) v ts pc st store t x s o part out has h =
         let d = length ts in
         more linear pace _ st (price (1 + t) x s o) (price (3 + t) x s o) (Wv part) out
-          (omega arith, omega arith, omega arith)
+        (omega arith, omega arith, omega arith)
         (turn pc (pc + 1) (ts ++ v ∷ []) (ts ++ extended sign from (width size) v ∷ []) st store t x
-          s o part out
+        s o part out
         (λ k. pure_turn linear pace context site (pures.Extend sign from size) d d d v v
-          (λ u. ts ++ u ∷ []) pc (ts ++ v ∷ []) st store k refl has (changing ts v)) h)
+        (λ u. ts ++ u ∷ []) pc (ts ++ v ∷ []) st store k refl has (changing ts v)) h)
     conversion_then (Scale sign from by) v ts pc st store t x s o part out has h =
         let d = length ts in
         let y = extended sign from W64 v in
         let last = result_of (pures.Multiply Long) y (low W64 by) in
         let e : pc + 1 + 1 + 1 ≡ pc + 3 = omega arith in
         more linear pace _ st (price (1 + (1 + (1 + t))) x s o) (price (3 + t) x s o) (Wv part) out
-          (omega arith, omega arith, omega arith)
+        (omega arith, omega arith, omega arith)
         (turn pc (pc + 1) (ts ++ v ∷ []) (ts ++ y ∷ []) st store (1 + (1 + t)) x s o part out
         (λ k. pure_turn linear pace context site (pures.Extend sign from Long) d d d v v
-          (λ u. ts ++ u ∷ []) pc (ts ++ v ∷ []) st store k refl (has.0, has.1, tt) (changing ts v))
+        (λ u. ts ++ u ∷ []) pc (ts ++ v ∷ []) st store k refl (has.0, has.1, tt) (changing ts v))
         (turn (pc + 1) (pc + 1 + 1) (ts ++ y ∷ []) ((ts ++ y ∷ []) ++ low W64 by ∷ []) st store
-          (1 + t) x s o part out
+        (1 + t) x s o part out
         (λ k. constant_low by (d + 1) ((ts ++ y ∷ []) ++ low W64 by ∷ []) (pc + 1) (ts ++ y ∷ []) st
-          store k (has.2.0, has.2.1, tt) (ap (λ i. with_temporary (ts ++ y ∷ []) i (low W64 by))
-          (sym (length_push ts y)) ∙ push_put (ts ++ y ∷ []) (low W64 by)))
+        store k (has.2.0, has.2.1, tt) (ap (λ i. with_temporary (ts ++ y ∷ []) i (low W64 by))
+        (sym (length_push ts y)) ∙ push_put (ts ++ y ∷ []) (low W64 by)))
         (turn (pc + 1 + 1) (pc + 1 + 1 + 1) ((ts ++ y ∷ []) ++ low W64 by ∷ []) (ts ++ last ∷ []) st
-          store t x s o part out
+        store t x s o part out
         (λ k. pure_turn linear pace context site (pures.Multiply Long) d d (d + 1) y (low W64 by)
-          (λ u. ts ++ u ∷ []) (pc + 1 + 1) ((ts ++ y ∷ []) ++ low W64 by ∷ []) st store k refl
-          has.2.2 (combining ts y (low W64 by)))
+        (λ u. ts ++ u ∷ []) (pc + 1 + 1) ((ts ++ y ∷ []) ++ low W64 by ∷ []) st store k refl
+        has.2.2 (combining ts y (low W64 by)))
         (from_at (pc + 3) (pc + 1 + 1 + 1) (ts ++ last ∷ []) st store t x s o part out (sym e)
         (subst (λ u. From (pc + 3) (ts ++ u ∷ []) st store t x s o part out)
-          (sym (scaled_same y by)) h)))))
+        (sym (scaled_same y by)) h)))))
 
     -- ---- 0 or another number
 
     pub choice_then : (v instead other : ℕ) (b : Bool) (ts : List ℕ) (pc : ℕ) (st : State)
-      (store : Store) (t x s o : ℕ) → nat_eq v 0 ≡ b → instead < 2 ^ 64 → other < 2 ^ 64
-      → HasAt linear site.body site.regions pc (choice_code (length ts) pc instead other) → x ≤ s
-      → Kp st store → st.held ≡ site.held
+        (store : Store) (t x s o : ℕ) → nat_eq v 0 ≡ b → instead < 2 ^ 64 → other < 2 ^ 64
+        → HasAt linear site.body site.regions pc (choice_code (length ts) pc instead other) → x ≤ s
+        → Kp st store → st.held ≡ site.held
         → From pc (ts ++ v ∷ []) st store (3 + t) x s o (pushed context site (pc + 4) ts)
-          (Gives (Value (if b then instead else other)) st)
+        (Gives (Value (if b then instead else other)) st)
     choice_then v instead other true ts pc st store t x s o e small small' has le kept held =
         let d = length ts in
         let target : pc + 1 + 1 + 1 ≡ pc + 3 = omega arith in
         let last : HasAt linear site.body site.regions (pc + 3) (constant d instead ∷ []) = has_at
-          linear site.body site.regions (pc + 1 + 1 + 1) (pc + 3) (constant d instead ∷ []) target
-          has.2.2.2 in
+        linear site.body site.regions (pc + 1 + 1 + 1) (pc + 3) (constant d instead ∷ []) target
+        has.2.2.2 in
         let end : pc + 3 + 1 ≡ pc + 4 = omega arith in
         more linear pace _ st (price (1 + (1 + t)) x s o) (price (3 + t) x s o)
-          (Wv (pushed context site (pc + 4) ts)) (Gives (Value instead) st)
-          (omega arith, omega arith, omega arith)
+        (Wv (pushed context site (pc + 4) ts)) (Gives (Value instead) st)
+        (omega arith, omega arith, omega arith)
         (turn pc (pc + 3) (ts ++ v ∷ []) ts st store (1 + t) x s o (pushed context site (pc + 4) ts)
-          (Gives (Value instead) st)
+        (Gives (Value instead) st)
         (λ k. test_turn linear pace context site (pc + 3) v pc ts st store k (has.0, has.1, tt)
-          ∙ pick_yes (nat_eq v 0) (exec linear k (conf context site (pc + 3) ts st store))
-            (exec linear k (conf context site (pc + 1) ts st store)) e)
+        ∙ pick_yes (nat_eq v 0) (exec linear k (conf context site (pc + 3) ts st store))
+        (exec linear k (conf context site (pc + 1) ts st store)) e)
         (turn (pc + 3) (pc + 3 + 1) ts (ts ++ instead ∷ []) st store t x s o
-          (pushed context site (pc + 4) ts) (Gives (Value instead) st)
+        (pushed context site (pc + 4) ts) (Gives (Value instead) st)
         (λ k. constant_turn linear pace context site instead d (ts ++ instead ∷ []) (pc + 3) ts st
-          store k small last (push_put ts instead))
+        store k small last (push_put ts instead))
         (here_other (pc + 3 + 1) (pc + 4) ts instead st store t x s o end le kept held)))
     choice_then v instead other false ts pc st store t x s o e small small' has le kept held =
         let d = length ts in
         more linear pace _ st (price (1 + (1 + (1 + t))) x s o) (price (3 + t) x s o)
-          (Wv (pushed context site (pc + 4) ts)) (Gives (Value other) st)
-          (omega arith, omega arith, omega arith)
+        (Wv (pushed context site (pc + 4) ts)) (Gives (Value other) st)
+        (omega arith, omega arith, omega arith)
         (turn pc (pc + 1) (ts ++ v ∷ []) ts st store (1 + (1 + t)) x s o
-          (pushed context site (pc + 4) ts) (Gives (Value other) st)
+        (pushed context site (pc + 4) ts) (Gives (Value other) st)
         (λ k. test_turn linear pace context site (pc + 3) v pc ts st store k (has.0, has.1, tt)
-          ∙ pick_no (nat_eq v 0) (exec linear k (conf context site (pc + 3) ts st store))
-            (exec linear k (conf context site (pc + 1) ts st store)) e)
+        ∙ pick_no (nat_eq v 0) (exec linear k (conf context site (pc + 3) ts st store))
+        (exec linear k (conf context site (pc + 1) ts st store)) e)
         (turn (pc + 1) (pc + 1 + 1) ts (ts ++ other ∷ []) st store (1 + t) x s o
-          (pushed context site (pc + 4) ts) (Gives (Value other) st)
+        (pushed context site (pc + 4) ts) (Gives (Value other) st)
         (λ k. constant_turn linear pace context site other d (ts ++ other ∷ []) (pc + 1) ts st store
-          k small' (has.2.0, has.2.1, tt) (push_put ts other))
+        k small' (has.2.0, has.2.1, tt) (push_put ts other))
         (turn (pc + 1 + 1) (pc + 4) (ts ++ other ∷ []) (ts ++ other ∷ []) st store t x s o
-          (pushed context site (pc + 4) ts) (Gives (Value other) st)
+        (pushed context site (pc + 4) ts) (Gives (Value other) st)
         (λ k. jump_turn linear pace context site (pc + 4) (pc + 1 + 1) (ts ++ other ∷ []) st store k
-          (has.2.2.0, has.2.2.1, tt))
+        (has.2.2.0, has.2.2.1, tt))
         (here_value (pc + 4) ts other st store t x s o le kept held))))

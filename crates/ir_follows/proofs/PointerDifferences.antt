@@ -69,7 +69,7 @@ signed_is : (q : ℕ) → is_signed W64 (signed W64 q) ≡ true
 signed_is q = by_half (nat_lt (low W64 q) (half W64)) refl
   where
     by_half : (b : Bool) → nat_lt (low W64 q) (half W64) ≡ b
-      → is_signed W64 (if b then pos (low W64 q) else pos (low W64 q) -ℤ pos (limit W64)) ≡ true
+        → is_signed W64 (if b then pos (low W64 q) else pos (low W64 q) -ℤ pos (limit W64)) ≡ true
     by_half true e = e
     by_half false e = low_negative (low W64 q) (ltb-false (low W64 q) (half W64) e) (omega arith)
 
@@ -77,7 +77,7 @@ positive_is : (n : ℕ) → n < 2 ^ 63 → signed W64 n ≡ pos n
 positive_is n h =
     let same : low W64 n ≡ n = omega arith in
     ap (λ b. if b then pos (low W64 n) else pos (low W64 n) -ℤ pos (limit W64))
-      (lt-ltb (low W64 n) (2 ^ 63) (omega arith)) ∙ ap pos same
+    (lt-ltb (low W64 n) (2 ^ 63) (omega arith)) ∙ ap pos same
 
 divides : (reserved : ℕ → Bool) (q n : ℕ) (m : Memory) → 0 < n → n < 2 ^ 63
     → performed reserved (operations.Divide Signed Long) q n m
@@ -85,7 +85,7 @@ divides : (reserved : ℕ → Bool) (q n : ℕ) (m : Memory) → 0 < n → n < 2
 divides reserved q n m p h =
     ap (λ d. signed_part (λ x. x.0) W64 m (divided_signed W64 (signed W64 q) d)) (positive_is n h)
     ∙ ap (signed_part (λ x. x.0) W64 m) (sym (divided W64 (signed W64 q) (pos n) p
-      (quotient_small (signed W64 q) n (signed_is q) p)))
+    (quotient_small (signed W64 q) n (signed_is q) p)))
 
 module _ (program : Program) (linear : LinearProgram) (pace body : ℕ)
     (same_globals : linear.globals ≡ program.globals) (roomy : 4 ≤ pace) (n : ℕ)
@@ -94,14 +94,14 @@ module _ (program : Program) (linear : LinearProgram) (pace body : ℕ)
       (site : Site) (base : Store) (around : Around program linear pace body names info z shapes
       context site base) where
     pub difference_node : (size : ℕ) (e f : Expression) (pc : ℕ) (temps : List ℕ) (st : State)
-      (store : Store) → st.steps_left ≤ n → 1 + node_weight (nodes.PointerDifference size e f)
-      + body + 4 ≤ pace → NodeFits program z.own info (nodes.PointerDifference size e f)
+        (store : Store) → st.steps_left ≤ n → 1 + node_weight (nodes.PointerDifference size e f)
+        + body + 4 ≤ pace → NodeFits program z.own info (nodes.PointerDifference size e f)
         → HasAt linear site.body site.regions pc
-          (node_code names (nodes.PointerDifference size e f) (length temps) pc)
+        (node_code names (nodes.PointerDifference size e f) (length temps) pc)
         → Kp program linear pace body same_globals roomy n ih names info z shapes context site base
-          around st store → st.held ≡ site.held
+        around st store → st.held ≡ site.held
         → NodeRuns program linear pace body same_globals roomy n ih names info z shapes context site
-          base around (nodes.PointerDifference size e f) pc temps st store
+        base around (nodes.PointerDifference size e f) pc temps st store
     difference_node size e f pc temps st store steps light fits has kept held =
         let d = length temps in
         let w = 1 + (expression_weight e + expression_weight f) in
@@ -111,40 +111,40 @@ module _ (program : Program) (linear : LinearProgram) (pace body : ℕ)
         let part = pushed context site last_pc temps in
         let end : pc2 + 1 + 1 + 1 ≡ last_pc = omega arith in
         two_runs program linear pace body same_globals roomy n ih names info z shapes context site
-          base around e f (combine d (operations.Pure (pures.Subtract Long)) ∷ constant (d + 1) size
-          ∷ combine d (operations.Divide Signed Long) ∷ []) pc temps st store 13 w part
-            (λ x y st. Gives (Value (apart size x y)) st) steps (omega arith) (omega arith) fits.0
-            fits.1 has kept held
+        base around e f (combine d (operations.Pure (pures.Subtract Long)) ∷ constant (d + 1) size
+        ∷ combine d (operations.Divide Signed Long) ∷ []) pc temps st store 13 w part
+        (λ x y st. Gives (Value (apart size x y)) st) steps (omega arith) (omega arith) fits.0
+        fits.1 has kept held
         (λ x y mid after steps kept held last.
         let q = result_of (pures.Subtract Long) x y in
         let v = apart size x y in
         let small : size < 2 ^ 64 = let s = fits.2.small in omega arith in
         turn program linear pace body same_globals roomy n ih names info z shapes context site base
-          around pc2 (pc2 + 1) ((temps ++ x ∷ []) ++ y ∷ []) (temps ++ q ∷ []) mid after 12 debt w w
-          part (Gives (Value v) mid)
+        around pc2 (pc2 + 1) ((temps ++ x ∷ []) ++ y ∷ []) (temps ++ q ∷ []) mid after 12 debt w w
+        part (Gives (Value v) mid)
         (λ k. pure_turn linear pace context site (pures.Subtract Long) d d (d + 1) x y
-          (λ u. temps ++ u ∷ []) pc2 ((temps ++ x ∷ []) ++ y ∷ []) mid after k refl
-          (last.0, last.1, tt) (combining temps x y))
+        (λ u. temps ++ u ∷ []) pc2 ((temps ++ x ∷ []) ++ y ∷ []) mid after k refl
+        (last.0, last.1, tt) (combining temps x y))
         (turn program linear pace body same_globals roomy n ih names info z shapes context site base
-          around (pc2 + 1) (pc2 + 1 + 1) (temps ++ q ∷ []) ((temps ++ q ∷ []) ++ size ∷ []) mid
-          after 11 debt w w part (Gives (Value v) mid)
+        around (pc2 + 1) (pc2 + 1 + 1) (temps ++ q ∷ []) ((temps ++ q ∷ []) ++ size ∷ []) mid
+        after 11 debt w w part (Gives (Value v) mid)
         (λ k. constant_turn linear pace context site size (d + 1) ((temps ++ q ∷ []) ++ size ∷ [])
-          (pc2 + 1) (temps ++ q ∷ []) mid after k small (last.2.0, last.2.1, tt)
-          (ap (λ i. with_temporary (temps ++ q ∷ []) i size) (sym (length_push temps q))
-          ∙ push_put (temps ++ q ∷ []) size))
+        (pc2 + 1) (temps ++ q ∷ []) mid after k small (last.2.0, last.2.1, tt)
+        (ap (λ i. with_temporary (temps ++ q ∷ []) i size) (sym (length_push temps q))
+        ∙ push_put (temps ++ q ∷ []) size))
         (turn program linear pace body same_globals roomy n ih names info z shapes context site base
-          around (pc2 + 1 + 1) (pc2 + 1 + 1 + 1) ((temps ++ q ∷ []) ++ size ∷ []) (temps ++ v ∷ [])
-          mid after 10 debt w w part (Gives (Value v) mid)
+        around (pc2 + 1 + 1) (pc2 + 1 + 1 + 1) ((temps ++ q ∷ []) ++ size ∷ []) (temps ++ v ∷ [])
+        mid after 10 debt w w part (Gives (Value v) mid)
         (λ k.
         computes linear pace context site (operations.Divide Signed Long) d d (d + 1) q size
-          (λ u. temps ++ u ∷ []) (pc2 + 1 + 1) ((temps ++ q ∷ []) ++ size ∷ []) mid after k refl
-          last.2.2 (combining temps q size)
+        (λ u. temps ++ u ∷ []) (pc2 + 1 + 1) ((temps ++ q ∷ []) ++ size ∷ []) mid after k refl
+        last.2.2 (combining temps q size)
         ∙ ap (computed linear (exec linear k) (Temporary d)
-          (conf context site (pc2 + 1 + 1) ((temps ++ q ∷ []) ++ size ∷ []) mid after))
-          (divides (is_reserved linear.globals) q size after.memory fits.2.positive fits.2.small)
+        (conf context site (pc2 + 1 + 1) ((temps ++ q ∷ []) ++ size ∷ []) mid after))
+        (divides (is_reserved linear.globals) q size after.memory fits.2.positive fits.2.small)
         ∙ computed_gives linear pace context site d (pc2 + 1 + 1) ((temps ++ q ∷ []) ++ size ∷ [])
-          (temps ++ v ∷ []) mid after v after.memory (exec linear k)
-          ((combining temps q size).writes v))
+        (temps ++ v ∷ []) mid after v after.memory (exec linear k)
+        ((combining temps q size).writes v))
         (here_other program linear pace body same_globals roomy n ih names info z shapes context
-          site base around (pc2 + 1 + 1 + 1) last_pc temps v mid after 10 debt w w end (omega arith)
-          kept held))))
+        site base around (pc2 + 1 + 1 + 1) last_pc temps v mid after 10 debt w w end (omega arith)
+        kept held))))

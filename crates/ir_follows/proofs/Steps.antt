@@ -47,242 +47,245 @@ use Rattle.ir_follows.proofs.PointerDifferences.{difference_node}
 module _ (program : Program) (linear : LinearProgram) (pace body : ℕ)
     (same_globals : linear.globals ≡ program.globals) (roomy : 4 ≤ pace)
     (functions_at : (k : ℕ) (fn : Function) → slice_get program.functions k ≡ Some fn
-      → (lf : LinearFunction) × (slice_get linear.functions k ≡ Some lf)) where
+    → (lf : LinearFunction) × (slice_get linear.functions k ≡ Some lf)) where
   module _ (n : ℕ) (ih : Runs program linear pace body n) where
     module _ (names : Names) (info : Bool) (z : Shape) (shapes : List Shape) (context : Context)
-      (site : Site) (base : Store) (around : Around program linear pace body names info z shapes
-      context site base) where
+        (site : Site) (base : Store) (around : Around program linear pace body names info z shapes
+        context site base) where
       node_runs : (nd : Node) (pc : ℕ) (temps : List ℕ) (st : State) (store : Store)
-        → st.steps_left ≤ n → 1 + node_weight nd + body + 4 ≤ pace → NodeFits program z.own info nd
-        → HasAt linear site.body site.regions pc (node_code names nd (length temps) pc)
+          → st.steps_left ≤ n → 1 + node_weight nd + body + 4 ≤ pace → NodeFits program z.own info nd
+          → HasAt linear site.body site.regions pc (node_code names nd (length temps) pc)
           → Kp program linear pace body same_globals roomy n ih names info z shapes context site
-            base around st store → st.held ≡ site.held
+          base around st store → st.held ≡ site.held
           → NodeRuns program linear pace body same_globals roomy n ih names info z shapes context
-            site base around nd pc temps st store
-      node_runs (nodes.Constant size v) pc temps st store steps light fits has kept
-        held = constant_node program linear pace body same_globals roomy n ih names info z shapes
-        context site base around size v pc temps st store fits has kept held
+          site base around nd pc temps st store
+      node_runs (nodes.Constant size v) pc temps st store steps light fits has kept held =
+          constant_node program linear pace body same_globals roomy n ih names info z shapes
+          context site base around size v pc temps st store fits has kept held
       node_runs (nodes.Read p) pc temps st store steps light fits has kept held = read_node program
-        linear pace body same_globals roomy n ih names info z shapes context site base around p pc
-        temps st store steps light fits has kept held
+          linear pace body same_globals roomy n ih names info z shapes context site base around p pc
+          temps st store steps light fits has kept held
       node_runs (nodes.AddressOf p) pc temps st store steps light fits has kept held = address_node
-        program linear pace body same_globals roomy n ih names info z shapes context site base
-        around p pc temps st store steps light fits has kept held
+          program linear pace body same_globals roomy n ih names info z shapes context site base
+          around p pc temps st store steps light fits has kept held
       node_runs (nodes.Assign p e) pc temps st store steps light fits has kept held = assign_node
-        program linear pace body same_globals roomy n ih names info z shapes context site base
-        around p e pc temps st store steps light fits has kept held
+          program linear pace body same_globals roomy n ih names info z shapes context site base
+          around p e pc temps st store steps light fits has kept held
       node_runs (nodes.CompoundAssign p before o e after) pc temps st store steps light fits has
-        kept held = compound_node program linear pace body same_globals roomy n ih names info z
-        shapes context site base around p before o e after pc temps st store steps light fits has
-        kept held
+          kept held =
+          compound_node program linear pace body same_globals roomy n ih names info z
+          shapes context site base around p before o e after pc temps st store steps light fits has
+          kept held
       node_runs (nodes.Increment m p before o amount after) pc temps st store steps light fits has
-        kept held = increment_node program linear pace body same_globals roomy n ih names info z
-        shapes context site base around m p before o amount after pc temps st store steps light fits
-        has kept held
+          kept held =
+          increment_node program linear pace body same_globals roomy n ih names info z
+          shapes context site base around m p before o amount after pc temps st store steps light fits
+          has kept held
       node_runs (nodes.Unary o e) pc temps st store steps light fits has kept held = unary_runs
-        program linear pace body same_globals roomy n ih names info z shapes context site base
-        around o e pc temps st store steps light fits has kept held
+          program linear pace body same_globals roomy n ih names info z shapes context site base
+          around o e pc temps st store steps light fits has kept held
       node_runs (nodes.Binary o e f) pc temps st store steps light fits has kept held = binary_runs
-        program linear pace body same_globals roomy n ih names info z shapes context site base
-        around o e f pc temps st store steps light fits has kept held
+          program linear pace body same_globals roomy n ih names info z shapes context site base
+          around o e f pc temps st store steps light fits has kept held
       node_runs (nodes.PointerDifference size e f) pc temps st store steps light fits has kept
-        held = difference_node program linear pace body same_globals roomy n ih names info z shapes
-        context site base around size e f pc temps st store steps light fits has kept held
+          held =
+          difference_node program linear pace body same_globals roomy n ih names info z shapes
+          context site base around size e f pc temps st store steps light fits has kept held
       node_runs (nodes.Not e) pc temps st store steps light fits has kept held = not_runs program
-        linear pace body same_globals roomy n ih names info z shapes context site base around e pc
-        temps st store steps light fits has kept held
+          linear pace body same_globals roomy n ih names info z shapes context site base around e pc
+          temps st store steps light fits has kept held
       node_runs (nodes.And e f) pc temps st store steps light fits has kept held = and_runs program
-        linear pace body same_globals roomy n ih names info z shapes context site base around e f pc
-        temps st store steps light fits has kept held
+          linear pace body same_globals roomy n ih names info z shapes context site base around e f pc
+          temps st store steps light fits has kept held
       node_runs (nodes.Or e f) pc temps st store steps light fits has kept held = or_runs program
-        linear pace body same_globals roomy n ih names info z shapes context site base around e f pc
-        temps st store steps light fits has kept held
-      node_runs (nodes.Conditional c e f) pc temps st store steps light fits has kept
-        held = conditional_runs program linear pace body same_globals roomy n ih names info z shapes
-        context site base around c e f pc temps st store steps light fits has kept held
+          linear pace body same_globals roomy n ih names info z shapes context site base around e f pc
+          temps st store steps light fits has kept held
+      node_runs (nodes.Conditional c e f) pc temps st store steps light fits has kept held =
+          conditional_runs program linear pace body same_globals roomy n ih names info z shapes
+          context site base around c e f pc temps st store steps light fits has kept held
       node_runs (nodes.Comma e f) pc temps st store steps light fits has kept held = comma_runs
-        program linear pace body same_globals roomy n ih names info z shapes context site base
-        around e f pc temps st store steps light fits has kept held
+          program linear pace body same_globals roomy n ih names info z shapes context site base
+          around e f pc temps st store steps light fits has kept held
       node_runs (nodes.Call f es) pc temps st store steps light fits has kept held = call_node
-        program linear pace body same_globals roomy n ih functions_at names info z shapes context
-        site base around f es pc temps st store steps light fits has kept held
-      node_runs (nodes.CallBuiltIn b es) pc temps st store steps light fits has kept
-        held = built_in_node program linear pace body same_globals roomy n ih functions_at names
-        info z shapes context site base around b es pc temps st store steps light fits has kept held
+          program linear pace body same_globals roomy n ih functions_at names info z shapes context
+          site base around f es pc temps st store steps light fits has kept held
+      node_runs (nodes.CallBuiltIn b es) pc temps st store steps light fits has kept held =
+          built_in_node program linear pace body same_globals roomy n ih functions_at names
+          info z shapes context site base around b es pc temps st store steps light fits has kept held
       node_runs nodes.ExceptionCode pc temps st store steps light fits has kept held = code_node
-        program linear pace body same_globals roomy n ih names info z shapes context site base
-        around pc temps st store has kept held
+          program linear pace body same_globals roomy n ih names info z shapes context site base
+          around pc temps st store has kept held
       node_runs (nodes.Information f) pc temps st store steps light fits has kept held = field_node
-        program linear pace body same_globals roomy n ih names info z shapes context site base
-        around f pc temps st store fits has kept held
-      node_runs nodes.AbnormalTermination pc temps st store steps light fits has kept
-        held = flag_node program linear pace body same_globals roomy n ih names info z shapes
-        context site base around pc temps st store has kept held
+          program linear pace body same_globals roomy n ih names info z shapes context site base
+          around f pc temps st store fits has kept held
+      node_runs nodes.AbnormalTermination pc temps st store steps light fits has kept held =
+          flag_node program linear pace body same_globals roomy n ih names info z shapes
+          context site base around pc temps st store has kept held
 
       -- an expression, after its step
       expression_runs : (e : Expression) (pc : ℕ) (temps : List ℕ) (st : State) (store : Store)
-        → st.steps_left ≤ n → expression_weight e + body + 4 ≤ pace
-        → ExpressionFits program z.own info e
-        → HasAt linear site.body site.regions pc (expression_code names e (length temps) pc)
+          → st.steps_left ≤ n → expression_weight e + body + 4 ≤ pace
+          → ExpressionFits program z.own info e
+          → HasAt linear site.body site.regions pc (expression_code names e (length temps) pc)
           → Kp program linear pace body same_globals roomy n ih names info z shapes context site
-            base around st store → st.held ≡ site.held
+          base around st store → st.held ≡ site.held
           → Claim linear pace (at (conf context site pc temps st store)) st
-            (price 16 1 (expression_weight e) (expression_weight e))
-            (Wv program linear pace body same_globals roomy n ih names info z shapes context site
-            base around (pushed context site (pc + expression_size e) temps))
-            (model.expression program (within program n) e context st)
+          (price 16 1 (expression_weight e) (expression_weight e))
+          (Wv program linear pace body same_globals roomy n ih names info z shapes context site
+          base around (pushed context site (pc + expression_size e) temps))
+          (model.expression program (within program n) e context st)
       expression_runs (On nd c) pc temps st store steps light fits has kept held =
           let d = length temps in
           let w = 1 + node_weight nd in
           let pc1 = pc + node_size nd in
           let end : pc1 + conversion_size c ≡ pc
-            + (node_size nd + conversion_size c) = omega arith in
+          + (node_size nd + conversion_size c) = omega arith in
           let part = pushed context site (pc + (node_size nd + conversion_size c)) temps in
           let cn = node_code names nd d pc in
           then_value linear pace _ (pushed context site pc1 temps)
-            (Wv program linear pace body same_globals roomy n ih names info z shapes context site
-            base around part) st (price 13 1 w w) (price 3 0 0 0) (price 16 1 w w)
-            (model.node program (within program n) nd context st)
-            (λ v st. Gives (Value (converted c v)) st)
+          (Wv program linear pace body same_globals roomy n ih names info z shapes context site
+          base around part) st (price 13 1 w w) (price 3 0 0 0) (price 16 1 w w)
+          (model.node program (within program n) nd context st)
+          (λ v st. Gives (Value (converted c v)) st)
           (joins (omega arith) (omega arith) (omega arith) (omega arith))
           (node_runs nd pc temps st store steps light fits
-            (has_front linear site.body site.regions pc cn (conversion_code c d) has) kept held)
+          (has_front linear site.body site.regions pc cn (conversion_code c d) has) kept held)
           (λ v mid after lower kept held.
           conversion_then program linear pace body same_globals roomy n ih names info z shapes
-            context site base around c v temps pc1 mid after 0 0 0 0 part
-            (Gives (Value (converted c v)) mid)
-            (has_after linear site.body site.regions pc (node_size nd) cn (conversion_code c d)
-            (node_length names nd d pc) has)
+          context site base around c v temps pc1 mid after 0 0 0 0 part
+          (Gives (Value (converted c v)) mid)
+          (has_after linear site.body site.regions pc (node_size nd) cn (conversion_code c d)
+          (node_length names nd d pc) has)
           (here_other program linear pace body same_globals roomy n ih names info z shapes context
-            site base around (pc1 + conversion_size c) (pc + (node_size nd + conversion_size c))
-            temps (converted c v) mid after 0 0 0 0 end (omega arith) kept held))
+          site base around (pc1 + conversion_size c) (pc + (node_size nd + conversion_size c))
+          temps (converted c v) mid after 0 0 0 0 end (omega arith) kept held))
 
       pub eval_next : (e : Expression) (pc : ℕ) (temps : List ℕ) (st : State) (store : Store)
-        → st.steps_left ≤ suc n → expression_weight e + body + 4 ≤ pace
-        → ExpressionFits program z.own info e
-        → HasAt linear site.body site.regions pc (expression_code names e (length temps) pc)
+          → st.steps_left ≤ suc n → expression_weight e + body + 4 ≤ pace
+          → ExpressionFits program z.own info e
+          → HasAt linear site.body site.regions pc (expression_code names e (length temps) pc)
           → Kp program linear pace body same_globals roomy n ih names info z shapes context site
-            base around st store → st.held ≡ site.held
+          base around st store → st.held ≡ site.held
           → Claim linear pace (at (conf context site pc temps st store)) st
-            (price 0 0 (expression_weight e) (expression_weight e))
-            (Wv program linear pace body same_globals roomy n ih names info z shapes context site
-            base around (pushed context site (pc + expression_size e) temps))
-            (within program (suc n) (Eval e) context st)
+          (price 0 0 (expression_weight e) (expression_weight e))
+          (Wv program linear pace body same_globals roomy n ih names info z shapes context site
+          base around (pushed context site (pc + expression_size e) temps))
+          (within program (suc n) (Eval e) context st)
       eval_next e pc temps st store steps light fits has kept held =
           counted_claim linear pace (at (conf context site pc temps st store))
-            (Wv program linear pace body same_globals roomy n ih names info z shapes context site
-            base around (pushed context site (pc + expression_size e) temps)) st 0
-            (expression_weight e) (expression_weight e)
-            (λ st. perform program (within program n) (Eval e) context st)
+          (Wv program linear pace body same_globals roomy n ih names info z shapes context site
+          base around (pushed context site (pc + expression_size e) temps)) st 0
+          (expression_weight e) (expression_weight e)
+          (λ st. perform program (within program n) (Eval e) context st)
           (omega arith) (shown_none program linear pace body (conf context site pc temps st store))
           (λ m less. expression_runs e pc temps (record st { steps_left = m }) store (omega arith)
-            light fits has kept held)
+          light fits has kept held)
 
       pub locate_next : (p : Lvalue) (pc : ℕ) (temps : List ℕ) (st : State) (store : Store)
-        → st.steps_left ≤ suc n → 1 + lvalue_weight p + body + 4 ≤ pace
-        → LvalueFits program z.own info p → HasAt linear site.body site.regions pc
+          → st.steps_left ≤ suc n → 1 + lvalue_weight p + body + 4 ≤ pace
+          → LvalueFits program z.own info p → HasAt linear site.body site.regions pc
           (locate_code names p (length temps) pc)
           → Kp program linear pace body same_globals roomy n ih names info z shapes context site
-            base around st store → st.held ≡ site.held
+          base around st store → st.held ≡ site.held
           → Claim linear pace (at (conf context site pc temps st store)) st
-            (price 0 0 (1 + lvalue_weight p) (1 + lvalue_weight p))
-            (Wv program linear pace body same_globals roomy n ih names info z shapes context site
-            base around (with_address context site (pc + locate_size p) p temps))
-            (within program (suc n) (Locate p) context st)
+          (price 0 0 (1 + lvalue_weight p) (1 + lvalue_weight p))
+          (Wv program linear pace body same_globals roomy n ih names info z shapes context site
+          base around (with_address context site (pc + locate_size p) p temps))
+          (within program (suc n) (Locate p) context st)
       locate_next p pc temps st store steps light fits has kept held =
           let w = lvalue_weight p in
           counted_claim linear pace (at (conf context site pc temps st store))
-            (Wv program linear pace body same_globals roomy n ih names info z shapes context site
-            base around (with_address context site (pc + locate_size p) p temps)) st 0 (1 + w)
-            (1 + w) (λ st. perform program (within program n) (Locate p) context st)
+          (Wv program linear pace body same_globals roomy n ih names info z shapes context site
+          base around (with_address context site (pc + locate_size p) p temps)) st 0 (1 + w)
+          (1 + w) (λ st. perform program (within program n) (Locate p) context st)
           (omega arith) (shown_none program linear pace body (conf context site pc temps st store))
           (λ m less.
           let low : State = record st { steps_left = m } in
           more linear pace _ low (price 1 0 w w) (price 16 1 (1 + w) (1 + w))
-            (Wv program linear pace body same_globals roomy n ih names info z shapes context site
-            base around (with_address context site (pc + locate_size p) p temps))
-            (locate (within program n) p context low) (omega arith, omega arith, omega arith)
+          (Wv program linear pace body same_globals roomy n ih names info z shapes context site
+          base around (with_address context site (pc + locate_size p) p temps))
+          (locate (within program n) p context low) (omega arith, omega arith, omega arith)
           (locate_runs program linear pace body same_globals roomy n ih names info z shapes context
-            site base around p pc temps low store (omega arith) (omega arith) fits has kept held))
+          site base around p pc temps low store (omega arith) (omega arith) fits has kept held))
 
       pub raised_next : (exc : Exception) (resumption : Resumption) (pc : ℕ) (temps : List ℕ)
-        (st : State) (store : Store) → st.steps_left ≤ suc n
-        → regions_at linear site.body pc ≡ site.regions
-        → Kp program linear pace body same_globals roomy n ih names info z shapes context site base
+          (st : State) (store : Store) → st.steps_left ≤ suc n
+          → regions_at linear site.body pc ≡ site.regions
+          → Kp program linear pace body same_globals roomy n ih names info z shapes context site base
           around st store → st.held ≡ site.held
           → Claim linear pace (λ next. raise linear next exc resumption
-            (conf context site pc temps st store)) st (price 0 0 1 pace)
-            (normal_ways (resumes program linear pace body resumption context site pc temps)
-            (Kp program linear pace body same_globals roomy n ih names info z shapes context site
-            base around) context site) (within program (suc n) (Raise exc) context st)
+          (conf context site pc temps st store)) st (price 0 0 1 pace)
+          (normal_ways (resumes program linear pace body resumption context site pc temps)
+          (Kp program linear pace body same_globals roomy n ih names info z shapes context site
+          base around) context site) (within program (suc n) (Raise exc) context st)
       raised_next exc resumption pc temps st store steps t kept held =
           counted_claim linear pace (λ next. raise linear next exc resumption
-            (conf context site pc temps st store))
-            (normal_ways (resumes program linear pace body resumption context site pc temps)
-            (Kp program linear pace body same_globals roomy n ih names info z shapes context site
-            base around) context site) st 0 1 pace
-            (λ st. perform program (within program n) (Raise exc) context st)
+          (conf context site pc temps st store))
+          (normal_ways (resumes program linear pace body resumption context site pc temps)
+          (Kp program linear pace body same_globals roomy n ih names info z shapes context site
+          base around) context site) st 0 1 pace
+          (λ st. perform program (within program n) (Raise exc) context st)
           (omega arith) (shown_raise program linear pace body exc resumption
-            (conf context site pc temps st store))
+          (conf context site pc temps st store))
           (λ m less. raise_runs program linear pace body n ih exc resumption names info z shapes
-            context site base pc temps (record st { steps_left = m }) store (omega arith)
-            (omega arith) t around kept held)
+          context site base pc temps (record st { steps_left = m }) store (omega arith)
+          (omega arith) t around kept held)
 
       pub retry_next : (o : Operation) (x y to first second a b : ℕ) (after : ℕ → List ℕ) (pc : ℕ)
-        (temps : List ℕ) (st : State) (store : Store) → is_constant o ≡ false
-        → st.steps_left ≤ suc n
+          (temps : List ℕ) (st : State) (store : Store) → is_constant o ≡ false
+          → st.steps_left ≤ suc n
           → HasAt linear site.body site.regions pc
-            (instructions.Compute (Temporary to) o (Temporary first) (Temporary second) ∷ [])
+          (instructions.Compute (Temporary to) o (Temporary first) (Temporary second) ∷ [])
           → Operands temps to first second a b after
           → SameOperation' program linear pace body o x y a b
           → Kp program linear pace body same_globals roomy n ih names info z shapes context site
-            base around st store → st.held ≡ site.held
+          base around st store → st.held ≡ site.held
           → Claim linear pace (at (conf context site pc temps st store)) st (price 0 0 0 1)
-            (Wv program linear pace body same_globals roomy n ih names info z shapes context site
-            base around (λ v st store. at (conf context site (pc + 1) (after v) st store)))
-            (within program (suc n) (Retry o x y) context st)
+          (Wv program linear pace body same_globals roomy n ih names info z shapes context site
+          base around (λ v st store. at (conf context site (pc + 1) (after v) st store)))
+          (within program (suc n) (Retry o x y) context st)
       retry_next o x y to left right a b after pc temps st store c steps has r alike kept held =
           let w = Wv program linear pace body same_globals roomy n ih names info z shapes context
-            site base around (λ v st store. at (conf context site (pc + 1) (after v) st store)) in
+          site base around (λ v st store. at (conf context site (pc + 1) (after v) st store)) in
           counted_claim linear pace (at (conf context site pc temps st store)) w st 0 0 1
-            (λ st. perform program (within program n) (Retry o x y) context st)
+          (λ st. perform program (within program n) (Retry o x y) context st)
           (omega arith) (shown_none program linear pace body (conf context site pc temps st store))
           (λ m less.
           let low : State = record st { steps_left = m } in
           more linear pace _ low (price 1 1 0 1) (price 16 1 0 1) w
-            (operate program (within program n) o x y context low)
-            (omega arith, omega arith, omega arith)
+          (operate program (within program n) o x y context low)
+          (omega arith, omega arith, omega arith)
           (operate_runs program linear pace body same_globals roomy n ih names info z shapes context
-            site base around o x y to left right a b after pc temps low store 1 c (omega arith)
-            (omega arith) has r alike kept held))
+          site base around o x y to left right a b after pc temps low store 1 c (omega arith)
+          (omega arith) has r alike kept held))
 
       pub filter_next : (k j : ℕ) (e : Expression) (h : Handler) (f : machine.Handler)
-        (rest : List machine.Handler) (exc : Exception) (resumption : Resumption) (pc : ℕ)
-        (temps : List ℕ) (st : State) (store : Store)
+          (rest : List machine.Handler) (exc : Exception) (resumption : Resumption) (pc : ℕ)
+          (temps : List ℕ) (st : State) (store : Store)
           → st.steps_left ≤ suc n → expression_weight e + body + 4 ≤ pace
           → regions_at linear site.body pc ≡ site.regions → h.activation ≡ f.activation
           → FilterFits program linear pace body everywhere shapes base h.activation h.abnormal k j e
           → Kp program linear pace body same_globals roomy n ih names info z shapes context site
-            base around st store → st.held ≡ site.held
+          base around st store → st.held ≡ site.held
           → Claim linear pace (λ next. deeper 2 site.held store st.events
-            (next (begin_filter j f rest exc resumption (conf context site pc temps st store)))) st
-            (price 0 1 0 (2 + expression_weight e))
+          (next (begin_filter j f rest exc resumption (conf context site pc temps st store)))) st
+          (price 0 1 0 (2 + expression_weight e))
           (Wv program linear pace body same_globals roomy n ih names info z shapes context site base
-            around (answers_search program linear pace body exc resumption f rest context site pc
-            temps)) (within program (suc n) (RunFilter k e h exc) context st)
+          around (answers_search program linear pace body exc resumption f rest context site pc
+          temps)) (within program (suc n) (RunFilter k e h exc) context st)
       filter_next k j e h f rest exc resumption pc temps st store steps light t a fit kept held =
           counted_claim linear pace (λ next. deeper 2 site.held store st.events
-            (next (begin_filter j f rest exc resumption (conf context site pc temps st store))))
-            (Wv program linear pace body same_globals roomy n ih names info z shapes context site
-            base around (answers_search program linear pace body exc resumption f rest context site
-            pc temps)) st 1 0 (2 + expression_weight e)
+          (next (begin_filter j f rest exc resumption (conf context site pc temps st store))))
+          (Wv program linear pace body same_globals roomy n ih names info z shapes context site
+          base around (answers_search program linear pace body exc resumption f rest context site
+          pc temps)) st 1 0 (2 + expression_weight e)
           (λ st. perform program (within program n) (RunFilter k e h exc) context st) (omega arith)
           (shown_deep linear pace 2 site.held store st.events
-            (exec linear zero (begin_filter j f rest exc resumption
-            (conf context site pc temps st store)))
+          (exec linear zero (begin_filter j f rest exc resumption
+          (conf context site pc temps st store)))
           (shown_more program linear pace body st.events _ (events.Filter (j + 1))
-            (shown_none program linear pace body
-            (begin_filter j f rest exc resumption (conf context site pc temps st store)))))
+          (shown_none program linear pace body
+          (begin_filter j f rest exc resumption (conf context site pc temps st store)))))
           (λ m less. filter_runs program linear pace body n ih k j e h f rest exc resumption names
-            info z shapes context site base pc temps (record st { steps_left = m }) store
-            (omega arith) light t a fit around kept held)
+          info z shapes context site base pc temps (record st { steps_left = m }) store
+          (omega arith) light t a fit around kept held)

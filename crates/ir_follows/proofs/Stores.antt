@@ -83,14 +83,14 @@ local_alike z f a x v h p = record {
 }
   where
     by_place : (y : ℕ) → y < z.own → (y ≡ x) ⊎ (y ≡ x → ⊥)
-      → get_or (set a x v) y 0 ≡ get_or (set f x v) y 0
+        → get_or (set a x v) y 0 ≡ get_or (set f x v) y 0
     by_place y l (inl e) =
         let in_a : x < length a = let r = p.room in omega (arith, p.all) in
         let in_f : x < length f = omega (arith, p.own) in
         subst (λ y. get_or (set a x v) y 0 ≡ get_or (set f x v) y 0) (sym e)
-          (get_or-set_same a x v 0 in_a ∙ sym (get_or-set_same f x v 0 in_f))
+        (get_or-set_same a x v 0 in_a ∙ sym (get_or-set_same f x v 0 in_f))
     by_place y l (inr e) = get_or-set_other a x y v 0 e ∙ p.reads y l
-      ∙ sym (get_or-set_other f x y v 0 e)
+        ∙ sym (get_or-set_other f x y v 0 e)
 
 note_alike : (z : Shape) (f a : List ℕ) (x v : ℕ) → z.own ≤ x → FrameAlike z f a
     → FrameAlike z f (set a x v)
@@ -125,24 +125,24 @@ changed_alike : (shapes : List Shape) (memory : Memory) (frames : List (List ℕ
 changed_alike shapes memory frames store k y f a h q p k' z g = by_place (cases_eq k' k)
   where
     by_place : (k' ≡ k) ⊎ (k' ≡ k → ⊥) → FrameAlike z (at_list (set frames k f) k')
-      (at_list (set store.activations k a) k')
+        (at_list (set store.activations k a) k')
     by_place (inl e) =
         let low = slice_get_within shapes k y h in
         let same : y ≡ z = let other : slice_get shapes k ≡ Some z = ap (slice_get shapes) (sym e)
-          ∙ g in cc in
+        ∙ g in cc in
         let in_f : k < length frames = omega (arith, p.count) in
         let in_a : k < length store.activations = omega (arith, p.activations) in
         subst (λ k'. FrameAlike z (at_list (set frames k f) k')
-          (at_list (set store.activations k a) k')) (sym e)
+        (at_list (set store.activations k a) k')) (sym e)
         (subst (λ b. FrameAlike z (at_list (set frames k f) k) b)
-          (sym (at_set_same store.activations k a in_a))
+        (sym (at_set_same store.activations k a in_a))
         (subst (λ b. FrameAlike z b a) (sym (at_set_same frames k f in_f))
-          (subst (λ z. FrameAlike z f a) same q)))
+        (subst (λ z. FrameAlike z f a) same q)))
     by_place (inr e) =
         subst (λ b. FrameAlike z (at_list (set frames k f) k') b)
-          (sym (at_set_other store.activations k' k a e))
+        (sym (at_set_other store.activations k' k a e))
         (subst (λ b. FrameAlike z b (at_list store.activations k'))
-          (sym (at_set_other frames k' k f e)) (p.each k' z g))
+        (sym (at_set_other frames k' k f e)) (p.each k' z g))
 
 -- a local of the source is written in both
 pub local_set_alike : (shapes : List Shape) (st : State) (store : Store) (k x v : ℕ) (z : Shape)
@@ -175,19 +175,19 @@ note_set_alike shapes memory frames store k x v z h l p = record {
       ∙ p.activations;
   each =
       subst (λ fs. (j : ℕ) (y : Shape) → slice_get shapes j ≡ Some y
-        → FrameAlike y (at_list fs j) (at_list
-          (set store.activations k (set (at_list store.activations k) x v)) j))
-          (set_itself frames k)
+      → FrameAlike y (at_list fs j) (at_list
+      (set store.activations k (set (at_list store.activations k) x v)) j))
+      (set_itself frames k)
       (changed_alike shapes memory frames store k z (at_list frames k)
-        (set (at_list store.activations k) x v) h
-        (note_alike z (at_list frames k) (at_list store.activations k) x v l (p.each k z h)) p);
+      (set (at_list store.activations k) x v) h
+      (note_alike z (at_list frames k) (at_list store.activations k) x v l (p.each k z h)) p);
 }
 
 -- a call begins
 pub push_alike : (shapes : List Shape) (memory : Memory) (frames : List (List ℕ)) (store : Store)
     (z : Shape) (f a : List ℕ) → FrameAlike z f a → Alike shapes memory frames store
     → Alike (shapes ++ z ∷ []) memory (frames ++ f ∷ [])
-      (record store { activations = store.activations ++ a ∷ [] })
+    (record store { activations = store.activations ++ a ∷ [] })
 push_alike shapes memory frames store z f a q p = record {
   same_memory = p.same_memory;
   count = length_push frames f ∙ ap (λ n. n + 1) p.count ∙ sym (length_push shapes z);
@@ -197,28 +197,28 @@ push_alike shapes memory frames store z f a q p = record {
 }
   where
     by_place : (k : ℕ) (y : Shape) → slice_get (shapes ++ z ∷ []) k ≡ Some y
-      → (k < length shapes) ⊎ (length shapes ≤ k)
-      → FrameAlike y (at_list (frames ++ f ∷ []) k) (at_list (store.activations ++ a ∷ []) k)
+        → (k < length shapes) ⊎ (length shapes ≤ k)
+        → FrameAlike y (at_list (frames ++ f ∷ []) k) (at_list (store.activations ++ a ∷ []) k)
     by_place k y h (inl l) =
         let in_f : k < length frames = omega (arith, p.count) in
         let in_a : k < length store.activations = omega (arith, p.activations) in
         subst (λ b. FrameAlike y (at_list (frames ++ f ∷ []) k) b)
-          (sym (at_push_old store.activations a k in_a))
+        (sym (at_push_old store.activations a k in_a))
         (subst (λ b. FrameAlike y b (at_list store.activations k))
-          (sym (at_push_old frames f k in_f)) (p.each k y (sym (get_push_old shapes z k l) ∙ h)))
+        (sym (at_push_old frames f k in_f)) (p.each k y (sym (get_push_old shapes z k l) ∙ h)))
     by_place k y h (inr l) =
         let top = slice_get_within (shapes ++ z ∷ []) k y h in
         let len = length_push shapes z in
         let e : k ≡ length shapes = omega arith in
         let same : z ≡ y = let other : slice_get (shapes ++ z ∷ []) (length shapes)
-          ≡ Some y = ap (slice_get (shapes ++ z ∷ [])) (sym e) ∙ h in
-            let new = get_push_new shapes z in cc in
+        ≡ Some y = ap (slice_get (shapes ++ z ∷ [])) (sym e) ∙ h in
+        let new = get_push_new shapes z in cc in
         let k_f : k ≡ length frames = e ∙ sym p.count in
         let k_a : k ≡ length store.activations = e ∙ sym p.activations in
         subst (λ b. FrameAlike y (at_list (frames ++ f ∷ []) k) b)
-          (sym (ap (at_list (store.activations ++ a ∷ [])) k_a ∙ at_push_new store.activations a))
+        (sym (ap (at_list (store.activations ++ a ∷ [])) k_a ∙ at_push_new store.activations a))
         (subst (λ b. FrameAlike y b a) (sym (ap (at_list (frames ++ f ∷ [])) k_f
-          ∙ at_push_new frames f)) (subst (λ y. FrameAlike y f a) same q))
+        ∙ at_push_new frames f)) (subst (λ y. FrameAlike y f a) same q))
 
 -- a call ends
 pub take_alike : (shapes : List Shape) (z : Shape) (memory : Memory) (frames : List (List ℕ))
@@ -236,9 +236,9 @@ take_alike shapes z memory frames store m e p =
           let low = slice_get_within shapes k y h in
           let l : k < m = omega arith in
           subst (λ b. FrameAlike y (at_list (take m frames) k) b)
-            (sym (at_take m store.activations k l))
+          (sym (at_take m store.activations k l))
           (subst (λ b. FrameAlike y b (at_list store.activations k)) (sym (at_take m frames k l))
-            (p.each k y (get_pushed shapes z y k h)));
+          (p.each k y (get_pushed shapes z y k h)));
     }
 
 -- ---- codes and flags that stay
@@ -284,15 +284,15 @@ pub kept_set : (ok : Places) (shapes : List Shape) (s : Store) (k x v : ℕ)
 kept_set ok shapes s k x v apart j z h y l o = by_place (cases_eq j k) (cases_eq y x)
   where
     by_place : (j ≡ k) ⊎ (j ≡ k → ⊥) → (y ≡ x) ⊎ (y ≡ x → ⊥)
-      → get_or (at_list (set s.activations k (set (at_list s.activations k) x v)) j) y 0
-      ≡ get_or (at_list s.activations j) y 0
+        → get_or (at_list (set s.activations k (set (at_list s.activations k) x v)) j) y 0
+        ≡ get_or (at_list s.activations j) y 0
     by_place (inr e) q = ap (λ a. get_or a y 0)
-      (at_set_other s.activations j k (set (at_list s.activations k) x v) e)
+        (at_set_other s.activations j k (set (at_list s.activations k) x v) e)
     by_place (inl e) (inl q) = absurd (apart z (ap (slice_get shapes) (sym e) ∙ h)
-      (subst (λ w. z.own ≤ w) q l) (subst (ok k) q (subst (λ i. ok i y) e o)))
+        (subst (λ w. z.own ≤ w) q l) (subst (ok k) q (subst (λ i. ok i y) e o)))
     by_place (inl e) (inr q) = subst (λ i. get_or
-      (at_list (set s.activations k (set (at_list s.activations k) x v)) i) y 0
-      ≡ get_or (at_list s.activations i) y 0) (sym e) (read_other s.activations k x v y q)
+        (at_list (set s.activations k (set (at_list s.activations k) x v)) i) y 0
+        ≡ get_or (at_list s.activations i) y 0) (sym e) (read_other s.activations k x v y q)
 
 -- what was written is read
 pub note_read : (z : Shape) (s : Store) (k x v : ℕ) (shapes : List Shape) (memory : Memory)
@@ -304,7 +304,7 @@ note_read z s k x v shapes memory frames h l p =
     let q = p.each k z h in
     let inside : x < length (at_list s.activations k) = omega (arith, q.all) in
     ap (λ a. get_or a x 0) (at_set_same s.activations k (set (at_list s.activations k) x v) in_a)
-      ∙ get_or-set_same (at_list s.activations k) x v 0 inside
+    ∙ get_or-set_same (at_list s.activations k) x v 0 inside
 
 -- the notes around a call stay through it
 pub call_kept : (ok : Places) (shapes : List Shape) (z : Shape) (s to : Store) (a : List ℕ) (m : ℕ)
@@ -316,4 +316,4 @@ call_kept ok shapes z s to a m e len p k y h x l o =
     let below : k < m = omega arith in
     let inside : k < length s.activations = omega (arith, len) in
     ap (λ b. get_or b x 0) (at_take m to.activations k below) ∙ p k y h x l tt
-      ∙ ap (λ b. get_or b x 0) (at_push_old s.activations a k inside)
+    ∙ ap (λ b. get_or b x 0) (at_push_old s.activations a k inside)

@@ -79,8 +79,10 @@ inside_except linear b scope filter target done rs lo hi hi' l h f =
     let r = region lo target (except_kind filter target) in
     let e = is_except filter target in
     record {
-      around = (record { begin = omega arith; end = l; block = is_block filter target },
-        around_part rs lo hi lo hi' (omega arith) (omega arith) f.around);
+      around = (
+        record { begin = omega arith; end = l; block = is_block filter target },
+        around_part rs lo hi lo hi' (omega arith) (omega arith) f.around,
+      );
       exit = exit_in linear b r rs hi hi' scope.exit (omega arith) e f.exit;
       loop_end = jump_in r rs hi hi' scope.loop_end (omega arith) e f.loop_end;
       loop_next = jump_in r rs hi hi' scope.loop_next (omega arith) e f.loop_next;
@@ -93,8 +95,10 @@ pub inside_finally : (linear : LinearProgram) (b : BodyName) (scope : LoweringCo
 inside_finally linear b scope k end done rs lo hi hi' l h f =
     let r = region lo end (regions.Finally k) in
     record {
-      around = (record { begin = omega arith; end = l; block = tt },
-        around_part rs lo hi lo hi' (omega arith) (omega arith) f.around);
+      around = (
+        record { begin = omega arith; end = l; block = tt },
+        around_part rs lo hi lo hi' (omega arith) (omega arith) f.around,
+      );
       exit = exit_over linear b r rs hi hi' scope.exit (omega arith) f.exit;
       loop_end = jump_over r rs hi hi' scope.loop_end (omega arith) f.loop_end;
       loop_next = jump_over r rs hi hi' scope.loop_next (omega arith) f.loop_next;
@@ -119,22 +123,26 @@ code_elsewhere : (z : Shape) (free : ℕ) (source : ExceptionSource) (context : 
     (abnormal : Bool) (asked asked' : Exception) (s : Store) → (source ≡ OfFilter → ⊥)
     → CodeBound (below_slot context.activation free) z source context asked s
     → CodeBound (below_slot context.activation free) z source
-      (record context { abnormal = abnormal }) asked' s
+    (record context { abnormal = abnormal }) asked' s
 code_elsewhere z free NoException context abnormal asked asked' s plain c = c
 code_elsewhere z free OfFilter context abnormal asked asked' s plain c = absurd (plain refl)
 code_elsewhere z free (KeptIn x) context abnormal asked asked' s plain c = c
 
 -- the same activation with other handlers and another exception
 abbrev pub elsewhere : Context → List Handler → Exception → Context
-elsewhere context hs exc = record { handlers = hs; activation = context.activation; exception = exc;
-    abnormal = context.abnormal }
+elsewhere context hs exc = record {
+  handlers = hs;
+  activation = context.activation;
+  exception = exc;
+  abnormal = context.abnormal;
+}
 
 -- other handlers change nothing of it
 code_inside : (z : Shape) (free : ℕ) (source : ExceptionSource) (context : Context)
     (hs : List Handler) (asked : Exception) (s : Store)
     → CodeBound (below_slot context.activation free) z source context asked s
     → CodeBound (below_slot context.activation free) z source (record context { handlers = hs })
-      asked s
+    asked s
 code_inside z free NoException context hs asked s c = c
 code_inside z free OfFilter context hs asked s c = c
 code_inside z free (KeptIn x) context hs asked s c = c
@@ -152,20 +160,20 @@ module _ (program : Program) (linear : LinearProgram) (pace body : ℕ) where
       → Surroundings program linear pace body names z shapes context site base notes
       → NotesKept (below_slot context.activation names.free) shapes base store
       → NotesKept (below_slot context.activation names.free) shapes base
-        (set_local store context.activation names.free v)
+      (set_local store context.activation names.free v)
   noted_stays names z shapes context site base notes v store standing k =
       let ok = below_slot context.activation names.free in
       kept_through ok shapes base store (set_local store context.activation names.free v) k
       (kept_set ok shapes store context.activation names.free v
-        (λ y h past o. let l = o refl in absurd (omega arith)))
+      (λ y h past o. let l = o refl in absurd (omega arith)))
 
   pub surroundings_except : (names : Names) (z : Shape) (shapes : List Shape) (context : Context)
       (site : Site) (base : Store) (m : ℕ) (exc : Exception) (mid : State) (store : Store)
       → Surroundings program linear pace body names z shapes context site base (1 + m)
       → Stays program linear pace body names shapes context base mid store
       → Surroundings program linear pace body (except_names names) z shapes
-        (record context { exception = exc }) site
-        (set_local store context.activation names.free exc.code) m
+      (record context { exception = exc }) site
+      (set_local store context.activation names.free exc.code) m
   surroundings_except names z shapes context site base m exc mid store standing kept =
       let a = context.activation in
       let ok = below_slot a names.free in
@@ -178,17 +186,20 @@ module _ (program : Program) (linear : LinearProgram) (pace body : ℕ) where
       record {
         env = record {
           shape = env.shape;
-          code = (standing.past, λ e. omega arith,
+          code = (
+            standing.past,
+            λ e. omega arith,
             note_read z store a names.free exc.code shapes mid.memory mid.frames env.shape
-            (omega arith) kept.0);
+                (omega arith) kept.0,
+          );
           flag = flag_among ok ok' z names.abnormal a context.abnormal base' grow
-            (flag_kept ok shapes z names.abnormal a context.abnormal base base' env.shape k
-            env.flag);
+              (flag_kept ok shapes z names.abnormal a context.abnormal base base' env.shape k
+              env.flag);
           informed = λ e. absurd (cc);
           handlers = match_among program linear pace body ok ok' shapes base' context.handlers
-            (found linear pace context site) grow
-            (match_kept program linear pace body ok shapes base base' context.handlers
-            (found linear pace context site) k env.handlers);
+              (found linear pace context site) grow
+              (match_kept program linear pace body ok shapes base base' context.handlers
+              (found linear pace context site) k env.handlers);
         };
         past = let p = standing.past in omega arith;
         room = omega arith;
@@ -201,15 +212,15 @@ module _ (program : Program) (linear : LinearProgram) (pace body : ℕ) where
       → Stays program linear pace body names shapes context base mid store
       → found linear pace context fsite ≡ found linear pace context site
       → Surroundings program linear pace body (finally_names names) z shapes
-        (record context { abnormal = flag }) fsite
-        (set_local store context.activation names.free (of_test flag)) m
+      (record context { abnormal = flag }) fsite
+      (set_local store context.activation names.free (of_test flag)) m
   surroundings_finally names z shapes context site fsite base m flag mid store standing kept same =
       let a = context.activation in
       let ok = below_slot a names.free in
       let ok' = below_slot a (names.free + 1) in
       let base' = set_local store a names.free (of_test flag) in
       let k = noted_stays names z shapes context site base (1 + m) (of_test flag) store standing
-        kept.1 in
+      kept.1 in
       let env = standing.env in
       let room = standing.room in
       let grow : (j x : ℕ) → ok j x → ok' j x = one_more a names.free in
@@ -217,21 +228,24 @@ module _ (program : Program) (linear : LinearProgram) (pace body : ℕ) where
         env = record {
           shape = env.shape;
           code = code_among ok ok' z names.exception (record context { abnormal = flag })
-            fsite.exception base' grow
+              fsite.exception base' grow
               (code_elsewhere z names.free names.exception context flag site.exception
-                fsite.exception base' standing.plain
-                (code_kept ok shapes z names.exception context site.exception base base' env.shape k
-                env.code));
-          flag = (standing.past, λ e. omega arith,
+              fsite.exception base' standing.plain
+              (code_kept ok shapes z names.exception context site.exception base base' env.shape k
+              env.code));
+          flag = (
+            standing.past,
+            λ e. omega arith,
             note_read z store a names.free (of_test flag) shapes mid.memory mid.frames env.shape
-            (omega arith) kept.0);
+                (omega arith) kept.0,
+          );
           informed = λ e. absurd (cc);
           handlers = subst (λ fs. Match program linear pace body ok' shapes base' context.handlers
-            fs) (sym same)
+              fs) (sym same)
               (match_among program linear pace body ok ok' shapes base' context.handlers
-                (found linear pace context site) grow
-                (match_kept program linear pace body ok shapes base base' context.handlers
-                (found linear pace context site) k env.handlers));
+              (found linear pace context site) grow
+              (match_kept program linear pace body ok shapes base base' context.handlers
+              (found linear pace context site) k env.handlers));
         };
         past = let p = standing.past in omega arith;
         room = omega arith;
@@ -243,24 +257,28 @@ module _ (program : Program) (linear : LinearProgram) (pace body : ℕ) where
       → slice_get shapes context.activation ≡ Some z → z.own ≤ names.free
       → Stays program linear pace body names shapes context base mid store
       → Stays program linear pace body names' shapes context
-        (set_local store context.activation names.free v) mid
-        (set_local store context.activation names.free v)
-  noted_kept names names' z shapes context base v mid store e shape past kept =
-      (note_set_alike shapes mid.memory mid.frames store context.activation names.free v z shape
-        past kept.0, kept_itself (below_slot context.activation names'.free) shapes
-        (set_local store context.activation names.free v))
+      (set_local store context.activation names.free v) mid
+      (set_local store context.activation names.free v)
+  noted_kept names names' z shapes context base v mid store e shape past kept = (
+    note_set_alike shapes mid.memory mid.frames store context.activation names.free v z shape
+        past kept.0,
+    kept_itself (below_slot context.activation names'.free) shapes
+        (set_local store context.activation names.free v),
+  )
 
   -- a block's stores are stores of what is around it
   pub stays_out : (names names' : Names) (shapes : List Shape) (context : Context)
       (base base' : Store) → names'.free ≡ names.free + 1
       → NotesKept (below_slot context.activation names.free) shapes base base'
       → (st : State) (store : Store) → Stays program linear pace body names' shapes context base' st
-        store → Stays program linear pace body names shapes context base st store
+      store → Stays program linear pace body names shapes context base st store
   stays_out names names' shapes context base base' e k st store p =
       let ok = below_slot context.activation names.free in
-      let ok' = below_slot context.activation names'.free in
-      (p.0, kept_through ok shapes base base' store k
-        (kept_fewer ok' ok shapes base' store (λ j x o q. let l = o q in omega arith) p.1))
+      let ok' = below_slot context.activation names'.free in (
+        p.0,
+        kept_through ok shapes base base' store k
+            (kept_fewer ok' ok shapes base' store (λ j x o q. let l = o q in omega arith) p.1),
+      )
 
   -- the body of a `__try` with an `__except`
   pub surroundings_try : (filter : Filter) (names : Names) (z : Shape) (shapes : List Shape)
@@ -268,19 +286,38 @@ module _ (program : Program) (linear : LinearProgram) (pace body : ℕ) where
       → FilterPlaced program linear pace body z.own names filter
       → Surroundings program linear pace body names z shapes context site base notes
       → Surroundings program linear pace body names z shapes
-        (record context { handlers = record { filter = filter; activation = context.activation;
-        abnormal = context.abnormal } ∷ context.handlers })
-        (within_region (region lo target (except_kind filter target)) site) base notes
+      (record context {
+        handlers = record {
+          filter = filter;
+          activation = context.activation;
+          abnormal = context.abnormal;
+        } ∷ context.handlers;
+      })
+      (within_region (region lo target (except_kind filter target)) site) base notes
   surroundings_try Always names z shapes context site base lo target notes f s =
-      let hs = record { filter = Always; activation = context.activation;
-        abnormal = context.abnormal } ∷ context.handlers in
-      record { env = record { shape = s.env.shape;
-        code = code_inside z names.free names.exception context hs site.exception base s.env.code;
-        flag = s.env.flag; informed = λ e. absurd (cc); handlers = ((refl, tt), s.env.handlers) };
-        past = s.past; room = s.room; plain = s.plain }
+      let hs = record {
+        filter = Always;
+        activation = context.activation;
+        abnormal = context.abnormal;
+      } ∷ context.handlers in
+      record {
+        env = record {
+          shape = s.env.shape;
+          code = code_inside z names.free names.exception context hs site.exception base s.env.code;
+          flag = s.env.flag;
+          informed = λ e. absurd (cc);
+          handlers = ((refl, tt), s.env.handlers);
+        };
+        past = s.past;
+        room = s.room;
+        plain = s.plain;
+      }
   surroundings_try (Funclet k e) names z shapes context site base lo target notes f s =
-      let hs = record { filter = Funclet k e; activation = context.activation;
-        abnormal = context.abnormal } ∷ context.handlers in
+      let hs = record {
+        filter = Funclet k e;
+        activation = context.activation;
+        abnormal = context.abnormal;
+      } ∷ context.handlers in
       record {
         env = record {
           shape = s.env.shape;
@@ -318,11 +355,20 @@ module _ (program : Program) (linear : LinearProgram) (pace body : ℕ) where
       (site : Site) (base : Store) (lo end k notes : ℕ)
       → Surroundings program linear pace body names z shapes context site base notes
       → Surroundings program linear pace body names z shapes context
-        (within_region (region lo end (regions.Finally k)) site) base notes
+      (within_region (region lo end (regions.Finally k)) site) base notes
   surroundings_guarded names z shapes context site base lo end k notes s =
-      record { env = record { shape = s.env.shape; code = s.env.code; flag = s.env.flag;
-        informed = λ e. absurd (cc); handlers = s.env.handlers }; past = s.past; room = s.room;
-        plain = s.plain }
+      record {
+        env = record {
+          shape = s.env.shape;
+          code = s.env.code;
+          flag = s.env.flag;
+          informed = λ e. absurd (cc);
+          handlers = s.env.handlers;
+        };
+        past = s.past;
+        room = s.room;
+        plain = s.plain;
+      }
 
   -- ---- a block claims what is claimed of what is around it
 
@@ -330,65 +376,102 @@ module _ (program : Program) (linear : LinearProgram) (pace body : ℕ) where
       (exc : Exception) (site : Site) (kept kept' : Kept) (way : jumps.Way) (v : ℕ)
       → ((st : State) (store : Store) → kept st store → kept' st store)
       → Arrives linear pace s st p kept site.held end
-        (exit_way program linear pace body (elsewhere context hs exc) site way v)
+      (exit_way program linear pace body (elsewhere context hs exc) site way v)
       → Arrives linear pace s st p kept' site.held end
-        (exit_way program linear pace body context site way v)
+      (exit_way program linear pace body context site way v)
   exit_same s st end p context hs exc site kept kept' Nowhere v h a = a
-  exit_same s st end p context hs exc site kept kept' (Jumps label) v h
-      a = (a.0, record { store = a.1.store; fits = h end a.1.store a.1.fits; same = a.1.same;
-      reaches = a.1.reaches })
-  exit_same s st end p context hs exc site kept kept' (Unwinds label) v h
-      a = (a.0, record { store = a.1.store; fits = h end a.1.store a.1.fits; same = a.1.same;
-      reaches = a.1.reaches })
+  exit_same s st end p context hs exc site kept kept' (Jumps label) v h a = (
+    a.0,
+    record {
+      store = a.1.store;
+      fits = h end a.1.store a.1.fits;
+      same = a.1.same;
+      reaches = a.1.reaches;
+    },
+  )
+  exit_same s st end p context hs exc site kept kept' (Unwinds label) v h a = (
+    a.0,
+    record {
+      store = a.1.store;
+      fits = h end a.1.store a.1.fits;
+      same = a.1.same;
+      reaches = a.1.reaches;
+    },
+  )
 
   jump_same : (s : Part) (st end : State) (p : Price) (context : Context) (hs : List Handler)
       (exc : Exception) (site : Site) (kept kept' : Kept) (way : jumps.Way)
       → ((st : State) (store : Store) → kept st store → kept' st store)
       → Arrives linear pace s st p kept site.held end
-        (jump_way program linear pace body (elsewhere context hs exc) site way)
+      (jump_way program linear pace body (elsewhere context hs exc) site way)
       → Arrives linear pace s st p kept' site.held end
-        (jump_way program linear pace body context site way)
+      (jump_way program linear pace body context site way)
   jump_same s st end p context hs exc site kept kept' Nowhere h a = a
-  jump_same s st end p context hs exc site kept kept' (Jumps label) h
-      a = record { store = a.store; fits = h end a.store a.fits; same = a.same;
-      reaches = a.reaches }
-  jump_same s st end p context hs exc site kept kept' (Unwinds label) h
-      a = (a.0, record { store = a.1.store; fits = h end a.1.store a.1.fits; same = a.1.same;
-      reaches = a.1.reaches })
+  jump_same s st end p context hs exc site kept kept' (Jumps label) h a =
+      record {
+        store = a.store;
+        fits = h end a.store a.fits;
+        same = a.same;
+        reaches = a.reaches;
+      }
+  jump_same s st end p context hs exc site kept kept' (Unwinds label) h a = (
+    a.0,
+    record {
+      store = a.1.store;
+      fits = h end a.1.store a.1.fits;
+      same = a.1.same;
+      reaches = a.1.reaches;
+    },
+  )
 
   leave_same : (s : Part) (st end : State) (p : Price) (context : Context) (hs : List Handler)
       (exc : Exception) (site : Site) (kept kept' : Kept) (way : Option ℕ)
       → ((st : State) (store : Store) → kept st store → kept' st store)
       → Arrives linear pace s st p kept site.held end
-        (leave_way program linear pace body (elsewhere context hs exc) site way)
+      (leave_way program linear pace body (elsewhere context hs exc) site way)
       → Arrives linear pace s st p kept' site.held end
-        (leave_way program linear pace body context site way)
+      (leave_way program linear pace body context site way)
   leave_same s st end p context hs exc site kept kept' None h a = a
-  leave_same s st end p context hs exc site kept kept' (Some label) h
-      a = record { store = a.store; fits = h end a.store a.fits; same = a.same;
-      reaches = a.reaches }
+  leave_same s st end p context hs exc site kept kept' (Some label) h a =
+      record {
+        store = a.store;
+        fits = h end a.store a.fits;
+        same = a.same;
+        reaches = a.reaches;
+      }
 
   pub block_claim : (s : Part) (st : State) (p : Price) (scope : LoweringContext)
       (context : Context) (hs : List Handler) (exc : Exception) (site : Site) (kept kept' : Kept)
       (done : ℕ) (o : Outcome) → ((st : State) (store : Store) → kept st store → kept' st store)
       → Claim linear pace s st p (statement_ways program linear pace body (in_except scope)
-        (elsewhere context hs exc) site kept done) o
+      (elsewhere context hs exc) site kept done) o
       → Claim linear pace s st p (statement_ways program linear pace body scope context site kept'
-        done) o
+      done) o
   block_claim s st p scope context hs exc site kept kept' done (Gives (Value x) end) h a = absurd a
-  block_claim s st p scope context hs exc site kept kept' done (Gives Normal end) h
-      a = record { store = a.store; fits = h end a.store a.fits; same = a.same;
-      reaches = a.reaches }
-  block_claim s st p scope context hs exc site kept kept' done (Gives (Returned v) end) h
-      a = exit_same s st end p context hs exc site kept kept' scope.exit v h a
+  block_claim s st p scope context hs exc site kept kept' done (Gives Normal end) h a =
+      record {
+        store = a.store;
+        fits = h end a.store a.fits;
+        same = a.same;
+        reaches = a.reaches;
+      }
+  block_claim s st p scope context hs exc site kept kept' done (Gives (Returned v) end) h a =
+      exit_same s st end p context hs exc site kept kept' scope.exit v h a
   block_claim s st p scope context hs exc site kept kept' done (Gives Broke end) h a = jump_same s
       st end p context hs exc site kept kept' scope.loop_end h a
   block_claim s st p scope context hs exc site kept kept' done (Gives Continued end) h a = jump_same
       s st end p context hs exc site kept kept' scope.loop_next h a
   block_claim s st p scope context hs exc site kept kept' done (Gives LeftTry end) h a = leave_same
       s st end p context hs exc site kept kept' scope.leave h a
-  block_claim s st p scope context hs exc site kept kept' done (Gives (Target level e) end) h
-      a = record { handler = a.handler; picked = a.picked; temps = a.temps; pc = a.pc;
-      store = a.store; fits = h end a.store a.fits; reaches = a.reaches }
+  block_claim s st p scope context hs exc site kept kept' done (Gives (Target level e) end) h a =
+      record {
+        handler = a.handler;
+        picked = a.picked;
+        temps = a.temps;
+        pc = a.pc;
+        store = a.store;
+        fits = h end a.store a.fits;
+        reaches = a.reaches;
+      }
   block_claim s st p scope context hs exc site kept kept' done (Gives (End (Some e)) end) h a = a
   block_claim s st p scope context hs exc site kept kept' done (Gives (End None) end) h a = a

@@ -55,77 +55,99 @@ module _ (program : Program) (linear : LinearProgram) (pace body : ℕ) where
     R = region begin target (except_kind filter target)
 
     abbrev inner : Context
-    inner = elsewhere context (record { filter = filter; activation = context.activation;
-      abnormal = context.abnormal } ∷ context.handlers) context.exception
+    inner = elsewhere context (record {
+      filter = filter;
+      activation = context.activation;
+      abnormal = context.abnormal;
+    } ∷ context.handlers) context.exception
 
     abbrev inside : Site
     inside = within_region (region begin target (except_kind filter target)) site
 
     skip_region : (s : Part) (from : State) (r e d : ℕ) (to : machine.Target) (temps : List ℕ)
-      (st : State) (store : Store) (pc : ℕ) → Outward to R (length site.below)
+        (st : State) (store : Store) (pc : ℕ) → Outward to R (length site.below)
         → Reaches linear pace s (unwound linear pace inner inside to temps st store pc) from st r e
-          d → Reaches linear pace s (unwound linear pace context site to temps st store pc) from st
-          r e d
+        d → Reaches linear pace s (unwound linear pace context site to temps st store pc) from st
+        r e d
     skip_region s from r e d to temps st store pc o p =
         onto linear pace s (unwound linear pace inner inside to temps st store pc)
-          (unwound linear pace context site to temps st store pc) from st r e d
+        (unwound linear pace context site to temps st store pc) from st r e d
         (λ j. skips linear (exec linear j) to
-          (λ store. unwind linear (exec linear j) (target_past site.body to) site.below None
-          st.events store) R target site.regions (conf context site pc temps st store)
-          (is_except filter target) (is_block filter target) forth o) p
+        (λ store. unwind linear (exec linear j) (target_past site.body to) site.below None
+        st.events store) R target site.regions (conf context site pc temps st store)
+        (is_except filter target) (is_block filter target) forth o) p
 
     skip_exit : (s : Part) (from : State) (p : Price) (way : jumps.Way) (v : ℕ) (st : State)
-      → ExitFits linear site.body site.regions hi way
+        → ExitFits linear site.body site.regions hi way
         → Arrives linear pace s from p kept site.held st
-          (exit_way program linear pace body inner inside way v)
+        (exit_way program linear pace body inner inside way v)
         → Arrives linear pace s from p kept site.held st
-          (exit_way program linear pace body context site way v)
+        (exit_way program linear pace body context site way v)
     skip_exit s from p Nowhere v st f q = q
     skip_exit s from p (Jumps label) v st f q =
-      (q.0, record { store = q.1.store; fits = q.1.fits; same = q.1.same; reaches = q.1.reaches })
-    skip_exit s from p (Unwinds label) v st f q =
-        (q.0, record { store = q.1.store; fits = q.1.fits; same = q.1.same;
-          reaches = skip_region s from p.turns p.extra p.slack (own_target site label) (v ∷ []) st
-          q.1.store q.0 (inr (inl (omega arith))) q.1.reaches })
+        (q.0, record { store = q.1.store; fits = q.1.fits; same = q.1.same; reaches = q.1.reaches })
+    skip_exit s from p (Unwinds label) v st f q = (
+      q.0,
+      record {
+        store = q.1.store;
+        fits = q.1.fits;
+        same = q.1.same;
+        reaches = skip_region s from p.turns p.extra p.slack (own_target site label) (v ∷ []) st
+            q.1.store q.0 (inr (inl (omega arith))) q.1.reaches;
+      },
+    )
 
     skip_jump : (s : Part) (from : State) (p : Price) (way : jumps.Way) (st : State)
-      → JumpFits site.regions hi way
+        → JumpFits site.regions hi way
         → Arrives linear pace s from p kept site.held st
-          (jump_way program linear pace body inner inside way)
+        (jump_way program linear pace body inner inside way)
         → Arrives linear pace s from p kept site.held st
-          (jump_way program linear pace body context site way)
+        (jump_way program linear pace body context site way)
     skip_jump s from p Nowhere st f q = q
     skip_jump s from p (Jumps label) st f q =
-      record { store = q.store; fits = q.fits; same = q.same; reaches = q.reaches }
-    skip_jump s from p (Unwinds label) st f q =
-        (q.0, record { store = q.1.store; fits = q.1.fits; same = q.1.same;
-          reaches = skip_region s from p.turns p.extra p.slack (own_target site label) [] st
-          q.1.store q.0 (inr (inl (omega arith))) q.1.reaches })
+        record { store = q.store; fits = q.fits; same = q.same; reaches = q.reaches }
+    skip_jump s from p (Unwinds label) st f q = (
+      q.0,
+      record {
+        store = q.1.store;
+        fits = q.1.fits;
+        same = q.1.same;
+        reaches = skip_region s from p.turns p.extra p.slack (own_target site label) [] st
+            q.1.store q.0 (inr (inl (omega arith))) q.1.reaches;
+      },
+    )
 
     -- the block's first instruction keeps the code
     abbrev landed_at : Exception → State → Store → Configuration
     landed_at exc st store = record {
-      frame = record { body = site.body; next = target; activation = context.activation;
-        exception = site.exception; held = site.held; temporaries = []; landed = Some exc.code };
+      frame = record {
+        body = site.body;
+        next = target;
+        activation = context.activation;
+        exception = site.exception;
+        held = site.held;
+        temporaries = [];
+        landed = Some exc.code;
+      };
       below = site.below;
       store = store;
       events = st.events ++ events.Except (record { 0 = exc.code }) ∷ [];
     }
 
     landing_turn : (free : ℕ) (exc : Exception) (st : State) (store : Store) (k : ℕ)
-      → HasAt linear site.body site.regions target (Landing (Local free) ∷ [])
+        → HasAt linear site.body site.regions target (Landing (Local free) ∷ [])
         → exec linear (suc k) (landed_at exc st store)
         ≡ exec linear k (conf context site (target + 1) []
-          (emit (events.Except (record { 0 = exc.code })) (record st { held = site.held }))
-          (set_local store context.activation free exc.code))
+        (emit (events.Except (record { 0 = exc.code })) (record st { held = site.held }))
+        (set_local store context.activation free exc.code))
     unfolding with_some
     landing_turn free exc st store k has = fetch linear pace (landed_at exc st store)
-      (Landing (Local free)) k has.0
+        (Landing (Local free)) k has.0
 
     -- the end of a `__try` with an `__except`
     pub except_ends : (done x y lo free : ℕ) (names : Names) (scope : LoweringContext) (z : Shape)
-      (shapes : List Shape) (base : Store) (notes : ℕ) (s : Part) (from : State) (pc : ℕ)
-      (o : Outcome) (go : Exception → State → Outcome)
+        (shapes : List Shape) (base : Store) (notes : ℕ) (s : Part) (from : State) (pc : ℕ)
+        (o : Outcome) (go : Exception → State → Outcome)
         → Inner linear site.body scope site.regions lo hi
         → length (found linear pace context site) ≡ length context.handlers
         → HasAt linear site.body (R ∷ site.regions) pc (Jump done ∷ [])
@@ -133,120 +155,128 @@ module _ (program : Program) (linear : LinearProgram) (pace body : ℕ) where
         → ((exc : Exception) (st : State) (store : Store) → st.steps_left ≤ from.steps_left
         → kept st store → st.held ≡ site.held
         → Claim linear pace (at (conf context site (target + 1) [] st
-          (set_local store context.activation free exc.code))) st (price 0 0 y y)
-          (statement_ways program linear pace body scope context site kept done) (go exc st))
+        (set_local store context.activation free exc.code))) st (price 0 0 y y)
+        (statement_ways program linear pace body scope context site kept done) (go exc st))
         → ((e : State) (store : Store) → kept e store → (f : State) → f.memory ≡ e.memory
         → f.frames ≡ e.frames → kept f store)
         → Claim linear pace s from (price 0 0 x x)
-          (statement_ways program linear pace body (in_try done scope) inner inside kept pc) o
+        (statement_ways program linear pace body (in_try done scope) inner inside kept pc) o
         → Claim linear pace s from (price 2 0 (x + y) (x + y))
-          (statement_ways program linear pace body scope context site kept done)
-          (landing (length context.handlers) site.held o go)
+        (statement_ways program linear pace body scope context site kept done)
+        (landing (length context.handlers) site.held o go)
     unfolding landing choose
     except_ends done x y lo free names scope z shapes base notes s from pc (Gives (Value v) st) go
-      fits same has lands_has g alike p = absurd p
+        fits same has lands_has g alike p =
+        absurd p
     except_ends done x y lo free names scope z shapes base notes s from pc (Gives Normal st) go fits
-      same has lands_has g alike p = record {
-      store = p.store;
-      fits = p.fits;
-      same = p.same;
-      reaches = reaches_after linear pace s (at (conf context site pc [] st p.store))
-        (at (conf context site done [] st p.store)) from st st 0 0 x 1 0 0 2 0 (x + y) (omega arith)
-        (omega arith) p.reaches
-          (stepped linear pace (conf context site pc [] st p.store)
-            (at (conf context site done [] st p.store)) st st 1 0 0 refl (omega arith) (omega arith)
-            refl (prefix_self linear pace st.events)
-            (λ j. jump_turn linear pace context inside done pc [] st p.store j has));
-    }
+        same has lands_has g alike p =
+        record {
+          store = p.store;
+          fits = p.fits;
+          same = p.same;
+          reaches = reaches_after linear pace s (at (conf context site pc [] st p.store))
+              (at (conf context site done [] st p.store)) from st st 0 0 x 1 0 0 2 0 (x + y) (omega arith)
+              (omega arith) p.reaches
+              (stepped linear pace (conf context site pc [] st p.store)
+              (at (conf context site done [] st p.store)) st st 1 0 0 refl (omega arith) (omega arith)
+              refl (prefix_self linear pace st.events)
+              (λ j. jump_turn linear pace context inside done pc [] st p.store j has));
+        }
     except_ends done x y lo free names scope z shapes base notes s from pc (Gives (Returned v) st)
-      go fits same has lands_has g alike p =
+        go fits same has lands_has g alike p =
         arrives_more linear pace s from st (price 0 0 x x) (price 2 0 (x + y) (x + y)) kept
-          site.held (exit_way program linear pace body context site scope.exit v) (omega arith)
-          (omega arith) (skip_exit s from (price 0 0 x x) scope.exit v st fits.exit p)
+        site.held (exit_way program linear pace body context site scope.exit v) (omega arith)
+        (omega arith) (skip_exit s from (price 0 0 x x) scope.exit v st fits.exit p)
     except_ends done x y lo free names scope z shapes base notes s from pc (Gives Broke st) go fits
-      same has lands_has g alike p =
+        same has lands_has g alike p =
         arrives_more linear pace s from st (price 0 0 x x) (price 2 0 (x + y) (x + y)) kept
-          site.held (jump_way program linear pace body context site scope.loop_end) (omega arith)
-          (omega arith) (skip_jump s from (price 0 0 x x) scope.loop_end st fits.loop_end p)
+        site.held (jump_way program linear pace body context site scope.loop_end) (omega arith)
+        (omega arith) (skip_jump s from (price 0 0 x x) scope.loop_end st fits.loop_end p)
     except_ends done x y lo free names scope z shapes base notes s from pc (Gives Continued st) go
-      fits same has lands_has g alike p =
+        fits same has lands_has g alike p =
         arrives_more linear pace s from st (price 0 0 x x) (price 2 0 (x + y) (x + y)) kept
-          site.held (jump_way program linear pace body context site scope.loop_next) (omega arith)
-          (omega arith) (skip_jump s from (price 0 0 x x) scope.loop_next st fits.loop_next p)
+        site.held (jump_way program linear pace body context site scope.loop_next) (omega arith)
+        (omega arith) (skip_jump s from (price 0 0 x x) scope.loop_next st fits.loop_next p)
     except_ends done x y lo free names scope z shapes base notes s from pc (Gives LeftTry st) go
-      fits same has lands_has g alike p =
-        record { store = p.store; fits = p.fits; same = p.same;
+        fits same has lands_has g alike p =
+        record {
+          store = p.store;
+          fits = p.fits;
+          same = p.same;
           reaches = reaches_more linear pace s (at (conf context site done [] st p.store)) from st 0
-          0 x 2 0 (x + y) (omega arith) (omega arith) p.reaches }
+              0 x 2 0 (x + y) (omega arith) (omega arith) p.reaches;
+        }
     except_ends done x y lo free names scope z shapes base notes s from pc (Gives (End (Some e)) st)
-      go fits same has lands_has g alike p = finishes_more linear pace s from st 0 2
-      (Finished e st.events) (omega arith) p
+        go fits same has lands_has g alike p =
+        finishes_more linear pace s from st 0 2
+        (Finished e st.events) (omega arith) p
     except_ends done x y lo free names scope z shapes base notes s from pc (Gives (End None) st) go
-      fits same has lands_has g alike p = stops_more linear pace s from st 0 0 x 2 0 (x + y)
-      (omega arith) (omega arith) p
+        fits same has lands_has g alike p =
+        stops_more linear pace s from st 0 0 x 2 0 (x + y)
+        (omega arith) (omega arith) p
     except_ends done x y lo free names scope z shapes base notes s from pc
-      (Gives (Target level exc) st) go fits same has lands_has g alike p =
+        (Gives (Target level exc) st) go fits same has lands_has g alike p =
         pick_one (picked_of (except_kind filter target) target context.activation
-          (length site.below) (handlers_in site.regions context.activation (length site.below))
-          (handlers linear site.below None) level p.handler (is_except filter target) p.picked)
+        (length site.below) (handlers_in site.regions context.activation (length site.below))
+        (handlers linear site.below None) level p.handler (is_except filter target) p.picked)
       where
         landed : State
         landed = emit (events.Except (record { 0 = exc.code })) (record st { held = site.held })
 
         O : Bool → Outcome
         O b = choose b (λ st. go exc (emit (events.Except (record { 0 = exc.code }))
-          (record st { held = site.held }))) (λ st. Gives (Target level exc) st) st
+            (record st { held = site.held }))) (λ st. Gives (Target level exc) st) st
 
         by_test : (b : Bool) → nat_eq level (length context.handlers) ≡ b
-          → Claim linear pace s from (price 2 0 (x + y) (x + y))
+            → Claim linear pace s from (price 2 0 (x + y) (x + y))
             (statement_ways program linear pace body scope context site kept done) (O b)
             → Claim linear pace s from (price 2 0 (x + y) (x + y))
-              (statement_ways program linear pace body scope context site kept done)
-              (O (nat_eq level (length context.handlers)))
+            (statement_ways program linear pace body scope context site kept done)
+            (O (nat_eq level (length context.handlers)))
         by_test b e q = subst (λ b. Claim linear pace s from (price 2 0 (x + y) (x + y))
-          (statement_ways program linear pace body scope context site kept done) (O b)) (sym e) q
+            (statement_ways program linear pace body scope context site kept done) (O b)) (sym e) q
 
         pick_one : ((length (found linear pace context site) ≡ level)
-          × (p.handler.depth ≡ length site.below) × (p.handler.target ≡ target))
-          ⊎ Picked (found linear pace context site) level p.handler
+            × (p.handler.depth ≡ length site.below) × (p.handler.target ≡ target))
+            ⊎ Picked (found linear pace context site) level p.handler
             → Claim linear pace s from (price 2 0 (x + y) (x + y))
-              (statement_ways program linear pace body scope context site kept done)
-              (O (nat_eq level (length context.handlers)))
+            (statement_ways program linear pace body scope context site kept done)
+            (O (nat_eq level (length context.handlers)))
         pick_one (inl q) =
             let f = p.handler in
             let low = p.reaches.low in
             let e : level ≡ length context.handlers = sym q.0 ∙ same in
             let own : machine.Target = target_of f exc.code st.held in
             let finds_handlers : FindsRegions f.target (R ∷ site.regions) = subst
-              (λ t. FindsRegions t (R ∷ site.regions)) (sym q.2)
-              (finds_own R target site.regions (is_except filter target)) in
+            (λ t. FindsRegions t (R ∷ site.regions)) (sym q.2)
+            (finds_own R target site.regions (is_except filter target)) in
             let come : Reaches linear pace s (at (landed_at exc st p.store)) from st 0 0 x =
             onto linear pace s (unwound linear pace inner inside own p.temps st p.store p.pc)
-              (at (landed_at exc st p.store)) from st 0 0 x
+            (at (landed_at exc st p.store)) from st 0 0 x
             (λ j. lands linear (exec linear j) own
-              (λ store. unwind linear (exec linear j) (target_past site.body own) site.below None
-              st.events store) (R ∷ site.regions) (conf context site p.pc p.temps st p.store) q.1
-              finds_handlers ∙ ap (λ t. exec linear j (at_target t)) q.2) p.reaches in
+            (λ store. unwind linear (exec linear j) (target_past site.body own) site.below None
+            st.events store) (R ∷ site.regions) (conf context site p.pc p.temps st p.store) q.1
+            finds_handlers ∙ ap (λ t. exec linear j (at_target t)) q.2) p.reaches in
             by_test true (eq-eqb level (length context.handlers) e)
             (after linear pace s (at (landed_at exc st p.store)) from st 0 0 x (price 1 0 y y)
-              (price 2 0 (x + y) (x + y)) (statement_ways program linear pace body scope context
-              site kept done) (go exc landed) (omega arith, omega arith, omega arith) come
+            (price 2 0 (x + y) (x + y)) (statement_ways program linear pace body scope context
+            site kept done) (go exc landed) (omega arith, omega arith, omega arith) come
             (sooner linear pace (at (landed_at exc st p.store)) st landed (price 1 0 y y)
-              (statement_ways program linear pace body scope context site kept done) (go exc landed)
-              refl (events.Except (record { 0 = exc.code }) ∷ [], refl)
+            (statement_ways program linear pace body scope context site kept done) (go exc landed)
+            refl (events.Except (record { 0 = exc.code }) ∷ [], refl)
             (first linear pace (landed_at exc st p.store)
-              (at (conf context site (target + 1) [] landed
-              (set_local p.store context.activation free exc.code))) landed landed (price 0 0 y y)
-              (price 1 0 y y) (statement_ways program linear pace body scope context site kept done)
-              (go exc landed)
+            (at (conf context site (target + 1) [] landed
+            (set_local p.store context.activation free exc.code))) landed landed (price 0 0 y y)
+            (price 1 0 y y) (statement_ways program linear pace body scope context site kept done)
+            (go exc landed)
             (omega arith, omega arith, omega arith) refl refl
-              (prefix_self linear pace landed.events)
-              (λ j. landing_turn free exc st p.store j lands_has)
+            (prefix_self linear pace landed.events)
+            (λ j. landing_turn free exc st p.store j lands_has)
             (g exc landed p.store low (alike st p.store p.fits landed refl refl) refl))))
           where
             at_target : ℕ → Configuration
             at_target t = record (landed_at exc st p.store)
-              { frame = record (landed_at exc st p.store).frame { next = t } }
+                { frame = record (landed_at exc st p.store).frame { next = t } }
         pick_one (inr q) =
             let less = picked_less (found linear pace context site) level p.handler q in
             by_test false (ne_eqb level (length context.handlers) (λ e. omega arith))
@@ -258,9 +288,9 @@ module _ (program : Program) (linear : LinearProgram) (pace body : ℕ) where
               store = p.store;
               fits = p.fits;
               reaches = reaches_more linear pace s
-                (unwound linear pace context site (target_of p.handler exc.code st.held) p.temps st
-                p.store p.pc) from st 0 0 x 2 0 (x + y) (omega arith) (omega arith)
+                  (unwound linear pace context site (target_of p.handler exc.code st.held) p.temps st
+                  p.store p.pc) from st 0 0 x 2 0 (x + y) (omega arith) (omega arith)
                   (skip_region s from 0 0 x (target_of p.handler exc.code st.held) p.temps st
-                    p.store p.pc (outward context site lo hi level p.handler exc.code st.held R
-                    fits.around (omega arith) q) p.reaches);
+                  p.store p.pc (outward context site lo hi level p.handler exc.code st.held R
+                  fits.around (omega arith) q) p.reaches);
             })

@@ -57,9 +57,9 @@ pub top_put : (ts us : List ℕ) (v : ℕ) → with_temporary (ts ++ us) (length
 top_put ts us v =
     let fits : length ts ≤ length (ts ++ us) = let e = length-append ts us in omega arith in
     ap (λ xs. if nat_le (length ts) (length (ts ++ us)) then Some (xs ++ v ∷ []) else None)
-      (take_at ts us (length ts) refl)
+    (take_at ts us (length ts) refl)
     ∙ written_by (nat_le (length ts) (length (ts ++ us))) (ts ++ v ∷ [])
-      (le-leb (length ts) (length (ts ++ us)) fits)
+    (le-leb (length ts) (length (ts ++ us)) fits)
 
 pub next_put : (ts : List ℕ) (x : ℕ) (us : List ℕ) (v : ℕ)
     → with_temporary ((ts ++ x ∷ []) ++ us) (length ts + 1) v ≡ Some ((ts ++ x ∷ []) ++ v ∷ [])
@@ -69,8 +69,11 @@ next_put ts x us v = ap (λ k. with_temporary ((ts ++ x ∷ []) ++ us) k v) (sym
 -- one temporary is changed
 pub changing : (ts : List ℕ) (x : ℕ) → Operands (ts ++ x ∷ []) (length ts) (length ts) (length ts) x
     x (λ v. ts ++ v ∷ [])
-changing ts x = record { reads_first = top_get ts x; reads_second = top_get ts x;
-    writes = λ v. top_put ts (x ∷ []) v }
+changing ts x = record {
+  reads_first = top_get ts x;
+  reads_second = top_get ts x;
+  writes = λ v. top_put ts (x ∷ []) v;
+}
 
 -- two become one
 pub combining : (ts : List ℕ) (x y : ℕ) → Operands ((ts ++ x ∷ []) ++ y ∷ []) (length ts)
@@ -87,32 +90,32 @@ module _ (linear : LinearProgram) (pace : ℕ) (context : Context) (site : Site)
   pub computed_gives : (to : ℕ) (pc : ℕ) (temps : List ℕ) (result : List ℕ) (st : State)
       (store : Store) (v : ℕ) (m : _) (next : Next) → with_temporary temps to v ≡ Some result
       → computed linear next (Temporary to) (conf context site pc temps st store)
-        (performing.Gives v m) ≡ next (conf context site (pc + 1) result st
-        (record store { memory = m }))
+      (performing.Gives v m) ≡ next (conf context site (pc + 1) result st
+      (record store { memory = m }))
   unfolding with_some
   computed_gives to pc temps result st store v m next h =
       ap (λ o. with_some st.events (with_temporaries
-        (conf context site pc temps st (record store { memory = m })) o) (λ c. next (forth c))) h
+      (conf context site pc temps st (record store { memory = m })) o) (λ c. next (forth c))) h
 
   -- an operation that reads slots
   pub computes : (o : Operation) (to first second a b : ℕ) (after : ℕ → List ℕ) (pc : ℕ)
       (temps : List ℕ) (st : State) (store : Store) (k : ℕ) → is_constant o ≡ false
       → HasAt linear site.body site.regions pc
-        (Compute (Temporary to) o (Temporary first) (Temporary second) ∷ [])
+      (Compute (Temporary to) o (Temporary first) (Temporary second) ∷ [])
       → Operands temps to first second a b after
       → exec linear (suc k) (conf context site pc temps st store)
       ≡ computed linear (exec linear k) (Temporary to) (conf context site pc temps st store)
-        (performed (is_reserved linear.globals) o a b store.memory)
+      (performed (is_reserved linear.globals) o a b store.memory)
   unfolding with_some
   computes o to first second a b after pc temps st store k e has r =
       let c = conf context site pc temps st store in
       let finish : ℕ → ℕ → Seen = λ a b. computed linear (exec linear k) (Temporary to) c
-        (performed (is_reserved linear.globals) o a b store.memory) in
+      (performed (is_reserved linear.globals) o a b store.memory) in
       fetch linear pace c (Compute (Temporary to) o (Temporary first) (Temporary second)) k has.0
       ∙ ap (λ t. with_some st.events (operand t c (Temporary first))
-        (λ a. with_some st.events (operand t c (Temporary second)) (λ b. finish a b))) e
+      (λ a. with_some st.events (operand t c (Temporary second)) (λ b. finish a b))) e
       ∙ ap (λ x. with_some st.events x (λ a. with_some st.events (slice_get temps second)
-        (λ b. finish a b))) r.reads_first
+      (λ b. finish a b))) r.reads_first
       ∙ ap (λ x. with_some st.events x (λ b. finish a b)) r.reads_second
 
   -- one without faults
@@ -120,14 +123,14 @@ module _ (linear : LinearProgram) (pace : ℕ) (context : Context) (site : Site)
       (temps : List ℕ) (st : State) (store : Store) (k : ℕ)
       → is_constant (operations.Pure p) ≡ false
       → HasAt linear site.body site.regions pc
-        (Compute (Temporary to) (operations.Pure p) (Temporary first) (Temporary second) ∷ [])
+      (Compute (Temporary to) (operations.Pure p) (Temporary first) (Temporary second) ∷ [])
       → Operands temps to first second a b after
       → exec linear (suc k) (conf context site pc temps st store)
       ≡ exec linear k (conf context site (pc + 1) (after (result_of p a b)) st store)
   pure_turn p to first second a b after pc temps st store k e has r =
       computes (operations.Pure p) to first second a b after pc temps st store k e has r
       ∙ computed_gives to pc temps (after (result_of p a b)) st store (result_of p a b) store.memory
-        (exec linear k) (r.writes (result_of p a b))
+      (exec linear k) (r.writes (result_of p a b))
 
   low_itself : (n : ℕ) → n < 2 ^ 64 → low W64 n ≡ n
   low_itself n h = omega arith
@@ -135,37 +138,37 @@ module _ (linear : LinearProgram) (pace : ℕ) (context : Context) (site : Site)
   pub constant_turn : (n to : ℕ) (result : List ℕ) (pc : ℕ) (temps : List ℕ) (st : State)
       (store : Store) (k : ℕ) → n < 2 ^ 64
       → HasAt linear site.body site.regions pc
-        (Compute (Temporary to) (operations.Pure (pures.Constant n)) (Temporary to) (Temporary to)
+      (Compute (Temporary to) (operations.Pure (pures.Constant n)) (Temporary to) (Temporary to)
       ∷ []) → with_temporary temps to n ≡ Some result
       → exec linear (suc k) (conf context site pc temps st store)
       ≡ exec linear k (conf context site (pc + 1) result st store)
   unfolding with_some
   constant_turn n to result pc temps st store k small has h =
       fetch linear pace (conf context site pc temps st store)
-        (Compute (Temporary to) (operations.Pure (pures.Constant n)) (Temporary to) (Temporary to))
-        k has.0
+      (Compute (Temporary to) (operations.Pure (pures.Constant n)) (Temporary to) (Temporary to))
+      k has.0
       ∙ computed_gives to pc temps result st store (low W64 n) store.memory (exec linear k)
-        (ap (with_temporary temps to) (low_itself n small) ∙ h)
+      (ap (with_temporary temps to) (low_itself n small) ∙ h)
 
   -- a local goes to a temporary
   pub fetch_local_turn : (x to : ℕ) (result : List ℕ) (pc : ℕ) (temps : List ℕ) (st : State)
       (store : Store) (k : ℕ)
       → HasAt linear site.body site.regions pc
-        (Compute (Temporary to) (operations.Pure pures.First) (Local x) (Local x) ∷ [])
+      (Compute (Temporary to) (operations.Pure pures.First) (Local x) (Local x) ∷ [])
       → with_temporary temps to (local_of store context.activation x) ≡ Some result
       → exec linear (suc k) (conf context site pc temps st store)
       ≡ exec linear k (conf context site (pc + 1) result st store)
   unfolding with_some
   fetch_local_turn x to result pc temps st store k has h =
       fetch linear pace (conf context site pc temps st store)
-        (Compute (Temporary to) (operations.Pure pures.First) (Local x) (Local x)) k has.0
+      (Compute (Temporary to) (operations.Pure pures.First) (Local x) (Local x)) k has.0
       ∙ computed_gives to pc temps result st store (local_of store context.activation x)
-        store.memory (exec linear k) h
+      store.memory (exec linear k) h
 
   -- a temporary goes to a local
   pub put_local_turn : (x from v : ℕ) (pc : ℕ) (temps : List ℕ) (st : State) (store : Store) (k : ℕ)
       → HasAt linear site.body site.regions pc
-        (Compute (Local x) (operations.Pure pures.First) (Temporary from) (Temporary from) ∷ [])
+      (Compute (Local x) (operations.Pure pures.First) (Temporary from) (Temporary from) ∷ [])
       → slice_get temps from ≡ Some v
       → exec linear (suc k) (conf context site pc temps st store)
       ≡ exec linear k (conf context site (pc + 1) temps st (set_local store context.activation x v))
@@ -173,11 +176,11 @@ module _ (linear : LinearProgram) (pace : ℕ) (context : Context) (site : Site)
   put_local_turn x from v pc temps st store k has h =
       let c = conf context site pc temps st store in
       let finish : ℕ → ℕ → Seen = λ a b. computed linear (exec linear k) (Local x) c
-        (performed (is_reserved linear.globals) (operations.Pure pures.First) a b store.memory) in
+      (performed (is_reserved linear.globals) (operations.Pure pures.First) a b store.memory) in
       fetch linear pace c (Compute (Local x) (operations.Pure pures.First) (Temporary from)
-        (Temporary from)) k has.0
+      (Temporary from)) k has.0
       ∙ ap (λ y. with_some st.events y (λ a. with_some st.events (slice_get temps from)
-        (λ b. finish a b))) h
+      (λ b. finish a b))) h
       ∙ ap (λ y. with_some st.events y (λ b. finish v b)) h
 
   -- a field of the exception that a filter is asked about
@@ -191,7 +194,7 @@ module _ (linear : LinearProgram) (pace : ℕ) (context : Context) (site : Site)
   information_turn f to result pc temps st store k has h =
       fetch linear pace (conf context site pc temps st store) (Information (Temporary to) f) k has.0
       ∙ ap (λ o. with_some st.events (with_temporaries (conf context site pc temps st store) o)
-        (λ c. exec linear k (forth c))) h
+      (λ c. exec linear k (forth c))) h
 
   pub jump_turn : (label : ℕ) (pc : ℕ) (temps : List ℕ) (st : State) (store : Store) (k : ℕ)
       → HasAt linear site.body site.regions pc (Jump label ∷ [])
@@ -205,16 +208,16 @@ module _ (linear : LinearProgram) (pace : ℕ) (context : Context) (site : Site)
       → HasAt linear site.body site.regions pc (JumpIfZero (Temporary (length temps)) label ∷ [])
       → exec linear (suc k) (conf context site pc (temps ++ v ∷ []) st store)
       ≡ pick (nat_eq v 0) (exec linear k (conf context site label temps st store))
-        (exec linear k (conf context site (pc + 1) temps st store))
+      (exec linear k (conf context site (pc + 1) temps st store))
   unfolding with_some
   test_turn label v pc temps st store k has =
       let shorter : List ℕ → Seen = λ ts. pick (nat_eq v 0)
-        (exec linear k (conf context site label ts st store))
-        (exec linear k (conf context site (pc + 1) ts st store)) in
+      (exec linear k (conf context site label ts st store))
+      (exec linear k (conf context site (pc + 1) ts st store)) in
       fetch linear pace (conf context site pc (temps ++ v ∷ []) st store)
-        (JumpIfZero (Temporary (length temps)) label) k has.0
+      (JumpIfZero (Temporary (length temps)) label) k has.0
       ∙ ap (λ o. with_some st.events o (λ w. pick (nat_eq w 0)
-        (exec linear k (conf context site label (take (length temps) (temps ++ v ∷ [])) st store))
-        (exec linear k (conf context site (pc + 1) (take (length temps) (temps ++ v ∷ [])) st
-        store)))) (top_get temps v)
+      (exec linear k (conf context site label (take (length temps) (temps ++ v ∷ [])) st store))
+      (exec linear k (conf context site (pc + 1) (take (length temps) (temps ++ v ∷ [])) st
+      store)))) (top_get temps v)
       ∙ ap shorter (take_at temps (v ∷ []) (length temps) refl)

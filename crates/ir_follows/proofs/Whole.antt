@@ -57,7 +57,7 @@ enough k m cost credit n h paid e least light = go (cases_lt m cost)
     go (inl p) = p
     go (inr p) =
         let a : (m + 1) * k ≡ k * m + k = mul_comm (m + 1) k ∙ mul-add k m 1
-          ∙ ap (λ x. k * m + x) (mul-one k) in
+        ∙ ap (λ x. k * m + x) (mul-one k) in
         let b = mul_le k cost m p in
         absurd (omega arith)
 
@@ -82,12 +82,17 @@ IsStuck a = ⊥
 against : (x b : Seen) (e : Ended) (es : List Event) → More x b → b ≡ Finished e es
     → IsPrefixOf (shown x).events es × ((f : Ended) → (shown x).end ≡ Some f
     → shown (Finished e es) ≡ shown x) × ((fs : List Event) → x ≡ Stuck fs → ⊥)
-against (Running fs) b e es m q = ((m.0, sym m.1 ∙ ap events_of q), (λ f h. absurd (cc)),
-    (λ gs h. absurd (subst IsRunning h tt)))
+against (Running fs) b e es m q = (
+  (m.0, sym m.1 ∙ ap events_of q),
+  (λ f h. absurd (cc)),
+  (λ gs h. absurd (subst IsRunning h tt)),
+)
 against (Finished f fs) b e es m q =
-    let same : Finished f fs ≡ Finished e es = sym m ∙ q in
-    (([], append-nil fs ∙ ap events_of same), (λ g h. ap shown (sym same)),
-      (λ gs h. absurd (subst IsFinished h tt)))
+    let same : Finished f fs ≡ Finished e es = sym m ∙ q in (
+      ([], append-nil fs ∙ ap events_of same),
+      (λ g h. ap shown (sym same)),
+      (λ gs h. absurd (subst IsFinished h tt)),
+    )
 against (Stuck fs) b e es m q = absurd (subst IsStuck (sym m ∙ q) tt)
 
 -- one that continues
@@ -95,9 +100,11 @@ against_running : (x b : Seen) (sh es : List Event) → More x b → b ≡ Runni
     → IsPrefixOf (shown x).events es × ((f : Ended) → (shown x).end ≡ Some f
     → record { events = es; end = None } ≡ shown x) × ((fs : List Event) → x ≡ Stuck fs → ⊥)
 against_running (Running fs) b sh es m q p =
-    let e : sh ≡ fs ++ m.0 = sym (ap events_of q) ∙ m.1 in
-    ((m.0 ++ p.0, sym (append_assoc fs m.0 p.0) ∙ ap (λ l. l ++ p.0) (sym e) ∙ sym p.1),
-      (λ f h. absurd (cc)), (λ gs h. absurd (subst IsRunning h tt)))
+    let e : sh ≡ fs ++ m.0 = sym (ap events_of q) ∙ m.1 in (
+      (m.0 ++ p.0, sym (append_assoc fs m.0 p.0) ∙ ap (λ l. l ++ p.0) (sym e) ∙ sym p.1),
+      (λ f h. absurd (cc)),
+      (λ gs h. absurd (subst IsRunning h tt)),
+    )
 against_running (Finished f fs) b sh es m q p = absurd (subst IsFinished (sym m ∙ q) tt)
 against_running (Stuck fs) b sh es m q p = absurd (subst IsStuck (sym m ∙ q) tt)
 
@@ -123,11 +130,11 @@ arguments_same (p ∷ ps) a = ap (λ b. if b then [] else a ∷ [])
 module _ (program : Program) (linear : LinearProgram) (pace body : ℕ)
     (same_globals : linear.globals ≡ program.globals) (roomy : 4 ≤ pace)
     (placed : (k : ℕ) (fn : Function) → slice_get program.functions k ≡ Some fn
-      → (lf : LinearFunction) × (slice_get linear.functions k ≡ Some lf)
-      × FunctionPlaced program linear pace body k fn lf)
+    → (lf : LinearFunction) × (slice_get linear.functions k ≡ Some lf)
+    × FunctionPlaced program linear pace body k fn lf)
     (same_main : linear.main ≡ program.main) (fn : Function)
-      (has : slice_get program.functions program.main ≡ Some fn) (few : length fn.parameters ≤ 1)
-      (lf : LinearFunction) (there : slice_get linear.functions program.main ≡ Some lf)
+    (has : slice_get program.functions program.main ≡ Some fn) (few : length fn.parameters ≤ 1)
+    (lf : LinearFunction) (there : slice_get linear.functions program.main ≡ Some lf)
     (f : FunctionPlaced program linear pace body program.main fn lf) where
   module _ (arg : ℤ) where
     abbrev vs : List ℕ
@@ -137,8 +144,13 @@ module _ (program : Program) (linear : LinearProgram) (pace body : ℕ)
     inner = record { handlers = []; activation = 0; exception = no_exception; abnormal = false }
 
     abbrev csite : Site
-    csite = record { body = FunctionBody program.main; regions = []; below = [];
-      exception = no_exception; held = 0 }
+    csite = record {
+      body = FunctionBody program.main;
+      regions = [];
+      below = [];
+      exception = no_exception;
+      held = 0;
+    }
 
     abbrev given : List ℕ
     given = vs ++ replicate (length fn.locals) 0
@@ -163,9 +175,9 @@ module _ (program : Program) (linear : LinearProgram) (pace body : ℕ)
 
     abbrev Done : Part → State → Outcome → Type 0
     Done s from (Gives (Value v) st) = (j : ℕ) × (j ≤ 16 * from.steps_left + 2)
-      × (s (exec linear j) ≡ Finished (Exit (signed W32 v)) st.events)
+        × (s (exec linear j) ≡ Finished (Exit (signed W32 v)) st.events)
     Done s from (Gives (End (Some e)) st) = (j : ℕ) × (j ≤ 16 * from.steps_left + 2)
-      × (s (exec linear j) ≡ Finished e st.events)
+        × (s (exec linear j) ≡ Finished e st.events)
     Done s from (Gives (End None) st) = Stops linear pace s from st 0 0 x
     Done s from (Gives Normal st) = ⊥
     Done s from (Gives (Returned v) st) = ⊥
@@ -175,27 +187,30 @@ module _ (program : Program) (linear : LinearProgram) (pace body : ℕ)
     Done s from (Gives (Target level exc) st) = ⊥
 
     return_turn : (v done k : ℕ) (mid : State) (after : Store)
-      → HasAt linear (FunctionBody program.main) [] done (instructions.Return (Temporary 0) ∷ [])
-      → exec linear (suc k) (conf inner csite done (v ∷ []) mid after)
-      ≡ Finished (Exit (signed W32 v)) mid.events
+        → HasAt linear (FunctionBody program.main) [] done (instructions.Return (Temporary 0) ∷ [])
+        → exec linear (suc k) (conf inner csite done (v ∷ []) mid after)
+        ≡ Finished (Exit (signed W32 v)) mid.events
     unfolding with_some
     return_turn v done k mid after h = fetch linear pace (conf inner csite done (v ∷ []) mid after)
-      (instructions.Return (Temporary 0)) k h.0
+        (instructions.Return (Temporary 0)) k h.0
 
     main_ends : (s : Part) (from : State) (kept : Kept) (done : ℕ) (o : Outcome)
-      → HasAt linear (FunctionBody program.main) [] done
+        → HasAt linear (FunctionBody program.main) [] done
         (constant 0 0 ∷ instructions.Return (Temporary 0) ∷ [])
         → Claim linear pace s from (price 0 0 x x)
-          (statement_ways program linear pace body (scope_of fn) inner csite kept done) o
+        (statement_ways program linear pace body (scope_of fn) inner csite kept done) o
         → Done s from (ended_call 0 o)
     unfolding ended_call
     main_ends s from kept done (Gives (Value v) st) h p = absurd p
     main_ends s from kept done (Gives Normal st) h p =
         let y = p.reaches.by (suc (suc zero)) in
-        let most = p.reaches.most in
-        (y.0, omega (arith, y.1), y.2 ∙ constant_turn linear pace inner csite 0 0 (0 ∷ []) done []
-          st p.store (suc zero) (omega arith) (h.0, h.1, tt) refl
-          ∙ return_turn 0 (done + 1) zero st p.store h.2)
+        let most = p.reaches.most in (
+          y.0,
+          omega (arith, y.1),
+          y.2 ∙ constant_turn linear pace inner csite 0 0 (0 ∷ []) done []
+              st p.store (suc zero) (omega arith) (h.0, h.1, tt) refl
+              ∙ return_turn 0 (done + 1) zero st p.store h.2,
+        )
     main_ends s from kept done (Gives (Returned v) st) h p =
         let y = p.1.reaches.by zero in
         let most = p.1.reaches.most in
@@ -205,53 +220,67 @@ module _ (program : Program) (linear : LinearProgram) (pace body : ℕ)
     main_ends s from kept done (Gives LeftTry st) h p = absurd p
     main_ends s from kept done (Gives (Target level exc) st) h p = absurd p.picked
     main_ends s from kept done (Gives (End (Some e)) st) h p = let y = p.by in
-      (y.0, omega (arith, y.1), y.2)
+        (y.0, omega (arith, y.1), y.2)
     main_ends s from kept done (Gives (End None) st) h p = p
 
     main_runs : (n : ℕ) → Done (at c0) (begun n)
-      (ended_call 0 (all (within program n) fn.body inner (begun n)))
+        (ended_call 0 (all (within program n) fn.body inner (begun n)))
     main_runs n =
         let new : Shape = record { own = own_locals fn; all = lf.body.locals } in
         let bodies = (both program linear pace body same_globals roomy placed n).bodies in
         let wide : own_locals fn ≤ lf.body.locals = omega (arith, f.locals) in
         let alike : FrameAlike new given locals = subst
-          (λ p. FrameAlike new given (vs ++ replicate (lf.body.locals - p) 0)) (sym f.parameters)
-          (begins_alike (length fn.parameters) (length fn.locals) lf.body.locals vs
-          (arguments_length fn.parameters (wrapped W64 arg) few) wide) in
+        (λ p. FrameAlike new given (vs ++ replicate (lf.body.locals - p) 0)) (sym f.parameters)
+        (begins_alike (length fn.parameters) (length fn.locals) lf.body.locals vs
+        (arguments_length fn.parameters (wrapped W64 arg) few) wide) in
         let nothing : Alike [] (first_memory program.globals) []
-          first_store = record { same_memory = ap first_memory same_globals; count = refl;
-          activations = refl; each = λ k z h. absurd (cc) } in
+        first_store = record {
+          same_memory = ap first_memory same_globals;
+          count = refl;
+          activations = refl;
+          each = λ k z h. absurd (cc);
+        } in
         let standing : Surroundings program linear pace body (scope_of fn).names new (new ∷ [])
-          inner csite store' (statements_notes fn.body) = record {
-          env = record { shape = refl; code = refl; flag = refl; informed = λ e. absurd (cc);
-            handlers = tt };
+        inner csite store' (statements_notes fn.body) = record {
+          env = record {
+            shape = refl;
+            code = refl;
+            flag = refl;
+            informed = λ e. absurd (cc);
+            handlers = tt;
+          };
           past = omega arith;
           room = omega (arith, f.locals);
           plain = λ e. absurd (cc);
         } in
         let whole = has_at linear (FunctionBody program.main) [] (statements_size fn.body)
-          (0 + statements_size fn.body) (constant 0 0 ∷ instructions.Return (Temporary 0) ∷ [])
-          (omega arith) f.ends in
+        (0 + statements_size fn.body) (constant 0 0 ∷ instructions.Return (Temporary 0) ∷ [])
+        (omega arith) f.ends in
         main_ends (at c0) (begun n) (Stays program linear pace body (scope_of fn).names (new ∷ [])
-          inner store') (0 + statements_size fn.body)
-          (all (within program n) fn.body inner (begun n)) whole
+        inner store') (0 + statements_size fn.body)
+        (all (within program n) fn.body inner (begun n)) whole
         (all_runs program linear pace body n bodies (scope_of fn) new (new ∷ []) inner csite store'
-          fn.body 0 (begun n) store' (omega arith) f.quick f.placed
-        (record { around = tt; exit = (omega arith, tt, f.ends.2.0); loop_end = tt;
-          loop_next = tt }) standing
-        (push_alike [] (first_memory program.globals) [] first_store new given locals alike nothing,
-          kept_itself (below_slot 0 (own_locals fn)) (new ∷ []) store') refl)
+        fn.body 0 (begun n) store' (omega arith) f.quick f.placed
+        (record {
+          around = tt;
+          exit = (omega arith, tt, f.ends.2.0);
+          loop_end = tt;
+          loop_next = tt;
+        }) standing (
+          push_alike [] (first_memory program.globals) [] first_store new given locals alike nothing,
+          kept_itself (below_slot 0 (own_locals fn)) (new ∷ []) store',
+        ) refl)
 
     enters : (n : ℕ) → enter (within program n) (Some fn) vs outside (source.start program n)
-      ≡ ended_call 0 (all (within program n) fn.body inner (begun n))
+        ≡ ended_call 0 (all (within program n) fn.body inner (begun n))
     unfolding deeper choose
     enters n = refl
 
     ran_is : (n : ℕ) → ran program arg n ≡ ended_call 0
-      (all (within program n) fn.body inner (begun n))
+        (all (within program n) fn.body inner (begun n))
     ran_is n =
         ap (λ main. enter (does program) main (source.main_arguments main arg) outside
-          (source.start program n)) has
+        (source.start program n)) has
         ∙ enters_within program n (Some fn) vs outside (source.start program n) (omega arith)
         ∙ enters n
 
@@ -262,39 +291,43 @@ module _ (program : Program) (linear : LinearProgram) (pace body : ℕ)
     unfolding with_some
     seen_is t =
         let place : ℕ → List ℕ → Configuration = λ k given. begin_function k lf given 0 []
-          first_store [] in
+        first_store [] in
         let arguments : main_arguments lf.parameters arg
-          ≡ vs = ap (λ p. main_arguments p arg) f.parameters
-          ∙ arguments_same fn.parameters (wrapped W64 arg) in
+        ≡ vs = ap (λ p. main_arguments p arg) f.parameters
+        ∙ arguments_same fn.parameters (wrapped W64 arg) in
         ap (λ o. with_some [] o (λ main. exec linear t (start linear arg main)))
-          (ap (slice_get linear.functions) same_main ∙ there)
+        (ap (slice_get linear.functions) same_main ∙ there)
         ∙ ap (λ k. exec linear t (place k (main_arguments lf.parameters arg))) same_main
         ∙ ap (λ given. exec linear t (place program.main given)) arguments
 
     later : (j b : ℕ) → j ≤ b → More (exec linear j c0) (exec linear b c0)
     later j b le = let e : j + (b - j) ≡ b = omega arith in
-      subst (λ k. More (exec linear j c0) (exec linear k c0)) e (longer linear j (b - j) c0)
+        subst (λ k. More (exec linear j c0) (exec linear k c0)) e (longer linear j (b - j) c0)
 
     -- at least so much
     follows_by : (b : ℕ) (from : State) (o : Outcome) → 16 * from.steps_left + 2 ≤ b
-      → Done (at c0) from o
+        → Done (at c0) from o
         → IsPrefixOf (shows o).events (shown (exec linear b c0)).events
         × ((e : Ended) → (shows o).end ≡ Some e → shown (exec linear b c0) ≡ shows o)
     follows_by b from (Gives (Value v) st) le d =
         let e : exec linear b c0 ≡ Finished (Exit (signed W32 v)) st.events = subst
-          (λ a. More a (exec linear b c0)) d.2 (later d.0 b (omega (arith, d.1))) in
+        (λ a. More a (exec linear b c0)) d.2 (later d.0 b (omega (arith, d.1))) in
         (([], append-nil st.events ∙ sym (ap (λ a. (shown a).events) e)), (λ c h. ap shown e))
     follows_by b from (Gives (End (Some v)) st) le d =
         let e : exec linear b c0 ≡ Finished v st.events = subst (λ a. More a (exec linear b c0)) d.2
-          (later d.0 b (omega (arith, d.1))) in
+        (later d.0 b (omega (arith, d.1))) in
         (([], append-nil st.events ∙ sym (ap (λ a. (shown a).events) e)), (λ c h. ap shown e))
     follows_by b from (Gives (End None) st) le d =
         let m = d.most in
         let p = events_more (exec linear d.cost c0) (exec linear b c0)
-          (later d.cost b (omega arith)) in
-        ((d.shown.0 ++ p.0, sym (append_assoc st.events d.shown.0 p.0)
-          ∙ ap (λ l. l ++ p.0) (sym d.shown.1) ∙ sym p.1 ∙ sym (shown_events (exec linear b c0))),
-            (λ c h. absurd (cc)))
+        (later d.cost b (omega arith)) in (
+          (
+            d.shown.0 ++ p.0,
+            sym (append_assoc st.events d.shown.0 p.0)
+                ∙ ap (λ l. l ++ p.0) (sym d.shown.1) ∙ sym p.1 ∙ sym (shown_events (exec linear b c0)),
+          ),
+          (λ c h. absurd (cc)),
+        )
     follows_by b from (Gives Normal st) le d = absurd d
     follows_by b from (Gives (Returned v) st) le d = absurd d
     follows_by b from (Gives Broke st) le d = absurd d
@@ -305,30 +338,30 @@ module _ (program : Program) (linear : LinearProgram) (pace body : ℕ)
     abbrev NoMoreThan : ℕ → Outcome → Type 0
     NoMoreThan m o =
         IsPrefixOf (shown (exec linear m c0)).events (shows o).events
-          × ((e : Ended) → (shown (exec linear m c0)).end ≡ Some e
-          → shows o ≡ shown (exec linear m c0))
+        × ((e : Ended) → (shown (exec linear m c0)).end ≡ Some e
+        → shows o ≡ shown (exec linear m c0))
         × ((es : List Event) → exec linear m c0 ≡ Stuck es → ⊥)
 
     -- where the run is known to end, every place before it agrees
     ends_there : (m j : ℕ) (e : Ended) (es : List Event) → exec linear j c0 ≡ Finished e es
-      → exec linear (j + m) c0 ≡ Finished e es
+        → exec linear (j + m) c0 ≡ Finished e es
     ends_there m j e es h = subst (λ a. More a (exec linear (j + m) c0)) h
-      (later j (j + m) (omega arith))
+        (later j (j + m) (omega arith))
 
     no_more_by : (m n : ℕ) (o : Outcome) → (m + 1) * pace ≤ n → Done (at c0) (begun n) o
-      → NoMoreThan m o
+        → NoMoreThan m o
     no_more_by m n (Gives (Value v) st) le d = against (exec linear m c0) (exec linear (d.0 + m) c0)
-      (Exit (signed W32 v)) st.events (later m (d.0 + m) (omega arith))
-      (ends_there m d.0 (Exit (signed W32 v)) st.events d.2)
+        (Exit (signed W32 v)) st.events (later m (d.0 + m) (omega arith))
+        (ends_there m d.0 (Exit (signed W32 v)) st.events d.2)
     no_more_by m n (Gives (End (Some v)) st) le d = against (exec linear m c0)
-      (exec linear (d.0 + m) c0) v st.events (later m (d.0 + m) (omega arith))
-      (ends_there m d.0 v st.events d.2)
+        (exec linear (d.0 + m) c0) v st.events (later m (d.0 + m) (omega arith))
+        (ends_there m d.0 v st.events d.2)
     no_more_by m n (Gives (End None) st) le d =
         let paid = d.paid in let least = d.least in let l = f.quick in
         let longer_than = enough pace m d.cost d.credit n x paid le (omega arith) (omega arith) in
         let b = d.prior (d.cost - 1) (omega arith) in
         against_running (exec linear m c0) (exec linear (d.cost - 1) c0) b.0 st.events
-          (later m (d.cost - 1) (omega arith)) b.1 b.2
+        (later m (d.cost - 1) (omega arith)) b.1 b.2
     no_more_by m n (Gives Normal st) le d = absurd d
     no_more_by m n (Gives (Returned v) st) le d = absurd d
     no_more_by m n (Gives Broke st) le d = absurd d
@@ -339,22 +372,22 @@ module _ (program : Program) (linear : LinearProgram) (pace body : ℕ)
   pub follows : Follows program linear
   follows arg n turns le =
       subst (λ a. IsPrefixOf (meaning program arg n).events (shown a).events
-        × ((e : Ended) → (meaning program arg n).end ≡ Some e → shown a ≡ meaning program arg n))
-          (sym (seen_is arg turns))
+      × ((e : Ended) → (meaning program arg n).end ≡ Some e → shown a ≡ meaning program arg n))
+      (sym (seen_is arg turns))
       (follows_by arg turns (begun arg n) (ran program arg n) le (done arg n))
 
   pub no_more : NoMore program linear pace
   no_more arg m n le =
       subst (λ a. IsPrefixOf (shown a).events (meaning program arg n).events
-        × ((e : Ended) → (shown a).end ≡ Some e → meaning program arg n ≡ shown a)
-        × ((es : List Event) → a ≡ Stuck es → ⊥)) (sym (seen_is arg m))
+      × ((e : Ended) → (shown a).end ≡ Some e → meaning program arg n ≡ shown a)
+      × ((es : List Event) → a ≡ Stuck es → ⊥)) (sym (seen_is arg m))
       (no_more_by arg m n (ran program arg n) le (done arg n))
 
 pub linked_follows : LinkedFollows
 linked_follows program linear pace body l =
     let p = l.functions program.main l.begins l.is_main in (
       follows program linear pace body l.globals l.least l.functions l.main l.begins l.is_main l.few
-        p.0 p.1 p.2,
+          p.0 p.1 p.2,
       no_more program linear pace body l.globals l.least l.functions l.main l.begins l.is_main l.few
-        p.0 p.1 p.2,
+          p.0 p.1 p.2,
     )

@@ -54,7 +54,7 @@ module _ (program : Program) where
     sound : function_sound program.functions fn ≡ true
     light : statements_weight fn.body ≤ weight_of program.functions
     is_there : IsSegmentAt (lowered program).funclets begin
-      (statements_funclets owner (scope_of fn).names fn.body)
+        (statements_funclets owner (scope_of fn).names fn.body)
     numbered : count_up (begin + 1) (funclets fn.body) ≡ true
 
   find : (fs : List Function) (number j : ℕ) → functions_sound program.functions fs ≡ true
@@ -78,23 +78,39 @@ module _ (program : Program) where
   find (f ∷ fs) number j ok light h n (suc k) fn e =
       let own = lowered_funclets number f in
       let rest = all_funclets (number + 1) fs in
-      let count = statements_count (record { function = number; locals = all_locals f;
-        parent = None }) (scope_of f).names f.body in
+      let count = statements_count (record {
+        function = number;
+        locals = all_locals f;
+        parent = None;
+      }) (scope_of f).names f.body in
       find fs (number + 1) (j + length own) (both_right _ _ ok) (omega arith)
-        (back (lowered program).funclets j (j + length own) own rest refl h)
+      (back (lowered program).funclets j (j + length own) own rest refl h)
       (count_back (j + 1) (j + length own + 1) (funclets f.body) (sound.all_funclets fs)
-        (omega arith) n) k fn e
+      (omega arith) n) k fn e
 
   abbrev inside : Function → Inside
-  inside fn = record { scope = record { functions = program.functions;
-      sizes = fn.parameters ++ fn.locals; code = false; information = false; abnormal = false };
-      returns = fn.returns; loop = false; body = false; function = true }
+  inside fn = record {
+    scope = record {
+      functions = program.functions;
+      sizes = fn.parameters ++ fn.locals;
+      code = false;
+      information = false;
+      abnormal = false;
+    };
+    returns = fn.returns;
+    loop = false;
+    body = false;
+    function = true;
+  }
 
   whole_alike : (fn : Function) → Alike program (lowered program) (pace_of program)
       (weight_of program.functions) (own_locals fn) (inside fn) (scope_of fn)
   whole_alike fn = record {
-    knows = record { functions = refl; sizes = length-append fn.parameters fn.locals;
-      information = refl };
+    knows = record {
+      functions = refl;
+      sizes = length-append fn.parameters fn.locals;
+      information = refl;
+    };
     exits = λ h. tt;
     ends = λ h. absurd (cc);
     again = λ h. absurd (cc);
@@ -104,7 +120,7 @@ module _ (program : Program) where
   function_placed : (k : ℕ) (fn : Function) → slice_get (lowered program).functions k
       ≡ Some (lowered_function fn) → Found fn
       → FunctionPlaced program (lowered program) (pace_of program) (weight_of program.functions) k
-        fn (lowered_function fn)
+      fn (lowered_function fn)
   function_placed k fn there g =
       let linear = lowered program in
       let pace = pace_of program in
@@ -119,21 +135,21 @@ module _ (program : Program) where
       let wide = length-append code ends in
       let whole = whole_is_at lb.code in
       let cover = whole_cover program linear pace most (own_locals fn) (FunctionBody k) lb home 0
-        (length lb.code) in
+      (length lb.code) in
       record {
         parameters = refl;
         locals = refl;
         placed = place_all program linear pace most (own_locals fn) quick fn.body (FunctionBody k)
-          lb home (inside fn) (scope_of fn) (whole_alike fn) g.owner [] 0 g.begin
-          (both_left _ _ (both_left _ _ g.sound)) light
+            lb home (inside fn) (scope_of fn) (whole_alike fn) g.owner [] 0 g.begin
+            (both_left _ _ (both_left _ _ g.sound)) light
             (front lb.code 0 code ends whole) (λ q lo hi. cover q lo (omega arith)) g.is_there
-              g.numbered;
+            g.numbered;
         ends = code_is_at program linear pace most (own_locals fn) (FunctionBody k) lb home []
-          (statements_size fn.body) ends (back lb.code 0 (statements_size fn.body) code ends
-          (omega arith) whole)
+            (statements_size fn.body) ends (back lb.code 0 (statements_size fn.body) code ends
+            (omega arith) whole)
             (λ q lo hi. bare program linear pace most (own_locals fn) (FunctionBody k) []
-              (statements_regions fn.body 0) q (all_outside fn.body 0 q (inr (omega arith)))
-              (cover q (omega arith) (omega arith)));
+            (statements_regions fn.body 0) q (all_outside fn.body 0 q (inr (omega arith)))
+            (cover q (omega arith) (omega arith)));
         light = light;
         quick = omega arith;
       }
@@ -149,10 +165,13 @@ lowered_is_linked program h =
       least = omega arith;
       functions = λ k fn e.
           let there = slice_get-map lowered_function program.functions k
-            ∙ ap (option_map lowered_function) e in
-          (lowered_function fn, there, function_placed program k fn there
-            (find program program.functions 0 0 (both_left _ _ starts) (omega arith)
-            (whole_is_at (lowered program).funclets) (both_right _ _ counts) k fn e));
+          ∙ ap (option_map lowered_function) e in (
+            lowered_function fn,
+            there,
+            function_placed program k fn there
+                (find program program.functions 0 0 (both_left _ _ starts) (omega arith)
+                (whole_is_at (lowered program).funclets) (both_right _ _ counts) k fn e),
+          );
       begins = begin.0;
       is_main = begin.1;
       few = begin.2;

@@ -50,7 +50,7 @@ mutual
   statement_count owner names (If c s) = statement_count owner names s
   statement_count owner names (IfElse c s t) =
       added (statement_funclets owner names s) (statement_funclets owner names t) (funclets_in s)
-        (funclets_in t) (statement_count owner names s) (statement_count owner names t)
+      (funclets_in t) (statement_count owner names s) (statement_count owner names t)
   statement_count owner names (For ds first c next s) = statement_count owner names s
   statement_count owner names (DoWhile s c) = statement_count owner names s
   statement_count owner names (Return e) = refl
@@ -61,8 +61,8 @@ mutual
       let inner = filter_funclets owner (filter_names names) f in
       let own = statements_funclets owner (except_names names) block in
       let rest = added inner own (filter_funclet f) (funclets block)
-        (filter_count owner (filter_names names) f)
-        (statements_count owner (except_names names) block) in
+      (filter_count owner (filter_names names) f)
+      (statements_count owner (except_names names) block) in
       let a = length-append (funclets body) (filter_funclet f) in
       let b = length-append (funclets body ++ filter_funclet f) (funclets block) in
       let c = length-append (filter_funclet f) (funclets block) in
@@ -72,7 +72,7 @@ mutual
   statement_count owner names (TryFinally body k last) =
       let own = statements_funclets (in_funclet (k - 1) owner) (finally_names names) last in
       added (statements_funclets owner names body) (finally_funclet owner names last ∷ own)
-        (funclets body) (k ∷ funclets last) (statements_count owner names body)
+      (funclets body) (k ∷ funclets last) (statements_count owner names body)
       (ap suc (statements_count (in_funclet (k - 1) owner) (finally_names names) last))
 
   pub statements_count : (owner : Owner) (names : Names) (ss : Statements)
@@ -80,4 +80,4 @@ mutual
   statements_count owner names Empty = refl
   statements_count owner names (Then s ss) =
       added (statement_funclets owner names s) (statements_funclets owner names ss) (funclets_in s)
-        (funclets ss) (statement_count owner names s) (statements_count owner names ss)
+      (funclets ss) (statement_count owner names s) (statements_count owner names ss)

@@ -61,9 +61,17 @@ module _ (program : Program) (linear : LinearProgram) (pace most own : ℕ) wher
   try_alike i scope end a = record { knows = a.knows; exits = a.exits; ends = a.ends; again = a.again; leaves = λ h. tt }
 
   except_alike : (i : Inside) (scope : LoweringContext) → Alike i scope → Alike (record i { scope = record i.scope { code = true } }) (in_except scope)
-  except_alike i scope a = record { knows = record { functions = a.knows.functions;
-      sizes = a.knows.sizes; information = a.knows.information }; exits = a.exits; ends = a.ends;
-      again = a.again; leaves = a.leaves }
+  except_alike i scope a = record {
+    knows = record {
+      functions = a.knows.functions;
+      sizes = a.knows.sizes;
+      information = a.knows.information;
+    };
+    exits = a.exits;
+    ends = a.ends;
+    again = a.again;
+    leaves = a.leaves;
+  }
 
   guarded_alike : (i : Inside) (scope : LoweringContext) (end : ℕ) → Alike i scope → Alike (record i { body = true }) (in_guarded end scope)
   guarded_alike i scope end a = record {
@@ -88,13 +96,11 @@ module _ (program : Program) (linear : LinearProgram) (pace most own : ℕ) wher
 
   -- ---- expressions in statements
 
-  optional_fits : (s : sound.TypingContext) (k : Knows program own false s) (e : Option Expression)
-      → optional_sound s e ≡ true → OptionalFits program linear pace most own e
+  optional_fits : (s : sound.TypingContext) (k : Knows program own false s) (e : Option Expression) → optional_sound s e ≡ true → OptionalFits program linear pace most own e
   optional_fits s k None h = tt
   optional_fits s k (Some e) h = expression_fits program own false s k e h
 
-  test_fits : (s : sound.TypingContext) (k : Knows program own false s) (e : Option Expression)
-      → test_sound s e ≡ true → OptionalFits program linear pace most own e
+  test_fits : (s : sound.TypingContext) (k : Knows program own false s) (e : Option Expression) → test_sound s e ≡ true → OptionalFits program linear pace most own e
   test_fits s k None h = tt
   test_fits s k (Some e) h = expression_fits program own false s k e (both_left _ _ h)
 
@@ -104,8 +110,7 @@ module _ (program : Program) (linear : LinearProgram) (pace most own : ℕ) wher
   value_optional s k z None h = tt
   value_optional s k z (Some e) h = expression_fits program own false s k e (both_left _ _ h)
 
-  result_fits : (i : Inside) (k : Knows program own false i.scope) (e : Option Expression)
-      → result_sound i e ≡ true → OptionalFits program linear pace most own e
+  result_fits : (i : Inside) (k : Knows program own false i.scope) (e : Option Expression) → result_sound i e ≡ true → OptionalFits program linear pace most own e
   result_fits i k None h = tt
   result_fits i k (Some e) h = expression_fits program own false i.scope k e (both_left _ _ (both_left _ _ h))
 
@@ -115,17 +120,12 @@ module _ (program : Program) (linear : LinearProgram) (pace most own : ℕ) wher
     abbrev Plain : List Region → ℕ → ℕ → Type 0
     Plain rs lo hi = (q : ℕ) → lo ≤ q → q < hi → regions_at linear b q ≡ rs
 
-    pub code_is_at : (rs : List Region) (pc : ℕ) (is : List Instruction) → IsSegmentAt lb.code pc is
-      → Plain rs pc (pc + length is) → HasAt linear b rs pc is
+    pub code_is_at : (rs : List Region) (pc : ℕ) (is : List Instruction) → IsSegmentAt lb.code pc is → Plain rs pc (pc + length is) → HasAt linear b rs pc is
     code_is_at rs pc [] h c = tt
-    code_is_at rs pc (i ∷ is) h c = (ap (λ o. instruction_in o pc) there
-      ∙ h.0, c pc (omega arith) (omega arith),
-        code_is_at rs (pc + 1) is h.1 (λ q lo hi. c q (omega arith) (omega arith)))
+    code_is_at rs pc (i ∷ is) h c = (ap (λ o. instruction_in o pc) there ∙ h.0, c pc (omega arith) (omega arith), code_is_at rs (pc + 1) is h.1 (λ q lo hi. c q (omega arith) (omega arith)))
 
-    declared_placed : (s : sound.TypingContext) (k : Knows program own false s) (names : Names)
-      (d : Declared) (rs : List Region) (at : ℕ) → declared_sound s d ≡ true
-        → IsSegmentAt lb.code at (declared_code names d at) → Plain rs at (at + declared_size d)
-        → DeclaredPlaced program linear pace most own b names d rs at
+    declared_placed : (s : sound.TypingContext) (k : Knows program own false s) (names : Names) (d : Declared) (rs : List Region) (at : ℕ) → declared_sound s d ≡ true
+        → IsSegmentAt lb.code at (declared_code names d at) → Plain rs at (at + declared_size d) → DeclaredPlaced program linear pace most own b names d rs at
     declared_placed s k names d rs at ok h c =
         let n = declared_length names d at in (
           subst (λ m. d.local < m) k.sizes (ltb-true d.local (length s.sizes) (both_left _ _ ok)),
@@ -133,11 +133,8 @@ module _ (program : Program) (linear : LinearProgram) (pace most own : ℕ) wher
           code_is_at rs at (declared_code names d at) h (λ q lo hi. c q lo (omega arith)),
         )
 
-    all_declared_placed : (s : sound.TypingContext) (k : Knows program own false s) (names : Names)
-      (ds : List Declared) (rs : List Region) (at : ℕ) → all_declared_sound s ds ≡ true
-        → IsSegmentAt lb.code at (all_declared_code names ds at)
-        → Plain rs at (at + all_declared_size ds)
-        → AllDeclaredPlaced program linear pace most own b names ds rs at
+    all_declared_placed : (s : sound.TypingContext) (k : Knows program own false s) (names : Names) (ds : List Declared) (rs : List Region) (at : ℕ) → all_declared_sound s ds ≡ true
+        → IsSegmentAt lb.code at (all_declared_code names ds at) → Plain rs at (at + all_declared_size ds) → AllDeclaredPlaced program linear pace most own b names ds rs at
     all_declared_placed s k names [] rs at ok h c = tt
     all_declared_placed s k names (d ∷ ds) rs at ok h c =
         let n = declared_length names d at in
@@ -145,8 +142,8 @@ module _ (program : Program) (linear : LinearProgram) (pace most own : ℕ) wher
         let rest = all_declared_code names ds (at + declared_size d) in (
           declared_placed s k names d rs at (both_left _ _ ok) (front lb.code at code rest h) (λ q lo hi. c q lo (omega arith)),
           all_declared_placed s k names ds rs (at + declared_size d) (both_right _ _ ok)
-            (back lb.code at (at + declared_size d) code rest (omega arith) h)
-            (λ q lo hi. c q (omega arith) (omega arith)),
+              (back lb.code at (at + declared_size d) code rest (omega arith) h)
+              (λ q lo hi. c q (omega arith) (omega arith)),
         )
 
   -- ---- regions
@@ -156,12 +153,10 @@ module _ (program : Program) (linear : LinearProgram) (pace most own : ℕ) wher
   Cover b rs lo hi regions = (q : ℕ) → lo ≤ q → q < hi → regions_at linear b q ≡ held q regions ++ rs
 
   -- from what covers a whole to what covers a part
-  part : (b : BodyName) (rs regions sub : List Region) (q : ℕ) → held q regions ≡ held q sub
-      → regions_at linear b q ≡ held q regions ++ rs → regions_at linear b q ≡ held q sub ++ rs
+  part : (b : BodyName) (rs regions sub : List Region) (q : ℕ) → held q regions ≡ held q sub → regions_at linear b q ≡ held q regions ++ rs → regions_at linear b q ≡ held q sub ++ rs
   part b rs regions sub q e c = c ∙ ap (λ x. x ++ rs) e
 
-  pub bare : (b : BodyName) (rs regions : List Region) (q : ℕ) → held q regions ≡ []
-      → regions_at linear b q ≡ held q regions ++ rs → regions_at linear b q ≡ rs
+  pub bare : (b : BodyName) (rs regions : List Region) (q : ℕ) → held q regions ≡ [] → regions_at linear b q ≡ held q regions ++ rs → regions_at linear b q ≡ rs
   bare b rs regions q e c = c ∙ ap (λ x. x ++ rs) e
 
   -- inside the region of a `__try`, which is after those of its body
@@ -178,9 +173,7 @@ module _ (program : Program) (linear : LinearProgram) (pace most own : ℕ) wher
   module _ (quick : most + most + 4 ≤ pace) where
     -- ---- filters
 
-    filter_placed : (i : Inside) (scope : LoweringContext) → Alike i scope
-      → (owner : Owner) (f : Filter) (j : ℕ) → filter_sound i.scope f ≡ true
-      → filter_weight f ≤ most
+    filter_placed : (i : Inside) (scope : LoweringContext) → Alike i scope → (owner : Owner) (f : Filter) (j : ℕ) → filter_sound i.scope f ≡ true → filter_weight f ≤ most
         → IsSegmentAt linear.funclets j (filter_funclets owner (filter_names scope.names) f)
         → count_up (j + 1) (filter_funclet f) ≡ true
         → FilterPlaced program linear pace most own scope.names f
@@ -192,13 +185,13 @@ module _ (program : Program) (linear : LinearProgram) (pace most own : ℕ) wher
         let there : slice_get linear.funclets (k - 1) ≡ Some funclet = ap (slice_get linear.funclets) same ∙ h.0 in
         let home : body_of linear (FuncletBody (k - 1)) ≡ Some funclet.body = ap funclet_body there in
         let knows : Knows program own true (record i.scope { code = true; information = true }) =
-          record { functions = a.knows.functions; sizes = a.knows.sizes; information = refl } in
-          record {
+        record { functions = a.knows.functions; sizes = a.knows.sizes; information = refl } in
+        record {
           numbered = omega arith;
           funclet = (funclet, there, refl);
           code = code_is_at (FuncletBody (k - 1)) funclet.body home [] 0 funclet.body.code
-            (whole_is_at funclet.body.code) (whole_cover (FuncletBody (k - 1)) funclet.body home 0
-            (0 + length funclet.body.code));
+              (whole_is_at funclet.body.code) (whole_cover (FuncletBody (k - 1)) funclet.body home 0
+              (0 + length funclet.body.code));
           fits = expression_fits program own true (record i.scope { code = true; information = true }) knows e (both_left _ _ ok);
           light = omega arith;
         }
@@ -207,14 +200,10 @@ module _ (program : Program) (linear : LinearProgram) (pace most own : ℕ) wher
 
     mutual
       pub place : (s : Statement) (b : BodyName) (lb : LinearBody) → body_of linear b ≡ Some lb
-        → (i : Inside) (scope : LoweringContext) → Alike i scope
-        → (owner : Owner) (rs : List Region) (at j : ℕ)
-          → statement_sound i s ≡ true → statement_weight s ≤ most
-          → IsSegmentAt lb.code at (statement_code scope s at)
-          → Cover b rs at (at + statement_size s) (statement_regions s at)
-          → IsSegmentAt linear.funclets j (statement_funclets owner scope.names s)
-          → count_up (j + 1) (funclets_in s) ≡ true
-          → Placed program linear pace most own b scope s rs at
+          → (i : Inside) (scope : LoweringContext) → Alike i scope
+          → (owner : Owner) (rs : List Region) (at j : ℕ)
+          → statement_sound i s ≡ true → statement_weight s ≤ most → IsSegmentAt lb.code at (statement_code scope s at) → Cover b rs at (at + statement_size s) (statement_regions s at)
+          → IsSegmentAt linear.funclets j (statement_funclets owner scope.names s) → count_up (j + 1) (funclets_in s) ≡ true → Placed program linear pace most own b scope s rs at
       place (Declare d) b lb there i scope a owner rs at j ok light h c f n = declared_placed b lb there i.scope a.knows scope.names d rs at ok h c
       place (Block ss) b lb there i scope a owner rs at j ok light h c f n = place_all ss b lb there i scope a owner rs at j ok (omega arith) h c f n
       place (Evaluate e) b lb there i scope a owner rs at j ok light h c f n =
@@ -231,8 +220,8 @@ module _ (program : Program) (linear : LinearProgram) (pace most own : ℕ) wher
             code_is_at b lb there rs at (code ++ test ∷ []) (with_next lb.code at code test rest h)
                 (λ q lo hi. bare b rs (statement_regions s then) q (outside s then q (inl (omega arith))) (c q lo (omega arith))),
             place s b lb there i scope a owner rs then j (both_right _ _ ok) (omega arith)
-              (back lb.code at (at + expression_size t) code (test ∷ rest) (omega arith) h).1
-              (λ q lo hi. c q (omega arith) (omega arith)) f n,
+                (back lb.code at (at + expression_size t) code (test ∷ rest) (omega arith) h).1
+                (λ q lo hi. c q (omega arith) (omega arith)) f n,
           )
       place (IfElse t s u) b lb there i scope a owner rs at j ok light h c f n =
           let code = expression_code scope.names t 0 at in
@@ -255,21 +244,17 @@ module _ (program : Program) (linear : LinearProgram) (pace most own : ℕ) wher
           let at_skip = then + statement_size s in record {
             condition = expression_fits program own false i.scope a.knows t (both_left _ _ (both_left _ _ (both_left _ _ ok)));
             test = code_is_at b lb there rs at (code ++ test ∷ []) (with_next lb.code at code test (yes ++ skip ∷ no) h)
-                (λ q lo hi. bare b rs (ry ++ rn) q
-                  (right_only ry rn q (outside s then q (inl (omega arith)))
-                  ∙ outside u otherwise q (inl (omega arith))) (c q lo (omega arith)));
+                (λ q lo hi. bare b rs (ry ++ rn) q (right_only ry rn q (outside s then q (inl (omega arith))) ∙ outside u otherwise q (inl (omega arith))) (c q lo (omega arith)));
             yes = place s b lb there i scope a owner rs then j (both_right _ _ (both_left _ _ ok)) (omega arith) (front lb.code then yes (skip ∷ no) after)
                 (λ q lo hi. part b rs (ry ++ rn) ry q (left_only ry rn q (outside u otherwise q (inl (omega arith)))) (c q (omega arith) (omega arith)))
                 (front linear.funclets j fy fn f) (count_front (j + 1) (funclets_in s) (funclets_in u) n);
             skip = code_is_at b lb there rs at_skip (skip ∷ []) (second_part.0, tt)
                 (λ q lo hi. bare b rs (ry ++ rn) q
-                  (right_only ry rn q (outside s then q (inr (omega arith)))
-                  ∙ outside u otherwise q (inl (omega arith))) (c q (omega arith) (omega arith)));
+                (right_only ry rn q (outside s then q (inr (omega arith)))
+                ∙ outside u otherwise q (inl (omega arith))) (c q (omega arith) (omega arith)));
             no = place u b lb there i scope a owner rs otherwise (j + length fy) (both_right _ _ ok) (omega arith) second_part.1
                 (λ q lo hi. part b rs (ry ++ rn) rn q (right_only ry rn q (outside s then q (inr (omega arith)))) (c q (omega arith) (omega arith)))
-                (back linear.funclets j (j + length fy) fy fn refl f)
-                  (count_back (j + 1) (j + length fy + 1) (funclets_in s) (funclets_in u)
-                  (omega arith) n);
+                (back linear.funclets j (j + length fy) fy fn refl f) (count_back (j + 1) (j + length fy + 1) (funclets_in s) (funclets_in u) (omega arith) n);
           }
       place (For ds first' t next s) b lb there i scope a owner rs at j ok light h c f n =
           let names = scope.names in
@@ -297,11 +282,10 @@ module _ (program : Program) (linear : LinearProgram) (pace most own : ℕ) wher
           let h5 = back lb.code (again + 1) (again + 1 + discarded_size next) steps repeat (omega arith) h4.1 in
           let r = statement_regions s start in
           let before = λ (q : ℕ) (lo : at ≤ q) (hi : q < start). bare b rs r q (outside s start q (inl hi)) (c q lo (omega arith)) in
-          let following = λ (q : ℕ) (lo : again ≤ q) (hi : q < end). bare b rs r q
-            (outside s start q (inr lo)) (c q (omega arith) (omega arith)) in record {
+          let following = λ (q : ℕ) (lo : again ≤ q) (hi : q < end). bare b rs r q (outside s start q (inr lo)) (c q (omega arith) (omega arith)) in record {
             declared = all_declared_placed b lb there i.scope a.knows names ds rs at
-              (both_left _ _ (both_left _ _ (both_left _ _ (both_left _ _ ok))))
-              (front lb.code at declares _ h) (λ q lo hi. before q lo (omega arith));
+                (both_left _ _ (both_left _ _ (both_left _ _ (both_left _ _ ok))))
+                (front lb.code at declares _ h) (λ q lo hi. before q lo (omega arith));
             first = optional_fits i.scope a.knows first' (both_right _ _ (both_left _ _ (both_left _ _ (both_left _ _ ok))));
             begins = code_is_at b lb there rs begin begins (front lb.code begin begins _ h1) (λ q lo hi. before q (omega arith) (omega arith));
             iterations = record {
@@ -309,12 +293,10 @@ module _ (program : Program) (linear : LinearProgram) (pace most own : ℕ) wher
               next = optional_fits i.scope a.knows next (both_right _ _ (both_left _ _ ok));
               tests = code_is_at b lb there rs iteration tests (front lb.code iteration tests _ h2) (λ q lo hi. before q (omega arith) (omega arith));
               body = place s b lb there (record i { loop = true }) inner
-                (loop_alike i scope end again a) owner rs start j (both_right _ _ ok) (omega arith)
-                (front lb.code start body _ h3) (λ q lo hi. c q (omega arith) (omega arith)) f n;
+                  (loop_alike i scope end again a) owner rs start j (both_right _ _ ok) (omega arith)
+                  (front lb.code start body _ h3) (λ q lo hi. c q (omega arith) (omega arith)) f n;
               end = code_is_at b lb there rs again (Separator ∷ []) (h4.0, tt) (λ q lo hi. following q lo (omega arith));
-              steps = code_is_at b lb there rs (again + 1) steps
-                (front lb.code (again + 1) steps repeat h4.1)
-                (λ q lo hi. following q (omega arith) (omega arith));
+              steps = code_is_at b lb there rs (again + 1) steps (front lb.code (again + 1) steps repeat h4.1) (λ q lo hi. following q (omega arith) (omega arith));
               repeats = code_is_at b lb there rs (again + 1 + discarded_size next) repeat h5 (λ q lo hi. following q (omega arith) (omega arith));
             };
           }
@@ -335,14 +317,13 @@ module _ (program : Program) (linear : LinearProgram) (pace most own : ℕ) wher
           let following = λ (q : ℕ) (lo : again ≤ q) (hi : q < end). bare b rs r q (outside s at q (inr lo)) (c q (omega arith) (omega arith)) in record {
             condition = expression_fits program own false i.scope a.knows t (both_left _ _ (both_left _ _ ok));
             body = place s b lb there (record i { loop = true }) inner
-              (loop_alike i scope end again a) owner rs at j (both_right _ _ ok) (omega arith)
-              (front lb.code at body _ h) (λ q lo hi. c q lo (omega arith)) f n;
+                (loop_alike i scope end again a) owner rs at j (both_right _ _ ok) (omega arith)
+                (front lb.code at body _ h) (λ q lo hi. c q lo (omega arith)) f n;
             end = code_is_at b lb there rs again (Separator ∷ []) (h1.0, tt) (λ q lo hi. following q lo (omega arith));
             tests = code_is_at b lb there rs (again + 1) (code ++ test ∷ [])
-              (with_next lb.code (again + 1) code test (Jump at ∷ []) h1.1)
-              (λ q lo hi. following q (omega arith) (omega arith));
-            repeats = code_is_at b lb there rs (again + 1 + expression_size t + 1) (Jump at ∷ [])
-              h2.1 (λ q lo hi. following q (omega arith) (omega arith));
+                (with_next lb.code (again + 1) code test (Jump at ∷ []) h1.1)
+                (λ q lo hi. following q (omega arith) (omega arith));
+            repeats = code_is_at b lb there rs (again + 1 + expression_size t + 1) (Jump at ∷ []) h2.1 (λ q lo hi. following q (omega arith) (omega arith));
           }
       place (Return e) b lb there i scope a owner rs at j ok light h c f n =
           let code = returned_code scope.names e at in
@@ -351,8 +332,8 @@ module _ (program : Program) (linear : LinearProgram) (pace most own : ℕ) wher
             value = result_fits i a.knows e (both_right _ _ ok);
             computes = code_is_at b lb there rs at code (front lb.code at code (return_code scope.exit) h) (λ q lo hi. c q lo (omega arith));
             returns = code_is_at b lb there rs (at + returned_size e) (return_code scope.exit)
-              (back lb.code at (at + returned_size e) code (return_code scope.exit) (omega arith) h)
-              (λ q lo hi. c q (omega arith) (omega arith));
+                (back lb.code at (at + returned_size e) code (return_code scope.exit) (omega arith) h)
+                (λ q lo hi. c q (omega arith) (omega arith));
             leads = a.exits (both_left _ _ ok);
           }
       place Break b lb there i scope a owner rs at j ok light h c f n =
@@ -361,9 +342,7 @@ module _ (program : Program) (linear : LinearProgram) (pace most own : ℕ) wher
       place Continue b lb there i scope a owner rs at j ok light h c f n =
           let l = jump_length scope.loop_next in
           (a.again ok, code_is_at b lb there rs at (jump_code scope.loop_next) h (λ q lo hi. c q lo (omega arith)))
-      place Leave b lb there i scope a owner rs at j ok light h c f
-        n = (a.leaves ok, code_is_at b lb there rs at (leave_code scope.leave ∷ []) h
-        (λ q lo hi. c q lo (omega arith)))
+      place Leave b lb there i scope a owner rs at j ok light h c f n = (a.leaves ok, code_is_at b lb there rs at (leave_code scope.leave ∷ []) h (λ q lo hi. c q lo (omega arith)))
       place (TryExcept body filter block) b lb there i scope a owner rs at j ok light h c f n =
           let names = scope.names in
           let at_jump = at + statements_size body in
@@ -387,32 +366,26 @@ module _ (program : Program) (linear : LinearProgram) (pace most own : ℕ) wher
           let cf = filter_count owner (filter_names names) filter in
           let cn = length-append (funclets body) numbers in
           let nb = count_front (j + 1) (funclets body ++ numbers) (funclets block) n in
-          let alone = λ (q : ℕ) (lo : at ≤ q) (hi : q < target). own_in try rh q lo hi
-            ∙ ap (λ x. try ∷ x) (all_outside block (target + 1) q (inl (omega arith))) in
-          let past = λ (q : ℕ) (lo : target ≤ q). right_only rb (try ∷ rh) q
-            (all_outside body at q (inr (omega arith))) ∙ own_out try rh q (inr lo) in record {
+          let alone = λ (q : ℕ) (lo : at ≤ q) (hi : q < target). own_in try rh q lo hi ∙ ap (λ x. try ∷ x) (all_outside block (target + 1) q (inl (omega arith))) in
+          let past = λ (q : ℕ) (lo : target ≤ q). right_only rb (try ∷ rh) q (all_outside body at q (inr (omega arith))) ∙ own_out try rh q (inr lo) in record {
             body = place_all body b lb there (record i { body = true }) inner
-              (try_alike i scope end a) owner (try ∷ rs) at j (both_left _ _ (both_left _ _ ok))
-              (omega arith) (front lb.code at guarded _ h)
+                (try_alike i scope end a) owner (try ∷ rs) at j (both_left _ _ (both_left _ _ ok))
+                (omega arith) (front lb.code at guarded _ h)
                 (λ q lo hi. inside_own b rs try rb (try ∷ rh) q (alone q lo (omega arith)) (c q lo (omega arith)))
                 (front linear.funclets j fb (ff ++ fh) f) (count_front (j + 1) (funclets body) numbers nb);
             end = code_is_at b lb there (try ∷ rs) at_jump (Jump end ∷ []) (h1.0, tt)
-                (λ q lo hi. c q (omega arith) (omega arith)
-                  ∙ ap (λ x. x ++ rs) (right_only rb (try ∷ rh) q (all_outside body at q (inr lo))
-                  ∙ alone q (omega arith) (omega arith)));
+                (λ q lo hi. c q (omega arith) (omega arith) ∙ ap (λ x. x ++ rs) (right_only rb (try ∷ rh) q (all_outside body at q (inr lo)) ∙ alone q (omega arith) (omega arith)));
             landing = code_is_at b lb there rs target (Landing (Local names.free) ∷ []) (h1.1.0, tt)
-                (λ q lo hi. bare b rs (rb ++ (try ∷ rh)) q
-                  (past q lo ∙ all_outside block (target + 1) q (inl (omega arith)))
-                  (c q (omega arith) (omega arith)));
+                (λ q lo hi. bare b rs (rb ++ (try ∷ rh)) q (past q lo ∙ all_outside block (target + 1) q (inl (omega arith))) (c q (omega arith) (omega arith)));
             block = place_all block b lb there (record i { scope = record i.scope { code = true } })
-              (in_except scope) (except_alike i scope a) owner rs (target + 1)
-              (j + length fb + length ff) (both_right _ _ ok) (omega arith) h1.1.1
+                (in_except scope) (except_alike i scope a) owner rs (target + 1)
+                (j + length fb + length ff) (both_right _ _ ok) (omega arith) h1.1.1
                 (λ q lo hi. part b rs (rb ++ (try ∷ rh)) rh q (past q (omega arith)) (c q (omega arith) (omega arith)))
                 f2 (count_back (j + 1) (j + length fb + length ff + 1) (funclets body ++ numbers) (funclets block) (omega arith) n);
             filter = filter_placed i scope a owner filter (j + length fb)
-              (both_right _ _ (both_left _ _ ok)) (omega arith)
-              (front linear.funclets (j + length fb) ff fh f1)
-              (count_back (j + 1) (j + length fb + 1) (funclets body) numbers (omega arith) nb);
+                (both_right _ _ (both_left _ _ ok)) (omega arith)
+                (front linear.funclets (j + length fb) ff fh f1)
+                (count_back (j + 1) (j + length fb + 1) (funclets body) numbers (omega arith) nb);
           }
       place (TryFinally body k last) b lb there i scope a owner rs at j ok light h c f n =
           let names = scope.names in
@@ -439,43 +412,36 @@ module _ (program : Program) (linear : LinearProgram) (pace most own : ℕ) wher
           let ll = statements_length (finally_scope names) last 0 in
           let cover = whole_cover (FuncletBody (k - 1)) funclet.body home 0 (length funclet.body.code) in
           let wide = length-append code ends in
-          let past = λ (q : ℕ) (lo : at_end + 1 ≤ q). right_only rb (try ∷ []) q
-            (all_outside body at q (inr (omega arith))) ∙ own_out try [] q (inr lo) in record {
+          let past = λ (q : ℕ) (lo : at_end + 1 ≤ q). right_only rb (try ∷ []) q (all_outside body at q (inr (omega arith))) ∙ own_out try [] q (inr lo) in record {
             body = place_all body b lb there (record i { body = true }) inner
-              (guarded_alike i scope at_end a) owner (try ∷ rs) at j (both_left _ _ ok)
-              (omega arith) (front lb.code at guarded _ h)
+                (guarded_alike i scope at_end a) owner (try ∷ rs) at j (both_left _ _ ok)
+                (omega arith) (front lb.code at guarded _ h)
                 (λ q lo hi. inside_own b rs try rb (try ∷ []) q (own_in try [] q lo (omega arith)) (c q lo (omega arith)))
                 (front linear.funclets j fb (funclet ∷ fl) f) (count_front (j + 1) (funclets body) (k ∷ funclets last) n);
             end = code_is_at b lb there (try ∷ rs) at_end (Separator ∷ []) (h1.0, tt)
-                (λ q lo hi. c q (omega arith) (omega arith)
-                  ∙ ap (λ x. x ++ rs) (right_only rb (try ∷ []) q (all_outside body at q (inr lo))
-                  ∙ own_in try [] q (omega arith) (omega arith)));
+                (λ q lo hi. c q (omega arith) (omega arith) ∙ ap (λ x. x ++ rs) (right_only rb (try ∷ []) q (all_outside body at q (inr lo)) ∙ own_in try [] q (omega arith) (omega arith)));
             calls = code_is_at b lb there rs (at_end + 1) (CallFinally (k - 1) ∷ Separator ∷ []) h1.1
                 (λ q lo hi. bare b rs (rb ++ (try ∷ [])) q (past q lo) (c q (omega arith) (omega arith)));
             block = record {
               numbered = omega arith;
               funclet = (funclet, is_there, refl);
               code = place_all last (FuncletBody (k - 1)) funclet.body home (in_finally i)
-                (finally_scope names) (finally_alike i scope names a) (in_funclet (k - 1) owner) []
-                0 (j + length fb + 1) (both_right _ _ ok) (omega arith)
+                  (finally_scope names) (finally_alike i scope names a) (in_funclet (k - 1) owner) []
+                  0 (j + length fb + 1) (both_right _ _ ok) (omega arith)
                   (front funclet.body.code 0 code ends whole) (λ q lo hi. cover q lo (omega arith)) f1.1 (both_right _ _ n1);
               returns = code_is_at (FuncletBody (k - 1)) funclet.body home [] (statements_size last)
-                ends (back funclet.body.code 0 (statements_size last) code ends (omega arith) whole)
-                  (λ q lo hi. bare (FuncletBody (k - 1)) [] (statements_regions last 0) q
-                    (all_outside last 0 q (inr (omega arith)))
-                    (cover q (omega arith) (omega arith)));
+                  ends (back funclet.body.code 0 (statements_size last) code ends (omega arith) whole)
+                  (λ q lo hi. bare (FuncletBody (k - 1)) [] (statements_regions last 0) q (all_outside last 0 q (inr (omega arith))) (cover q (omega arith) (omega arith)));
             };
           }
 
       pub place_all : (ss : Statements) (b : BodyName) (lb : LinearBody)
-        → body_of linear b ≡ Some lb → (i : Inside) (scope : LoweringContext) → Alike i scope
-        → (owner : Owner) (rs : List Region) (at j : ℕ)
+          → body_of linear b ≡ Some lb → (i : Inside) (scope : LoweringContext) → Alike i scope
+          → (owner : Owner) (rs : List Region) (at j : ℕ)
           → statements_sound i ss ≡ true → statements_weight ss ≤ most
           → IsSegmentAt lb.code at (statements_code scope ss at)
           → Cover b rs at (at + statements_size ss) (statements_regions ss at)
-          → IsSegmentAt linear.funclets j (statements_funclets owner scope.names ss)
-          → count_up (j + 1) (funclets ss) ≡ true
-          → AllPlaced program linear pace most own b scope ss rs at
+          → IsSegmentAt linear.funclets j (statements_funclets owner scope.names ss) → count_up (j + 1) (funclets ss) ≡ true → AllPlaced program linear pace most own b scope ss rs at
       place_all Empty b lb there i scope a owner rs at j ok light h c f n = tt
       place_all (Then s ss) b lb there i scope a owner rs at j ok light h c f n =
           let next = at + statement_size s in
@@ -490,8 +456,7 @@ module _ (program : Program) (linear : LinearProgram) (pace most own : ℕ) wher
             place s b lb there i scope a owner rs at j (both_left _ _ ok) (omega arith) (front lb.code at code rest h)
                 (λ q lo hi. part b rs (r ++ more) r q (left_only r more q (all_outside ss next q (inl hi))) (c q lo (omega arith)))
                 (front linear.funclets j fs fm f) (count_front (j + 1) (funclets_in s) (funclets ss) n),
-            place_all ss b lb there i scope a owner rs next (j + length fs) (both_right _ _ ok)
-              (omega arith) (back lb.code at next code rest (omega arith) h)
+            place_all ss b lb there i scope a owner rs next (j + length fs) (both_right _ _ ok) (omega arith) (back lb.code at next code rest (omega arith) h)
                 (λ q lo hi. part b rs (r ++ more) more q (right_only r more q (outside s at q (inr lo))) (c q (omega arith) (omega arith)))
                 (back linear.funclets j (j + length fs) fs fm refl f) (count_back (j + 1) (j + length fs + 1) (funclets_in s) (funclets ss) (omega arith) n),
           )

@@ -74,12 +74,12 @@ mutual
       let otherwise = then + statement_size s + 1 in
       let all = at + statement_size (IfElse c s t) in
       right_only (statement_regions s then) (statement_regions t otherwise) pc
-        (outside s then pc (within_out at all _ _ pc (omega arith) (omega arith) o))
+      (outside s then pc (within_out at all _ _ pc (omega arith) (omega arith) o))
       ∙ outside t otherwise pc (within_out at all _ _ pc (omega arith) (omega arith) o)
   outside (For ds first c next s) at pc o =
       outside s (at + all_declared_size ds + discarded_size first + condition_size c) pc
-        (within_out at (at + statement_size (For ds first c next s)) _ _ pc (omega arith)
-        (omega arith) o)
+      (within_out at (at + statement_size (For ds first c next s)) _ _ pc (omega arith)
+      (omega arith) o)
   outside (DoWhile s c) at pc o = outside s at pc
       (within_out at (at + statement_size (DoWhile s c)) _ _ pc (omega arith) (omega arith) o)
   outside (Return e) at pc o = refl
@@ -91,15 +91,15 @@ mutual
       let own = region at target (except_kind filter target) in
       let all = at + statement_size (TryExcept body filter block) in
       right_only (statements_regions body at) (own ∷ statements_regions block (target + 1)) pc
-        (all_outside body at pc (within_out at all _ _ pc (omega arith) (omega arith) o))
+      (all_outside body at pc (within_out at all _ _ pc (omega arith) (omega arith) o))
       ∙ own_out own (statements_regions block (target + 1)) pc
-        (within_out at all _ _ pc (omega arith) (omega arith) o)
+      (within_out at all _ _ pc (omega arith) (omega arith) o)
       ∙ all_outside block (target + 1) pc (within_out at all _ _ pc (omega arith) (omega arith) o)
   outside (TryFinally body k last) at pc o =
       let own = region at (at + statements_size body + 1) (kinds.Finally (k - 1)) in
       let all = at + statement_size (TryFinally body k last) in
       right_only (statements_regions body at) (own ∷ []) pc
-        (all_outside body at pc (within_out at all _ _ pc (omega arith) (omega arith) o))
+      (all_outside body at pc (within_out at all _ _ pc (omega arith) (omega arith) o))
       ∙ own_out own [] pc (within_out at all _ _ pc (omega arith) (omega arith) o)
 
   pub all_outside : (ss : Statements) (at pc : ℕ) → OutOf at (at + statements_size ss) pc
@@ -108,6 +108,6 @@ mutual
   all_outside (Then s ss) at pc o =
       let all = at + statements_size (Then s ss) in
       right_only (statement_regions s at) (statements_regions ss (at + statement_size s)) pc
-        (outside s at pc (within_out at all _ _ pc (omega arith) (omega arith) o))
+      (outside s at pc (within_out at all _ _ pc (omega arith) (omega arith) o))
       ∙ all_outside ss (at + statement_size s) pc
-        (within_out at all _ _ pc (omega arith) (omega arith) o)
+      (within_out at all _ _ pc (omega arith) (omega arith) o)

@@ -36,10 +36,11 @@ length_push front y = length-append front (y ∷ [])
 following : {X : Type 0} (xs front ys : List X) → xs ≡ front ++ ys
     → IsSegmentAt xs (length front) ys
 following xs front [] e = tt
-following xs front (y ∷ ys) e =
-    (ap (λ l. slice_get l (length front)) e ∙ get_next front y ys,
-      subst (λ k. IsSegmentAt xs k ys) (length_push front y)
-      (following xs (front ++ y ∷ []) ys (e ∙ sym (append_assoc front (y ∷ []) ys))))
+following xs front (y ∷ ys) e = (
+  ap (λ l. slice_get l (length front)) e ∙ get_next front y ys,
+  subst (λ k. IsSegmentAt xs k ys) (length_push front y)
+      (following xs (front ++ y ∷ []) ys (e ∙ sym (append_assoc front (y ∷ []) ys))),
+)
 
 pub whole_is_at : {X : Type 0} (xs : List X) → IsSegmentAt xs 0 xs
 whole_is_at xs = following xs [] xs refl

@@ -76,8 +76,11 @@ called : (program : Program) (s : TypingContext) (f : ℕ) (es : Arguments) (o :
     → slice_get program.functions f ≡ o → call_fits o (argument_sizes s es) ≡ true
     → IsCalled program f (argument_count es)
 called program s f es None e h = absurd (cc)
-called program s f es (Some function) e h = record { function = function; there = e;
-    takes = counted s function.parameters es h }
+called program s f es (Some function) e h = record {
+  function = function;
+  there = e;
+  takes = counted s function.parameters es h;
+}
 
 -- ---- expressions, where so many locals are, and where an exception's fields may be read or may not
 
@@ -90,69 +93,95 @@ module _ (program : Program) (own : ℕ) (info : Bool) where
   module _ (s : TypingContext) (k : Knows s) where
     mutual
       pub expression_fits : (e : Expression) → expression_sound s e ≡ true
-        → ExpressionFits program own info e
+          → ExpressionFits program own info e
       expression_fits (On n c) h = node_fits n (both_left _ _ h)
 
       pub lvalue_fits : (p : Lvalue) → lvalue_sound s p ≡ true → LvalueFits program own info p
       lvalue_fits (Local x) h = subst (λ n. x < n) k.sizes (ltb-true x (length s.sizes) h)
       lvalue_fits (Global access a) h = ltb-true a (2 ^ 64) h
       lvalue_fits (Indirection access e) h = expression_fits e (both_left _ _ h)
-      lvalue_fits (Element access e i) h = (expression_fits e
-        (both_left _ _ (both_left _ _ (both_left _ _ h))),
-        expression_fits i (both_right _ _ (both_left _ _ (both_left _ _ h))))
+      lvalue_fits (Element access e i) h = (
+        expression_fits e
+            (both_left _ _ (both_left _ _ (both_left _ _ h))),
+        expression_fits i (both_right _ _ (both_left _ _ (both_left _ _ h))),
+      )
 
       pub arguments_fit : (es : Arguments) → arguments_sound s es ≡ true
-        → ArgumentsFit program own info es
+          → ArgumentsFit program own info es
       arguments_fit Done h = tt
-      arguments_fit (Next e es) h = (expression_fits e (both_left _ _ h),
-        arguments_fit es (both_right _ _ h))
+      arguments_fit (Next e es) h = (
+        expression_fits e (both_left _ _ h),
+        arguments_fit es (both_right _ _ h),
+      )
 
       node_fits : (n : Node) → node_sound s n ≡ true → NodeFits program own info n
       node_fits (nodes.Constant z n) h = small z n h
       node_fits (nodes.Read p) h = lvalue_fits p h
       node_fits (nodes.AddressOf p) h = (lvalue_fits p (both_left _ _ h), both_right _ _ h)
-      node_fits (nodes.Assign p e) h = (lvalue_fits p (both_left _ _ (both_left _ _ h)),
-        expression_fits e (both_right _ _ (both_left _ _ h)))
-      node_fits (nodes.CompoundAssign p before o e after) h =
-          (lvalue_fits p (both_left _ _ (both_left _ _ h)),
-            expression_fits e (both_right _ _ (both_left _ _ h)),
-            change_reads (lvalue_size s p) before o (expression_size s e) after (both_right _ _ h))
+      node_fits (nodes.Assign p e) h = (
+        lvalue_fits p (both_left _ _ (both_left _ _ h)),
+        expression_fits e (both_right _ _ (both_left _ _ h)),
+      )
+      node_fits (nodes.CompoundAssign p before o e after) h = (
+        lvalue_fits p (both_left _ _ (both_left _ _ h)),
+        expression_fits e (both_right _ _ (both_left _ _ h)),
+        change_reads (lvalue_size s p) before o (expression_size s e) after (both_right _ _ h),
+      )
       node_fits (nodes.Increment m p before o n after) h =
-          let operand = size_after before (lvalue_size s p) in
-          (lvalue_fits p (both_left _ _ (both_left _ _ h)),
+          let operand = size_after before (lvalue_size s p) in (
+            lvalue_fits p (both_left _ _ (both_left _ _ h)),
             small_amount operand n (both_right _ _ h),
             change_reads (lvalue_size s p) before o operand after
-            (both_right _ _ (both_left _ _ h)))
-      node_fits (nodes.Unary o e) h = (expression_fits e (both_left _ _ h),
-        unary_reads o (expression_size s e) (both_right _ _ h))
-      node_fits (nodes.Binary o e f) h = (expression_fits e (both_left _ _ (both_left _ _ h)),
+                (both_right _ _ (both_left _ _ h)),
+          )
+      node_fits (nodes.Unary o e) h = (
+        expression_fits e (both_left _ _ h),
+        unary_reads o (expression_size s e) (both_right _ _ h),
+      )
+      node_fits (nodes.Binary o e f) h = (
+        expression_fits e (both_left _ _ (both_left _ _ h)),
         expression_fits f (both_right _ _ (both_left _ _ h)),
-        reads o (expression_size s e) (expression_size s f) (both_right _ _ h))
+        reads o (expression_size s e) (expression_size s f) (both_right _ _ h),
+      )
       node_fits (nodes.PointerDifference n e f) h =
           let front = both_left _ _ (both_left _ _ (both_left _ _ h)) in
-          let divisor = both_right _ _ h in
-          (expression_fits e (both_left _ _ front), expression_fits f (both_right _ _ front),
-            record { positive = ltb-true 0 n (both_left _ _ divisor);
-            small = ltb-true n (2 ^ 63) (both_right _ _ divisor) })
+          let divisor = both_right _ _ h in (
+            expression_fits e (both_left _ _ front),
+            expression_fits f (both_right _ _ front),
+            record {
+              positive = ltb-true 0 n (both_left _ _ divisor);
+              small = ltb-true n (2 ^ 63) (both_right _ _ divisor);
+            },
+          )
       node_fits (nodes.Not e) h = expression_fits e (both_left _ _ h)
-      node_fits (nodes.And e f) h = (expression_fits e (both_left _ _ (both_left _ _ h)),
-        expression_fits f (both_right _ _ (both_left _ _ h)))
-      node_fits (nodes.Or e f) h = (expression_fits e (both_left _ _ (both_left _ _ h)),
-        expression_fits f (both_right _ _ (both_left _ _ h)))
+      node_fits (nodes.And e f) h = (
+        expression_fits e (both_left _ _ (both_left _ _ h)),
+        expression_fits f (both_right _ _ (both_left _ _ h)),
+      )
+      node_fits (nodes.Or e f) h = (
+        expression_fits e (both_left _ _ (both_left _ _ h)),
+        expression_fits f (both_right _ _ (both_left _ _ h)),
+      )
       node_fits (nodes.Conditional c e f) h =
-          let front = both_left _ _ (both_left _ _ h) in
-          (expression_fits c (both_left _ _ (both_left _ _ front)),
+          let front = both_left _ _ (both_left _ _ h) in (
+            expression_fits c (both_left _ _ (both_left _ _ front)),
             expression_fits e (both_right _ _ (both_left _ _ front)),
-            expression_fits f (both_right _ _ front))
-      node_fits (nodes.Comma e f) h = (expression_fits e (both_left _ _ h),
-        expression_fits f (both_right _ _ h))
+            expression_fits f (both_right _ _ front),
+          )
+      node_fits (nodes.Comma e f) h = (
+        expression_fits e (both_left _ _ h),
+        expression_fits f (both_right _ _ h),
+      )
       node_fits (nodes.Call f es) h =
           let fits = sym (ap (λ fs. call_fits (slice_get fs f) (argument_sizes s es)) k.functions)
-            ∙ both_right _ _ h in
-          (arguments_fit es (both_left _ _ h),
-            called program s f es (slice_get program.functions f) refl fits)
-      node_fits (nodes.CallBuiltIn f es) h = (arguments_fit es (both_left _ _ h),
-        counted s (built_in_takes f) es (both_right _ _ h) ∙ built_in_count f)
+          ∙ both_right _ _ h in (
+            arguments_fit es (both_left _ _ h),
+            called program s f es (slice_get program.functions f) refl fits,
+          )
+      node_fits (nodes.CallBuiltIn f es) h = (
+        arguments_fit es (both_left _ _ h),
+        counted s (built_in_takes f) es (both_right _ _ h) ∙ built_in_count f,
+      )
       node_fits nodes.ExceptionCode h = tt
       node_fits (nodes.Information f) h = sym k.information ∙ h
       node_fits nodes.AbnormalTermination h = tt

@@ -40,9 +40,10 @@ module _ {X : Type 0} where
   all_agree p q [] h k = tt
   all_agree p q (x ∷ xs) h k =
       let a = filter p xs in
-      let b = filter q xs in
-      (agree (p x) (q x) (first_pass q (p x) x a h) (first_pass p (q x) x b k),
-        all_agree p q xs (rest_pass q (p x) x a h) (rest_pass p (q x) x b k))
+      let b = filter q xs in (
+        agree (p x) (q x) (first_pass q (p x) x a h) (first_pass p (q x) x b k),
+        all_agree p q xs (rest_pass q (p x) x a h) (rest_pass p (q x) x b k),
+      )
 
   pub same_tests : (p q : X → Bool) (xs : List X) → filter p xs ≡ filter q xs
       → AllByRecursion (λ (x : X). p x ≡ q x) xs

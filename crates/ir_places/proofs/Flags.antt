@@ -39,7 +39,7 @@ mutual
   of_statement (If c s) owner names le = of_statement s owner names le
   of_statement (IfElse c s t) owner names le =
       both (statement_funclets owner names s) (statement_funclets owner names t)
-        (of_statement s owner names (omega arith)) (of_statement t owner names (omega arith))
+      (of_statement s owner names (omega arith)) (of_statement t owner names (omega arith))
   of_statement (For ds first c next s) owner names le = of_statement s owner names le
   of_statement (DoWhile s c) owner names le = of_statement s owner names le
   of_statement (Return e) owner names le = tt
@@ -49,8 +49,8 @@ mutual
   of_statement (TryExcept body filter block) owner names le =
       both (statements_funclets owner names body) _ (of_statements body owner names (omega arith))
       (both (filter_funclets owner (filter_names names) filter) _
-        (of_filter owner (filter_names names) filter)
-        (of_statements block owner (except_names names) (omega arith)))
+      (of_filter owner (filter_names names) filter)
+      (of_statements block owner (except_names names) (omega arith)))
   of_statement (TryFinally body k last) owner names le =
       let flag : names.free < owner.locals = omega arith in
       both (statements_funclets owner names body) _ (of_statements body owner names (omega arith))
@@ -61,14 +61,14 @@ mutual
   of_statements Empty owner names le = tt
   of_statements (Then s ss) owner names le =
       both (statement_funclets owner names s) (statements_funclets owner names ss)
-        (of_statement s owner names (omega arith)) (of_statements ss owner names (omega arith))
+      (of_statement s owner names (omega arith)) (of_statements ss owner names (omega arith))
 
 of_functions : (number : ℕ) (fs : List Function) → All (all_funclets number fs)
 of_functions number [] = tt
 of_functions number (f ∷ fs) =
     let owner : Owner = record { function = number; locals = all_locals f; parent = None } in
     both (lowered_funclets number f) _ (of_statements f.body owner (scope_of f).names (omega arith))
-      (of_functions (number + 1) fs)
+    (of_functions (number + 1) fs)
 
 pub has_flags : LoweredHasFlags
 has_flags program k flag f at e = subst (HasFlag f.body) e

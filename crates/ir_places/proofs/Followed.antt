@@ -125,16 +125,18 @@ mutual
   statement_follows (If t s) scope at =
       let then = at + expression_size t + 1 in
       used scope.names t at (_ ∷ statement_code scope s then)
-        ((λ x. no x), statement_follows s scope then)
+      ((λ x. no x), statement_follows s scope then)
   statement_follows (IfElse t s u) scope at =
       let then = at + expression_size t + 1 in
       let otherwise = then + statement_size s + 1 in
       let yes = statement_code scope s then in
       let skip = Jump (otherwise + statement_size u) in
       let other = statement_code scope u otherwise in
-      used scope.names t at (_ ∷ (yes ++ skip ∷ other))
-        ((λ x. no x), append yes (skip ∷ other) (statement_follows s scope then)
-        ((λ x. no x), statement_follows u scope otherwise))
+      used scope.names t at (_ ∷ (yes ++ skip ∷ other)) (
+        (λ x. no x),
+        append yes (skip ∷ other) (statement_follows s scope then)
+            ((λ x. no x), statement_follows u scope otherwise),
+      )
   statement_follows (For ds first t next s) scope at =
       let names = scope.names in
       let begin = at + all_declared_size ds in
@@ -146,16 +148,20 @@ mutual
       append (all_declared_code names ds at) _ (all_declared names ds at)
       (append (discarded_code names first begin) _ (discarded names first begin)
       (append (condition_code names t end iteration) _ (condition names t end iteration)
-      (append (statement_code inner s start) _ (statement_follows s inner start)
-      ((λ x. no x), append (discarded_code names next (again + 1)) (Jump iteration ∷ [])
-        (discarded names next (again + 1)) ((λ x. no x), tt)))))
+      (append (statement_code inner s start) _ (statement_follows s inner start) (
+        (λ x. no x),
+        append (discarded_code names next (again + 1)) (Jump iteration ∷ [])
+            (discarded names next (again + 1)) ((λ x. no x), tt),
+      ))))
   statement_follows (DoWhile s t) scope at =
       let again = at + statement_size s in
       let end = again + 1 + expression_size t + 2 in
       let inner = in_loop end again scope in
-      append (statement_code inner s at) _ (statement_follows s inner at)
-      ((λ x. no x), used scope.names t (again + 1) (repeated end at)
-        ((λ x. no x), ((λ x. no x), tt)))
+      append (statement_code inner s at) _ (statement_follows s inner at) (
+        (λ x. no x),
+        used scope.names t (again + 1) (repeated end at)
+            ((λ x. no x), ((λ x. no x), tt)),
+      )
   statement_follows (Return e) scope at = append (returned_code scope.names e at)
       (return_code scope.exit) (returned scope.names e at) (return_follows scope.exit)
   statement_follows Break scope at = jump_follows scope.loop_end
@@ -167,12 +173,12 @@ mutual
       let inner = in_try end scope in
       let handles = statements_code (in_except scope) block (target + 1) in
       append (statements_code inner body at) (landed end scope.names.free ++ handles)
-        (statements_follow body inner at)
+      (statements_follow body inner at)
       ((λ x. no x), ((λ x. no x), statements_follow block (in_except scope) (target + 1)))
   statement_follows (TryFinally body k last) scope at =
       let inner = in_guarded (at + statements_size body) scope in
       append (statements_code inner body at) (Separator ∷ CallFinally (k - 1) ∷ Separator ∷ [])
-        (statements_follow body inner at)
+      (statements_follow body inner at)
       ((λ x. no x), ((λ x. refl), ((λ x. no x), tt)))
 
   statements_follow : (ss : Statements) (scope : LoweringContext) (at : ℕ)
@@ -181,7 +187,7 @@ mutual
   statements_follow (Then s ss) scope at =
       let next = at + statement_size s in
       append (statement_code scope s at) (statements_code scope ss next)
-        (statement_follows s scope at) (statements_follow ss scope next)
+      (statement_follows s scope at) (statements_follow ss scope next)
 
 -- ---- whole bodies
 
@@ -195,15 +201,15 @@ block_followed : (owner : Owner) (names : Names) (last : Statements)
 block_followed owner names last label i =
     next_there (finally_funclet owner names last).body.code label i
     (append (statements_code (finally_scope names) last 0)
-      (instructions.Return (Local names.free) ∷ []) (statements_follow last (finally_scope names) 0)
-      ((λ x. no x), tt))
+    (instructions.Return (Local names.free) ∷ []) (statements_follow last (finally_scope names) 0)
+    ((λ x. no x), tt))
 
 function_followed : (f : Function) → IsFollowed (lowered_function f).body
 function_followed f label i =
     next_there (lowered_function f).body.code label i
     (append (statements_code (scope_of f) f.body 0)
-      (constant 0 0 ∷ instructions.Return (Temporary 0) ∷ [])
-      (statements_follow f.body (scope_of f) 0) ((λ x. no x), ((λ x. no x), tt)))
+    (constant 0 0 ∷ instructions.Return (Temporary 0) ∷ [])
+    (statements_follow f.body (scope_of f) 0) ((λ x. no x), ((λ x. no x), tt)))
 
 pub lowered_is_followed : LoweredIsFollowed
 lowered_is_followed = every_body IsFollowed filter_followed block_followed function_followed

@@ -56,9 +56,9 @@ module _ (n : ℕ) where
 
   module _ (names : Names) where
     used : (e : Expression) (at : ℕ) (rest : List Instruction) → AllGoIn rest
-      → AllGoIn (expression_code names e 0 at ++ rest)
+        → AllGoIn (expression_code names e 0 at ++ rest)
     used e at rest h = append (expression_code names e 0 at) rest
-      (quiet_go_in (expression_code names e 0 at) (expression_quiet names e 0 at)) h
+        (quiet_go_in (expression_code names e 0 at) (expression_quiet names e 0 at)) h
 
     discarded : (e : Option Expression) (at : ℕ) → AllGoIn (discarded_code names e at)
     discarded None at = tt
@@ -71,12 +71,12 @@ module _ (n : ℕ) where
     returned : (e : Option Expression) (at : ℕ) → AllGoIn (returned_code names e at)
     returned None at = (tt, tt)
     returned (Some e) at = quiet_go_in (expression_code names e 0 at)
-      (expression_quiet names e 0 at)
+        (expression_quiet names e 0 at)
 
     initialiser : (x : ℕ) (e : Option Expression) (at : ℕ) → AllGoIn (initialiser_code names x e at)
     initialiser x None at = tt
     initialiser x (Some e) at = used e at (copy (Local x) (Temporary 0) ∷ Separator ∷ [])
-      (tt, (tt, tt))
+        (tt, (tt, tt))
 
     declared : (d : Declared) (at : ℕ) → AllGoIn (declared_code names d at)
     declared d at = (tt, initialiser d.local d.value (at + 1))
@@ -84,8 +84,8 @@ module _ (n : ℕ) where
     all_declared : (ds : List Declared) (at : ℕ) → AllGoIn (all_declared_code names ds at)
     all_declared [] at = tt
     all_declared (d ∷ ds) at = append (declared_code names d at)
-      (all_declared_code names ds (at + declared_size d)) (declared d at)
-      (all_declared ds (at + declared_size d))
+        (all_declared_code names ds (at + declared_size d)) (declared d at)
+        (all_declared ds (at + declared_size d))
 
   -- ---- ways out
 
@@ -122,23 +122,25 @@ module _ (n : ℕ) where
 
   mutual
     statement_goes_in : (s : Statement) (scope : LoweringContext) (at : ℕ) → AllLeadIn scope
-      → at + statement_size s < n → AllGoIn (statement_code scope s at)
+        → at + statement_size s < n → AllGoIn (statement_code scope s at)
     statement_goes_in (Declare d) scope at ways lt = declared scope.names d at
     statement_goes_in (Block ss) scope at ways lt = statements_go_in ss scope at ways lt
     statement_goes_in (Evaluate e) scope at ways lt = discarded scope.names e at
     statement_goes_in (If t s) scope at ways lt =
         let then = at + expression_size t + 1 in
         used scope.names t at (_ ∷ statement_code scope s then)
-          (tt, statement_goes_in s scope then ways (omega arith))
+        (tt, statement_goes_in s scope then ways (omega arith))
     statement_goes_in (IfElse t s u) scope at ways lt =
         let then = at + expression_size t + 1 in
         let otherwise = then + statement_size s + 1 in
         let yes = statement_code scope s then in
         let skip = Jump (otherwise + statement_size u) in
         let other = statement_code scope u otherwise in
-        used scope.names t at (_ ∷ (yes ++ skip ∷ other))
-          (tt, append yes (skip ∷ other) (statement_goes_in s scope then ways (omega arith))
-          (tt, statement_goes_in u scope otherwise ways (omega arith)))
+        used scope.names t at (_ ∷ (yes ++ skip ∷ other)) (
+          tt,
+          append yes (skip ∷ other) (statement_goes_in s scope then ways (omega arith))
+              (tt, statement_goes_in u scope otherwise ways (omega arith)),
+        )
     statement_goes_in (For ds first t next s) scope at ways lt =
         let names = scope.names in
         let begin = at + all_declared_size ds in
@@ -147,25 +149,33 @@ module _ (n : ℕ) where
         let again = start + statement_size s in
         let end = again + 1 + discarded_size next + 1 in
         let inner = in_loop end again scope in
-        let within : AllLeadIn inner = record { exit = ways.exit; loop_end = omega arith;
-          loop_next = omega arith } in
+        let within : AllLeadIn inner = record {
+          exit = ways.exit;
+          loop_end = omega arith;
+          loop_next = omega arith;
+        } in
         append (all_declared_code names ds at) _ (all_declared names ds at)
         (append (discarded_code names first begin) _ (discarded names first begin)
         (append (condition_code names t end iteration) _ (condition names t end iteration)
         (append (statement_code inner s start) _
-          (statement_goes_in s inner start within (omega arith))
-        (tt, append (discarded_code names next (again + 1)) (Jump iteration ∷ [])
-          (discarded names next (again + 1)) (tt, tt)))))
+        (statement_goes_in s inner start within (omega arith)) (
+          tt,
+          append (discarded_code names next (again + 1)) (Jump iteration ∷ [])
+              (discarded names next (again + 1)) (tt, tt),
+        ))))
     statement_goes_in (DoWhile s t) scope at ways lt =
         let again = at + statement_size s in
         let end = again + 1 + expression_size t + 2 in
         let inner = in_loop end again scope in
-        let within : AllLeadIn inner = record { exit = ways.exit; loop_end = omega arith;
-          loop_next = omega arith } in
+        let within : AllLeadIn inner = record {
+          exit = ways.exit;
+          loop_end = omega arith;
+          loop_next = omega arith;
+        } in
         append (statement_code inner s at) _ (statement_goes_in s inner at within (omega arith))
         (tt, used scope.names t (again + 1) (repeated end at) (tt, (tt, tt)))
     statement_goes_in (Return e) scope at ways lt = append (returned_code scope.names e at)
-      (return_code scope.exit) (returned scope.names e at) (return_goes_in scope.exit ways.exit)
+        (return_code scope.exit) (returned scope.names e at) (return_goes_in scope.exit ways.exit)
     statement_goes_in Break scope at ways lt = jump_goes_in scope.loop_end ways.loop_end
     statement_goes_in Continue scope at ways lt = jump_goes_in scope.loop_next ways.loop_next
     statement_goes_in Leave scope at ways lt = leave_goes_in scope.leave
@@ -176,26 +186,33 @@ module _ (n : ℕ) where
         let handles = statements_code (in_except scope) block (target + 1) in
         append (statements_code inner body at) (landed end scope.names.free ++ handles)
         (statements_go_in body inner at (record
-          { exit = ways.exit; loop_end = ways.loop_end; loop_next = ways.loop_next }) (omega arith))
-        (tt, (tt, statements_go_in block (in_except scope) (target + 1)
-          (record { exit = ways.exit; loop_end = ways.loop_end; loop_next = ways.loop_next })
-          (omega arith)))
+        { exit = ways.exit; loop_end = ways.loop_end; loop_next = ways.loop_next }) (omega arith)) (
+          tt,
+          (
+            tt,
+            statements_go_in block (in_except scope) (target + 1)
+                (record { exit = ways.exit; loop_end = ways.loop_end; loop_next = ways.loop_next })
+                (omega arith),
+          ),
+        )
     statement_goes_in (TryFinally body k last) scope at ways lt =
         let inner = in_guarded (at + statements_size body) scope in
-        let within : AllLeadIn inner = record { exit = unwound_leads scope.exit ways.exit;
+        let within : AllLeadIn inner = record {
+          exit = unwound_leads scope.exit ways.exit;
           loop_end = unwound_leads scope.loop_end ways.loop_end;
-          loop_next = unwound_leads scope.loop_next ways.loop_next } in
+          loop_next = unwound_leads scope.loop_next ways.loop_next;
+        } in
         append (statements_code inner body at) (Separator ∷ CallFinally (k - 1) ∷ Separator ∷ [])
-          (statements_go_in body inner at within (omega arith)) (tt, (tt, (tt, tt)))
+        (statements_go_in body inner at within (omega arith)) (tt, (tt, (tt, tt)))
 
     statements_go_in : (ss : Statements) (scope : LoweringContext) (at : ℕ) → AllLeadIn scope
-      → at + statements_size ss < n → AllGoIn (statements_code scope ss at)
+        → at + statements_size ss < n → AllGoIn (statements_code scope ss at)
     statements_go_in Empty scope at ways lt = tt
     statements_go_in (Then s ss) scope at ways lt =
         let next = at + statement_size s in
         append (statement_code scope s at) (statements_code scope ss next)
-          (statement_goes_in s scope at ways (omega arith))
-          (statements_go_in ss scope next ways (omega arith))
+        (statement_goes_in s scope at ways (omega arith))
+        (statements_go_in ss scope next ways (omega arith))
 
 -- ---- whole bodies
 
@@ -215,13 +232,13 @@ block_stays owner names last =
     let code = (finally_funclet owner names last).body.code in
     let scope = finally_scope names in
     let n : length code ≡ statements_size last
-      + 1 = length-append (statements_code scope last 0)
-        (instructions.Return (Local names.free) ∷ [])
-      ∙ ap (λ k. k + 1) (statements_length scope last 0) in
+    + 1 = length-append (statements_code scope last 0)
+    (instructions.Return (Local names.free) ∷ [])
+    ∙ ap (λ k. k + 1) (statements_length scope last 0) in
     stays code (append (length code) (statements_code scope last 0)
-      (instructions.Return (Local names.free) ∷ [])
+    (instructions.Return (Local names.free) ∷ [])
     (statements_go_in (length code) last scope 0
-      (record { exit = tt; loop_end = tt; loop_next = tt }) (omega arith)) (tt, tt))
+    (record { exit = tt; loop_end = tt; loop_next = tt }) (omega arith)) (tt, tt))
 
 function_stays : (f : Function) → StaysInside (lowered_function f).body
 function_stays f =
@@ -229,12 +246,15 @@ function_stays f =
     let scope = scope_of f in
     let last = constant 0 0 ∷ instructions.Return (Temporary 0) ∷ [] in
     let n : length code ≡ statements_size f.body
-      + 2 = length-append (statements_code scope f.body 0) last
-      ∙ ap (λ k. k + 2) (statements_length scope f.body 0) in
+    + 2 = length-append (statements_code scope f.body 0) last
+    ∙ ap (λ k. k + 2) (statements_length scope f.body 0) in
     stays code (append (length code) (statements_code scope f.body 0) last
     (statements_go_in (length code) f.body scope 0
-      (record { exit = (let z : statements_size f.body + 1 < length code = omega arith in z);
-      loop_end = tt; loop_next = tt }) (omega arith)) (tt, (tt, tt)))
+    (record {
+      exit = (let z : statements_size f.body + 1 < length code = omega arith in z);
+      loop_end = tt;
+      loop_next = tt;
+    }) (omega arith)) (tt, (tt, tt)))
 
 pub lowered_stays_inside : LoweredStaysInside
 lowered_stays_inside = every_body StaysInside filter_stays block_stays function_stays

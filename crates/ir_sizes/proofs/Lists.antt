@@ -18,15 +18,15 @@ size_next (x ∷ xs) (suc i) d lt = let r = size_next xs i d (omega arith) in om
 
 pub call_size_next : (items : List Expr) (i total size next : ℕ) (item : Expr) → i < length items
     → item ≡ get_or items i item → total ≡ arguments_size
-      (arguments (map expression (take i items))) + 1 → size ≡ expression_size (expression item)
+    (arguments (map expression (take i items))) + 1 → size ≡ expression_size (expression item)
     → next ≡ total + size → next ≡ arguments_size (arguments (map expression (take (i + 1) items)))
     + 1
 call_size_next items i total size next item lt is t s n =
     let one : i + 1 ≡ suc i = omega arith in
     let e = size_next items i item lt in
     let f : expression_size (expression item)
-      ≡ expression_size (expression (get_or items i item)) = ap
-        (λ x. expression_size (expression x)) is in
+    ≡ expression_size (expression (get_or items i item)) = ap
+    (λ x. expression_size (expression x)) is in
     rw one (omega arith)
 
 -- one statement or declared name more
@@ -49,7 +49,7 @@ statements_size_next items i total size next item lt is t s n =
     let one : i + 1 ≡ suc i = omega arith in
     let e = statement_size_next items i item lt in
     let f : statement_size (statement item) ≡ statement_size (statement (get_or items i item)) = ap
-      (λ x. statement_size (statement x)) is in
+    (λ x. statement_size (statement x)) is in
     rw one (omega arith)
 
 name_size_next : (items : List Declared) (i : ℕ) (d : Declared) → i < length items
@@ -67,25 +67,25 @@ declared_size_next items i total size next item lt is t s n =
     let one : i + 1 ≡ suc i = omega arith in
     let e = name_size_next items i item lt in
     let f : declared_size (declared item) ≡ declared_size (declared (get_or items i item)) = ap
-      (λ x. declared_size (declared x)) is in
+    (λ x. declared_size (declared x)) is in
     rw one (omega arith)
 
 note_next : (items : List Stmt) (i : ℕ) (d : Stmt) → i < length items
     → statements_notes (statements (map statement (take (suc i) items)))
     ≡ max (statements_notes (statements (map statement (take i items))))
-      (statement_notes (statement (get_or items i d)))
+    (statement_notes (statement (get_or items i d)))
 note_next [] i d lt = absurd (omega arith)
 note_next (x ∷ xs) zero d lt = omega arith
 note_next (x ∷ xs) (suc i) d lt = let r = note_next xs i d (omega arith) in omega arith
 
 pub notes_next : (items : List Stmt) (i most own next : ℕ) (item : Stmt) → i < length items
     → item ≡ get_or items i item → most ≡ statements_notes
-      (statements (map statement (take i items))) → own ≡ statement_notes (statement item)
+    (statements (map statement (take i items))) → own ≡ statement_notes (statement item)
     → next ≡ max most own → next ≡ statements_notes
-      (statements (map statement (take (i + 1) items)))
+    (statements (map statement (take (i + 1) items)))
 notes_next items i most own next item lt is t s n =
     let one : i + 1 ≡ suc i = omega arith in
     let e = note_next items i item lt in
     let f : statement_notes (statement item) ≡ statement_notes
-      (statement (get_or items i item)) = ap (λ x. statement_notes (statement x)) is in
+    (statement (get_or items i item)) = ap (λ x. statement_notes (statement x)) is in
     rw one (omega arith)

@@ -82,9 +82,11 @@ module _ (around : ℕ → List Region) where
   inside_all : (rs : List Region) (at : ℕ) (is : List Instruction)
       → Inside rs at (at + length is + 1) → Separate at is
   inside_all rs at [] c = tt
-  inside_all rs at (i ∷ is) c = ((λ e. c (at + 1) (omega arith) (omega arith)
-      ∙ sym (c at (omega arith) (omega arith))),
-        inside_all rs (at + 1) is (λ q lo hi. c q (omega arith) (omega arith)))
+  inside_all rs at (i ∷ is) c = (
+    (λ e. c (at + 1) (omega arith) (omega arith)
+        ∙ sym (c at (omega arith) (omega arith))),
+    inside_all rs (at + 1) is (λ q lo hi. c q (omega arith) (omega arith)),
+  )
 
   bare : (rs regions : List Region) (q : ℕ) → held q regions ≡ [] → around q ≡ held q regions ++ rs
       → around q ≡ rs
@@ -106,67 +108,75 @@ module _ (around : ℕ → List Region) where
 
   module _ (rs : List Region) (names : Names) where
     used : (e : Expression) (at : ℕ) (rest : List Instruction)
-      → Inside rs at (at + expression_size e + 1) → Separate (at + expression_size e) rest
-      → Separate at (expression_code names e 0 at ++ rest)
+        → Inside rs at (at + expression_size e + 1) → Separate (at + expression_size e) rest
+        → Separate at (expression_code names e 0 at ++ rest)
     used e at rest c h =
         let l = expression_length names e 0 at in
         joined at (at + expression_size e) (expression_code names e 0 at) rest (omega arith)
-          (inside_all rs at (expression_code names e 0 at) (λ q lo hi. c q lo (omega arith))) h
+        (inside_all rs at (expression_code names e 0 at) (λ q lo hi. c q lo (omega arith))) h
 
     discarded_apart : (e : Option Expression) (at : ℕ) → Inside rs at (at + discarded_size e)
-      → Separate at (discarded_code names e at)
+        → Separate at (discarded_code names e at)
     discarded_apart None at c = tt
     discarded_apart (Some e) at c = used e at (Separator ∷ []) (λ q lo hi. c q lo (omega arith))
-      ((λ x. no_call x), tt)
+        ((λ x. no_call x), tt)
 
     condition_apart : (e : Option Expression) (label at : ℕ) → Inside rs at (at + condition_size e)
-      → Separate at (condition_code names e label at)
+        → Separate at (condition_code names e label at)
     condition_apart None label at c = tt
     condition_apart (Some e) label at c = used e at (JumpIfZero (Temporary 0) label ∷ [])
-      (λ q lo hi. c q lo (omega arith)) ((λ x. no_call x), tt)
+        (λ q lo hi. c q lo (omega arith)) ((λ x. no_call x), tt)
 
     initialiser_apart : (x : ℕ) (e : Option Expression) (at : ℕ) (size : ℕ)
-      → length (initialiser_code names x e at) ≡ size → Inside rs at (at + size)
-      → Separate at (initialiser_code names x e at)
+        → length (initialiser_code names x e at) ≡ size → Inside rs at (at + size)
+        → Separate at (initialiser_code names x e at)
     initialiser_apart x None at size s c = tt
     initialiser_apart x (Some e) at size s c =
         let l = expression_length names e 0 at in
         let m = length-append (expression_code names e 0 at)
-          (copy (Local x) (Temporary 0) ∷ Separator ∷ []) in
+        (copy (Local x) (Temporary 0) ∷ Separator ∷ []) in
         used e at (copy (Local x) (Temporary 0) ∷ Separator ∷ []) (λ q lo hi. c q lo (omega arith))
-          ((λ x. no_call x), ((λ x. no_call x), tt))
+        ((λ x. no_call x), ((λ x. no_call x), tt))
 
     declared_apart : (d : Declared) (at : ℕ) → Inside rs at (at + declared_size d)
-      → Separate at (declared_code names d at)
+        → Separate at (declared_code names d at)
     declared_apart d at c =
-        let l = declared_length names d at in
-        ((λ x. no_call x), initialiser_apart d.local d.value (at + 1)
-          (length (initialiser_code names d.local d.value (at + 1))) refl
-          (λ q lo hi. c q (omega arith) (omega arith)))
+        let l = declared_length names d at in (
+          (λ x. no_call x),
+          initialiser_apart d.local d.value (at + 1)
+              (length (initialiser_code names d.local d.value (at + 1))) refl
+              (λ q lo hi. c q (omega arith) (omega arith)),
+        )
 
     all_declared_apart : (ds : List Declared) (at : ℕ) → Inside rs at (at + all_declared_size ds)
-      → Separate at (all_declared_code names ds at)
+        → Separate at (all_declared_code names ds at)
     all_declared_apart [] at c = tt
     all_declared_apart (d ∷ ds) at c =
         let l = declared_length names d at in
         joined at (at + declared_size d) (declared_code names d at)
-          (all_declared_code names ds (at + declared_size d)) (omega arith)
-          (declared_apart d at (λ q lo hi. c q lo (omega arith)))
+        (all_declared_code names ds (at + declared_size d)) (omega arith)
+        (declared_apart d at (λ q lo hi. c q lo (omega arith)))
         (all_declared_apart ds (at + declared_size d) (λ q lo hi. c q (omega arith) (omega arith)))
 
   jump_apart : (rs : List Region) (w : Way) (at : ℕ) → Inside rs at (at + 2)
       → Separate at (jump_code w)
   jump_apart rs Nowhere at c = ((λ x. no_call x), ((λ x. no_call x), tt))
   jump_apart rs (Jumps label) at c = ((λ x. no_call x), ((λ x. no_call x), tt))
-  jump_apart rs (Unwinds label) at c = ((λ x. c (at + 1) (omega arith) (omega arith)
-      ∙ sym (c at (omega arith) (omega arith))), ((λ x. no_call x), tt))
+  jump_apart rs (Unwinds label) at c = (
+    (λ x. c (at + 1) (omega arith) (omega arith)
+        ∙ sym (c at (omega arith) (omega arith))),
+    ((λ x. no_call x), tt),
+  )
 
   return_apart : (rs : List Region) (w : Way) (at : ℕ) → Inside rs at (at + 2)
       → Separate at (return_code w)
   return_apart rs Nowhere at c = ((λ x. no_call x), ((λ x. no_call x), tt))
   return_apart rs (Jumps label) at c = ((λ x. no_call x), ((λ x. no_call x), tt))
-  return_apart rs (Unwinds label) at c = ((λ x. c (at + 1) (omega arith) (omega arith)
-      ∙ sym (c at (omega arith) (omega arith))), ((λ x. no_call x), tt))
+  return_apart rs (Unwinds label) at c = (
+    (λ x. c (at + 1) (omega arith) (omega arith)
+        ∙ sym (c at (omega arith) (omega arith))),
+    ((λ x. no_call x), tt),
+  )
 
   leave_apart : (w : Option ℕ) (at : ℕ) → Separate at (leave_code w ∷ [])
   leave_apart None at = ((λ x. no_call x), tt)
@@ -176,18 +186,20 @@ module _ (around : ℕ → List Region) where
 
   mutual
     statement_apart : (s : Statement) (scope : LoweringContext) (rs : List Region) (at : ℕ)
-      → Cover rs at (at + statement_size s) (statement_regions s at)
-      → Separate at (statement_code scope s at)
+        → Cover rs at (at + statement_size s) (statement_regions s at)
+        → Separate at (statement_code scope s at)
     statement_apart (Declare d) scope rs at c = declared_apart rs scope.names d at c
     statement_apart (Block ss) scope rs at c = statements_apart ss scope rs at c
     statement_apart (Evaluate e) scope rs at c = discarded_apart rs scope.names e at c
     statement_apart (If t s) scope rs at c =
         let then = at + expression_size t + 1 in
         used rs scope.names t at (_ ∷ statement_code scope s then)
-          (λ q lo hi. bare rs (statement_regions s then) q (outside s then q (inl (omega arith)))
-          (c q lo (omega arith)))
-        ((λ x. no_call x), statement_apart s scope rs
-          then (λ q lo hi. c q (omega arith) (omega arith)))
+        (λ q lo hi. bare rs (statement_regions s then) q (outside s then q (inl (omega arith)))
+        (c q lo (omega arith))) (
+          (λ x. no_call x),
+          statement_apart s scope rs
+              then (λ q lo hi. c q (omega arith) (omega arith)),
+        )
     statement_apart (IfElse t s u) scope rs at c =
         let then = at + expression_size t + 1 in
         let otherwise = then + statement_size s + 1 in
@@ -198,19 +210,21 @@ module _ (around : ℕ → List Region) where
         let ry = statement_regions s then in
         let rn = statement_regions u otherwise in
         used rs scope.names t at (_ ∷ (yes ++ skip ∷ no))
-          (λ q lo hi. bare rs (ry ++ rn) q (right_only ry rn q
-          (outside s then q (inl (omega arith))) ∙ outside u otherwise q (inl (omega arith)))
-          (c q lo (omega arith))) (
+        (λ q lo hi. bare rs (ry ++ rn) q (right_only ry rn q
+        (outside s then q (inl (omega arith))) ∙ outside u otherwise q (inl (omega arith)))
+        (c q lo (omega arith))) (
           (λ x. no_call x),
           joined then (then + statement_size s) yes (skip ∷ no) (omega arith)
               (statement_apart s scope rs then
-                (λ q lo hi. part rs (ry ++ rn) ry q
-                (left_only ry rn q (outside u otherwise q (inl (omega arith))))
-                (c q (omega arith) (omega arith))))
-              ((λ x. no_call x), statement_apart u scope rs otherwise
-                (λ q lo hi. part rs (ry ++ rn) rn q
-                (right_only ry rn q (outside s then q (inr (omega arith))))
-                (c q (omega arith) (omega arith)))),
+              (λ q lo hi. part rs (ry ++ rn) ry q
+              (left_only ry rn q (outside u otherwise q (inl (omega arith))))
+              (c q (omega arith) (omega arith)))) (
+                (λ x. no_call x),
+                statement_apart u scope rs otherwise
+                    (λ q lo hi. part rs (ry ++ rn) rn q
+                    (right_only ry rn q (outside s then q (inr (omega arith))))
+                    (c q (omega arith) (omega arith))),
+              ),
         )
     statement_apart (For ds first t next s) scope rs at c =
         let names = scope.names in
@@ -232,21 +246,23 @@ module _ (around : ℕ → List Region) where
         let ln = discarded_length names next (again + 1) in
         let r = statement_regions s start in
         let before = λ (q : ℕ) (lo : at ≤ q) (hi : q < start). bare rs r q
-          (outside s start q (inl hi)) (c q lo (omega arith)) in
+        (outside s start q (inl hi)) (c q lo (omega arith)) in
         let following = λ (q : ℕ) (lo : again ≤ q) (hi : q < end). bare rs r q
-          (outside s start q (inr lo)) (c q (omega arith) (omega arith)) in
+        (outside s start q (inr lo)) (c q (omega arith) (omega arith)) in
         joined at begin declares _ (omega arith)
-          (all_declared_apart rs names ds at (λ q lo hi. before q lo (omega arith)))
+        (all_declared_apart rs names ds at (λ q lo hi. before q lo (omega arith)))
         (joined begin iteration begins _ (omega arith)
-          (discarded_apart rs names first begin (λ q lo hi. before q (omega arith) (omega arith)))
+        (discarded_apart rs names first begin (λ q lo hi. before q (omega arith) (omega arith)))
         (joined iteration start tests _ (omega arith)
-          (condition_apart rs names t end iteration
-          (λ q lo hi. before q (omega arith) (omega arith)))
+        (condition_apart rs names t end iteration
+        (λ q lo hi. before q (omega arith) (omega arith)))
         (joined start again body _ (omega arith)
-          (statement_apart s inner rs start (λ q lo hi. c q (omega arith) (omega arith)))
-        ((λ x. no_call x), joined (again + 1) (again + 1 + discarded_size next) steps _
-          (omega arith) (discarded_apart rs names next (again + 1)
-          (λ q lo hi. following q (omega arith) (omega arith))) ((λ x. no_call x), tt)))))
+        (statement_apart s inner rs start (λ q lo hi. c q (omega arith) (omega arith))) (
+          (λ x. no_call x),
+          joined (again + 1) (again + 1 + discarded_size next) steps _
+              (omega arith) (discarded_apart rs names next (again + 1)
+              (λ q lo hi. following q (omega arith) (omega arith))) ((λ x. no_call x), tt),
+        ))))
     statement_apart (DoWhile s t) scope rs at c =
         let again = at + statement_size s in
         let end = again + 1 + expression_size t + 2 in
@@ -255,19 +271,21 @@ module _ (around : ℕ → List Region) where
         let ls = statement_length inner s at in
         let r = statement_regions s at in
         let following = λ (q : ℕ) (lo : again ≤ q) (hi : q < end). bare rs r q
-          (outside s at q (inr lo)) (c q (omega arith) (omega arith)) in
+        (outside s at q (inr lo)) (c q (omega arith) (omega arith)) in
         joined at again body _ (omega arith) (statement_apart s inner rs at
-          (λ q lo hi. c q lo (omega arith)))
-        ((λ x. no_call x), used rs scope.names t (again + 1) (repeated end at)
-          (λ q lo hi. following q (omega arith) (omega arith))
-          ((λ x. no_call x), ((λ x. no_call x), tt)))
+        (λ q lo hi. c q lo (omega arith))) (
+          (λ x. no_call x),
+          used rs scope.names t (again + 1) (repeated end at)
+              (λ q lo hi. following q (omega arith) (omega arith))
+              ((λ x. no_call x), ((λ x. no_call x), tt)),
+        )
     statement_apart (Return e) scope rs at c =
         let l = returned_length scope.names e at in
         joined at (at + returned_size e) (returned_code scope.names e at) (return_code scope.exit)
-          (omega arith) (inside_all rs at (returned_code scope.names e at)
-          (λ q lo hi. c q lo (omega arith)))
+        (omega arith) (inside_all rs at (returned_code scope.names e at)
+        (λ q lo hi. c q lo (omega arith)))
         (return_apart rs scope.exit (at + returned_size e)
-          (λ q lo hi. c q (omega arith) (omega arith)))
+        (λ q lo hi. c q (omega arith) (omega arith)))
     statement_apart Break scope rs at c = jump_apart rs scope.loop_end at c
     statement_apart Continue scope rs at c = jump_apart rs scope.loop_next at c
     statement_apart Leave scope rs at c = leave_apart scope.leave at
@@ -283,20 +301,20 @@ module _ (around : ℕ → List Region) where
         let rh = statements_regions block (target + 1) in
         let try = region at target (except_kind filter target) in
         let alone = λ (q : ℕ) (lo : at ≤ q) (hi : q < target). own_in try rh q lo hi
-          ∙ ap (λ x. try ∷ x) (all_outside block (target + 1) q (inl (omega arith))) in
+        ∙ ap (λ x. try ∷ x) (all_outside block (target + 1) q (inl (omega arith))) in
         let past = λ (q : ℕ) (lo : target ≤ q). right_only rb (try ∷ rh) q
-          (all_outside body at q (inr (omega arith))) ∙ own_out try rh q (inr lo) in
+        (all_outside body at q (inr (omega arith))) ∙ own_out try rh q (inr lo) in
         joined at at_jump guarded (landed end scope.names.free ++ handles) (omega arith)
-          (statements_apart body inner (try ∷ rs) at
-          (λ q lo hi. inside_own rs try rb (try ∷ rh) q (alone q lo (omega arith))
-          (c q lo (omega arith)))) (
+        (statements_apart body inner (try ∷ rs) at
+        (λ q lo hi. inside_own rs try rb (try ∷ rh) q (alone q lo (omega arith))
+        (c q lo (omega arith)))) (
           (λ x. no_call x),
           (
             (λ x. no_call x),
             moved (target + 1) (at_jump + 1 + 1) handles (omega arith)
-              (statements_apart block (in_except scope) rs (target + 1)
-              (λ q lo hi. part rs (rb ++ (try ∷ rh)) rh q (past q (omega arith))
-              (c q (omega arith) (omega arith)))),
+                (statements_apart block (in_except scope) rs (target + 1)
+                (λ q lo hi. part rs (rb ++ (try ∷ rh)) rh q (past q (omega arith))
+                (c q (omega arith) (omega arith)))),
           ),
         )
     statement_apart (TryFinally body k last) scope rs at c =
@@ -307,19 +325,24 @@ module _ (around : ℕ → List Region) where
         let rb = statements_regions body at in
         let try = region at (at_end + 1) (kinds.Finally (k - 1)) in
         let past = λ (q : ℕ) (lo : at_end + 1 ≤ q). right_only rb (try ∷ []) q
-          (all_outside body at q (inr (omega arith))) ∙ own_out try [] q (inr lo) in
+        (all_outside body at q (inr (omega arith))) ∙ own_out try [] q (inr lo) in
         let out = λ (q : ℕ) (lo : at_end + 1 ≤ q) (hi : q < at_end + 3). bare rs (rb ++ (try ∷ []))
-          q (past q lo) (c q (omega arith) (omega arith)) in
+        q (past q lo) (c q (omega arith) (omega arith)) in
         joined at at_end guarded _ (omega arith)
-          (statements_apart body inner (try ∷ rs) at
-          (λ q lo hi. inside_own rs try rb (try ∷ []) q (own_in try [] q lo (omega arith))
-          (c q lo (omega arith))))
-        ((λ x. no_call x), ((λ x. out (at_end + 1 + 1) (omega arith) (omega arith)
-          ∙ sym (out (at_end + 1) (omega arith) (omega arith))), ((λ x. no_call x), tt)))
+        (statements_apart body inner (try ∷ rs) at
+        (λ q lo hi. inside_own rs try rb (try ∷ []) q (own_in try [] q lo (omega arith))
+        (c q lo (omega arith)))) (
+          (λ x. no_call x),
+          (
+            (λ x. out (at_end + 1 + 1) (omega arith) (omega arith)
+                ∙ sym (out (at_end + 1) (omega arith) (omega arith))),
+            ((λ x. no_call x), tt),
+          ),
+        )
 
     statements_apart : (ss : Statements) (scope : LoweringContext) (rs : List Region) (at : ℕ)
-      → Cover rs at (at + statements_size ss) (statements_regions ss at)
-      → Separate at (statements_code scope ss at)
+        → Cover rs at (at + statements_size ss) (statements_regions ss at)
+        → Separate at (statements_code scope ss at)
     statements_apart Empty scope rs at c = tt
     statements_apart (Then s ss) scope rs at c =
         let next = at + statement_size s in
@@ -328,9 +351,9 @@ module _ (around : ℕ → List Region) where
         let more = statements_regions ss next in
         joined at next (statement_code scope s at) (statements_code scope ss next) (omega arith)
         (statement_apart s scope rs at (λ q lo hi. part rs (r ++ more) r q
-          (left_only r more q (all_outside ss next q (inl hi))) (c q lo (omega arith))))
+        (left_only r more q (all_outside ss next q (inl hi))) (c q lo (omega arith))))
         (statements_apart ss scope rs next (λ q lo hi. part rs (r ++ more) more q
-          (right_only r more q (outside s at q (inr lo))) (c q (omega arith) (omega arith))))
+        (right_only r more q (outside s at q (inr lo))) (c q (omega arith) (omega arith))))
 
   separate_at : (is : List Instruction) (at label : ℕ) (i : Instruction) → Separate at is
       → slice_get is label ≡ Some i → is_call i ≡ true
@@ -363,9 +386,9 @@ filter_apart : (owner : Owner) (names : Names) (e : Expression)
     → ReturnsStayInRegions (filter_funclet owner names e).body
 filter_apart owner names e =
     whole_apart (filter_funclet owner names e).body
-      (ends_after (expression_code names e 0 0) (instructions.Return (Temporary 0)) [] refl)
+    (ends_after (expression_code names e 0 0) (instructions.Return (Temporary 0)) [] refl)
     (used (around_in []) [] names e 0 (instructions.Return (Temporary 0) ∷ []) (λ q lo hi. refl)
-      ((λ x. no_call x), tt))
+    ((λ x. no_call x), tt))
 
 block_apart : (owner : Owner) (names : Names) (last : Statements)
     → ReturnsStayInRegions (finally_funclet owner names last).body
@@ -374,11 +397,11 @@ block_apart owner names last =
     let code = statements_code (finally_scope names) last 0 in
     let l = statements_length (finally_scope names) last 0 in
     whole_apart (finally_funclet owner names last).body
-      (ends_after code (instructions.Return (Local names.free)) [] refl)
+    (ends_after code (instructions.Return (Local names.free)) [] refl)
     (joined (around_in regions) 0 (statements_size last) code
-      (instructions.Return (Local names.free) ∷ []) (omega arith)
-      (statements_apart (around_in regions) last (finally_scope names) [] 0
-      (whole_cover regions (0 + statements_size last))) ((λ x. no_call x), tt))
+    (instructions.Return (Local names.free) ∷ []) (omega arith)
+    (statements_apart (around_in regions) last (finally_scope names) [] 0
+    (whole_cover regions (0 + statements_size last))) ((λ x. no_call x), tt))
 
 function_apart : (f : Function) → ReturnsStayInRegions (lowered_function f).body
 function_apart f =
@@ -386,12 +409,12 @@ function_apart f =
     let code = statements_code (scope_of f) f.body 0 in
     let l = statements_length (scope_of f) f.body 0 in
     whole_apart (lowered_function f).body (ends_after code (constant 0 0)
-      (instructions.Return (Temporary 0) ∷ []) refl)
+    (instructions.Return (Temporary 0) ∷ []) refl)
     (joined (around_in regions) 0 (statements_size f.body) code
-      (constant 0 0 ∷ instructions.Return (Temporary 0) ∷ []) (omega arith)
-      (statements_apart (around_in regions) f.body (scope_of f) [] 0
-      (whole_cover regions (0 + statements_size f.body)))
-      ((λ x. no_call x), ((λ x. no_call x), tt)))
+    (constant 0 0 ∷ instructions.Return (Temporary 0) ∷ []) (omega arith)
+    (statements_apart (around_in regions) f.body (scope_of f) [] 0
+    (whole_cover regions (0 + statements_size f.body)))
+    ((λ x. no_call x), ((λ x. no_call x), tt)))
 
 pub lowered_is_apart : LoweredIsApart
 lowered_is_apart = every_body ReturnsStayInRegions filter_apart block_apart function_apart

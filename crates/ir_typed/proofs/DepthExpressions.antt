@@ -67,29 +67,29 @@ one_less d = omega arith
 module _ (names : Names) where
   mutual
     pub expression_past : (e : Expression) (d at : ℕ)
-      → past (expression_code names e d at) d ≡ d + 1
+        → past (expression_code names e d at) d ≡ d + 1
     expression_past (On node c) d at = past_both (node_code names node d at) (conversion_code c d) d
-      (d + 1) (d + 1) (node_past node d at) (conversion_past c d)
+        (d + 1) (d + 1) (node_past node d at) (conversion_past c d)
 
     locate_past : (p : Lvalue) (d at : ℕ) → past (locate_code names p d at) d ≡ d + address_count p
     locate_past (nodes.Local x) d at = omega arith
     locate_past (Global access a) d at = refl
     locate_past (Indirection access e) d at = expression_past e d at
     locate_past (Element access e i) d at = past_to (expression_code names e d at) _ d (d + 1)
-      (λ x. past_to (expression_code names i (d + 1) _) (_ ∷ []) x (d + 1) (λ y. refl))
+        (λ x. past_to (expression_code names i (d + 1) _) (_ ∷ []) x (d + 1) (λ y. refl))
 
     node_past : (node : Node) (d at : ℕ) → past (node_code names node d at) d ≡ d + 1
     node_past (nodes.Constant z v) d at = refl
     node_past (nodes.Read p) d at = past_to (locate_code names p d at) (read_code p d d) d (d + 1)
-      (read_past p d d)
+        (read_past p d d)
     node_past (nodes.AddressOf p) d at = address_past p d (locate_code names p d at)
-      (locate_past p d at)
+        (locate_past p d at)
     node_past (nodes.Assign p e) d at =
         let from = d + address_count p in
         let code = expression_code names e from (at + locate_size p) in
         past_both (locate_code names p d at) _ d from (d + 1) (locate_past p d at)
         (past_both code (_ ∷ []) from (from + 1) (d + 1)
-          (expression_past e from (at + locate_size p)) (write_past p d))
+        (expression_past e from (at + locate_size p)) (write_past p d))
     node_past (nodes.CompoundAssign p before o e after') d at =
         let old = d + address_count p in
         let place = at + (locate_size p + (read_size p + conversion_size before)) in
@@ -98,7 +98,7 @@ module _ (names : Names) where
         past_to (conversion_code before old) _ y (d + 1) (λ z.
         past_to (expression_code names e (old + 1) place) _ z (d + 1) (λ u.
         past_both (conversion_code after' old) (_ ∷ []) (old + 1) (old + 1) (d + 1)
-          (conversion_past after' old) (write_past p d)))))
+        (conversion_past after' old) (write_past p d)))))
     node_past (nodes.Increment m p before o v after') d at =
         let old = d + address_count p in
         past_to (locate_code names p d at) _ d (d + 1) (λ x.
@@ -106,29 +106,29 @@ module _ (names : Names) where
         past_to (conversion_code before (old + 1)) _ (old + 1 + 1) (d + 1) (λ z.
         past_to (conversion_code after' (old + 1)) _ (old + 1 + 1) (d + 1) (λ u. refl))))
     node_past (nodes.Unary o e) d at = past_both (expression_code names e d at) (unary_code o d) d
-      (d + 1) (d + 1) (expression_past e d at) (unary_past o d)
+        (d + 1) (d + 1) (expression_past e d at) (unary_past o d)
     node_past (nodes.Binary o e f) d at = past_to (expression_code names e d at) _ d (d + 1)
-      (λ x. past_to (expression_code names f (d + 1) _) (_ ∷ []) x (d + 1) (λ y. refl))
+        (λ x. past_to (expression_code names f (d + 1) _) (_ ∷ []) x (d + 1) (λ y. refl))
     node_past (nodes.PointerDifference v e f) d at = past_to (expression_code names e d at) _ d
-      (d + 1) (λ x. past_to (expression_code names f (d + 1) _) (_ ∷ _ ∷ _ ∷ []) x (d + 1)
-      (λ y. refl))
+        (d + 1) (λ x. past_to (expression_code names f (d + 1) _) (_ ∷ _ ∷ _ ∷ []) x (d + 1)
+        (λ y. refl))
     node_past (nodes.Not e) d at = past_to (expression_code names e d at) _ d (d + 1) (λ x. refl)
     node_past (nodes.And e f) d at = past_to (expression_code names e d at) _ d (d + 1)
-      (λ x. past_to (expression_code names f d _) _ d (d + 1) (λ y. refl))
+        (λ x. past_to (expression_code names f d _) _ d (d + 1) (λ y. refl))
     node_past (nodes.Or e f) d at = past_to (expression_code names e d at) _ d (d + 1)
-      (λ x. past_to (expression_code names f d _) _ (d + 1 - 1) (d + 1) (λ y. refl))
+        (λ x. past_to (expression_code names f d _) _ (d + 1 - 1) (d + 1) (λ y. refl))
     node_past (nodes.Conditional c e f) d at =
         let yes = at + expression_size c + 1 in
         let no = yes + expression_size e + 1 in
         past_to (expression_code names c d at) _ d (d + 1) (λ x.
         past_both (expression_code names e d yes) _ d (d + 1) (d + 1) (expression_past e d yes)
-          (ap (past (expression_code names f d no)) (one_less d) ∙ expression_past f d no))
+        (ap (past (expression_code names f d no)) (one_less d) ∙ expression_past f d no))
     node_past (nodes.Comma e f) d at = past_to (expression_code names e d at) _ d (d + 1)
-      (λ x. past_to (expression_code names f (d + 1) _) (_ ∷ []) x (d + 1) (λ y. refl))
+        (λ x. past_to (expression_code names f (d + 1) _) (_ ∷ []) x (d + 1) (λ y. refl))
     node_past (nodes.Call f es) d at = past_to (arguments_code names es d at) (_ ∷ []) d (d + 1)
-      (λ x. refl)
+        (λ x. refl)
     node_past (nodes.CallBuiltIn k es) d at = past_to (arguments_code names es d at) (_ ∷ []) d
-      (d + 1) (λ x. refl)
+        (d + 1) (λ x. refl)
     node_past nodes.ExceptionCode d at = code_past names.exception d d
     node_past (nodes.Information f) d at = refl
     node_past nodes.AbnormalTermination d at = flag_past names.abnormal d d
@@ -139,7 +139,7 @@ module _ (names : Names) where
   arguments_past (Next e es) d at =
       let r = arguments_past es (d + 1) (at + expression_size e) in
       past_both (expression_code names e d at) _ d (d + 1) (d + suc (argument_count es))
-        (expression_past e d at) (omega arith)
+      (expression_past e d at) (omega arith)
 
 -- ---- jumps
 
@@ -200,16 +200,18 @@ module _ (depth : ℕ → ℕ) where
 
   choice_leads : (d at instead other : ℕ) → At at (d + 1) (choice_code d at instead other)
       → All (d + 1) (choice_code d at instead other)
-  choice_leads d at instead other h = (choice_begins d at instead other h,
-      (tt, (choice_ends d at instead other h, (tt, tt))))
+  choice_leads d at instead other h = (
+    choice_begins d at instead other h,
+    (tt, (choice_ends d at instead other h, (tt, tt))),
+  )
 
   module _ (names : Names) where
     operands_lead : (e f : Expression) (d at : ℕ) (rest : List Instruction)
-      → At at d (expression_code names e d at
-      ++ (expression_code names f (d + 1) (at + expression_size e) ++ rest))
+        → At at d (expression_code names e d at
+        ++ (expression_code names f (d + 1) (at + expression_size e) ++ rest))
         → (At at d (expression_code names e d at) → All d (expression_code names e d at))
         → (At (at + expression_size e) (d + 1)
-          (expression_code names f (d + 1) (at + expression_size e))
+        (expression_code names f (d + 1) (at + expression_size e))
         → All (d + 1) (expression_code names f (d + 1) (at + expression_size e)))
         → ((x : ℕ) → All x rest) → All d (expression_code names e d at
         ++ (expression_code names f (d + 1) (at + expression_size e) ++ rest))
@@ -218,15 +220,15 @@ module _ (depth : ℕ → ℕ) where
         let l = expression_length names e d at in
         let a = expression_past names e d at in
         let second = scan_back depth at (at + expression_size e) d (d + 1)
-          (expression_code names e d at) (code ++ rest) (omega arith) a h in
+        (expression_code names e d at) (code ++ rest) (omega arith) a h in
         lead_both depth (expression_code names e d at) (code ++ rest) d (d + 1) a
-          (p (scan_front depth at d (expression_code names e d at) (code ++ rest) h))
+        (p (scan_front depth at d (expression_code names e d at) (code ++ rest) h))
         (lead_both depth code rest (d + 1) (d + 1 + 1)
-          (expression_past names f (d + 1) (at + expression_size e))
-          (q (scan_front depth (at + expression_size e) (d + 1) code rest second)) (r (d + 1 + 1)))
+        (expression_past names f (d + 1) (at + expression_size e))
+        (q (scan_front depth (at + expression_size e) (d + 1) code rest second)) (r (d + 1 + 1)))
 
     located_scan : (p : Lvalue) (d at : ℕ) → At at d (address_code p d (locate_code names p d at))
-      → At at d (locate_code names p d at)
+        → At at d (locate_code names p d at)
     located_scan (nodes.Local x) d at h = h.0
     located_scan (Global access a) d at h = h
     located_scan (Indirection access e) d at h = h
@@ -234,24 +236,24 @@ module _ (depth : ℕ → ℕ) where
 
     mutual
       pub expression_leads : (e : Expression) (d at : ℕ) → At at d (expression_code names e d at)
-        → All d (expression_code names e d at)
+          → All d (expression_code names e d at)
       expression_leads (On node c) d at h =
           lead_both depth (node_code names node d at) (conversion_code c d) d (d + 1)
-            (node_past names node d at) (node_leads node d at
-            (scan_front depth at d (node_code names node d at) (conversion_code c d) h))
-            (conversion_leads c d (d + 1))
+          (node_past names node d at) (node_leads node d at
+          (scan_front depth at d (node_code names node d at) (conversion_code c d) h))
+          (conversion_leads c d (d + 1))
 
       locate_leads : (p : Lvalue) (d at : ℕ) → At at d (locate_code names p d at)
-        → All d (locate_code names p d at)
+          → All d (locate_code names p d at)
       locate_leads (nodes.Local x) d at h = tt
       locate_leads (Global access a) d at h = (tt, tt)
       locate_leads (Indirection access e) d at h = expression_leads e d at h
       locate_leads (Element access e i) d at h = operands_lead e i d at (_ ∷ []) h
-        (expression_leads e d at) (expression_leads i (d + 1) (at + expression_size e))
-        (λ x. (tt, tt))
+          (expression_leads e d at) (expression_leads i (d + 1) (at + expression_size e))
+          (λ x. (tt, tt))
 
       arguments_lead : (es : Arguments) (d at : ℕ) → At at d (arguments_code names es d at)
-        → All d (arguments_code names es d at)
+          → All d (arguments_code names es d at)
       arguments_lead Done d at h = tt
       arguments_lead (Next e es) d at h =
           let code = expression_code names e d at in
@@ -259,20 +261,20 @@ module _ (depth : ℕ → ℕ) where
           let l = expression_length names e d at in
           let a = expression_past names e d at in
           lead_both depth code rest d (d + 1) a
-            (expression_leads e d at (scan_front depth at d code rest h))
-            (arguments_lead es (d + 1) (at + expression_size e)
-            (scan_back depth at (at + expression_size e) d (d + 1) code rest (omega arith) a h))
+          (expression_leads e d at (scan_front depth at d code rest h))
+          (arguments_lead es (d + 1) (at + expression_size e)
+          (scan_back depth at (at + expression_size e) d (d + 1) code rest (omega arith) a h))
 
       node_leads : (node : Node) (d at : ℕ) → At at d (node_code names node d at)
-        → All d (node_code names node d at)
+          → All d (node_code names node d at)
       node_leads (nodes.Constant z v) d at h = (tt, tt)
       node_leads (nodes.Read p) d at h =
           let code = locate_code names p d at in
           lead_both depth code (read_code p d d) d (d + address_count p) (locate_past names p d at)
-            (locate_leads p d at (scan_front depth at d code (read_code p d d) h))
-            (read_leads p d d (d + address_count p))
+          (locate_leads p d at (scan_front depth at d code (read_code p d d) h))
+          (read_leads p d d (d + address_count p))
       node_leads (nodes.AddressOf p) d at h = address_leads p d d (locate_code names p d at)
-        (locate_leads p d at (located_scan p d at h))
+          (locate_leads p d at (located_scan p d at h))
       node_leads (nodes.Assign p e) d at h =
           let from = d + address_count p in
           let located = locate_code names p d at in
@@ -281,14 +283,14 @@ module _ (depth : ℕ → ℕ) where
           let a = locate_past names p d at in
           let last = write_code p d from d ∷ [] in
           let second = scan_back depth at (at + locate_size p) d from located (code ++ last)
-            (omega arith) a h in
+          (omega arith) a h in
           lead_both depth located (code ++ last) d from a
-            (locate_leads p d at (scan_front depth at d located (code ++ last) h))
+          (locate_leads p d at (scan_front depth at d located (code ++ last) h))
           (lead_both depth code last from (from + 1)
-            (expression_past names e from (at + locate_size p))
-            (expression_leads e from (at + locate_size p)
-            (scan_front depth (at + locate_size p) from code last second))
-            (write_leads p d from d (from + 1), tt))
+          (expression_past names e from (at + locate_size p))
+          (expression_leads e from (at + locate_size p)
+          (scan_front depth (at + locate_size p) from code last second))
+          (write_leads p d from d (from + 1), tt))
       node_leads (nodes.CompoundAssign p before o e after') d at h =
           let old = d + address_count p in
           let located = locate_code names p d at in
@@ -304,57 +306,64 @@ module _ (depth : ℕ → ℕ) where
           let l2 = conversion_length before old in
           let a = locate_past names p d at in
           let h1 = scan_back depth at at1 d old located (reads ++ (converts ++ (code ++ last)))
-            (omega arith) a h in
+          (omega arith) a h in
           let h2 = scan_back depth at1 at2 old (old + 1) reads (converts ++ (code ++ last))
-            (omega arith) (read_past p d old old) h1 in
+          (omega arith) (read_past p d old old) h1 in
           let h3 = scan_back depth at2 place (old + 1) (old + 1) converts (code ++ last)
-            (omega arith) (conversion_past before old) h2 in
+          (omega arith) (conversion_past before old) h2 in
           lead_both depth located _ d old a (locate_leads p d at
-            (scan_front depth at d located (reads ++ (converts ++ (code ++ last))) h))
+          (scan_front depth at d located (reads ++ (converts ++ (code ++ last))) h))
           (lead_both depth reads _ old (old + 1) (read_past p d old old) (read_leads p d old old)
           (lead_both depth converts _ (old + 1) (old + 1) (conversion_past before old)
-            (conversion_leads before old (old + 1))
+          (conversion_leads before old (old + 1))
           (lead_both depth code last (old + 1) (old + 1 + 1)
-            (expression_past names e (old + 1) place)
-            (expression_leads e (old + 1) place (scan_front depth place (old + 1) code last h3))
-          (tt, lead_both depth (conversion_code after' old) _ (old + 1) (old + 1)
-            (conversion_past after' old) (conversion_leads after' old (old + 1))
-            (write_leads p d old d (old + 1), tt)))))
+          (expression_past names e (old + 1) place)
+          (expression_leads e (old + 1) place (scan_front depth place (old + 1) code last h3)) (
+            tt,
+            lead_both depth (conversion_code after' old) _ (old + 1) (old + 1)
+                (conversion_past after' old) (conversion_leads after' old (old + 1))
+                (write_leads p d old d (old + 1), tt),
+          ))))
       node_leads (nodes.Increment m p before o v after') d at h =
           let old = d + address_count p in
           let located = locate_code names p d at in
           lead_both depth located _ d old (locate_past names p d at)
-            (locate_leads p d at (scan_front depth at d located _ h))
+          (locate_leads p d at (scan_front depth at d located _ h))
           (lead_both depth (read_code p d old) _ old (old + 1) (read_past p d old old)
-            (read_leads p d old old) (
+          (read_leads p d old old) (
             tt,
             lead_both depth (conversion_code before (old + 1)) _ (old + 1 + 1) (old + 1 + 1)
-              (conversion_past before (old + 1)) (conversion_leads before (old + 1) (old + 1 + 1))
-                (tt, (tt, lead_both depth (conversion_code after' (old + 1)) _ (old + 1 + 1)
-                  (old + 1 + 1) (conversion_past after' (old + 1))
-                  (conversion_leads after' (old + 1) (old + 1 + 1))
-                  (write_leads p d (old + 1) (old + 1) (old + 1 + 1), (tt, tt)))),
+                (conversion_past before (old + 1)) (conversion_leads before (old + 1) (old + 1 + 1)) (
+                  tt,
+                  (
+                    tt,
+                    lead_both depth (conversion_code after' (old + 1)) _ (old + 1 + 1)
+                        (old + 1 + 1) (conversion_past after' (old + 1))
+                        (conversion_leads after' (old + 1) (old + 1 + 1))
+                        (write_leads p d (old + 1) (old + 1) (old + 1 + 1), (tt, tt)),
+                  ),
+                ),
           ))
       node_leads (nodes.Unary o e) d at h =
           let code = expression_code names e d at in
           lead_both depth code (unary_code o d) d (d + 1) (expression_past names e d at)
-            (expression_leads e d at (scan_front depth at d code (unary_code o d) h))
-            (unary_leads o d (d + 1))
+          (expression_leads e d at (scan_front depth at d code (unary_code o d) h))
+          (unary_leads o d (d + 1))
       node_leads (nodes.Binary o e f) d at h = operands_lead e f d at (_ ∷ []) h
-        (expression_leads e d at) (expression_leads f (d + 1) (at + expression_size e))
-        (λ x. (tt, tt))
+          (expression_leads e d at) (expression_leads f (d + 1) (at + expression_size e))
+          (λ x. (tt, tt))
       node_leads (nodes.PointerDifference v e f) d at h = operands_lead e f d at (_ ∷ _ ∷ _ ∷ []) h
-        (expression_leads e d at) (expression_leads f (d + 1) (at + expression_size e))
-        (λ x. (tt, (tt, (tt, tt))))
+          (expression_leads e d at) (expression_leads f (d + 1) (at + expression_size e))
+          (λ x. (tt, (tt, (tt, tt))))
       node_leads (nodes.Not e) d at h =
           let code = expression_code names e d at in
           let last = choice_code d (at + expression_size e) 1 0 in
           let l = expression_length names e d at in
           let a = expression_past names e d at in
           lead_both depth code last d (d + 1) a
-            (expression_leads e d at (scan_front depth at d code last h))
-            (choice_leads d (at + expression_size e) 1 0
-            (scan_back depth at (at + expression_size e) d (d + 1) code last (omega arith) a h))
+          (expression_leads e d at (scan_front depth at d code last h))
+          (choice_leads d (at + expression_size e) 1 0
+          (scan_back depth at (at + expression_size e) d (d + 1) code last (omega arith) a h))
       node_leads (nodes.And e f) d at h =
           let second = at + expression_size e + 1 in
           let otherwise = second + expression_size f + 3 in
@@ -368,13 +377,15 @@ module _ (depth : ℕ → ℕ) where
           let b = expression_past names f d second in
           let rest = instructions.JumpIfZero (Temporary d) otherwise ∷ (more ++ last) in
           let h1 = scan_back depth at (at + expression_size e) d (d + 1) code rest (omega arith) a
-            h in
+          h in
           let h2 = scan_back depth second at' d (d + 1) more last (omega arith) b h1.1 in
           lead_both depth code rest d (d + 1) a
-            (expression_leads e d at (scan_front depth at d code rest h))
-          (choice_begins d at' 0 1 h2, lead_both depth more last d (d + 1) b
-            (expression_leads f d second (scan_front depth second d more last h1.1))
-            (choice_leads d at' 0 1 h2))
+          (expression_leads e d at (scan_front depth at d code rest h)) (
+            choice_begins d at' 0 1 h2,
+            lead_both depth more last d (d + 1) b
+                (expression_leads f d second (scan_front depth second d more last h1.1))
+                (choice_leads d at' 0 1 h2),
+          )
       node_leads (nodes.Or e f) d at h =
           let second = at + expression_size e + 3 in
           let end = second + expression_size f + 4 in
@@ -387,20 +398,27 @@ module _ (depth : ℕ → ℕ) where
           let a = expression_past names e d at in
           let b = expression_past names f d second in
           let rest = instructions.JumpIfZero (Temporary d) second ∷ constant d 1
-            ∷ instructions.Jump end ∷ (more ++ last) in
+          ∷ instructions.Jump end ∷ (more ++ last) in
           let h1 = scan_back depth at (at + expression_size e) d (d + 1) code rest (omega arith) a
-            h in
+          h in
           let h2 = scan_moved depth (at + expression_size e + 1 + 1 + 1) second (d + 1 - 1) d
-            (more ++ last) (omega arith) (one_less d) h1.1.1.1 in
+          (more ++ last) (omega arith) (one_less d) h1.1.1.1 in
           let h3 = scan_back depth second at' d (d + 1) more last (omega arith) b h2 in
           let tail = lead_both depth more last d (d + 1) b
-            (expression_leads f d second (scan_front depth second d more last h2))
-            (choice_leads d at' 0 1 h3) in
+          (expression_leads f d second (scan_front depth second d more last h2))
+          (choice_leads d at' 0 1 h3) in
           lead_both depth code rest d (d + 1) a
-            (expression_leads e d at (scan_front depth at d code rest h))
-          (scan_start depth second d (more ++ last) h2,
-            (tt, (choice_ends d at' 0 1 h3, lead_moved depth d (d + 1 - 1) (more ++ last)
-            (sym (one_less d)) tail)))
+          (expression_leads e d at (scan_front depth at d code rest h)) (
+            scan_start depth second d (more ++ last) h2,
+            (
+              tt,
+              (
+                choice_ends d at' 0 1 h3,
+                lead_moved depth d (d + 1 - 1) (more ++ last)
+                    (sym (one_less d)) tail,
+              ),
+            ),
+          )
       node_leads (nodes.Conditional t e f) d at h =
           let yes = at + expression_size t + 1 in
           let no = yes + expression_size e + 1 in
@@ -415,32 +433,34 @@ module _ (depth : ℕ → ℕ) where
           let skip = instructions.Jump (no + expression_size f) in
           let rest = instructions.JumpIfZero (Temporary d) no ∷ (first ++ (skip ∷ second)) in
           let h1 = scan_back depth at (at + expression_size t) d (d + 1) code rest (omega arith) a
-            h in
+          h in
           let h2 = scan_back depth yes (yes + expression_size e) d (d + 1) first (skip ∷ second)
-            (omega arith) b h1.1 in
+          (omega arith) b h1.1 in
           let h3 = scan_moved depth (yes + expression_size e + 1) no (d + 1 - 1) d second refl
-            (one_less d) h2.1 in
+          (one_less d) h2.1 in
           let end = scan_end depth no (no + expression_size f) d (d + 1) second (omega arith)
-            (expression_past names f d no) h3 in
+          (expression_past names f d no) h3 in
           lead_both depth code rest d (d + 1) a
-            (expression_leads t d at (scan_front depth at d code rest h)) (
+          (expression_leads t d at (scan_front depth at d code rest h)) (
             scan_start depth no d second h3,
             lead_both depth first (skip ∷ second) d (d + 1) b
-              (expression_leads e d yes (scan_front depth yes d first (skip ∷ second) h1.1))
-              (end, lead_moved depth d (d + 1 - 1) second (sym (one_less d))
-              (expression_leads f d no h3)),
+                (expression_leads e d yes (scan_front depth yes d first (skip ∷ second) h1.1)) (
+                  end,
+                  lead_moved depth d (d + 1 - 1) second (sym (one_less d))
+                      (expression_leads f d no h3),
+                ),
           )
       node_leads (nodes.Comma e f) d at h = operands_lead e f d at (_ ∷ []) h
-        (expression_leads e d at) (expression_leads f (d + 1) (at + expression_size e))
-        (λ x. (tt, tt))
+          (expression_leads e d at) (expression_leads f (d + 1) (at + expression_size e))
+          (λ x. (tt, tt))
       node_leads (nodes.Call f es) d at h =
           let code = arguments_code names es d at in
           lead_both depth code (_ ∷ []) d (past code d) refl
-            (arguments_lead es d at (scan_front depth at d code (_ ∷ []) h)) (tt, tt)
+          (arguments_lead es d at (scan_front depth at d code (_ ∷ []) h)) (tt, tt)
       node_leads (nodes.CallBuiltIn k es) d at h =
           let code = arguments_code names es d at in
           lead_both depth code (_ ∷ []) d (past code d) refl
-            (arguments_lead es d at (scan_front depth at d code (_ ∷ []) h)) (tt, tt)
+          (arguments_lead es d at (scan_front depth at d code (_ ∷ []) h)) (tt, tt)
       node_leads nodes.ExceptionCode d at h = (code_leads names.exception d d, tt)
       node_leads (nodes.Information f) d at h = (tt, tt)
       node_leads nodes.AbnormalTermination d at h = (flag_leads names.abnormal d d, tt)

@@ -85,8 +85,8 @@ mutual
   statement_past (IfElse c s t) scope at =
       let then = at + expression_size c + 1 in
       past_to (expression_code scope.names c 0 at) _ 0 0
-        (λ x. past_both (statement_code scope s then) _ 0 0 0 (statement_past s scope then)
-        (statement_past t scope _))
+      (λ x. past_both (statement_code scope s then) _ 0 0 0 (statement_past s scope then)
+      (statement_past t scope _))
   statement_past (For ds first c next s) scope at =
       let begin = at + all_declared_size ds in
       let iteration = begin + discarded_size first in
@@ -94,12 +94,12 @@ mutual
       let again = start + statement_size s in
       past_both (all_declared_code scope.names ds at) _ 0 0 0 (all_declared_past scope.names ds at)
       (past_both (discarded_code scope.names first begin) _ 0 0 0
-        (discarded_past scope.names first begin)
+      (discarded_past scope.names first begin)
       (past_both (condition_code scope.names c _ iteration) _ 0 0 0
-        (condition_past scope.names c _ iteration)
+      (condition_past scope.names c _ iteration)
       (past_to (statement_code _ s start) _ 0 0
-        (λ x. past_both (discarded_code scope.names next (again + 1)) (_ ∷ []) 0 0 0
-        (discarded_past scope.names next (again + 1)) refl))))
+      (λ x. past_both (discarded_code scope.names next (again + 1)) (_ ∷ []) 0 0 0
+      (discarded_past scope.names next (again + 1)) refl))))
   statement_past (DoWhile s c) scope at = past_to (statement_code _ s at) _ 0 0
       (λ x. past_to (expression_code scope.names c 0 _) (_ ∷ _ ∷ []) 0 0 (λ y. refl))
   statement_past (Return e) scope at = past_to (returned_code scope.names e at)
@@ -109,7 +109,7 @@ mutual
   statement_past Leave scope at = leave_past scope.leave
   statement_past (TryExcept body filter block) scope at =
       past_both (statements_code (in_try _ scope) body at) _ 0 0 0
-        (statements_past body (in_try _ scope) at) (statements_past block (in_except scope) _)
+      (statements_past body (in_try _ scope) at) (statements_past block (in_except scope) _)
   statement_past (TryFinally body k last) scope at = past_to (statements_code _ body at)
       (_ ∷ _ ∷ _ ∷ []) 0 0 (λ x. refl)
 
@@ -166,54 +166,54 @@ module _ (depth : ℕ → ℕ) where
   module _ (names : Names) where
     -- an expression, and what is after it
     value_leads : (e : Expression) (at : ℕ) (rest : List Instruction)
-      → At at 0 (expression_code names e 0 at ++ rest) → All 1 rest
-      → All 0 (expression_code names e 0 at ++ rest)
+        → At at 0 (expression_code names e 0 at ++ rest) → All 1 rest
+        → All 0 (expression_code names e 0 at ++ rest)
     value_leads e at rest h k = lead_both depth (expression_code names e 0 at) rest 0 1
-      (expression_past names e 0 at) (expression_leads depth names e 0 at
-      (scan_front depth at 0 (expression_code names e 0 at) rest h)) k
+        (expression_past names e 0 at) (expression_leads depth names e 0 at
+        (scan_front depth at 0 (expression_code names e 0 at) rest h)) k
 
     discarded_leads : (e : Option Expression) (at : ℕ) → At at 0 (discarded_code names e at)
-      → All 0 (discarded_code names e at)
+        → All 0 (discarded_code names e at)
     discarded_leads None at h = tt
     discarded_leads (Some e) at h = value_leads e at (Separator ∷ []) h (tt, tt)
 
     condition_leads : (e : Option Expression) (label at : ℕ) → depth label ≡ 0
-      → At at 0 (condition_code names e label at) → All 0 (condition_code names e label at)
+        → At at 0 (condition_code names e label at) → All 0 (condition_code names e label at)
     condition_leads None label at p h = tt
     condition_leads (Some e) label at p h = value_leads e at (JumpIfZero (Temporary 0) label ∷ []) h
-      (p, tt)
+        (p, tt)
 
     initialiser_leads : (x : ℕ) (e : Option Expression) (at : ℕ)
-      → At at 0 (initialiser_code names x e at) → All 0 (initialiser_code names x e at)
+        → At at 0 (initialiser_code names x e at) → All 0 (initialiser_code names x e at)
     initialiser_leads x None at h = tt
     initialiser_leads x (Some e) at h = value_leads e at
-      (copy (Local x) (Temporary 0) ∷ Separator ∷ []) h (tt, (tt, tt))
+        (copy (Local x) (Temporary 0) ∷ Separator ∷ []) h (tt, (tt, tt))
 
     declared_leads : (d : Declared) (at : ℕ) → At at 0 (declared_code names d at)
-      → All 0 (declared_code names d at)
+        → All 0 (declared_code names d at)
     declared_leads d at h = (tt, initialiser_leads d.local d.value (at + 1) h.1)
 
     all_declared_leads : (ds : List Declared) (at : ℕ) → At at 0 (all_declared_code names ds at)
-      → All 0 (all_declared_code names ds at)
+        → All 0 (all_declared_code names ds at)
     all_declared_leads [] at h = tt
     all_declared_leads (d ∷ ds) at h =
         let code = declared_code names d at in
         let rest = all_declared_code names ds (at + declared_size d) in
         let l = declared_length names d at in
         lead_both depth code rest 0 0 (declared_past names d at)
-          (declared_leads d at (scan_front depth at 0 code rest h))
-          (all_declared_leads ds (at + declared_size d)
-          (scan_back depth at (at + declared_size d) 0 0 code rest (omega arith)
-          (declared_past names d at) h))
+        (declared_leads d at (scan_front depth at 0 code rest h))
+        (all_declared_leads ds (at + declared_size d)
+        (scan_back depth at (at + declared_size d) 0 0 code rest (omega arith)
+        (declared_past names d at) h))
 
     returned_leads : (e : Option Expression) (at : ℕ) → At at 0 (returned_code names e at)
-      → All 0 (returned_code names e at)
+        → All 0 (returned_code names e at)
     returned_leads None at h = (tt, tt)
     returned_leads (Some e) at h = expression_leads depth names e 0 at h
 
   mutual
     statement_leads : (s : Statement) (scope : LoweringContext) (at : ℕ) → ScopeHolds scope
-      → At at 0 (statement_code scope s at) → All 0 (statement_code scope s at)
+        → At at 0 (statement_code scope s at) → All 0 (statement_code scope s at)
     statement_leads (Declare d) scope at w h = declared_leads scope.names d at h
     statement_leads (Block ss) scope at w h = statements_lead ss scope at w h
     statement_leads (Evaluate e) scope at w h = discarded_leads scope.names e at h
@@ -225,9 +225,12 @@ module _ (depth : ℕ → ℕ) where
         let l = expression_length scope.names c 0 at in
         let l' = statement_length scope s then in
         let h1 = scan_back depth at (at + expression_size c) 0 1 code rest (omega arith)
-          (expression_past scope.names c 0 at) h in
-        value_leads scope.names c at rest h (scan_end depth then (then + statement_size s) 0 0 body
-          (omega arith) (statement_past s scope then) h1.1, statement_leads s scope then w h1.1)
+        (expression_past scope.names c 0 at) h in
+        value_leads scope.names c at rest h (
+          scan_end depth then (then + statement_size s) 0 0 body
+              (omega arith) (statement_past s scope then) h1.1,
+          statement_leads s scope then w h1.1,
+        )
     statement_leads (IfElse c s t) scope at w h =
         let code = expression_code scope.names c 0 at in
         let then = at + expression_size c + 1 in
@@ -240,15 +243,17 @@ module _ (depth : ℕ → ℕ) where
         let l' = statement_length scope s then in
         let l'' = statement_length scope t otherwise in
         let h1 = scan_back depth at (at + expression_size c) 0 1 code rest (omega arith)
-          (expression_past scope.names c 0 at) h in
+        (expression_past scope.names c 0 at) h in
         let h2 = scan_back depth then (then + statement_size s) 0 0 yes (skip ∷ no) (omega arith)
-          (statement_past s scope then) h1.1 in
+        (statement_past s scope then) h1.1 in
         value_leads scope.names c at rest h (
           scan_start depth otherwise 0 no h2.1,
           lead_both depth yes (skip ∷ no) 0 0 (statement_past s scope then)
-            (statement_leads s scope then w (scan_front depth then 0 yes (skip ∷ no) h1.1))
-              (scan_end depth otherwise (otherwise + statement_size t) 0 0 no (omega arith)
-                (statement_past t scope otherwise) h2.1, statement_leads t scope otherwise w h2.1),
+              (statement_leads s scope then w (scan_front depth then 0 yes (skip ∷ no) h1.1)) (
+                scan_end depth otherwise (otherwise + statement_size t) 0 0 no (omega arith)
+                    (statement_past t scope otherwise) h2.1,
+                statement_leads t scope otherwise w h2.1,
+              ),
         )
     statement_leads (For ds first c next s) scope at w h =
         let names = scope.names in
@@ -270,32 +275,38 @@ module _ (depth : ℕ → ℕ) where
         let ls = statement_length inner s start in
         let ln = discarded_length names next (again + 1) in
         let h1 = scan_back depth at begin 0 0 declares
-          (begins ++ (tests ++ (body ++ (Separator ∷ (steps ++ repeat))))) (omega arith)
-          (all_declared_past names ds at) h in
+        (begins ++ (tests ++ (body ++ (Separator ∷ (steps ++ repeat))))) (omega arith)
+        (all_declared_past names ds at) h in
         let h2 = scan_back depth begin iteration 0 0 begins
-          (tests ++ (body ++ (Separator ∷ (steps ++ repeat)))) (omega arith)
-          (discarded_past names first begin) h1 in
+        (tests ++ (body ++ (Separator ∷ (steps ++ repeat)))) (omega arith)
+        (discarded_past names first begin) h1 in
         let h3 = scan_back depth iteration start 0 0 tests (body ++ (Separator ∷ (steps ++ repeat)))
-          (omega arith) (condition_past names c end iteration) h2 in
+        (omega arith) (condition_past names c end iteration) h2 in
         let h4 = scan_back depth start again 0 0 body (Separator ∷ (steps ++ repeat)) (omega arith)
-          (statement_past s inner start) h3 in
+        (statement_past s inner start) h3 in
         let h5 = scan_back depth (again + 1) (again + 1 + discarded_size next) 0 0 steps repeat
-          (omega arith) (discarded_past names next (again + 1)) h4.1 in
+        (omega arith) (discarded_past names next (again + 1)) h4.1 in
         let ended : depth end ≡ 0 = h5.1 in
-        let holds : ScopeHolds inner = record { exit = w.exit; loop_end = ended; loop_next = h4.0;
-          leave = w.leave } in
+        let holds : ScopeHolds inner = record {
+          exit = w.exit;
+          loop_end = ended;
+          loop_next = h4.0;
+          leave = w.leave;
+        } in
         lead_both depth declares _ 0 0 (all_declared_past names ds at)
-          (all_declared_leads names ds at (scan_front depth at 0 declares _ h))
+        (all_declared_leads names ds at (scan_front depth at 0 declares _ h))
         (lead_both depth begins _ 0 0 (discarded_past names first begin)
-          (discarded_leads names first begin (scan_front depth begin 0 begins _ h1))
+        (discarded_leads names first begin (scan_front depth begin 0 begins _ h1))
         (lead_both depth tests _ 0 0 (condition_past names c end iteration)
-          (condition_leads names c end iteration ended (scan_front depth iteration 0 tests _ h2))
+        (condition_leads names c end iteration ended (scan_front depth iteration 0 tests _ h2))
         (lead_both depth body _ 0 0 (statement_past s inner start)
-          (statement_leads s inner start holds (scan_front depth start 0 body _ h3))
-        (tt, lead_both depth steps repeat 0 0 (discarded_past names next (again + 1))
-          (discarded_leads names next (again + 1)
-          (scan_front depth (again + 1) 0 steps repeat h4.1))
-          (scan_start depth iteration 0 _ h2, tt)))))
+        (statement_leads s inner start holds (scan_front depth start 0 body _ h3)) (
+          tt,
+          lead_both depth steps repeat 0 0 (discarded_past names next (again + 1))
+              (discarded_leads names next (again + 1)
+              (scan_front depth (again + 1) 0 steps repeat h4.1))
+              (scan_start depth iteration 0 _ h2, tt),
+        ))))
     statement_leads (DoWhile s c) scope at w h =
         let again = at + statement_size s in
         let end = again + 1 + expression_size c + 2 in
@@ -305,22 +316,28 @@ module _ (depth : ℕ → ℕ) where
         let ls = statement_length inner s at in
         let lc = expression_length scope.names c 0 (again + 1) in
         let h1 = scan_back depth at again 0 0 body (Separator ∷ (code ++ repeated end at))
-          (omega arith) (statement_past s inner at) h in
+        (omega arith) (statement_past s inner at) h in
         let h2 = scan_back depth (again + 1) (again + 1 + expression_size c) 0 1 code
-          (repeated end at) (omega arith) (expression_past scope.names c 0 (again + 1)) h1.1 in
+        (repeated end at) (omega arith) (expression_past scope.names c 0 (again + 1)) h1.1 in
         let same : again + 1 + expression_size c + 1 + 1 ≡ end = omega arith in
         let ended : depth end ≡ 0 = ap depth (sym same) ∙ h2.1.1 in
-        let holds : ScopeHolds inner = record { exit = w.exit; loop_end = ended; loop_next = h1.0;
-          leave = w.leave } in
+        let holds : ScopeHolds inner = record {
+          exit = w.exit;
+          loop_end = ended;
+          loop_next = h1.0;
+          leave = w.leave;
+        } in
         lead_both depth body _ 0 0 (statement_past s inner at)
-          (statement_leads s inner at holds (scan_front depth at 0 body _ h))
-        (tt, value_leads scope.names c (again + 1) (repeated end at) h1.1
-          (ended, (scan_start depth at 0 _ h, tt)))
+        (statement_leads s inner at holds (scan_front depth at 0 body _ h)) (
+          tt,
+          value_leads scope.names c (again + 1) (repeated end at) h1.1
+              (ended, (scan_start depth at 0 _ h, tt)),
+        )
     statement_leads (Return e) scope at w h =
         let code = returned_code scope.names e at in
         lead_both depth code (return_code scope.exit) 0 1 (returned_past scope.names e at)
-          (returned_leads scope.names e at (scan_front depth at 0 code (return_code scope.exit) h))
-          (return_leads scope.exit w.exit)
+        (returned_leads scope.names e at (scan_front depth at 0 code (return_code scope.exit) h))
+        (return_leads scope.exit w.exit)
     statement_leads Break scope at w h = jump_leads scope.loop_end w.loop_end
     statement_leads Continue scope at w h = jump_leads scope.loop_next w.loop_next
     statement_leads Leave scope at w h = (leave_leads scope.leave w.leave, tt)
@@ -335,17 +352,25 @@ module _ (depth : ℕ → ℕ) where
         let l = statements_length inner body at in
         let l' = statements_length (in_except scope) block (target + 1) in
         let h1 = scan_back depth at at_jump 0 0 guarded rest (omega arith)
-          (statements_past body inner at) h in
+        (statements_past body inner at) h in
         let ended : depth end ≡ 0 = scan_end depth (target + 1) end 0 0 handles (omega arith)
-          (statements_past block (in_except scope) (target + 1)) h1.1.1 in
-        let holds : ScopeHolds inner = record { exit = w.exit; loop_end = w.loop_end;
-          loop_next = w.loop_next; leave = ended } in
+        (statements_past block (in_except scope) (target + 1)) h1.1.1 in
+        let holds : ScopeHolds inner = record {
+          exit = w.exit;
+          loop_end = w.loop_end;
+          loop_next = w.loop_next;
+          leave = ended;
+        } in
         let holds' : ScopeHolds (in_except scope) =
-          record { exit = w.exit; loop_end = w.loop_end; loop_next = w.loop_next;
-          leave = w.leave } in
+        record {
+          exit = w.exit;
+          loop_end = w.loop_end;
+          loop_next = w.loop_next;
+          leave = w.leave;
+        } in
         lead_both depth guarded rest 0 0 (statements_past body inner at)
-          (statements_lead body inner at holds (scan_front depth at 0 guarded rest h))
-          (ended, (refl, statements_lead block (in_except scope) (target + 1) holds' h1.1.1))
+        (statements_lead body inner at holds (scan_front depth at 0 guarded rest h))
+        (ended, (refl, statements_lead block (in_except scope) (target + 1) holds' h1.1.1))
     statement_leads (TryFinally body k last) scope at w h =
         let at_end = at + statements_size body in
         let inner = in_guarded at_end scope in
@@ -353,16 +378,19 @@ module _ (depth : ℕ → ℕ) where
         let rest = Separator ∷ CallFinally (k - 1) ∷ Separator ∷ [] in
         let l = statements_length inner body at in
         let h1 = scan_back depth at at_end 0 0 guarded rest (omega arith)
-          (statements_past body inner at) h in
-        let holds : ScopeHolds inner = record { exit = unwound_holds 1 scope.exit w.exit;
+        (statements_past body inner at) h in
+        let holds : ScopeHolds inner = record {
+          exit = unwound_holds 1 scope.exit w.exit;
           loop_end = unwound_holds 0 scope.loop_end w.loop_end;
-          loop_next = unwound_holds 0 scope.loop_next w.loop_next; leave = h1.0 } in
+          loop_next = unwound_holds 0 scope.loop_next w.loop_next;
+          leave = h1.0;
+        } in
         lead_both depth guarded rest 0 0 (statements_past body inner at)
-          (statements_lead body inner at holds (scan_front depth at 0 guarded rest h))
-          (tt, (tt, (tt, tt)))
+        (statements_lead body inner at holds (scan_front depth at 0 guarded rest h))
+        (tt, (tt, (tt, tt)))
 
     statements_lead : (ss : Statements) (scope : LoweringContext) (at : ℕ) → ScopeHolds scope
-      → At at 0 (statements_code scope ss at) → All 0 (statements_code scope ss at)
+        → At at 0 (statements_code scope ss at) → All 0 (statements_code scope ss at)
     statements_lead Empty scope at w h = tt
     statements_lead (Then s ss) scope at w h =
         let next = at + statement_size s in
@@ -370,9 +398,9 @@ module _ (depth : ℕ → ℕ) where
         let rest = statements_code scope ss next in
         let l = statement_length scope s at in
         lead_both depth code rest 0 0 (statement_past s scope at)
-          (statement_leads s scope at w (scan_front depth at 0 code rest h))
-          (statements_lead ss scope next w (scan_back depth at next 0 0 code rest (omega arith)
-          (statement_past s scope at) h))
+        (statement_leads s scope at w (scan_front depth at 0 code rest h))
+        (statements_lead ss scope next w (scan_back depth at next 0 0 code rest (omega arith)
+        (statement_past s scope at) h))
 
 -- ---- whole bodies
 
@@ -384,7 +412,7 @@ filter_leads : (owner : Owner) (names : Names) (e : Expression)
 filter_leads owner names e =
     let all = expression_code names e 0 0 ++ instructions.Return (Temporary 0) ∷ [] in
     value_leads (depth_at all) names e 0 (instructions.Return (Temporary 0) ∷ []) (scanned all)
-      (tt, tt)
+    (tt, tt)
 
 block_leads : (owner : Owner) (names : Names) (last : Statements)
     → BodyLeads (finally_funclet owner names last).body
@@ -395,9 +423,9 @@ block_leads owner names last =
     let all = code ++ ends in
     let depth = depth_at all in
     lead_both depth code ends 0 0 (statements_past last scope 0)
-      (statements_lead depth last scope 0 (record
-      { exit = tt; loop_end = tt; loop_next = tt; leave = tt })
-      (scan_front depth 0 0 code ends (scanned all))) (tt, tt)
+    (statements_lead depth last scope 0 (record
+    { exit = tt; loop_end = tt; loop_next = tt; leave = tt })
+    (scan_front depth 0 0 code ends (scanned all))) (tt, tt)
 
 function_leads : (f : Function) → BodyLeads (lowered_function f).body
 function_leads f =
@@ -408,11 +436,11 @@ function_leads f =
     let depth = depth_at all in
     let l = statements_length scope f.body 0 in
     let h1 = scan_back depth 0 (statements_size f.body) 0 0 code ends (omega arith)
-      (statements_past f.body scope 0) (scanned all) in
+    (statements_past f.body scope 0) (scanned all) in
     lead_both depth code ends 0 0 (statements_past f.body scope 0)
-      (statements_lead depth f.body scope 0 (record
-      { exit = h1.1.0; loop_end = tt; loop_next = tt; leave = tt })
-      (scan_front depth 0 0 code ends (scanned all))) (tt, (tt, tt))
+    (statements_lead depth f.body scope 0 (record
+    { exit = h1.1.0; loop_end = tt; loop_next = tt; leave = tt })
+    (scan_front depth 0 0 code ends (scanned all))) (tt, (tt, tt))
 
 pub bodies_lead : (program : Program) (name : BodyName) (b : LinearBody)
     → body_of (lowered program) name ≡ Some b → BodyLeads b

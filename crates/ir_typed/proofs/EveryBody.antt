@@ -18,8 +18,8 @@ use Rattle.ir_typed.proofs.Stacked.{same_it, all_at}
 module _ (P : LinearBody → Type 0) (of_filter : (owner : Owner) (names : Names) (e : Expression)
     → P (filter_funclet owner names e).body)
     (of_block : (owner : Owner) (names : Names) (last : Statements)
-      → P (finally_funclet owner names last).body)
-        (of_function : (f : Function) → P (lowered_function f).body) where
+    → P (finally_funclet owner names last).body)
+    (of_function : (f : Function) → P (lowered_function f).body) where
   abbrev All : List LinearFunclet → Type 0
   All fs = AllByRecursion (λ g. P g.body) fs
 
@@ -32,13 +32,13 @@ module _ (P : LinearBody → Type 0) (of_filter : (owner : Owner) (names : Names
 
   mutual
     of_statement : (s : Statement) (owner : Owner) (names : Names)
-      → All (statement_funclets owner names s)
+        → All (statement_funclets owner names s)
     of_statement (Declare d) owner names = tt
     of_statement (Block ss) owner names = of_statements ss owner names
     of_statement (Evaluate e) owner names = tt
     of_statement (If c s) owner names = of_statement s owner names
     of_statement (IfElse c s t) owner names = both (statement_funclets owner names s)
-      (statement_funclets owner names t) (of_statement s owner names) (of_statement t owner names)
+        (statement_funclets owner names t) (of_statement s owner names) (of_statement t owner names)
     of_statement (For ds first c next s) owner names = of_statement s owner names
     of_statement (DoWhile s c) owner names = of_statement s owner names
     of_statement (Return e) owner names = tt
@@ -48,19 +48,21 @@ module _ (P : LinearBody → Type 0) (of_filter : (owner : Owner) (names : Names
     of_statement (TryExcept body filter block) owner names =
         both (statements_funclets owner names body) _ (of_statements body owner names)
         (both (filter_funclets owner (filter_names names) filter) _
-          (filters owner (filter_names names) filter)
-          (of_statements block owner (except_names names)))
+        (filters owner (filter_names names) filter)
+        (of_statements block owner (except_names names)))
     of_statement (TryFinally body k last) owner names =
-        both (statements_funclets owner names body) _ (of_statements body owner names)
-          (of_block owner names last, of_statements last (in_funclet (k - 1) owner)
-          (finally_names names))
+        both (statements_funclets owner names body) _ (of_statements body owner names) (
+          of_block owner names last,
+          of_statements last (in_funclet (k - 1) owner)
+              (finally_names names),
+        )
 
     of_statements : (ss : Statements) (owner : Owner) (names : Names)
-      → All (statements_funclets owner names ss)
+        → All (statements_funclets owner names ss)
     of_statements Empty owner names = tt
     of_statements (Then s ss) owner names = both (statement_funclets owner names s)
-      (statements_funclets owner names ss) (of_statement s owner names)
-      (of_statements ss owner names)
+        (statements_funclets owner names ss) (of_statement s owner names)
+        (of_statements ss owner names)
 
   functions : (fs : List Function) → AllByRecursion (λ (f : LinearFunction). P f.body)
       (map lowered_function fs)

@@ -29,18 +29,34 @@ use Rattle.ir_typed.proofs.Wholes.{Fine, all_are_at}
 
 module _ (program : Program) where
   callee : (f count : ℕ) → IsCalled program f count → IsCallee (lowered program) f count
-  callee f count c = record { function = lowered_function c.function;
-      there = slice_get-map lowered_function program.functions f
-      ∙ ap (option_map lowered_function) c.there; takes = c.takes }
+  callee f count c = record {
+    function = lowered_function c.function;
+    there = slice_get-map lowered_function program.functions f
+        ∙ ap (option_map lowered_function) c.there;
+    takes = c.takes;
+  }
 
   abbrev inside : Function → Inside
-  inside fn = record { scope = record { functions = program.functions;
-      sizes = fn.parameters ++ fn.locals; code = false; information = false; abnormal = false };
-      returns = fn.returns; loop = false; body = false; function = true }
+  inside fn = record {
+    scope = record {
+      functions = program.functions;
+      sizes = fn.parameters ++ fn.locals;
+      code = false;
+      information = false;
+      abnormal = false;
+    };
+    returns = fn.returns;
+    loop = false;
+    body = false;
+    function = true;
+  }
 
   knows : (fn : Function) → Knows program (own_locals fn) false (inside fn).scope
-  knows fn = record { functions = refl; sizes = length-append fn.parameters fn.locals;
-      information = refl }
+  knows fn = record {
+    functions = refl;
+    sizes = length-append fn.parameters fn.locals;
+    information = refl;
+  }
 
   -- the body of the function of a number, and that of a funclet
   abbrev Good : ℕ → Type 0
@@ -62,15 +78,20 @@ module _ (program : Program) where
       let code = statements_code (scope_of fn) fn.body 0 in
       let ends = constant 0 0 ∷ instructions.Return (Temporary 0) ∷ [] in
       let x = all_are_at program linear callee (own_locals fn) fn.body (FunctionBody number) body
-        (ap function_body there) (inside fn) (knows fn) (scope_of fn) owner
-        (record { parent = refl; function = refl }) 0 j
+      (ap function_body there) (inside fn) (knows fn) (scope_of fn) owner
+      (record { parent = refl; function = refl }) 0 j
       (both_left _ _ (both_left _ _ ok)) (front body.code 0 code ends (whole_is_at body.code)) f
-        c in
+      c in
       let whole : IsBodyOf linear (FunctionBody number)
-        body = record { regions = x.regions; code = append program linear callee
-        (FunctionBody number) code ends x.calls (tt, (tt, tt)) } in
-      ((λ b e. subst (IsBodyOf linear (FunctionBody number))
-        (same_it body b (sym (ap function_body there) ∙ e)) whole), x.funclets)
+      body = record {
+        regions = x.regions;
+        code = append program linear callee
+            (FunctionBody number) code ends x.calls (tt, (tt, tt));
+      } in (
+        (λ b e. subst (IsBodyOf linear (FunctionBody number))
+            (same_it body b (sym (ap function_body there) ∙ e)) whole),
+        x.funclets,
+      )
 
   functions_are_at : (fs : List Function) (number j : ℕ)
       → functions_sound program.functions fs ≡ true
@@ -78,27 +99,32 @@ module _ (program : Program) where
       → IsSegmentAt (lowered program).funclets j (all_funclets number fs)
       → count_up (j + 1) (sound.all_funclets fs) ≡ true
       → Range Good number (number + length fs) × Range Tidy j (j + length (all_funclets number fs))
-  functions_are_at [] number j ok g f c = (no_part Good number (number + 0) (omega arith),
-      no_part Tidy j (j + 0) (omega arith))
+  functions_are_at [] number j ok g f c = (
+    no_part Good number (number + 0) (omega arith),
+    no_part Tidy j (j + 0) (omega arith),
+  )
   functions_are_at (fn ∷ fs) number j ok g f c =
       let own = lowered_funclets number fn in
       let rest = all_funclets (number + 1) fs in
-      let count = statements_count (record { function = number; locals = all_locals fn;
-        parent = None }) (scope_of fn).names fn.body in
+      let count = statements_count (record {
+        function = number;
+        locals = all_locals fn;
+        parent = None;
+      }) (scope_of fn).names fn.body in
       let m = length-append own rest in
       let end = number + 1 + length fs in
       let last = j + length own + length rest in
       let x = function_is_at fn number j (both_left _ _ ok) g.0
-        (front (lowered program).funclets j own rest f)
-        (count_front (j + 1) (funclets fn.body) (sound.all_funclets fs) c) in
+      (front (lowered program).funclets j own rest f)
+      (count_front (j + 1) (funclets fn.body) (sound.all_funclets fs) c) in
       let y = functions_are_at fs (number + 1) (j + length own) (both_right _ _ ok) g.1
-        (back (lowered program).funclets j (j + length own) own rest refl f)
+      (back (lowered program).funclets j (j + length own) own rest refl f)
       (count_back (j + 1) (j + length own + 1) (funclets fn.body) (sound.all_funclets fs)
-        (omega arith) c) in (
+      (omega arith) c) in (
         part_of Good number end number _ (omega arith) (omega arith)
-          (both_parts Good number (number + 1) end (one_part Good number x.0) y.0),
+            (both_parts Good number (number + 1) end (one_part Good number x.0) y.0),
         part_of Tidy j last j _ (omega arith) (omega arith)
-          (both_parts Tidy j (j + length own) last x.1 y.1),
+            (both_parts Tidy j (j + length own) last x.1 y.1),
       )
 
   function_within : (k : ℕ) (o : Option LinearFunction) (b : LinearBody)
@@ -125,15 +151,15 @@ module _ (program : Program) where
       let l = length-map program.functions lowered_function in
       let lt = function_within k (slice_get (lowered program).functions k) b refl e in
       (functions_are_at program.functions 0 0 (both_left _ _ starts)
-        (whole_is_at (lowered program).functions) (whole_is_at (lowered program).funclets)
-        (both_right _ _ counts)).0 k (omega arith) (omega arith) b e
+      (whole_is_at (lowered program).functions) (whole_is_at (lowered program).funclets)
+      (both_right _ _ counts)).0 k (omega arith) (omega arith) b e
   bodies_of h (FuncletBody k) b e =
       let counts = both_left _ _ (both_left _ _ (both_left _ _ h)) in
       let starts = both_left _ _ counts in
       let lt = funclet_within k (slice_get (lowered program).funclets k) b refl e in
       (functions_are_at program.functions 0 0 (both_left _ _ starts)
-        (whole_is_at (lowered program).functions) (whole_is_at (lowered program).funclets)
-        (both_right _ _ counts)).1 k (omega arith) (omega arith) b e
+      (whole_is_at (lowered program).functions) (whole_is_at (lowered program).funclets)
+      (both_right _ _ counts)).1 k (omega arith) (omega arith) b e
 
 pub lowered_is_whole : LoweredIsWhole
 lowered_is_whole program h =
@@ -144,7 +170,7 @@ lowered_is_whole program h =
     record {
       bodies = bodies_of program h;
       parameters = λ k f e. all_at (λ f. f.parameters ≤ f.body.locals) (lowered program).functions k
-        f (roomy program program.functions) e;
+          f (roomy program program.functions) e;
       few = λ main e. subst (λ (f : LinearFunction). f.parameters ≤ 1)
-        (same_it m.0 main (sym m.1 ∙ e)) (omega arith);
+          (same_it m.0 main (sym m.1 ∙ e)) (omega arith);
     }

@@ -30,8 +30,8 @@ module _ (P : Configuration → Type 0) where
       → Turn P (λ next. deeper n held store es (f next))
   deeper_turn n held store es f t =
       pick_turn (nat_lt 1000 (length store.activations + held + n))
-        (λ next. Finished (Deep 1001) es) f (λ e. Halts (Finished (Deep 1001) es) (λ next. refl))
-        (λ e. t)
+      (λ next. Finished (Deep 1001) es) f (λ e. Halts (Finished (Deep 1001) es) (λ next. refl))
+      (λ e. t)
 
   -- what it leads to
   pub kept : (f : Next → Seen) (d : Configuration) → Turn P f → ((next : Next) → f next ≡ next d)

@@ -53,7 +53,7 @@ written_next c (Local x) v d e = tt
 written_next c (Temporary i) v d e =
     let f = some_temporaries c (with_temporary c.frame.temporaries i v) d e in
     leb-true i (length c.frame.temporaries) (chosen (nat_le i (length c.frame.temporaries)) _ f.0
-      f.1)
+    f.1)
 
 pub last_are : (ts : List ℕ) (first count : ℕ) (vs : List ℕ)
     → last_temporaries ts first count ≡ Some vs → length ts ≡ first + count
@@ -72,11 +72,11 @@ module _ (program : LinearProgram) (next : Next) (c : Configuration) where
 
   operands_read : (b : Bool) (first second : Slot) (go : ℕ → ℕ → Seen)
       → Goes (with_some c.events (operand b c first)
-        (λ x. with_some c.events (operand b c second) (go x)))
+      (λ x. with_some c.events (operand b c second) (go x)))
       → IsRead b (held c) first × IsRead b (held c) second
   operands_read b first second go h =
       let x = there c.events (operand b c first)
-        (λ x. with_some c.events (operand b c second) (go x)) h in
+      (λ x. with_some c.events (operand b c second) (go x)) h in
       let y = there c.events (operand b c second) (go x.it) x.moves in
       (operand_read b c first x.it x.is, operand_read b c second y.it y.is)
 
@@ -89,7 +89,7 @@ module _ (program : LinearProgram) (next : Next) (c : Configuration) where
   ready (instructions.Jump label) h = tt
   ready (instructions.JumpIfZero slot label) h =
       let x = there c.events (read c slot) (λ v. pick (nat_eq v 0)
-        (next (at_label label (tested slot c))) (next (forth (tested slot c)))) h in
+      (next (at_label label (tested slot c))) (next (forth (tested slot c)))) h in
       read_held c slot x.it x.is
   ready (instructions.Call f first count) h =
       let vs = there c.events (last_temporaries c.frame.temporaries first count) _ h in
@@ -97,7 +97,7 @@ module _ (program : LinearProgram) (next : Next) (c : Configuration) where
       (last_are c.frame.temporaries first count vs.it vs.is, (function.it, function.is))
   ready (instructions.CallBuiltIn f first) h =
       let vs = there c.events (last_temporaries c.frame.temporaries first (count_of f))
-        (λ vs. built_in program next f vs (waiting c first)) h in
+      (λ vs. built_in program next f vs (waiting c first)) h in
       last_are c.frame.temporaries first (count_of f) vs.it vs.is
   ready (instructions.CallFinally k) h = let flag = there c.events
       (flag_of (slice_get program.funclets k)) _ h in (flag.it, flag.is)
@@ -117,15 +117,15 @@ unfolding with_some
 not_stuck program h c r es e =
     let linear = lowered program in
     let never = (lowered_shows_no_more program h r.argument (r.turns + 1)
-      ((r.turns + 1 + 1) * pace_of program) (omega arith)).2 es in
+    ((r.turns + 1 + 1) * pace_of program) (omega arith)).2 es in
     never (ap (λ o. with_some [] o (λ main. exec linear (r.turns + 1)
-      (start linear r.argument main))) r.is_main
-      ∙ come linear r.turns 1 (start linear r.argument r.main) c r.comes ∙ e)
+    (start linear r.argument main))) r.is_main
+    ∙ come linear r.turns 1 (start linear r.argument r.main) c r.comes ∙ e)
 
 pub continues : ReachedContinues
 unfolding exec
 continues program h c r =
     let linear = lowered program in
     let i = there c.events (instruction_at linear c) (λ i. act linear i (exec linear 0) c)
-      (not_stuck program h c r) in
+    (not_stuck program h c r) in
     record { instruction = i.it; at = i.is; ready = ready linear (exec linear 0) c i.it i.moves }

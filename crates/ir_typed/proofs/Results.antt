@@ -60,7 +60,7 @@ module _ (w : Width) (a b : ℕ) where
   quotient_small : (x : ℕ × ℕ) → divided_unsigned w (low w a) (low w b) ≡ Ok x → x.0 < 2 ^ 64
   quotient_small x e =
       let p = divided (low w b == 0) (nat_lt (low w a / low w b) (limit w))
-        (low w a / low w b, low w a % low w b) x e in
+      (low w a / low w b, low w a % low w b) x e in
       let d = div-le_self (low w a) (low w b) in
       let n = numerator in
       subst (λ (y : ℕ × ℕ). y.0 < 2 ^ 64) p (omega arith)
@@ -68,7 +68,7 @@ module _ (w : Width) (a b : ℕ) where
   remainder_small : (x : ℕ × ℕ) → divided_unsigned w (low w a) (low w b) ≡ Ok x → x.1 < 2 ^ 64
   remainder_small x e =
       let p = divided (low w b == 0) (nat_lt (low w a / low w b) (limit w))
-        (low w a / low w b, low w a % low w b) x e in
+      (low w a / low w b, low w a % low w b) x e in
       let d = mod-le (low w a) (low w b) in
       let n = numerator in
       subst (λ (y : ℕ × ℕ). y.1 < 2 ^ 64) p (omega arith)
@@ -80,7 +80,7 @@ refused_small may zero at a lt e = absurd (cc)
 refused_small may (suc n) at a lt e = go (refused_small may n (next at) a (omega arith)) (may at) e
   where
     go : (first_refused may n (next at) ≡ Some a → a < 2 ^ 64) → (b : Bool)
-      → cond b (first_refused may n (next at)) (Some at) ≡ Some a → a < 2 ^ 64
+        → cond b (first_refused may n (next at)) (Some at) ≡ Some a → a < 2 ^ 64
     go more true e = more e
     go more false e = subst (λ x. x < 2 ^ 64) (ap (λ o. elim o [ None ↦ at | Some y ↦ y ]) e) lt
 
@@ -94,7 +94,7 @@ accessed_small reserved write may n at o lt h = outer (first_refused (λ a. not 
     inner (Some a) e = (omega arith, refused_small may n at a lt e)
 
     outer : (r : Option ℕ) → IsSmallOutcome (unless_reserved r
-      (unless_refused write (first_refused may n at) o))
+        (unless_refused write (first_refused may n at) o))
     outer None = inner (first_refused may n at) refl
     outer (Some a) = tt
 

@@ -44,8 +44,11 @@ slot_there n (Temporary i) h le = omega arith
 slots_there : (n : Counts) (i : Instruction) → IsPlain n.locals i
     → instruction_temporaries i ≤ n.temporaries → HasSlots n i
 slots_there n (instructions.Compute to o first second) h
-    le = (slot_there n to h.0 (omega arith), slot_there n first h.1 (omega arith),
-    slot_there n second h.2 (omega arith))
+    le = (
+      slot_there n to h.0 (omega arith),
+      slot_there n first h.1 (omega arith),
+      slot_there n second h.2 (omega arith),
+    )
 slots_there n (instructions.Information to field) h le = slot_there n to h.0 le
 slots_there n (instructions.Jump label) h le = tt
 slots_there n (instructions.JumpIfZero slot label) h le = slot_there n slot h le

@@ -93,8 +93,15 @@ frame x y h =
     let e = h (λ z. z.held) in
     let g = listed number x.temporaries y.temporaries (λ f. h (λ z. f z.temporaries)) in
     let k = optional number x.landed y.landed (λ f. h (λ z. f z.landed)) in
-    λ i. record { body = a i; next = b i; activation = c i; exception = d i; held = e i;
-      temporaries = g i; landed = k i }
+    λ i. record {
+      body = a i;
+      next = b i;
+      activation = c i;
+      exception = d i;
+      held = e i;
+      temporaries = g i;
+      landed = k i;
+    }
 
 -- ---- what waits
 
@@ -217,7 +224,7 @@ protection x y h =
 memory : IsDetermined Memory
 memory x y h =
     let a = fun_ext (λ k. protection (x.protection k) (y.protection k)
-      (λ f. h (λ z. f (z.protection k)))) in
+    (λ f. h (λ z. f (z.protection k)))) in
     let b = fun_ext (λ k. h (λ z. z.byte k)) in
     λ i. record { protection = a i; byte = b i }
 

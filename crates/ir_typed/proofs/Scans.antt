@@ -78,9 +78,11 @@ scans_all : (is : List Instruction) (d base : ℕ) (depth : ℕ → ℕ)
     → ((k : ℕ) → depth (base + k) ≡ get_or (depths is d) k 0) → Scans depth base d is
 scans_all [] d base depth h = let e : base + 0 ≡ base = omega arith in ap depth (sym e) ∙ h 0
 scans_all (i ∷ is) d base depth h =
-    let e : base + 0 ≡ base = omega arith in
-    (ap depth (sym e) ∙ h 0, scans_all is (after i d) (base + 1) depth
-      (λ k. let s : base + 1 + k ≡ base + suc k = omega arith in ap depth s ∙ h (suc k)))
+    let e : base + 0 ≡ base = omega arith in (
+      ap depth (sym e) ∙ h 0,
+      scans_all is (after i d) (base + 1) depth
+          (λ k. let s : base + 1 + k ≡ base + suc k = omega arith in ap depth s ∙ h (suc k)),
+    )
 
 pub scanned : (is : List Instruction) → Scans (depth_at is) 0 0 is
 scanned is = scans_all is 0 0 (depth_at is) (λ k. let e : 0 + k ≡ k = omega arith in

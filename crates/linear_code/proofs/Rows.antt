@@ -55,8 +55,14 @@ greater_or_equal = refl
 -- ---- faults, in a memory of which 16 bytes from 4096 on may be read and written, and those from 8192 on are reserved
 
 some_memory : Memory
-some_memory = record { protection = λ a. record { rights = cond (ltb 4095 a && ltb a 4112) ReadWrite
-    Nothing; execute = false }; byte = λ a. 7 }
+some_memory = record {
+  protection = λ a. record {
+    rights = cond (ltb 4095 a && ltb a 4112) ReadWrite
+        Nothing;
+    execute = false;
+  };
+  byte = λ a. 7;
+}
 
 some_reserved : ℕ → Bool
 some_reserved a = ltb 8191 a

@@ -41,7 +41,7 @@ module _ (linear : LinearProgram) (pace : ℕ) where
     cost = p.cost + q.cost;
     credit = p.credit + q.credit;
     paid = ap (λ n. n + q.credit) p.paid ∙ ap (λ n. pace * p.cost + n) q.paid
-      ∙ sym (mul-add pace p.cost q.cost);
+        ∙ sym (mul-add pace p.cost q.cost);
     most = let x = p.most in let y = q.most in omega arith;
     least = let x = p.least in let y = q.least in omega arith;
     low = let x = p.low in let y = q.low in omega arith;
@@ -70,9 +70,11 @@ module _ (linear : LinearProgram) (pace : ℕ) where
   arrives_after s t st mid end r1 e1 d1 q r kept held Never lr le a b = b
   arrives_after s t st mid end r1 e1 d1 q r kept held (To u) lr le a b = arrival_after s t st mid
       end r1 e1 d1 q.turns q.extra q.slack r.turns r.extra r.slack kept held (u end) lr le a b
-  arrives_after s t st mid end r1 e1 d1 q r kept held (Out u) lr le a b =
-      (b.0, arrival_after s t st mid end r1 e1 d1 q.turns q.extra q.slack r.turns r.extra r.slack
-        kept held (λ store. u end store b.0) lr le a b.1)
+  arrives_after s t st mid end r1 e1 d1 q r kept held (Out u) lr le a b = (
+    b.0,
+    arrival_after s t st mid end r1 e1 d1 q.turns q.extra q.slack r.turns r.extra r.slack
+        kept held (λ store. u end store b.0) lr le a b.1,
+  )
 
   abbrev pub Joined : ℕ → ℕ → ℕ → Price → Price → Type 0
   Joined r1 e1 d1 q r = (r1 + q.turns ≤ r.turns) × (r.extra + d1 + q.slack ≤ e1 + q.extra + r.slack)
@@ -102,11 +104,11 @@ module _ (linear : LinearProgram) (pace : ℕ) where
     store = b.store;
     fits = b.fits;
     reaches = reaches_after s t _ st mid end r1 e1 d1 q.turns q.extra q.out r.turns r.extra r.out
-      j.0 j.2 a b.reaches;
+        j.0 j.2 a b.reaches;
   }
   finds_after s t st mid end r1 e1 d1 q r w (End (Some code)) j a b =
       let y = b.by in let x = a.by y.0 in let m = a.most in let lr = j.0 in
-        record { by = (x.0, omega (arith, x.1, y.1), x.2 ∙ y.2) }
+      record { by = (x.0, omega (arith, x.1, y.1), x.2 ∙ y.2) }
   finds_after s t st mid end r1 e1 d1 q r w (End None) j a b =
       let x = a.by b.cost in
       let lr = j.0 in let le = j.2 in
@@ -115,13 +117,16 @@ module _ (linear : LinearProgram) (pace : ℕ) where
         cost = a.cost + b.cost;
         credit = a.credit + b.credit;
         paid = ap (λ n. n + b.credit) a.paid ∙ ap (λ n. pace * a.cost + n) b.paid
-          ∙ sym (mul-add pace a.cost b.cost);
+            ∙ sym (mul-add pace a.cost b.cost);
         most = let m = a.most in let n = b.most in omega arith;
         least = let m = a.least in let n = b.least in omega arith;
         grows = prefix_more st.events mid.events end.events a.grows b.grows;
         prior = prior_after s t mid.events end.events a.cost b.cost a.prior a.by b.grows b.prior;
-        shown = (b.shown.0, ap (λ k. events_of (s (exec linear k))) (sym e) ∙ ap events_of x.2
-          ∙ b.shown.1);
+        shown = (
+          b.shown.0,
+          ap (λ k. events_of (s (exec linear k))) (sym e) ∙ ap events_of x.2
+              ∙ b.shown.1,
+        );
       }
 
   pub after : (s t : Part) (st mid : State) (r1 e1 d1 : ℕ) (q r : Price) (w : Ways) (o : Outcome)
@@ -178,9 +183,11 @@ module _ (linear : LinearProgram) (pace : ℕ) where
   arrives_from s st st' end p r kept held Never same left turns slack a = a
   arrives_from s st st' end p r kept held (To u) same left turns slack a = arrival_from s st st' end
       p.turns p.extra p.slack r.turns r.extra r.slack kept held (u end) same left turns slack a
-  arrives_from s st st' end p r kept held (Out u) same left turns slack a =
-      (a.0, arrival_from s st st' end p.turns p.extra p.slack r.turns r.extra r.slack kept held
-        (λ store. u end store a.0) same left turns slack a.1)
+  arrives_from s st st' end p r kept held (Out u) same left turns slack a = (
+    a.0,
+    arrival_from s st st' end p.turns p.extra p.slack r.turns r.extra r.slack kept held
+        (λ store. u end store a.0) same left turns slack a.1,
+  )
 
   targets_from : (s : Part) (st st' end : State) (p r : Price) (kept : Kept) (context : Context)
       (site : Site) (level : ℕ) (exc : Exception) → st'.events ≡ st.events
@@ -197,8 +204,8 @@ module _ (linear : LinearProgram) (pace : ℕ) where
     store = a.store;
     fits = a.fits;
     reaches = reaches_from s (unwound linear pace context site
-      (target_of a.handler exc.code end.held) a.temps end a.store a.pc) st st' end p.turns p.extra
-      p.out r.turns r.extra r.out same left turns out a.reaches;
+        (target_of a.handler exc.code end.held) a.temps end a.store a.pc) st st' end p.turns p.extra
+        p.out r.turns r.extra r.out same left turns out a.reaches;
   }
 
   finishes_from : (s : Part) (st st' end : State) (r r' : ℕ) (seen : Seen)
@@ -246,13 +253,18 @@ module _ (linear : LinearProgram) (pace : ℕ) where
   -- a step less is left
   pub claim_stepped : (s : Part) (st : State) (n x slack out : ℕ) (w : Ways) → suc n ≡ st.steps_left
       → (o : Outcome) → Claim linear pace s (record st { steps_left = n })
-        (price 16 (1 + x) slack out) w o
+      (price 16 (1 + x) slack out) w o
       → Claim linear pace s st (price 0 x slack out) w o
   claim_stepped s st n x slack out w e o a =
       claim_from s (record st { steps_left = n }) st (price 16 (1 + x) slack out)
-        (price 0 x slack out) w o
-      (record { same = refl; left = omega arith; turns = omega arith; slack = omega arith;
-        out = omega arith }) a
+      (price 0 x slack out) w o
+      (record {
+        same = refl;
+        left = omega arith;
+        turns = omega arith;
+        slack = omega arith;
+        out = omega arith;
+      }) a
 
   -- ---- the same state
 
@@ -289,8 +301,13 @@ module _ (linear : LinearProgram) (pace : ℕ) where
       → Claim linear pace s st p w o → Claim linear pace s st r w o
   more s st p r w o j a =
       let turns = j.0 in let slack = j.1 in let out = j.2 in
-      claim_from s st st p r w o (record { same = refl; left = omega arith; turns = omega arith;
-        slack = omega arith; out = omega arith }) a
+      claim_from s st st p r w o (record {
+        same = refl;
+        left = omega arith;
+        turns = omega arith;
+        slack = omega arith;
+        out = omega arith;
+      }) a
 
   -- ---- stores that may be there
 
@@ -299,11 +316,22 @@ module _ (linear : LinearProgram) (pace : ℕ) where
       → Arrives linear pace s st p kept held end way → Arrives linear pace s st p kept' held end way
   arrives_kept s st end p kept kept' held Never h a = a
   arrives_kept s st end p kept kept' held (To u) h
-      a = record { store = a.store; fits = h end a.store a.fits; same = a.same;
-      reaches = a.reaches }
+      a = record {
+        store = a.store;
+        fits = h end a.store a.fits;
+        same = a.same;
+        reaches = a.reaches;
+      }
   arrives_kept s st end p kept kept' held (Out u) h
-      a = (a.0, record { store = a.1.store; fits = h end a.1.store a.1.fits; same = a.1.same;
-      reaches = a.1.reaches })
+      a = (
+        a.0,
+        record {
+          store = a.1.store;
+          fits = h end a.1.store a.1.fits;
+          same = a.1.same;
+          reaches = a.1.reaches;
+        },
+      )
 
   -- more stores may be there
   pub claim_kept : (s : Part) (st : State) (p : Price) (w : Ways) (kept : Kept) (o : Outcome)
@@ -322,8 +350,15 @@ module _ (linear : LinearProgram) (pace : ℕ) where
   claim_kept s st p w kept (Gives LeftTry end) h a = arrives_kept s st end p w.kept kept w.held
       w.left h a
   claim_kept s st p w kept (Gives (Target level exc) end) h a =
-      record { handler = a.handler; picked = a.picked; temps = a.temps; pc = a.pc; store = a.store;
-        fits = h end a.store a.fits; reaches = a.reaches }
+      record {
+        handler = a.handler;
+        picked = a.picked;
+        temps = a.temps;
+        pc = a.pc;
+        store = a.store;
+        fits = h end a.store a.fits;
+        reaches = a.reaches;
+      }
   claim_kept s st p w kept (Gives (End (Some e)) end) h a = a
   claim_kept s st p w kept (Gives (End None) end) h a = a
 

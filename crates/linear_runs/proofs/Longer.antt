@@ -50,8 +50,10 @@ record Keeps (es : List Event) (a b : Seen) : Type 0 where
   grows : More a b
 
 keeps_less : (es x : List Event) (a b : Seen) → Keeps (es ++ x) a b → Keeps es a b
-keeps_less es x a b k = record { shown = (x ++ k.shown.0, k.shown.1 ∙ append_assoc es x k.shown.0);
-    grows = k.grows }
+keeps_less es x a b k = record {
+  shown = (x ++ k.shown.0, k.shown.1 ∙ append_assoc es x k.shown.0);
+  grows = k.grows;
+}
 
 keeps_finished : (es : List Event) (e : Ended) → Keeps es (Finished e es) (Finished e es)
 keeps_finished es e = record { shown = ([], sym (append-nil es)); grows = refl }
@@ -81,12 +83,12 @@ module _ (program : LinearProgram) (f g : Next)
 
   run_finally_keeps : (k : ℕ) (abnormal : Bool) (held : ℕ) (below : List Item) (c : Configuration)
       → Keeps c.events (run_finally program k abnormal held below f c)
-        (run_finally program k abnormal held below g c)
+      (run_finally program k abnormal held below g c)
   run_finally_keeps k abnormal held below c =
       keeps_some c.events (flag_of (slice_get program.funclets k)) _ _ λ flag.
       keeps_deeper 2 held c.store c.events _ _
-        (keeps_less c.events (events.Finally (k + 1) abnormal ∷ []) _ _
-        (h (begin_finally k flag abnormal held below c)))
+      (keeps_less c.events (events.Finally (k + 1) abnormal ∷ []) _ _
+      (h (begin_finally k flag abnormal held below c)))
 
   arrive_keeps : (target : Target) (code : Option ℕ) (c : Configuration)
       → Keeps c.events (arrive target code f c) (arrive target code g c)
@@ -97,7 +99,7 @@ module _ (program : LinearProgram) (f g : Next)
   leave_keeps : (target : Target) (kind : RegionKind) (rest : List Region) (a b : Seen)
       (c : Configuration) → Keeps c.events a b
       → Keeps c.events (leave_region program f target kind rest a c)
-        (leave_region program g target kind rest b c)
+      (leave_region program g target kind rest b c)
   leave_keeps target (kinds.Finally k) rest a b c q = run_finally_keeps k true target.held
       (Unwinds rest target ∷ Waits c.frame ∷ c.below) c
   leave_keeps target (kinds.Filter k label) rest a b c q = q
@@ -106,12 +108,12 @@ module _ (program : LinearProgram) (f g : Next)
   unwind_body_keeps : (target : Target) (out out' : Store → Seen) (rs : List Region)
       (c : Configuration) → ((store : Store) → Keeps c.events (out store) (out' store))
       → Keeps c.events (unwind_body program f target out rs c)
-        (unwind_body program g target out' rs c)
+      (unwind_body program g target out' rs c)
   unwind_body_keeps target out out' [] c o = keeps_pick _ c.events _ _ _ _
       (arrive_keeps target target.code c) (o (left_store c.frame.body c.frame.activation c.store))
   unwind_body_keeps target out out' (r ∷ rs) c o =
       keeps_pick _ c.events _ _ _ _ (arrive_keeps target target.code c)
-        (leave_keeps target r.kind rs _ _ c (unwind_body_keeps target out out' rs c o))
+      (leave_keeps target r.kind rs _ _ c (unwind_body_keeps target out out' rs c o))
 
   unwind_keeps : (target : Target) (items : List Item) (left : Option (List Region))
       (es : List Event) (store : Store) → Keeps es (unwind program f target items left es store)
@@ -119,12 +121,12 @@ module _ (program : LinearProgram) (f g : Next)
   unwind_keeps target [] left es store = keeps_stuck es
   unwind_keeps target (Waits b ∷ below) left es store =
       unwind_body_keeps target (λ store. unwind program f (target_past b.body target) below None es
-        store) (λ store. unwind program g (target_past b.body target) below None es store)
+      store) (λ store. unwind program g (target_past b.body target) below None es store)
       (regions_left left (regions_at program b.body b.next))
-        (record { frame = b; below = below; store = store; events = es })
-        (unwind_keeps (target_past b.body target) below None es)
-  unwind_keeps target (Searches exception resumption asked rest ∷ below) left es
-      store = unwind_keeps target below None es store
+      (record { frame = b; below = below; store = store; events = es })
+      (unwind_keeps (target_past b.body target) below None es)
+  unwind_keeps target (Searches exception resumption asked rest ∷ below) left es store =
+      unwind_keeps target below None es store
   unwind_keeps target (Unwinds rest older ∷ below) left es store = unwind_keeps target below
       (Some rest) es store
 
@@ -138,12 +140,12 @@ module _ (program : LinearProgram) (f g : Next)
   consult_keeps : (k : Option ℕ) (x : Handler) (rest : List Handler) (exception : Exception)
       (resumption : Resumption) (c : Configuration)
       → Keeps c.events (consult program k x rest exception resumption f c)
-        (consult program k x rest exception resumption g c)
+      (consult program k x rest exception resumption g c)
   consult_keeps None x rest exception resumption c = accept_keeps x exception c
   consult_keeps (Some k) x rest exception resumption c =
       keeps_deeper 2 c.frame.held c.store c.events _ _
-        (keeps_less c.events (events.Filter (k + 1) ∷ []) _ _
-        (h (begin_filter k x rest exception resumption c)))
+      (keeps_less c.events (events.Filter (k + 1) ∷ []) _ _
+      (h (begin_filter k x rest exception resumption c)))
 
   search_keeps : (xs : List Handler) (exception : Exception) (resumption : Resumption)
       (c : Configuration) → Keeps c.events (search program f xs exception resumption c)
@@ -155,10 +157,10 @@ module _ (program : LinearProgram) (f g : Next)
 
   raise_keeps : (exception : Exception) (resumption : Resumption) (c : Configuration)
       → Keeps c.events (raise program f exception resumption c)
-        (raise program g exception resumption c)
+      (raise program g exception resumption c)
   raise_keeps exception resumption c = keeps_less c.events (raise_event exception ∷ []) _ _
       (search_keeps (handlers program (Waits c.frame ∷ c.below) None) exception resumption
-        (record c { events = c.events ++ raise_event exception ∷ [] }))
+      (record c { events = c.events ++ raise_event exception ∷ [] }))
 
   resumed_keeps : (resumption : Resumption) (c : Configuration)
       → Keeps c.events (f (resumed resumption c)) (g (resumed resumption c))
@@ -168,12 +170,12 @@ module _ (program : LinearProgram) (f g : Next)
   answered_keeps : (v : ℕ) (exception : Exception) (resumption : Resumption) (x : Handler)
       (rest : List Handler) (c : Configuration)
       → Keeps c.events (answered program f v exception resumption x rest c)
-        (answered program g v exception resumption x rest c)
+      (answered program g v exception resumption x rest c)
   answered_keeps v exception resumption x rest c =
       keeps_pick (nat_eq (low W32 v) 0) c.events _ _ _ _ (search_keeps rest exception resumption c)
       (keeps_pick (nat_lt (low W32 v) (2 ^ 31)) c.events _ _ _ _ (accept_keeps x exception c)
       (keeps_pick exception.flag c.events _ _ _ _ (raise_keeps noncontinuable resumption c)
-        (resumed_keeps resumption c)))
+      (resumed_keeps resumption c)))
 
   answer_keeps : (v : ℕ) (items : List Item) (es : List Event) (store : Store)
       → Keeps es (answer program f v items es store) (answer program g v items es store)
@@ -183,19 +185,23 @@ module _ (program : LinearProgram) (f g : Next)
   answer_keeps v (Searches exception resumption x rest ∷ []) es store = keeps_stuck es
   answer_keeps v (Searches exception resumption x rest ∷ Searches exception' resumption' x' rest'
       ∷ below) es store = keeps_stuck es
-  answer_keeps v (Searches exception resumption x rest ∷ Unwinds rest' target ∷ below) es
-      store = keeps_stuck es
+  answer_keeps v (Searches exception resumption x rest ∷ Unwinds rest' target ∷ below) es store =
+      keeps_stuck es
   answer_keeps v (Searches exception resumption x rest ∷ Waits b ∷ below) es store = keeps_less es
       (events.Answer (signed W32 v) ∷ []) _ _
       (answered_keeps v exception resumption x rest
-      (record { frame = b; below = below; store = store;
-      events = es ++ events.Answer (signed W32 v) ∷ [] }))
+      (record {
+        frame = b;
+        below = below;
+        store = store;
+        events = es ++ events.Answer (signed W32 v) ∷ [];
+      }))
 
   -- ---- instructions
 
   rewritten_keeps : (c : Configuration) (o : Option (List ℕ))
       → Keeps c.events (with_some c.events (with_temporaries c o) (λ c. f (forth c)))
-        (with_some c.events (with_temporaries c o) (λ c. g (forth c)))
+      (with_some c.events (with_temporaries c o) (λ c. g (forth c)))
   unfolding with_some
   rewritten_keeps c None = keeps_stuck c.events
   rewritten_keeps c (Some ts) = h _
@@ -216,16 +222,16 @@ module _ (program : LinearProgram) (f g : Next)
 
   compute_keeps : (to : Slot) (o : Operation) (first second : Slot) (c : Configuration)
       → Keeps c.events (compute program f to o first second c)
-        (compute program g to o first second c)
+      (compute program g to o first second c)
   compute_keeps to o first second c =
       keeps_some c.events (operand (is_constant o) c first) _ _ λ a.
       keeps_some c.events (operand (is_constant o) c second) _ _ λ b. computed_keeps to c
-        (performed (is_reserved program.globals) o a b c.store.memory)
+      (performed (is_reserved program.globals) o a b c.store.memory)
 
   tested_keeps : (slot : Slot) (label : ℕ) (v : ℕ) (c : Configuration)
       → Keeps c.events (pick (nat_eq v 0) (f (at_label label (tested slot c)))
-        (f (forth (tested slot c)))) (pick (nat_eq v 0) (g (at_label label (tested slot c)))
-        (g (forth (tested slot c))))
+      (f (forth (tested slot c)))) (pick (nat_eq v 0) (g (at_label label (tested slot c)))
+      (g (forth (tested slot c))))
   tested_keeps (Local x) label v c = keeps_pick (nat_eq v 0) c.events _ _ _ _ (h _) (h _)
   tested_keeps (Temporary i) label v c = keeps_pick (nat_eq v 0) c.events _ _ _ _ (h _) (h _)
 
@@ -250,8 +256,8 @@ module _ (program : LinearProgram) (f g : Next)
   end_finally_keeps (Waits b ∷ below) es store = h _
   end_finally_keeps (Searches exception resumption x rest ∷ below) es store = keeps_stuck es
   end_finally_keeps (Unwinds rest target ∷ []) es store = keeps_stuck es
-  end_finally_keeps (Unwinds rest target ∷ Searches exception resumption x rest' ∷ below) es
-      store = keeps_stuck es
+  end_finally_keeps (Unwinds rest target ∷ Searches exception resumption x rest' ∷ below) es store =
+      keeps_stuck es
   end_finally_keeps (Unwinds rest target ∷ Unwinds rest' older ∷ below) es store = keeps_stuck es
   end_finally_keeps (Unwinds rest target ∷ Waits b ∷ below) es store = unwind_keeps target
       (Waits b ∷ below) (Some rest) es store
@@ -280,16 +286,20 @@ module _ (program : LinearProgram) (f g : Next)
       keeps_some c.events (last_temporaries c.frame.temporaries first count) _ _ λ arguments.
       keeps_some c.events (slice_get program.functions k) _ _ λ function.
       keeps_deeper 1 c.frame.held c.store c.events _ _
-        (h (begin_function k function arguments c.frame.held
-        (Waits (waiting c first).frame ∷ c.below) c.store c.events))
+      (h (begin_function k function arguments c.frame.held
+      (Waits (waiting c first).frame ∷ c.below) c.store c.events))
   act_keeps (instructions.CallBuiltIn b first) c = keeps_some c.events
       (last_temporaries c.frame.temporaries first (count_of b)) _ _ λ vs. built_in_keeps b vs
       (waiting c first)
   act_keeps (instructions.CallFinally k) c = run_finally_keeps k false c.frame.held
       (Waits c.frame ∷ c.below) c
   act_keeps (instructions.LocalUnwind label) c =
-      unwind_keeps (record { depth = length c.below; label = label; code = None;
-        held = c.frame.held }) (Waits c.frame ∷ c.below) None c.events c.store
+      unwind_keeps (record {
+        depth = length c.below;
+        label = label;
+        code = None;
+        held = c.frame.held;
+      }) (Waits c.frame ∷ c.below) None c.events c.store
   act_keeps (instructions.Landing to) c = keeps_some c.events c.frame.landed _
       _ λ code. written_keeps (not_landed c) to code
   act_keeps instructions.Separator c = h _
@@ -311,8 +321,10 @@ module _ (program : LinearProgram) where
 
   none_keeps : (c : Configuration) → Keeps c.events (exec program zero c) (exec program zero c)
   unfolding exec
-  none_keeps c = record { shown = ([], sym (append-nil c.events));
-      grows = ([], sym (append-nil c.events)) }
+  none_keeps c = record {
+    shown = ([], sym (append-nil c.events));
+    grows = ([], sym (append-nil c.events));
+  }
 
   itself_keeps : (m : ℕ) (c : Configuration) → Keeps c.events (exec program m c) (exec program m c)
   itself_keeps zero c = none_keeps c
@@ -330,12 +342,15 @@ module _ (program : LinearProgram) where
       → Keeps c.events (exec program n c) (exec program (n + m) c)
   longer_keeps zero m c =
       let e : m ≡ 0 + m = omega arith in
-      record { shown = (none_keeps c).shown; grows = subst
-        (λ k. More (exec program zero c) (exec program k c)) e (running_more m c) }
+      record {
+        shown = (none_keeps c).shown;
+        grows = subst
+            (λ k. More (exec program zero c) (exec program k c)) e (running_more m c);
+      }
   longer_keeps (suc n) m c =
       let e : suc (n + m) ≡ suc n + m = omega arith in
       subst (λ k. Keeps c.events (exec program (suc n) c) (exec program k c)) e
-        (turn_keeps n (n + m) (longer_keeps n m) c)
+      (turn_keeps n (n + m) (longer_keeps n m) c)
 
   pub longer : (n m : ℕ) (c : Configuration) → More (exec program n c) (exec program (n + m) c)
   longer n m c = (longer_keeps n m c).grows
@@ -344,7 +359,7 @@ module _ (program : LinearProgram) where
 pub search_shows : (program : LinearProgram) (xs : List Handler) (exception : Exception)
     (resumption : Resumption) (c : Configuration)
     → (rest : List Event) × (events_of (search program (exec program zero) xs exception resumption
-      c) ≡ c.events ++ rest)
+    c) ≡ c.events ++ rest)
 search_shows program xs exception resumption c =
     (search_keeps program (exec program zero) (exec program zero) (none_keeps program) xs exception
     resumption c).shown

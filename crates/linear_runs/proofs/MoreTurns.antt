@@ -11,7 +11,7 @@ use Rattle.linear_runs.proofs.Longer.{events_of, More, longer}
 
 main_more : (program : LinearProgram) (arg : ℤ) (n k : ℕ) (o : Option LinearFunction)
     → More (with_some [] o (λ main. exec program n (start program arg main)))
-      (with_some [] o (λ main. exec program (n + k) (start program arg main)))
+    (with_some [] o (λ main. exec program (n + k) (start program arg main)))
 unfolding with_some
 main_more program arg n k None = refl
 main_more program arg n k (Some main) = longer program n k (start program arg main)

@@ -109,16 +109,16 @@ module _ (linear : LinearProgram) (pace : ℕ) where
   pub counted_claim : (s : Part) (w : Ways) (st : State) (x slack out : ℕ) (k : State → Outcome)
       → x ≤ out → ((rest : List Event) × (events_of (s (exec linear 0)) ≡ st.events ++ rest))
       → ((n : ℕ) → suc n ≡ st.steps_left → Claim linear pace s (record st { steps_left = n })
-        (price 16 (1 + x) slack out) w (k (record st { steps_left = n })))
+      (price 16 (1 + x) slack out) w (k (record st { steps_left = n })))
       → Claim linear pace s st (price 0 x slack out) w (counted st k)
   unfolding counted
   counted_claim s w st x slack out k small shown h = by_left st.steps_left refl
     where
       by_left : (l : ℕ) → l ≡ st.steps_left → Claim linear pace s st (price 0 x slack out) w
-        (elim l [ zero ↦ Gives (End None) st | suc n ↦ k (record st { steps_left = n }) ])
+          (elim l [ zero ↦ Gives (End None) st | suc n ↦ k (record st { steps_left = n }) ])
       by_left zero e = stopped s st 0 x out (omega arith) shown
       by_left (suc n) e = claim_stepped linear pace s st n x slack out w e
-        (k (record st { steps_left = n })) (h n e)
+          (k (record st { steps_left = n })) (h n e)
 
   -- the same, seen from a state with less shown
   pub sooner : (s : Part) (st mid : State) (p : Price) (w : Ways) (o : Outcome)
@@ -149,7 +149,7 @@ module _ (linear : LinearProgram) (pace : ℕ) where
   deep_by : (b : Bool) (s : Part) (st : State) (p : Price) (w : Ways) (go : State → Outcome)
       → Claim linear pace s st p w (go st)
       → Claim linear pace (λ next. pick b (Finished (Deep 1001) st.events) (s next)) st p w
-        (choose b (λ st. Gives (End (Some (Deep 1001))) st) go st)
+      (choose b (λ st. Gives (End (Some (Deep 1001))) st) go st)
   unfolding pick choose
   deep_by true s st p w go a = record { by = (0, omega arith, refl) }
   deep_by false s st p w go a = a
@@ -162,9 +162,9 @@ module _ (linear : LinearProgram) (pace : ℕ) where
   deep_claim n held store s st p w go same held_same a =
       let e : nat_lt 1000 (depth st + n) ≡ nat_lt 1000 (length store.activations + held + n) =
       ap (λ k. nat_lt 1000 (k + st.held + n)) (sym same)
-        ∙ ap (λ k. nat_lt 1000 (length store.activations + k + n)) held_same in
+      ∙ ap (λ k. nat_lt 1000 (length store.activations + k + n)) held_same in
       subst (λ b. Claim linear pace (λ next. pick b (Finished (Deep 1001) st.events) (s next)) st p
-        w (choose (nat_lt 1000 (depth st + n)) (λ st. Gives (End (Some (Deep 1001))) st) go st)) e
+      w (choose (nat_lt 1000 (depth st + n)) (λ st. Gives (End (Some (Deep 1001))) st) go st)) e
       (deep_by (nat_lt 1000 (depth st + n)) s st p w go a)
 
   shown_by : (b : Bool) (es : List Event) (seen : Seen)

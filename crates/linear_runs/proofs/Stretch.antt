@@ -31,13 +31,23 @@ pub record Site : Type 0 where
   pub held : ℕ
 
 abbrev pub frame_of : Context → Site → ℕ → List ℕ → Frame
-frame_of context site pc temps = record { body = site.body; next = pc;
-    activation = context.activation; exception = site.exception; held = site.held;
-    temporaries = temps; landed = None }
+frame_of context site pc temps = record {
+  body = site.body;
+  next = pc;
+  activation = context.activation;
+  exception = site.exception;
+  held = site.held;
+  temporaries = temps;
+  landed = None;
+}
 
 abbrev pub conf : Context → Site → ℕ → List ℕ → State → Store → Configuration
-conf context site pc temps st store = record { frame = frame_of context site pc temps;
-    below = site.below; store = store; events = st.events }
+conf context site pc temps st store = record {
+  frame = frame_of context site pc temps;
+  below = site.below;
+  store = store;
+  events = st.events;
+}
 
 -- f is the handler with so many others outside it
 abbrev pub Picked : List Handler → ℕ → Handler → Type 0
@@ -68,14 +78,32 @@ Kept = State → Store → Type 0
 
 -- only a value may come, or only a normal end, beside a target and an end
 abbrev pub value_ways : (ℕ → State → Store → Part) → Kept → Context → Site → Ways
-value_ways v kept context site = record { context = context; site = site; held = site.held;
-    kept = kept; value = λ x. To (v x); normal = Never; returned = λ v. Never; broke = Never;
-    again = Never; left = Never }
+value_ways v kept context site = record {
+  context = context;
+  site = site;
+  held = site.held;
+  kept = kept;
+  value = λ x. To (v x);
+  normal = Never;
+  returned = λ v. Never;
+  broke = Never;
+  again = Never;
+  left = Never;
+}
 
 abbrev pub normal_ways : (State → Store → Part) → Kept → Context → Site → Ways
-normal_ways t kept context site = record { context = context; site = site; held = site.held;
-    kept = kept; value = λ x. Never; normal = To t; returned = λ v. Never; broke = Never;
-    again = Never; left = Never }
+normal_ways t kept context site = record {
+  context = context;
+  site = site;
+  held = site.held;
+  kept = kept;
+  value = λ x. Never;
+  normal = To t;
+  returned = λ v. Never;
+  broke = Never;
+  again = Never;
+  left = Never;
+}
 
 abbrev pub first_ways : (State → Store → Part) → Ways → Ways
 first_ways t w = record w { value = λ x. Never; normal = To t }
@@ -138,7 +166,7 @@ module _ (linear : LinearProgram) (pace : ℕ) where
 
   pub record Finishes (s : Part) (st st' : State) (turns : ℕ) (seen : Seen) : Type 0 where
     pub by : (j : ℕ) × (j + 16 * st'.steps_left ≤ 16 * st.steps_left + turns)
-      × (s (exec linear j) ≡ seen)
+        × (s (exec linear j) ≡ seen)
 
   -- no step is left: so many turns were made, and one less had not shown more
   pub record Stops (s : Part) (st st' : State) (turns extra out : ℕ) : Type 0 where
@@ -180,7 +208,7 @@ module _ (linear : LinearProgram) (pace : ℕ) where
     pub store : Store
     pub fits : kept st' store
     pub reaches : Reaches s (unwound context site (target_of handler exc.code st'.held) temps st'
-      store pc) st st' p.turns p.extra p.out
+        store pc) st st' p.turns p.extra p.out
 
   abbrev pub Attains : Part → State → Price → Ways → State → Result → Type 0
   Attains s st p w st' (Value x) = Arrives s st p w.kept w.held st' (w.value x)

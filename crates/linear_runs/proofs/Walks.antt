@@ -41,9 +41,10 @@ Around (r ∷ regions) lo hi = IsAround r lo hi × Around regions lo hi
 pub around_part : (regions : List Region) (lo hi lo' hi' : ℕ) → lo ≤ lo' → hi' ≤ hi
     → Around regions lo hi → Around regions lo' hi'
 around_part [] lo hi lo' hi' a b h = tt
-around_part (r ∷ regions) lo hi lo' hi' a b h = let x = h.0 in
-    (record { begin = omega arith; end = omega arith; block = h.0.block },
-    around_part regions lo hi lo' hi' a b h.1)
+around_part (r ∷ regions) lo hi lo' hi' a b h = let x = h.0 in (
+  record { begin = omega arith; end = omega arith; block = h.0.block },
+  around_part regions lo hi lo' hi' a b h.1,
+)
 
 -- of a frame below the one of this depth, or of that with a block after this place
 abbrev pub Inside : (depth hi : ℕ) → Handler → Type 0
@@ -95,10 +96,10 @@ picked_in : (regions : List Region) (activation depth lo hi : ℕ) (rest : List 
 picked_in [] activation depth lo hi rest level f around low p = inl (low p)
 picked_in (r ∷ regions) activation depth lo hi rest level f around low p =
     inside_by r depth hi (Picked (handlers_in regions activation depth ++ rest) level f) f
-      around.0.end (picked_in regions activation depth lo hi rest level f around.1 low)
+    around.0.end (picked_in regions activation depth lo hi rest level f around.1 low)
     (picked_kind r.kind activation depth r.end (handlers_in regions activation depth ++ rest) level
-      f around.0.block (regroup (handlers_of r.kind activation depth)
-      (handlers_in regions activation depth) rest level f p))
+    f around.0.block (regroup (handlers_of r.kind activation depth)
+    (handlers_in regions activation depth) rest level f p))
 
 depth_by : (depth : ℕ) (P : Type 0) (f : Handler) → (P → f.depth < suc depth)
     → P ⊎ (f.depth ≡ depth) → f.depth < suc depth
@@ -111,10 +112,10 @@ picked_depth : (regions : List Region) (activation depth : ℕ) (rest : List Han
 picked_depth [] activation depth rest level f low p = let e = low p in omega arith
 picked_depth (r ∷ regions) activation depth rest level f low p =
     depth_by depth (Picked (handlers_in regions activation depth ++ rest) level f) f
-      (picked_depth regions activation depth rest level f low)
+    (picked_depth regions activation depth rest level f low)
     (picked_depth_of r.kind activation depth (handlers_in regions activation depth ++ rest) level f
-      (regroup (handlers_of r.kind activation depth) (handlers_in regions activation depth) rest
-      level f p))
+    (regroup (handlers_of r.kind activation depth) (handlers_in regions activation depth) rest
+    level f p))
 
 module _ (linear : LinearProgram) where
   pub handlers_below : (items : List Item) (left : Option (List Region)) (level : ℕ) (f : Handler)
@@ -122,9 +123,9 @@ module _ (linear : LinearProgram) where
   handlers_below [] left level f p = absurd p
   handlers_below (Waits b ∷ below) left level f p =
       picked_depth (regions_left left (regions_at linear b.body b.next)) b.activation (length below)
-        (handlers linear below None) level f (handlers_below below None level f) p
-  handlers_below (Searches exception resumption asked rest ∷ below) left level f
-      p = let e = handlers_below below None level f p in omega arith
+      (handlers linear below None) level f (handlers_below below None level f) p
+  handlers_below (Searches exception resumption asked rest ∷ below) left level f p =
+      let e = handlers_below below None level f p in omega arith
   handlers_below (Unwinds rest target ∷ below) left level f p = let e = handlers_below below
       (Some rest) level f p in omega arith
 
@@ -135,7 +136,7 @@ module _ (linear : LinearProgram) where
       → Inside (length below) hi f
   picked_inside regions activation lo hi below level f around p =
       picked_in regions activation (length below) lo hi (handlers linear below None) level f around
-        (handlers_below below None level f) p
+      (handlers_below below None level f) p
 
 -- ---- the stop rule
 
@@ -166,11 +167,11 @@ pub further : (target : Target) (r : Region) (depth : ℕ) → BlockAt r.kind r.
     → Outward target r depth → stops target r depth ≡ false
 further target r depth block le (inl p) =
     and_left (nat_eq target.depth depth) (holds target.label r || leads_to r.kind target.label)
-      (ne_eqb target.depth depth (λ e. omega arith))
+    (ne_eqb target.depth depth (λ e. omega arith))
 further target r depth block le (inr p) =
     and_right (nat_eq target.depth depth) (holds target.label r || leads_to r.kind target.label)
     (or_from (holds target.label r) (leads_to r.kind target.label) (holds_not r target.label p)
-      (leads_not r.kind r.begin r.end target.label block le p))
+    (leads_not r.kind r.begin r.end target.label block le p))
 
 -- the first of these regions, if there is one, stops an unwinding to this place of their frame
 abbrev pub FindsRegions : ℕ → List Region → Type 0
@@ -215,15 +216,15 @@ module _ (linear : LinearProgram) where
   unfolding pick
   lands next target out [] c d e =
       ap (λ b. pick b (arrive target target.code next c)
-        (out (left_store c.frame.body c.frame.activation c.store)))
-        (eq-eqb target.depth (length c.below) d)
+      (out (left_store c.frame.body c.frame.activation c.store)))
+      (eq-eqb target.depth (length c.below) d)
   lands next target out (r ∷ regions) c d e =
       ap (λ b. pick b (arrive target target.code next c)
-        (leave_region linear next target r.kind regions
-        (unwind_body linear next target out regions c) c))
+      (leave_region linear next target r.kind regions
+      (unwind_body linear next target out regions c) c))
       (and_from (nat_eq target.depth (length c.below))
-        (holds target.label r || leads_to r.kind target.label)
-        (eq-eqb target.depth (length c.below) d) e)
+      (holds target.label r || leads_to r.kind target.label)
+      (eq-eqb target.depth (length c.below) d) e)
 
   -- a region that isn't the end is left
   left_following : (next : Next) (target : Target) (out : Store → Seen) (r : Region)
@@ -231,13 +232,13 @@ module _ (linear : LinearProgram) where
       → Outward target r (length c.below)
       → unwind_body linear next target out (r ∷ regions) c
       ≡ leave_region linear next target r.kind regions
-        (unwind_body linear next target out regions c) c
+      (unwind_body linear next target out regions c) c
   unfolding pick
   left_following next target out r regions c block le o =
       ap (λ b. pick b (arrive target target.code next c)
-        (leave_region linear next target r.kind regions
-        (unwind_body linear next target out regions c) c))
-        (further target r (length c.below) block le o)
+      (leave_region linear next target r.kind regions
+      (unwind_body linear next target out regions c) c))
+      (further target r (length c.below) block le o)
 
   pub skips : (next : Next) (target : Target) (out : Store → Seen) (r : Region) (label : ℕ)
       (regions : List Region) (c : Configuration) → IsExcept r.kind label → BlockAt r.kind r.end
@@ -246,17 +247,17 @@ module _ (linear : LinearProgram) where
       ≡ unwind_body linear next target out regions c
   skips next target out r label regions c e block le o =
       left_following next target out r regions c block le o
-        ∙ except_left linear next target r.kind label regions
-          (unwind_body linear next target out regions c) c e
+      ∙ except_left linear next target r.kind label regions
+      (unwind_body linear next target out regions c) c e
 
   pub starts : (next : Next) (target : Target) (out : Store → Seen) (begin end k : ℕ)
       (regions : List Region) (c : Configuration) → begin ≤ end
       → Outward target (record { begin = begin; end = end; kind = kinds.Finally k })
-        (length c.below)
+      (length c.below)
       → unwind_body linear next target out (record
-        { begin = begin; end = end; kind = kinds.Finally k } ∷ regions) c
+      { begin = begin; end = end; kind = kinds.Finally k } ∷ regions) c
       ≡ run_finally linear k true target.held (Unwinds regions target ∷ Waits c.frame ∷ c.below)
-        next c
+      next c
   starts next target out begin end k regions c le o = left_following next target out
       (record { begin = begin; end = end; kind = kinds.Finally k }) regions c tt le o
 
@@ -266,5 +267,5 @@ module _ (linear : LinearProgram) where
   unfolding pick
   leaves next target out c d =
       ap (λ b. pick b (arrive target target.code next c)
-        (out (left_store c.frame.body c.frame.activation c.store)))
-        (ne_eqb target.depth (length c.below) (λ e. omega arith))
+      (out (left_store c.frame.body c.frame.activation c.store)))
+      (ne_eqb target.depth (length c.below) (λ e. omega arith))

@@ -162,13 +162,19 @@ fits_again r f = record {
 
 placed_room : (m : Memory) (at : ℕ) (r : DispatchRecord) (above : ℕ) → RecordHasRoom m at r above
     → RecordHasRoom (placed m at r) at r above
-placed_room m at r above room = record { fits = room.fits; below = room.below; small = room.small;
-    room = misplaced_placed m at r ∙ room.room }
+placed_room m at r above room = record {
+  fits = room.fits;
+  below = room.below;
+  small = room.small;
+  room = misplaced_placed m at r ∙ room.room;
+}
 
 with_record_below : (sp at depth : ℕ) → HasSpace sp below_end depth → sp ≤ at + record_room
     → HasSpace at (below_end + record_room) depth
-with_record_below sp at depth h near = record { space = (let s = h.space in omega arith);
-    shallow = h.shallow }
+with_record_below sp at depth h near = record {
+  space = (let s = h.space in omega arith);
+  shallow = h.shallow;
+}
 
 module _ (t : Functions) (fs : List Funclet) (program : LinearProgram) (p : ImagePlan) where
   -- from the innermost frame on
@@ -207,8 +213,12 @@ module _ (t : Functions) (fs : List Funclet) (program : LinearProgram) (p : Imag
   room_of s saved is items acts r a fits =
       let n = a.sane_saved.count in
       let small : rsp (context_of saved) < 2 ^ 64 = a.sane_saved.small 4 (omega arith) in
-      record { fits = fits; below = place_low (rsp (context_of saved)) a.low small; small = small;
-        room = a.room }
+      record {
+        fits = fits;
+        below = place_low (rsp (context_of saved)) a.low small;
+        small = small;
+        room = a.room;
+      }
 
 event_is : (code : Code) (flags : ℕ) (access : Option (Bool × ℕ)) (exception : Exception)
     → IsException code flags access exception
@@ -216,36 +226,40 @@ event_is : (code : Code) (flags : ℕ) (access : Option (Bool × ℕ)) (exceptio
 event_is code flags access exception e =
     ap (λ v. events.Raise (let c : Code = record { 0 = v } in c) (flags == 1) access) e.same_code
     ∙ ap (λ b. events.Raise (let c : Code = record { 0 = exception.code } in c) b access)
-      e.same_flag
+    e.same_flag
     ∙ ap (λ (o : Option (Bool × ℕ)). events.Raise
-      (let c : Code = record { 0 = exception.code } in c) exception.flag o) e.same_access
+    (let c : Code = record { 0 = exception.code } in c) exception.flag o) e.same_access
 
 pub raise_searches : RaiseSearches
 raise_searches t fs program p s code flags access saved is acts exception c a e =
     let at = place_of saved in
     let r : DispatchRecord = new_record Search code flags access saved in
     let fits : RecordFits r = fits_new s Search code flags access saved a.sane_saved e.code_small
-      e.one_flag e.access_small in
+    e.one_flag e.access_small in
     let room : RecordHasRoom s.memory at r (rsp (context_of saved)) = room_of t fs program p s saved
-      is (Waits c.frame ∷ c.below) acts r a fits in
+    is (Waits c.frame ∷ c.below) acts r a fits in
     record {
       turns =
           ap (λ (o : Option ℕ). with_event (events.Raise code (flags == 1) access)
-            (if_placed s at r (λ u. searches_on t u at r) o)) a.room
+          (if_placed s at r (λ u. searches_on t u at r) o)) a.room
           ∙ ap (λ (v : Event). with_event v (searches_on t (placed_in s at r) at r))
-            (event_is code flags access exception e);
+          (event_is code flags access exception e);
       searching = record {
         gives = a.gives;
         sane = record { rip_small = a.sane.rip_small; count = a.sane.count; small = a.sane.small };
         on = record_leaves_the_list t fs program p s.memory at r (context_of saved) is
-          (Waits c.frame ∷ c.below) acts a.on room;
+            (Waits c.frame ∷ c.below) acts a.on room;
         kind = refl;
         room = placed_room s.memory at r (rsp (context_of saved)) room;
-        carries = record { code = e.same_code;
-          flag = flag_is flags exception.flag e.one_flag e.same_flag; one_flag = e.one_flag;
-          count = ap count e.same_access; parameters = ap parameters e.same_access };
+        carries = record {
+          code = e.same_code;
+          flag = flag_is flags exception.flag e.one_flag e.same_flag;
+          one_flag = e.one_flag;
+          count = ap count e.same_access;
+          parameters = ap parameters e.same_access;
+        };
         onward = onward_here t fs program p s.memory (context_of saved) is c.frame c.below acts
-          a.on.is_there.linked;
+            a.on.is_there.linked;
         near = near_of t fs program p s saved is (Waits c.frame ∷ c.below) acts a;
       };
     }
@@ -256,25 +270,25 @@ local_unwind_unwinds t fs program p s frame address saved is acts depth label f 
     let at = place_of saved in
     let r : DispatchRecord = to_target saved frame address in
     let fits : RecordFits r = fits_targeted (new_record LocalUnwind (record { 0 = 0 }) 0 None saved)
-      frame address (fits_new s LocalUnwind (record { 0 = 0 }) 0 None saved a.sane_saved
-      (let e : 0 < 2 ^ 32 = omega arith in e) (let e : 0 < 2 = omega arith in e)
-      (λ j l. zeros_small 15 j)) frame_small address_small in
+    frame address (fits_new s LocalUnwind (record { 0 = 0 }) 0 None saved a.sane_saved
+    (let e : 0 < 2 ^ 32 = omega arith in e) (let e : 0 < 2 = omega arith in e)
+    (λ j l. zeros_small 15 j)) frame_small address_small in
     let room : RecordHasRoom s.memory at r (rsp (context_of saved)) = room_of t fs program p s saved
-      is (Waits f ∷ below) acts r a fits in
+    is (Waits f ∷ below) acts r a fits in
     record {
       turns = ap (λ (o : Option ℕ). if_placed s at r (λ u. unwinds_on t u at r) o) a.room;
       unwinding = record {
         gives = a.gives;
         sane = record { rip_small = a.sane.rip_small; count = a.sane.count; small = a.sane.small };
         on = record_leaves_the_list t fs program p s.memory at r (context_of saved) is
-          (Waits f ∷ below) acts a.on room;
+            (Waits f ∷ below) acts a.on room;
         kind = refl;
         purpose = refl;
         room = placed_room s.memory at r (rsp (context_of saved)) room;
         at_row = at_first_row t fs program p (Waits f ∷ below);
         aimed = aimed;
         space = space_here t fs program p s.memory (context_of saved) is f below acts at
-          a.on.is_there.linked (near_of t fs program p s saved is (Waits f ∷ below) acts a);
+            a.on.is_there.linked (near_of t fs program p s saved is (Waits f ∷ below) acts a);
       };
     }
 
@@ -284,22 +298,26 @@ acceptance_unwinds t fs program p s at r frame address is acts exception found h
     let new : DispatchRecord = accepting r frame address in
     let above = rsp (context_of r.saved) in
     let room : RecordHasRoom s.memory at new above =
-      record { fits = fits_accepting r frame address a.room.fits frame_small address_small;
-      below = a.room.below; small = a.room.small; room = a.room.room } in
+    record {
+      fits = fits_accepting r frame address a.room.fits frame_small address_small;
+      below = a.room.below;
+      small = a.room.small;
+      room = a.room.room;
+    } in
     record {
       turns = ap (λ (o : Option ℕ). if_placed s at new (λ u. unwinds_on t u at new) o) a.room.room;
       unwinding = record {
         gives = a.gives;
         sane = record { rip_small = a.sane.rip_small; count = a.sane.count; small = a.sane.small };
         on = record_leaves_the_list t fs program p s.memory at new (context_of r.saved) is
-          (Waits c.frame ∷ c.below) acts a.on room;
+            (Waits c.frame ∷ c.below) acts a.on room;
         kind = refl;
         purpose = (refl, a.carries.code);
         room = placed_room s.memory at new above room;
         at_row = at_first_row t fs program p (Waits c.frame ∷ c.below);
         aimed = aimed;
         space = space_here t fs program p s.memory (context_of r.saved) is c.frame c.below acts at
-          a.on.is_there.linked a.near;
+            a.on.is_there.linked a.near;
       };
     }
 
@@ -310,19 +328,40 @@ answers_continue t fs program p s r is acts exception resumption asked rest c h 
     let is_there = h.on.is_there.stack.0 in
     let waits = h.on.is_there.linked.0 in
     let outer : On t fs program p s.memory (context_of r.saved) is (Waits c.frame ∷ c.below)
-      acts = record { is_there = record { stack = h.on.is_there.stack.1;
-      linked = h.on.is_there.linked.1 }; data_alone = h.on.data_alone } in
+    acts = record {
+      is_there = record {
+        stack = h.on.is_there.stack.1;
+        linked = h.on.is_there.linked.1;
+      };
+      data_alone = h.on.data_alone;
+    } in
     let kind : r.kind ≡ Search = kind_is_search r.kind is_there.kind in
     let room : RecordHasRoom s.memory at r above =
-      record { fits = waits.own.fits; below = is_there.above; small = is_there.small;
-      room = waits.own.room } in
+    record {
+      fits = waits.own.fits;
+      below = is_there.above;
+      small = is_there.small;
+      room = waits.own.room;
+    } in
     let new : DispatchRecord = again r in
     let new_room : RecordHasRoom s.memory at new
-      above = record { fits = fits_again r waits.own.fits; below = is_there.above;
-      small = is_there.small; room = waits.own.room } in
+    above = record {
+      fits = fits_again r waits.own.fits;
+      below = is_there.above;
+      small = is_there.small;
+      room = waits.own.room;
+    } in
     record {
-      next = record { gives = h.gives; sane = h.sane; on = outer; kind = kind; room = room;
-        carries = waits.carries; onward = waits.onward; near = waits.near };
+      next = record {
+        gives = h.gives;
+        sane = h.sane;
+        on = outer;
+        kind = kind;
+        room = room;
+        carries = waits.carries;
+        onward = waits.onward;
+        near = waits.near;
+      };
       address = waits.address;
       takes_over =
           ap (jumping t s at r) waits.before.before
@@ -330,21 +369,26 @@ answers_continue t fs program p s r is acts exception resumption asked rest c h 
           ∙ ap (accepted t s at r r.frame) waits.before.target;
       frame_small = waits.own.fits.frame;
       address_small = subst (λ a. a < 2 ^ 64) waits.before.target
-        (let a : (t.base + waits.before.row.jump_target) % 2 ^ 64 < 2 ^ 64 = omega arith in a);
+          (let a : (t.base + waits.before.row.jump_target) % 2 ^ 64 < 2 ^ 64 = omega arith in a);
       aimed = waits.aimed;
       raises = ap (λ (o : Option ℕ). with_event (raise_event noncontinuable)
-        (if_placed s at new (λ u. searches_on t u at new) o)) waits.own.room;
+          (if_placed s at new (λ u. searches_on t u at new) o)) waits.own.room;
       anew = record {
         gives = h.gives;
         sane = record { rip_small = h.sane.rip_small; count = h.sane.count; small = h.sane.small };
         on = record_leaves_the_list t fs program p s.memory at new (context_of r.saved) is
-          (Waits c.frame ∷ c.below) acts outer new_room;
+            (Waits c.frame ∷ c.below) acts outer new_room;
         kind = kind;
         room = placed_room s.memory at new above new_room;
-        carries = record { code = refl; flag = refl; one_flag = omega arith; count = refl;
-          parameters = refl };
+        carries = record {
+          code = refl;
+          flag = refl;
+          one_flag = omega arith;
+          count = refl;
+          parameters = refl;
+        };
         onward = onward_here t fs program p s.memory (context_of r.saved) is c.frame c.below acts
-          h.on.is_there.linked.1;
+            h.on.is_there.linked.1;
         near = waits.near;
       };
     }
@@ -356,12 +400,21 @@ finally_returns_unwind t fs program p s r is acts rest target items source shown
     record {
       gives = gives;
       sane = sane;
-      on = record { is_there = record { stack = on.is_there.stack.1;
-        linked = on.is_there.linked.1 }; data_alone = on.data_alone };
+      on = record {
+        is_there = record {
+          stack = on.is_there.stack.1;
+          linked = on.is_there.linked.1;
+        };
+        data_alone = on.data_alone;
+      };
       kind = is_there.kind;
       purpose = waits.purpose;
-      room = record { fits = waits.own.fits; below = is_there.above; small = is_there.small;
-        room = waits.own.room };
+      room = record {
+        fits = waits.own.fits;
+        below = is_there.above;
+        small = is_there.small;
+        room = waits.own.room;
+      };
       at_row = waits.row;
       aimed = waits.aimed;
       space = waits.space;

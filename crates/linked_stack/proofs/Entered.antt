@@ -43,50 +43,50 @@ set_small xs i v h lt j l = by (nat_eq j i) refl
         let s : j ≡ i = eqb-true j i e in
         let m = n in
         subst (λ x. x < 2 ^ 64) (sym (ap (slice_index (slice_set xs i v)) s
-          ∙ get_or-set_same xs i v 0 (omega arith))) lt
+        ∙ get_or-set_same xs i v 0 (omega arith))) lt
     by false e =
         let m = n in
         subst (λ x. x < 2 ^ 64) (sym (get_or-set_other xs i j v 0 (eqb-false j i e)))
-          (h j (omega arith))
+        (h j (omega arith))
 
 module _ (s : State) (at back handler first frame : ℕ) (sane : IsSane s)
     (handler_small : handler < 2 ^ 64) (first_small : first < 2 ^ 64) (frame_small : frame < 2 ^ 64)
-    where
-  abbrev after : State
-  after = entered s at back handler first frame
+  where
+    abbrev after : State
+    after = entered s at back handler first frame
 
-  abbrev one : List ℕ
-  one = slice_set s.cpu.registers 1 first
+    abbrev one : List ℕ
+    one = slice_set s.cpu.registers 1 first
 
-  abbrev two : List ℕ
-  two = slice_set one 2 frame
+    abbrev two : List ℕ
+    two = slice_set one 2 frame
 
-  length_one : length one ≡ 16
-  length_one = length-set s.cpu.registers 1 first ∙ sane.count
+    length_one : length one ≡ 16
+    length_one = length-set s.cpu.registers 1 first ∙ sane.count
 
-  length_two : length two ≡ 16
-  length_two = length-set one 2 frame ∙ length_one
+    length_two : length two ≡ 16
+    length_two = length-set one 2 frame ∙ length_one
 
-  pub entered_sane : IsSane after
-  entered_sane = record {
-    rip_small = handler_small;
-    count = length-set two 4 (return_address_at at) ∙ length_two;
-    small = set_small two 4 (return_address_at at)
-      (set_small one 2 frame (set_small s.cpu.registers 1 first sane.small first_small) frame_small)
-      (omega arith);
-  }
+    pub entered_sane : IsSane after
+    entered_sane = record {
+      rip_small = handler_small;
+      count = length-set two 4 (return_address_at at) ∙ length_two;
+      small = set_small two 4 (return_address_at at)
+          (set_small one 2 frame (set_small s.cpu.registers 1 first sane.small first_small) frame_small)
+          (omega arith);
+    }
 
-  pub entered_stack : register after.cpu Rsp ≡ return_address_at at
-  entered_stack = get_or-set_same two 4 (return_address_at at) 0 (let n = length_two in omega arith)
+    pub entered_stack : register after.cpu Rsp ≡ return_address_at at
+    entered_stack = get_or-set_same two 4 (return_address_at at) 0 (let n = length_two in omega arith)
 
-  pub entered_frame : register after.cpu Rdx ≡ frame
-  entered_frame = get_or-set_other two 4 2 (return_address_at at) 0 (λ e. absurd (omega arith))
-      ∙ get_or-set_same one 2 frame 0 (let n = length_one in omega arith)
+    pub entered_frame : register after.cpu Rdx ≡ frame
+    entered_frame = get_or-set_other two 4 2 (return_address_at at) 0 (λ e. absurd (omega arith))
+        ∙ get_or-set_same one 2 frame 0 (let n = length_one in omega arith)
 
-  pub entered_first : register after.cpu Rcx ≡ first
-  entered_first = get_or-set_other two 4 1 (return_address_at at) 0 (λ e. absurd (omega arith))
-      ∙ get_or-set_other one 2 1 frame 0 (λ e. absurd (omega arith))
-      ∙ get_or-set_same s.cpu.registers 1 first 0 (let n = sane.count in omega arith)
+    pub entered_first : register after.cpu Rcx ≡ first
+    entered_first = get_or-set_other two 4 1 (return_address_at at) 0 (λ e. absurd (omega arith))
+        ∙ get_or-set_other one 2 1 frame 0 (λ e. absurd (omega arith))
+        ∙ get_or-set_same s.cpu.registers 1 first 0 (let n = sane.count in omega arith)
 
 -- ---- a record with a frame in hand
 
@@ -118,7 +118,7 @@ few_items t m c [] s lt = omega arith
 few_items t m c (Framed f ∷ is) s lt =
     let k = s.0.kept in
     let up : rsp (after_frame c f) ≡ rsp c + f.size
-      + 8 = set_head c.kept (rsp c + f.size + 8) (omega arith) in
+    + 8 = set_head c.kept (rsp c + f.size + 8) (omega arith) in
     let room = s.0.room in
     let e = few_items t m (after_frame c f) is s.1 (omega arith) in
     omega arith
@@ -145,19 +145,22 @@ module _ (t : Functions) (fs : List Funclet) (program : LinearProgram) (p : Imag
       → frame < 2 ^ 64 → back < 2 ^ 64 → first < 2 ^ 64 → IsFunclet t fs program p name k
       → Reaches t fs program p s.memory name frame activation acts
       → ((others : List ℕ) → On t fs program p (laid s.memory at r back)
-        (context_below back at others) is items acts)
+      (context_below back at others) is items acts)
       → Arrives t fs program p (entered (with_record s at r) at back (p.funclet k) first frame) k
-        activation first items acts
+      activation first items acts
   arrives s at r back first frame above k activation name is items acts sane d room le frame_small
       back_small first_small funclet reach on =
       let old : State = with_record s at r in
-      let sane_old : IsSane old = record { rip_small = sane.rip_small; count = sane.count;
-        small = sane.small } in
+      let sane_old : IsSane old = record {
+        rip_small = sane.rip_small;
+        count = sane.count;
+        small = sane.small;
+      } in
       let new : State = entered old at back (p.funclet k) first frame in
       let stack_is = entered_stack old at back (p.funclet k) first frame sane_old funclet.small
-        first_small frame_small in
+      first_small frame_small in
       let frame_is = entered_frame old at back (p.funclet k) first frame sane_old funclet.small
-        first_small frame_small in
+      first_small frame_small in
       let memory_is = laid_is s.memory at r back above d room back_small in
       let b = room.below in
       let t0 = room.small in
@@ -168,15 +171,15 @@ module _ (t : Functions) (fs : List Funclet) (program : LinearProgram) (p : Imag
         name = name;
         funclet = funclet;
         argument = entered_first old at back (p.funclet k) first frame sane_old funclet.small
-          first_small frame_small;
+            first_small frame_small;
         reaches =
             subst (λ x. Reaches t fs program p new.memory name x activation acts) (sym frame_is)
             (subst (λ (m : Memory). Reaches t fs program p m name frame activation acts)
-              (sym memory_is)
+            (sym memory_is)
             (reaches_above t fs program p s.memory
-              (bytes s.memory at r back above d room back_small) frame name frame activation acts
-              (keeps_above s.memory at r back above d room back_small frame (omega arith))
-              (omega arith) reach));
+            (bytes s.memory at r back above d room back_small) frame name frame activation acts
+            (keeps_above s.memory at r back above d room back_small frame (omega arith))
+            (omega arith) reach));
         at = at;
         stack = omega arith;
         at_small = omega arith;
@@ -188,5 +191,5 @@ module _ (t : Functions) (fs : List Funclet) (program : LinearProgram) (p : Imag
         is = is;
         on = on;
         sane = entered_sane old at back (p.funclet k) first frame sane_old funclet.small first_small
-          frame_small;
+            frame_small;
       }

@@ -27,10 +27,10 @@ module _ (t : Functions) (fs : List Funclet) (program : LinearProgram) (p : Imag
   no_jump rva n (x ∷ xs) all = here (holds x rva) (no_jump rva (n + 1) xs all.1)
     where
       here : (h : Bool) → first_with_jump_target (holding rva (n + 1) xs) ≡ None
-        → first_with_jump_target (cond h ((n, x) ∷ holding rva (n + 1) xs) (holding rva (n + 1) xs))
-        ≡ None
+          → first_with_jump_target (cond h ((n, x) ∷ holding rva (n + 1) xs) (holding rva (n + 1) xs))
+          ≡ None
       here true more = ap (λ b. cond b (first_with_jump_target (holding rva (n + 1) xs))
-        (Some (n, x))) all.0 ∙ more
+          (Some (n, x))) all.0 ∙ more
       here false more = more
 
   -- in all rows, and up to any target
@@ -44,17 +44,17 @@ module _ (t : Functions) (fs : List Funclet) (program : LinearProgram) (p : Imag
   no_blocks rva n (x ∷ xs) all = here (holds x rva) (no_blocks rva (n + 1) xs all.1)
     where
       stop : (b : Bool) (ys : List AskedRecord) → first_finally ys ≡ None
-        → first_finally (cond b [] ((n, x) ∷ ys)) ≡ None
+          → first_finally (cond b [] ((n, x) ∷ ys)) ≡ None
       stop true ys e = refl
       stop false ys e = ap (λ b. cond b (Some (n, x)) (first_finally ys)) all.0 ∙ e
 
       here : (h : Bool) → NoBlocks (holding rva (n + 1) xs)
-        → NoBlocks (cond h ((n, x) ∷ holding rva (n + 1) xs) (holding rva (n + 1) xs))
+          → NoBlocks (cond h ((n, x) ∷ holding rva (n + 1) xs) (holding rva (n + 1) xs))
       here true more = record {
         all = ap (λ b. cond b (Some (n, x)) (first_finally (holding rva (n + 1) xs))) all.0
-          ∙ more.all;
+            ∙ more.all;
         front = λ target. stop (is_end target x) (until target (holding rva (n + 1) xs))
-          (more.front target);
+            (more.front target);
       }
       here false more = more
 
@@ -64,17 +64,17 @@ module _ (t : Functions) (fs : List Funclet) (program : LinearProgram) (p : Imag
   searched_all i rva row f = by f.searched
     where
       hidden : (b : Bool) → first_with_jump_target (rows_from rva row i.scopes) ≡ None
-        → first_with_jump_target (asked_by b i rva row)
-        ≡ first_with_jump_target (rows_from rva row i.scopes)
+          → first_with_jump_target (asked_by b i rva row)
+          ≡ first_with_jump_target (rows_from rva row i.scopes)
       hidden true e = refl
       hidden false e = sym e
 
       by : (is_searched i ≡ true) ⊎ AllFinally t fs program p i.scopes
-        → first_with_jump_target (asked_by (is_searched i) i rva row)
-        ≡ first_with_jump_target (rows_from rva row i.scopes)
+          → first_with_jump_target (asked_by (is_searched i) i rva row)
+          ≡ first_with_jump_target (rows_from rva row i.scopes)
       by (inl e) = ap (λ b. first_with_jump_target (asked_by b i rva row)) e
       by (inr a) = hidden (is_searched i) (no_jump rva row (drop row i.scopes)
-        (finally_dropped row i.scopes a))
+          (finally_dropped row i.scopes a))
 
   pub unwound_all : (i : Info) (rva row : ℕ) (is_last : Bool) (target : ℕ)
       → IsFlagged t fs program p i → first_finally (unwound (Some i) rva row is_last target)
@@ -82,15 +82,15 @@ module _ (t : Functions) (fs : List Funclet) (program : LinearProgram) (p : Imag
   unwound_all i rva row is_last target f = by f.unwound
     where
       hidden : (b is_last : Bool) → NoBlocks (rows_from rva row i.scopes)
-        → first_finally (until_if is_last target (asked_by b i rva row))
-        ≡ first_finally (until_if is_last target (rows_from rva row i.scopes))
+          → first_finally (until_if is_last target (asked_by b i rva row))
+          ≡ first_finally (until_if is_last target (rows_from rva row i.scopes))
       hidden true is_last e = refl
       hidden false true e = sym (e.front target)
       hidden false false e = sym e.all
 
       by : (is_unwound i ≡ true) ⊎ AllExcept t fs program p i.scopes
-        → first_finally (until_if is_last target (asked_by (is_unwound i) i rva row))
-        ≡ first_finally (until_if is_last target (rows_from rva row i.scopes))
+          → first_finally (until_if is_last target (asked_by (is_unwound i) i rva row))
+          ≡ first_finally (until_if is_last target (rows_from rva row i.scopes))
       by (inl e) = ap (λ b. first_finally (until_if is_last target (asked_by b i rva row))) e
       by (inr a) = hidden (is_unwound i) is_last
-        (no_blocks rva row (drop row i.scopes) (except_dropped row i.scopes a))
+          (no_blocks rva row (drop row i.scopes) (except_dropped row i.scopes a))

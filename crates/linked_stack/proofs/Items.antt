@@ -30,8 +30,8 @@ module _ (t : Functions) (fs : List Funclet) (program : LinearProgram) (p : Imag
       (with_bytes m (bytes m at r back (rsp c) on.data_alone room small)) c is items acts
   others_are_at =
       kept_by_stores_below t fs program p m (bytes m at r back (rsp c) on.data_alone room small) c
-        is items acts (keeps_above m at r back (rsp c) on.data_alone room small (rsp c) room.below)
-        on.is_there
+      is items acts (keeps_above m at r back (rsp c) on.data_alone room small (rsp c) room.below)
+      on.is_there
 
 pub record_leaves_the_list : RecordLeavesTheList
 unfolding placed
@@ -50,14 +50,21 @@ search_is_one_more t fs program p m at r is items acts exception resumption aske
     let new = bytes m at r filter_return (rsp c) on.data_alone room small in
     let outer = others_are_at t fs program p m at r filter_return c is items acts on room small in
     subst (λ (n : Memory). On t fs program p n (context_below filter_return at others)
-      (Searching r ∷ is) (Searches exception resumption asked rest ∷ items) acts)
-      (sym (laid_is m at r filter_return (rsp c) on.data_alone room small))
+    (Searching r ∷ is) (Searches exception resumption asked rest ∷ items) acts)
+    (sym (laid_is m at r filter_return (rsp c) on.data_alone room small))
     (record {
       is_there = record {
         stack = (
-          record { at_host = refl; fetches = record_laid m at r filter_return (rsp c) on.data_alone
-            room small; pointers = pointers_laid m at r filter_return (rsp c) on.data_alone room
-            small; kind = kind; above = room.below; small = room.small },
+          record {
+            at_host = refl;
+            fetches = record_laid m at r filter_return (rsp c) on.data_alone
+                room small;
+            pointers = pointers_laid m at r filter_return (rsp c) on.data_alone room
+                small;
+            kind = kind;
+            above = room.below;
+            small = room.small;
+          },
           outer.stack,
         );
         linked = (
@@ -82,16 +89,23 @@ unwinding_is_one_more t fs program p m at r is items acts rest target others on 
     let small : finally_return < 2 ^ 64 = omega arith in
     let new = bytes m at r finally_return (rsp r.walk) on.data_alone room small in
     let outer = others_are_at t fs program p m at r finally_return r.walk is items acts on room
-      small in
+    small in
     subst (λ (n : Memory). On t fs program p n (context_below finally_return at others)
-      (Unwinding r ∷ is) (Unwinds rest target ∷ items) acts)
-      (sym (laid_is m at r finally_return (rsp r.walk) on.data_alone room small))
+    (Unwinding r ∷ is) (Unwinds rest target ∷ items) acts)
+    (sym (laid_is m at r finally_return (rsp r.walk) on.data_alone room small))
     (record {
       is_there = record {
         stack = (
-          record { at_host = refl; fetches = record_laid m at r finally_return (rsp r.walk)
-            on.data_alone room small; pointers = pointers_laid m at r finally_return (rsp r.walk)
-            on.data_alone room small; kind = kind; above = room.below; small = room.small },
+          record {
+            at_host = refl;
+            fetches = record_laid m at r finally_return (rsp r.walk)
+                on.data_alone room small;
+            pointers = pointers_laid m at r finally_return (rsp r.walk)
+                on.data_alone room small;
+            kind = kind;
+            above = room.below;
+            small = room.small;
+          },
           outer.stack,
         );
         linked = (

@@ -47,35 +47,45 @@ module _ (m m' : Memory) (top : ℕ) where
   words_kept low at end [] r le fits h = h
   words_kept low at end (v ∷ vs) r le fits h =
       let e = words_fit m (at + 8) end vs h.1 in
-        (r.words at v le (omega arith) h.0, words_kept low (at + 8) end vs r (omega arith) fits h.1)
+      (r.words at v le (omega arith) h.0, words_kept low (at + 8) end vs r (omega arith) fits h.1)
 
   pub activation_kept : (y : Layout) (sp size k : ℕ) (acts : List Activation) (name : BodyName)
       → ReadsSame m m' sp top → sp + size ≤ top → HasActivation m y sp size k acts name
       → HasActivation m' y sp size k acts name
   activation_kept y sp size k [] (FunctionBody f) r fits h = absurd h
   activation_kept y sp size k (x ∷ outer) (FunctionBody f) r fits h =
-      record { none = h.none; activation = h.activation;
-        values = words_kept sp (sp + y.locals) (sp + size) x.values r (omega arith) fits h.values }
+      record {
+        none = h.none;
+        activation = h.activation;
+        values = words_kept sp (sp + y.locals) (sp + size) x.values r (omega arith) fits h.values;
+      }
   activation_kept y sp size k acts (FuncletBody j) r fits h =
       let room = h.room in
-      record { slot = h.slot; base = h.base; some = h.some; room = h.room;
+      record {
+        slot = h.slot;
+        base = h.base;
+        some = h.some;
+        room = h.room;
         kept = r.words (sp + h.slot) h.base (omega arith) (omega arith) h.kept;
-        activation = h.activation }
+        activation = h.activation;
+      }
 
   module _ (t : Functions) (fs : List Funclet) (program : LinearProgram) (p : ImagePlan) where
     pub pointers_kept : (y : Layout) (sp size : ℕ) (below : List Item) → ReadsSame m m' sp top
-      → sp + size ≤ top → HasPointers t fs program p m y sp size below
-      → HasPointers t fs program p m' y sp size below
+        → sp + size ≤ top → HasPointers t fs program p m y sp size below
+        → HasPointers t fs program p m' y sp size below
     pointers_kept y sp size [] r fits h = tt
     pointers_kept y sp size (Waits w ∷ below) r fits h = tt
     pointers_kept y sp size (Searches exception resumption asked rest ∷ below) r fits h =
-        let room = h.room in record { room = h.room;
-          kept = r.words (sp + y.pointers) (sp + size + 88) (omega arith) (omega arith) h.kept }
+        let room = h.room in record {
+          room = h.room;
+          kept = r.words (sp + y.pointers) (sp + size + 88) (omega arith) (omega arith) h.kept;
+        }
     pointers_kept y sp size (Unwinds rest target ∷ below) r fits h = tt
 
     pub body_kept : (c : Context) (size end : ℕ) (b : Frame) (acts : List Activation)
-      → ReadsSame m m' (rsp c) top → rsp c + size ≤ top → rsp c + end ≤ top
-      → BodyWaits t fs program p m c size end b acts → BodyWaits t fs program p m' c size end b acts
+        → ReadsSame m m' (rsp c) top → rsp c + size ≤ top → rsp c + end ≤ top
+        → BodyWaits t fs program p m c size end b acts → BodyWaits t fs program p m' c size end b acts
     body_kept c size end b acts r fits ends h =
         let y = p.layout b.body in
         record {
@@ -87,13 +97,13 @@ module _ (m m' : Memory) (top : ℕ) where
           small = h.small;
           activation = activation_kept y (rsp c) size b.activation acts b.body r fits h.activation;
           temporaries = words_kept (rsp c) (rsp c + y.temporaries) (rsp c + end) b.temporaries r
-            (omega arith) ends h.temporaries;
+              (omega arith) ends h.temporaries;
           space = h.space;
         }
 
     pub frame_kept : (c : Context) (f : StackFrame) (b : Frame) (below : List Item)
-      (acts : List Activation) → ReadsSame m m' (rsp c) top → rsp c + f.size ≤ top
-      → FrameWaits t fs program p m c f b below acts → FrameWaits t fs program p m' c f b below acts
+        (acts : List Activation) → ReadsSame m m' (rsp c) top → rsp c + f.size ≤ top
+        → FrameWaits t fs program p m c f b below acts → FrameWaits t fs program p m' c f b below acts
     frame_kept c f b below acts r fits h =
         let y = p.layout b.body in
         let e = end_within m y (rsp c) f.size b.activation acts b.body h.waits.activation in
@@ -101,33 +111,41 @@ module _ (m m' : Memory) (top : ℕ) where
           framed = h.framed;
           entry = h.entry;
           waits = body_kept c f.size (temporaries_end y b.body f.size) b acts r fits (omega arith)
-            h.waits;
+              h.waits;
           pointers = pointers_kept y (rsp c) f.size below r fits h.pointers;
           returns = h.returns;
         }
 
     pub leaf_kept : (c : Context) (back : ℕ) (b : Frame) (below : List Item)
-      (acts : List Activation) → ReadsSame m m' (rsp c) top → rsp c + home_end ≤ top
-      → LeafWaits t fs program p m c back b below acts
-      → LeafWaits t fs program p m' c back b below acts
+        (acts : List Activation) → ReadsSame m m' (rsp c) top → rsp c + home_end ≤ top
+        → LeafWaits t fs program p m c back b below acts
+        → LeafWaits t fs program p m' c back b below acts
     leaf_kept c back b below acts r fits h =
         let home = h.home in
         let w = words_fit m (rsp c + (p.layout b.body).temporaries) (rsp c + home_end) b.temporaries
-          h.waits.temporaries in
-        record { leaf = h.leaf; home = h.home; none = h.none;
+        h.waits.temporaries in
+        record {
+          leaf = h.leaf;
+          home = h.home;
+          none = h.none;
           waits = body_kept c (p.layout b.body).temporaries home_end b acts r (omega arith) fits
-          h.waits; returns = h.returns }
+              h.waits;
+          returns = h.returns;
+        }
 
     pub own_kept : (at : ℕ) (d : DispatchRecord) → ReadsSame m m' at top → at + RECORD_SIZE ≤ top
-      → IsOwnRecord t fs program p m at d → IsOwnRecord t fs program p m' at d
-    own_kept at d r fits h = record { fits = h.fits; room = r.places at (omega arith) fits
-      ∙ h.room }
+        → IsOwnRecord t fs program p m at d → IsOwnRecord t fs program p m' at d
+    own_kept at d r fits h = record {
+      fits = h.fits;
+      room = r.places at (omega arith) fits
+          ∙ h.room;
+    }
 
     -- ---- items of the stack
 
     -- a frame is kept where its return address and the code are read as before
     pub frame_above : (low : ℕ) (c : Context) (f : StackFrame) → ReadsSame m m' low top
-      → low ≤ rsp c + f.size → rsp c + f.size + 8 ≤ top → FrameIsAt t m c f → FrameIsAt t m' c f
+        → low ≤ rsp c + f.size → rsp c + f.size + 8 ≤ top → FrameIsAt t m c f → FrameIsAt t m' c f
     frame_above low c f r le fits s = record {
       live = s.live;
       not_filter = s.not_filter;
@@ -144,11 +162,11 @@ module _ (m m' : Memory) (top : ℕ) where
     }
 
     pub frame_is_at : (c : Context) (f : StackFrame) → ReadsSame m m' (rsp c) top
-      → rsp c + f.size + 8 ≤ top → FrameIsAt t m c f → FrameIsAt t m' c f
+        → rsp c + f.size + 8 ≤ top → FrameIsAt t m c f → FrameIsAt t m' c f
     frame_is_at c f r fits s = frame_above (rsp c) c f r (omega arith) fits s
 
     pub leaf_is_at : (c : Context) (back : ℕ) → ReadsSame m m' (rsp c) top → rsp c + 8 ≤ top
-      → LeafIsAt t m c back → LeafIsAt t m' c back
+        → LeafIsAt t m c back → LeafIsAt t m' c back
     leaf_is_at c back r fits s = record {
       live = s.live;
       not_filter = s.not_filter;
@@ -160,8 +178,8 @@ module _ (m m' : Memory) (top : ℕ) where
     }
 
     pub record_is_at : (c : Context) (d : DispatchRecord) (at : ℕ) (kind : Bool) (next : Context)
-      → ReadsSame m m' (rsp c) top → rsp c + RECORD_SIZE ≤ top → RecordIsAt m c d at kind next
-      → RecordIsAt m' c d at kind next
+        → ReadsSame m m' (rsp c) top → rsp c + RECORD_SIZE ≤ top → RecordIsAt m c d at kind next
+        → RecordIsAt m' c d at kind next
     record_is_at c d at kind next r fits s = record {
       at_host = s.at_host;
       fetches = r.records (rsp c) (omega arith) fits ∙ s.fetches;
@@ -183,30 +201,51 @@ module _ (m m' : Memory) (t : Functions) (fs : List Funclet) (program : LinearPr
       let k = s.0.kept in
       let e = set_head c.kept (rsp c + f.size + 8) (omega arith) in
       let l = in_stack t fs program p m (after_frame c f) is below (activations_below b.body acts)
-        s.1 h.2 in
+      s.1 h.2 in
       let outer = list_kept (after_frame c f) is below (activations_below b.body acts)
-        (higher m m' STACK_END (rsp c) (rsp (after_frame c f)) (omega arith) r) s.1 h.2 in
-      record { stack = (frame_is_at m m' STACK_END t fs program p c f r (omega arith) s.0,
-        outer.stack); linked = (frame_kept m m' STACK_END t fs program p c f b below acts r
-        (omega arith) h.0, h.1, outer.linked) }
+      (higher m m' STACK_END (rsp c) (rsp (after_frame c f)) (omega arith) r) s.1 h.2 in
+      record {
+        stack = (
+          frame_is_at m m' STACK_END t fs program p c f r (omega arith) s.0,
+          outer.stack,
+        );
+        linked = (
+          frame_kept m m' STACK_END t fs program p c f b below acts r
+              (omega arith) h.0,
+          h.1,
+          outer.linked,
+        );
+      }
   list_kept c (Leaf back ∷ is) (Waits b ∷ below) acts r s h =
       let k = s.0.kept in
       let e = set_head c.kept (rsp c + 8) (omega arith) in
       let l = in_stack t fs program p m (after_leaf c back) is below (activations_below b.body acts)
-        s.1 h.2 in
+      s.1 h.2 in
       let outer = list_kept (after_leaf c back) is below (activations_below b.body acts)
-        (higher m m' STACK_END (rsp c) (rsp (after_leaf c back)) (omega arith) r) s.1 h.2 in
-      record { stack = (leaf_is_at m m' STACK_END t fs program p c back r (omega arith) s.0,
-        outer.stack); linked = (leaf_kept m m' STACK_END t fs program p c back b below acts r
-        h.0.home h.0, h.1, outer.linked) }
+      (higher m m' STACK_END (rsp c) (rsp (after_leaf c back)) (omega arith) r) s.1 h.2 in
+      record {
+        stack = (
+          leaf_is_at m m' STACK_END t fs program p c back r (omega arith) s.0,
+          outer.stack,
+        );
+        linked = (
+          leaf_kept m m' STACK_END t fs program p c back b below acts r
+              h.0.home h.0,
+          h.1,
+          outer.linked,
+        );
+      }
   list_kept c (Searching d ∷ is) (Searches exception resumption asked rest ∷ below) acts r s h =
       let a = s.0.above in
       let l = in_stack t fs program p m (context_of d.saved) is below acts s.1 h.1 in
       let outer = list_kept (context_of d.saved) is below acts
-        (higher m m' STACK_END (rsp c) (rsp (context_of d.saved)) (omega arith) r) s.1 h.1 in
+      (higher m m' STACK_END (rsp c) (rsp (context_of d.saved)) (omega arith) r) s.1 h.1 in
       record {
-        stack = (record_is_at m m' STACK_END t fs program p c d filter_return true
-          (context_of d.saved) r (omega arith) s.0, outer.stack);
+        stack = (
+          record_is_at m m' STACK_END t fs program p c d filter_return true
+              (context_of d.saved) r (omega arith) s.0,
+          outer.stack,
+        );
         linked = (
           record {
             own = own_kept m m' STACK_END t fs program p (rsp c) d r (omega arith) h.0.own;
@@ -225,13 +264,24 @@ module _ (m m' : Memory) (t : Functions) (fs : List Funclet) (program : LinearPr
       let a = s.0.above in
       let l = in_stack t fs program p m d.walk is below acts s.1 h.1 in
       let outer = list_kept d.walk is below acts
-        (higher m m' STACK_END (rsp c) (rsp d.walk) (omega arith) r) s.1 h.1 in
+      (higher m m' STACK_END (rsp c) (rsp d.walk) (omega arith) r) s.1 h.1 in
       record {
-        stack = (record_is_at m m' STACK_END t fs program p c d finally_return false d.walk r
-          (omega arith) s.0, outer.stack);
-        linked = (record { own = own_kept m m' STACK_END t fs program p (rsp c) d r (omega arith)
-          h.0.own; purpose = h.0.purpose; row = h.0.row; aimed = h.0.aimed; space = h.0.space },
-          outer.linked);
+        stack = (
+          record_is_at m m' STACK_END t fs program p c d finally_return false d.walk r
+              (omega arith) s.0,
+          outer.stack,
+        );
+        linked = (
+          record {
+            own = own_kept m m' STACK_END t fs program p (rsp c) d r (omega arith)
+                h.0.own;
+            purpose = h.0.purpose;
+            row = h.0.row;
+            aimed = h.0.aimed;
+            space = h.0.space;
+          },
+          outer.linked,
+        );
       }
   list_kept c [] (j ∷ items) acts r s h = absurd h
   list_kept c (Framed f ∷ is) [] acts r s h = absurd h
@@ -239,13 +289,13 @@ module _ (m m' : Memory) (t : Functions) (fs : List Funclet) (program : LinearPr
       h
   list_kept c (Framed f ∷ is) (Unwinds rest target ∷ below) acts r s h = absurd h
   list_kept c (Leaf back ∷ is) [] acts r s h = absurd h
-  list_kept c (Leaf back ∷ is) (Searches exception resumption asked rest ∷ below) acts r s
-      h = absurd h
+  list_kept c (Leaf back ∷ is) (Searches exception resumption asked rest ∷ below) acts r s h =
+      absurd h
   list_kept c (Leaf back ∷ is) (Unwinds rest target ∷ below) acts r s h = absurd h
   list_kept c (Searching d ∷ is) [] acts r s h = absurd h
   list_kept c (Searching d ∷ is) (Waits b ∷ below) acts r s h = absurd h
   list_kept c (Searching d ∷ is) (Unwinds rest target ∷ below) acts r s h = absurd h
   list_kept c (Unwinding d ∷ is) [] acts r s h = absurd h
   list_kept c (Unwinding d ∷ is) (Waits b ∷ below) acts r s h = absurd h
-  list_kept c (Unwinding d ∷ is) (Searches exception resumption asked rest ∷ below) acts r s
-      h = absurd h
+  list_kept c (Unwinding d ∷ is) (Searches exception resumption asked rest ∷ below) acts r s h =
+      absurd h

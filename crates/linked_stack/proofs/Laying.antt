@@ -33,8 +33,8 @@ place_of m at lt e = go (nat_lt (2 ^ 64) (return_address_at at + PLACED_SIZE)) r
     (nat_lt (return_address_at at) STACK_START) refl e
   where
     go : (a : Bool) → nat_lt (2 ^ 64) (return_address_at at + PLACED_SIZE) ≡ a → (b : Bool)
-      → nat_lt (return_address_at at) STACK_START ≡ b
-      → cond a (Some 0) (cond b (Some (return_address_at at))
+        → nat_lt (return_address_at at) STACK_START ≡ b
+        → cond a (Some 0) (cond b (Some (return_address_at at))
         (first_refused (may_write m) PLACED_SIZE (return_address_at at))) ≡ None → IsPlace at
     go true h b i e = absurd cc
     go false h true i e = absurd cc
@@ -56,7 +56,7 @@ may_within : (may : ℕ → Bool) (n at x : ℕ) → at < 2 ^ 64 → at ≤ x �
 may_within may n at x lt low high top e =
     let f : (at + (x - at)) % 2 ^ 64 ≡ x = omega arith in
     may_one may x (ap (first_refused may 1) (sym f)
-      ∙ none_within may n (x - at) 1 at lt (omega arith) e)
+    ∙ none_within may n (x - at) 1 at lt (omega arith) e)
 
 -- ---- bytes stay bytes
 
@@ -111,12 +111,12 @@ module _ (m : Memory) (at : ℕ) (r : DispatchRecord) (back above : ℕ) (data_a
       ∙ placing_leaves_others m at r x top room.fits (wider out)
     where
       apart : (x < return_address_at at) ⊎ (at + RECORD_SIZE ≤ x)
-        → IsApart x (return_address_at at) 8
+          → IsApart x (return_address_at at) 8
       apart (inl p) i lt e = absurd (let b = below in let t = top in omega arith)
       apart (inr p) i lt e = absurd (let b = below in let t = top in omega arith)
 
       wider : (x < return_address_at at) ⊎ (at + RECORD_SIZE ≤ x)
-        → (x < at + 32) ⊎ (at + RECORD_SIZE ≤ x)
+          → (x < at + 32) ⊎ (at + RECORD_SIZE ≤ x)
       wider (inl p) = let b = below in inl (omega arith)
       wider (inr p) = inr p
 
@@ -125,12 +125,12 @@ module _ (m : Memory) (at : ℕ) (r : DispatchRecord) (back above : ℕ) (data_a
   code_same x e = by (cases_lt x (return_address_at at)) (cases_lt x (at + RECORD_SIZE))
     where
       by : (x < return_address_at at) ⊎ (return_address_at at ≤ x)
-        → (x < at + RECORD_SIZE) ⊎ (at + RECORD_SIZE ≤ x) → bytes x ≡ m.byte x
+          → (x < at + RECORD_SIZE) ⊎ (at + RECORD_SIZE ≤ x) → bytes x ≡ m.byte x
       by (inl p) q = elsewhere x (inl p)
       by (inr p) (inr q) = elsewhere x (inr q)
       by (inr p) (inl q) =
           let w : may_write m x ≡ true = may_within (may_write m) PLACED_SIZE (return_address_at at)
-            x small p (let b = below in omega arith) (let t = top in omega arith) may_all in
+          x small p (let b = below in omega arith) (let t = top in omega arith) may_all in
           let f : (m.protection x).execute ≡ false = data_alone.no_code x w in
           absurd cc
 
@@ -140,38 +140,46 @@ module _ (m : Memory) (at : ℕ) (r : DispatchRecord) (back above : ℕ) (data_a
   -- the record alone
   pub placed_keeps_above : (low : ℕ) → at + RECORD_SIZE ≤ low
       → KeepsAbove m (placed m at r).byte low
-  placed_keeps_above low le = record { above = λ x q. placing_leaves_others m at r x top room.fits
-      (inr (omega arith)); code = λ x e. by x e (cases_lt x (at + 32))
-      (cases_lt x (at + RECORD_SIZE)) }
+  placed_keeps_above low le = record {
+    above = λ x q. placing_leaves_others m at r x top room.fits
+        (inr (omega arith));
+    code = λ x e. by x e (cases_lt x (at + 32))
+        (cases_lt x (at + RECORD_SIZE));
+  }
     where
       by : (x : ℕ) → (m.protection x).execute ≡ true → (x < at + 32) ⊎ (at + 32 ≤ x)
-        → (x < at + RECORD_SIZE) ⊎ (at + RECORD_SIZE ≤ x) → (placed m at r).byte x ≡ m.byte x
+          → (x < at + RECORD_SIZE) ⊎ (at + RECORD_SIZE ≤ x) → (placed m at r).byte x ≡ m.byte x
       by x e (inl q) o = placing_leaves_others m at r x top room.fits (inl q)
       by x e (inr q) (inr o) = placing_leaves_others m at r x top room.fits (inr o)
       by x e (inr q) (inl o) =
           let w : may_write m x ≡ true = may_within (may_write m) PLACED_SIZE (return_address_at at)
-            x small (let b = below in omega arith) (let b = below in omega arith)
-            (let t = top in omega arith) may_all in
+          x small (let b = below in omega arith) (let b = below in omega arith)
+          (let t = top in omega arith) may_all in
           let f : (m.protection x).execute ≡ false = data_alone.no_code x w in
           absurd cc
 
   pub data_placed : IsData (placed m at r)
   unfolding placed
-  data_placed = record { bytes = placed_bytes m at r data_alone.bytes;
-      no_code = data_alone.no_code }
+  data_placed = record {
+    bytes = placed_bytes m at r data_alone.bytes;
+    no_code = data_alone.no_code;
+  }
 
   pub data_laid : IsData (with_bytes m bytes)
-  data_laid = record { bytes = number_bytes (placed m at r).byte 8 (return_address_at at) back
-      (placed_bytes m at r data_alone.bytes); no_code = data_alone.no_code }
+  data_laid = record {
+    bytes = number_bytes (placed m at r).byte 8 (return_address_at at) back
+        (placed_bytes m at r data_alone.bytes);
+    no_code = data_alone.no_code;
+  }
 
   readable_record : first_refused (may_read m) RECORD_SIZE at ≡ None
   readable_record =
       let e : at ≡ (return_address_at at + 8) % 2 ^
-        64 = (let b = below in let t = top in omega arith) in
+      64 = (let b = below in let t = top in omega arith) in
       ap (first_refused (may_read m) RECORD_SIZE) e
-        ∙ writable_is_readable m RECORD_SIZE ((return_address_at at + 8) % 2 ^ 64)
-          (none_within (may_write m) PLACED_SIZE 8 RECORD_SIZE (return_address_at at) small
-          (omega arith) may_all)
+      ∙ writable_is_readable m RECORD_SIZE ((return_address_at at + 8) % 2 ^ 64)
+      (none_within (may_write m) PLACED_SIZE 8 RECORD_SIZE (return_address_at at) small
+      (omega arith) may_all)
 
   after_placing : (x : ℕ) → at + 32 ≤ x → bytes x ≡ (placed m at r).byte x
   after_placing x low = untouched (placed m at r).byte 8 (return_address_at at) back x
@@ -181,7 +189,7 @@ module _ (m : Memory) (at : ℕ) (r : DispatchRecord) (back above : ℕ) (data_a
   unfolding placed
   record_laid =
       fetched_by_its_bytes (placed m at r) (with_bytes m bytes) at top refl
-        (λ x low high. after_placing x low)
+      (λ x low high. after_placing x low)
       ∙ placed_is_fetched m at r top data_alone.bytes room.fits readable_record
 
   pub pointers_laid : word (with_bytes m bytes) (at + 80) ≡ Ok (at + 96)
@@ -190,33 +198,36 @@ module _ (m : Memory) (at : ℕ) (r : DispatchRecord) (back above : ℕ) (data_a
       let e : (at + 80) % 2 ^ 64 ≡ at + 80 = (let t = top in omega arith) in
       let l = top in
       word_kept (placed m at r) (with_bytes m bytes) (at + 80) (omega arith) (λ x p q. refl)
-        (λ x p q. after_placing x (omega arith))
+      (λ x p q. after_placing x (omega arith))
       ∙ placed_points m at r top (ap (first_refused (may_read m) 8) (sym e)
       ∙ none_within (may_read m) RECORD_SIZE 80 8 at (omega arith) (omega arith) readable_record)
 
   pub word_laid : word (with_bytes m bytes) (return_address_at at) ≡ Ok back
   word_laid =
       ap (λ (o : Option ℕ). readable (return_address_at at)
-        (access false o (number_at bytes 8 (return_address_at at))))
-        (writable_is_readable m 8 (return_address_at at) may_word)
+      (access false o (number_at bytes 8 (return_address_at at))))
+      (writable_is_readable m 8 (return_address_at at) may_word)
       ∙ ap (λ v. Ok v) (stored_is_loaded (placed m at r).byte 8 (return_address_at at) back
-        (omega arith) small ∙ (let e : back % 256 ^ 8 ≡ back = omega arith in e))
+      (omega arith) small ∙ (let e : back % 256 ^ 8 ≡ back = omega arith in e))
 
   pub untouched_but_the_stack : above ≤ STACK_END → IsUntouched m (with_bytes m bytes)
-  untouched_but_the_stack le = record { protection = refl; code = code_same;
-      outside = λ x o. by x o }
+  untouched_but_the_stack le = record {
+    protection = refl;
+    code = code_same;
+    outside = λ x o. by x o;
+  }
     where
       by : (x : ℕ) → (x < STACK_START) ⊎ (STACK_END ≤ x) → bytes x ≡ m.byte x
       by x (inl q) = elsewhere x (inl (let b = below in let l : 0x70000008 ≤ at = place.low in
-        omega arith))
+          omega arith))
       by x (inr q) = elsewhere x (inr (let b = room.below in omega arith))
 
 pub laid_record_leaves_others : LaidRecordLeavesOthers
 laid_record_leaves_others m at r back above d room le small =
     subst (λ (n : Memory). IsUntouched m n) (sym (laid_is m at r back above d room small))
-      (untouched_but_the_stack m at r back above d room small le)
+    (untouched_but_the_stack m at r back above d room small le)
 
 pub return_address_is_laid : ReturnAddressIsLaid
 return_address_is_laid m at r back above d room small =
     ap (λ (n : Memory). word n (return_address_at at)) (laid_is m at r back above d room small)
-      ∙ word_laid m at r back above d room small
+    ∙ word_laid m at r back above d room small

@@ -56,11 +56,15 @@ module _ (t : Functions) (fs : List Funclet) (program : LinearProgram) (p : Imag
       h = record { base = h.base; leads = leads name h.leads; activation = h.activation }
     where
       leads : (n : BodyName) → Leads m (p.layout name) n frame h.base
-        → Leads (with_bytes m byte) (p.layout name) n frame h.base
+          → Leads (with_bytes m byte) (p.layout name) n frame h.base
       leads (FunctionBody f) e = e
       leads (FuncletBody j) e = let r = e.room in
-        record { slot = e.slot; some = e.some; room = e.room;
-        kept = word_above m byte low (frame + e.slot) h.base a (omega arith) (omega arith) e.kept }
+          record {
+            slot = e.slot;
+            some = e.some;
+            room = e.room;
+            kept = word_above m byte low (frame + e.slot) h.base a (omega arith) (omega arith) e.kept;
+          }
 
 -- ---- other memories
 
@@ -75,11 +79,13 @@ pub record KeepsRange (m m' : Memory) (low top : ℕ) : Type 0 where
 module _ (m m' : Memory) (low top : ℕ) (k : KeepsRange m m' low top) (from : STACK_START ≤ low)
     (to : top ≤ STACK_END) where
   same_code : SameCode m m'
-  same_code = record { execute = λ x. execute x ((m.protection x).execute) refl;
-      byte = λ x e. (k.code x e).0 }
+  same_code = record {
+    execute = λ x. execute x ((m.protection x).execute) refl;
+    byte = λ x e. (k.code x e).0;
+  }
     where
       execute : (x : ℕ) (b : Bool) → (m.protection x).execute ≡ b
-        → (m'.protection x).execute ≡ (m.protection x).execute
+          → (m'.protection x).execute ≡ (m.protection x).execute
       execute x true e = ap (λ (q : Protection). q.execute) (k.code x e).1
       execute x false e = k.no_more_code x e ∙ sym e
 
@@ -98,24 +104,24 @@ module _ (m m' : Memory) (low top : ℕ) (k : KeepsRange m m' low top) (from : S
     where
       by : (b : Bool) → nat_lt (return_address_at at) STACK_START ≡ b
           → cond b (Some (return_address_at at))
-            (first_refused (may_write m') PLACED_SIZE (return_address_at at))
+          (first_refused (may_write m') PLACED_SIZE (return_address_at at))
           ≡ cond b (Some (return_address_at at))
-            (first_refused (may_write m) PLACED_SIZE (return_address_at at))
+          (first_refused (may_write m) PLACED_SIZE (return_address_at at))
       by true e = refl
       by false e =
           let h : STACK_START ≤ return_address_at at = ltb-false _ _ e in
           refused_same (may_write m) (may_write m') PLACED_SIZE (return_address_at at) (omega arith)
-            (λ x p q. may_write_same x (omega arith) (omega arith))
+          (λ x p q. may_write_same x (omega arith) (omega arith))
 
   pub reads_other : ReadsSame m m' low top
   reads_other = record {
     words = λ at v p q w. word_kept m m' at (omega arith)
-      (λ x l h. k.protection x (omega arith) (omega arith))
-      (λ x l h. k.bytes x (omega arith) (omega arith)) ∙ w;
+        (λ x l h. k.protection x (omega arith) (omega arith))
+        (λ x l h. k.bytes x (omega arith) (omega arith)) ∙ w;
     records = λ at p q.
         fetched_by_its_bytes m m' at (omega arith)
-          (refused_same (may_read m) (may_read m') RECORD_SIZE at (omega arith)
-          (λ x l h. may_read_same x (omega arith) (omega arith)))
+        (refused_same (may_read m) (may_read m') RECORD_SIZE at (omega arith)
+        (λ x l h. may_read_same x (omega arith) (omega arith)))
         (λ x l h. k.bytes x (omega arith) (omega arith));
     places = places_same;
     tails = tail_at_same m m' same_code;
@@ -125,5 +131,5 @@ pub kept_by_other_memories : KeptByOtherMemories
 kept_by_other_memories t fs program p m m' c is items acts k from s = list_kept m m' t fs program p
     c is items acts
     (reads_other m m' (rsp c) STACK_END (record
-      { bytes = k.bytes; protection = k.protection; code = k.code; no_more_code = k.no_more_code })
-      from (omega arith)) s.stack s.linked
+    { bytes = k.bytes; protection = k.protection; code = k.code; no_more_code = k.no_more_code })
+    from (omega arith)) s.stack s.linked

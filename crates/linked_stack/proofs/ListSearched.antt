@@ -57,7 +57,7 @@ module _ (t : Functions) (fs : List Funclet) (program : LinearProgram) (p : Imag
         filters = f.filters;
         target = f.target;
         first = e ∙ f.first ∙ ap (λ k. Some (k, f.row))
-          (let a : n + 1 + f.off ≡ n + suc f.off = omega arith in a);
+            (let a : n + 1 + f.off ≡ n + suc f.off = omega arith in a);
         is = f.is;
         handlers = λ a d. h a d ∙ f.handlers a d;
         before = f.before;
@@ -70,32 +70,32 @@ module _ (t : Functions) (fs : List Funclet) (program : LinearProgram) (p : Imag
   skipped n x xs r rs e h more =
       deeper n x xs r rs
       (ap (λ b. first_with_jump_target (cond b ((n, x) ∷ holding rva (n + 1) xs)
-        (holding rva (n + 1) xs))) e)
+      (holding rva (n + 1) xs))) e)
       (λ a d. ap (λ b. handlers_in (cond b (r ∷ filter (holds next) rs) (filter (holds next) rs)) a
-        d) h) more
+      d) h) more
 
   module _ (n : ℕ) (x : ScopeRecord) (xs : List ScopeRecord) (r : Region) (rs : List Region)
       (e : rows.holds x rva ≡ true) (h : holds next r ≡ true) where
     -- the record and the region are first
     rows_first : first_with_jump_target (holding rva n (x ∷ xs))
-      ≡ first_with_jump_target ((n, x) ∷ holding rva (n + 1) xs)
+        ≡ first_with_jump_target ((n, x) ∷ holding rva (n + 1) xs)
     rows_first = ap (λ b. first_with_jump_target
-      (cond b ((n, x) ∷ holding rva (n + 1) xs) (holding rva (n + 1) xs))) e
+        (cond b ((n, x) ∷ holding rva (n + 1) xs) (holding rva (n + 1) xs))) e
 
     regions_first : (k : RegionKind) → r.kind ≡ k → (a d : ℕ)
-      → handlers_in (filter (holds next) (r ∷ rs)) a d
-      ≡ handlers_of k a d ++ handlers_in (filter (holds next) rs) a d
+        → handlers_in (filter (holds next) (r ∷ rs)) a d
+        ≡ handlers_of k a d ++ handlers_in (filter (holds next) rs) a d
     regions_first k q a d =
         ap (λ b. handlers_in (cond b (r ∷ filter (holds next) rs) (filter (holds next) rs)) a d) h
         ∙ ap (λ (k : RegionKind). handlers_of k a d ++ handlers_in (filter (holds next) rs) a d) q
 
     jumps : (b : Bool) → (x.jump_target == 0) ≡ b
-      → first_with_jump_target ((n, x) ∷ holding rva (n + 1) xs)
-      ≡ cond b (first_with_jump_target (holding rva (n + 1) xs)) (Some (n, x))
+        → first_with_jump_target ((n, x) ∷ holding rva (n + 1) xs)
+        ≡ cond b (first_with_jump_target (holding rva (n + 1) xs)) (Some (n, x))
     jumps b q = ap (λ b. cond b (first_with_jump_target (holding rva (n + 1) xs)) (Some (n, x))) q
 
     here : (filters : Option ℕ) (target : ℕ) → IsHandlerRow t fs program p name x filters target
-      → (x.jump_target == 0) ≡ false
+        → (x.jump_target == 0) ≡ false
         → ((a d : ℕ) → handlers_in (filter (holds next) (r ∷ rs)) a d
         ≡ record { filter = filters; activation = a; depth = d; target = target }
         ∷ handlers_in (filter (holds next) rs) a d) → First n (x ∷ xs) (r ∷ rs)
@@ -106,20 +106,20 @@ module _ (t : Functions) (fs : List Funclet) (program : LinearProgram) (p : Imag
           filters = filters;
           target = target;
           first = rows_first ∙ jumps false q ∙ ap (λ k. Some (k, x))
-            (let a : n ≡ n + 0 = omega arith in a);
+              (let a : n ≡ n + 0 = omega arith in a);
           is = is;
           handlers = more;
           before = refl;
         }
 
     asked : (k : RegionKind) → r.kind ≡ k → IsOfKind t fs program p name x k → Found (n + 1) xs rs
-      → Found n (x ∷ xs) (r ∷ rs)
+        → Found n (x ∷ xs) (r ∷ rs)
     asked (kinds.Finally k) q is more = deeper n x xs r rs (rows_first ∙ jumps true is.none)
-      (regions_first (kinds.Finally k) q) more
+        (regions_first (kinds.Finally k) q) more
     asked (kinds.Filter k target) q is more = inr
-      (here (Some k) target is is.to.jumps (regions_first (kinds.Filter k target) q))
+        (here (Some k) target is is.to.jumps (regions_first (kinds.Filter k target) q))
     asked (kinds.Always target) q is more = inr
-      (here None target is is.to.jumps (regions_first (kinds.Always target) q))
+        (here None target is is.to.jumps (regions_first (kinds.Always target) q))
 
   -- the regions that hold the one instruction hold the other
   abbrev pub Same : List Region → Type 0
@@ -133,7 +133,7 @@ module _ (t : Functions) (fs : List Funclet) (program : LinearProgram) (p : Imag
     where
       by : Found (n + 1) xs rs → (b : Bool) → holds next r ≡ b → Found n (x ∷ xs) (r ∷ rs)
       by more true h = asked n x xs r rs (s.0.holds label rip inside ∙ same.0 ∙ h) h r.kind refl
-        s.0.kind more
+          s.0.kind more
       by more false h = skipped n x xs r rs (s.0.holds label rip inside ∙ same.0 ∙ h) h more
   first_handler n [] (r ∷ rs) s same = absurd s
   first_handler n (x ∷ xs) [] s same = absurd s
@@ -141,15 +141,15 @@ module _ (t : Functions) (fs : List Funclet) (program : LinearProgram) (p : Imag
 pub search_finds_the_handlers : SearchFindsTheHandlers
 search_finds_the_handlers t fs program p name next rip row scopes rs s =
     of (first_handler t fs program p name next s.label rip s.inside row (drop row scopes)
-      (drop row rs) (regions_dropped t fs program p name row scopes rs s.rows)
+    (drop row rs) (regions_dropped t fs program p name row scopes rs s.rows)
     (all_dropped (λ (r : Region). holds s.label r ≡ holds next r) row rs s.same))
   where
     of : Found t fs program p name next s.label rip s.inside row (drop row scopes) (drop row rs)
         → NoHandler t fs program p (holding (distance t.base rip) row (drop row scopes))
-          (filter (holds next) (drop row rs))
+        (filter (holds next) (drop row rs))
         ⊎ FirstHandler t fs program p name scopes
-          (holding (distance t.base rip) row (drop row scopes)) (filter (holds next) (drop row rs))
-          (λ row. filter (holds next) (drop row rs))
+        (holding (distance t.base rip) row (drop row scopes)) (filter (holds next) (drop row rs))
+        (λ row. filter (holds next) (drop row rs))
     of (inl none) = inl none
     of (inr f) =
         inr (record {
@@ -160,10 +160,14 @@ search_finds_the_handlers t fs program p name next rip row scopes rs s =
           first = f.first;
           is = f.is;
           handlers = λ a d. f.handlers a d ∙ ap
-            (λ (rs : List Region). record { filter = f.filters; activation = a; depth = d;
-            target = f.target } ∷ handlers_in (filter (holds next) rs) a d)
-            (dropped_again row f.off (row + f.off) rs refl);
+              (λ (rs : List Region). record {
+                filter = f.filters;
+                activation = a;
+                depth = d;
+                target = f.target;
+              } ∷ handlers_in (filter (holds next) rs) a d)
+              (dropped_again row f.off (row + f.off) rs refl);
           before = ap (row_before scopes) (let a : row + f.off + 1
-            ≡ suc (row + f.off) = omega arith in a)
-            ∙ row_before_dropped row f.off scopes f.row f.before;
+              ≡ suc (row + f.off) = omega arith in a)
+              ∙ row_before_dropped row f.off scopes f.row f.before;
         })

@@ -36,22 +36,22 @@ search_is_of_the_list t m c row [] (suc k) s lt = ap
     (stack_is_over t m c row s)
 search_is_of_the_list t m c row (Framed f ∷ is) (suc k) s lt =
     ap (λ (i : walk.Visited). continue_walk (search k t m) (searches.decided t (state c row) i))
-      (frame_is_visited t m c row f s.0)
+    (frame_is_visited t m c row f s.0)
     ∙ chosen_either t c (search k t m) (state (after_frame c f) 0)
-      (plain_search t (after_frame c f) 0 is) (asked_row t c row f)
-      (search_is_of_the_list t m (after_frame c f) 0 is k s.1 (omega arith))
+    (plain_search t (after_frame c f) 0 is) (asked_row t c row f)
+    (search_is_of_the_list t m (after_frame c f) 0 is k s.1 (omega arith))
 search_is_of_the_list t m c row (Leaf back ∷ is) (suc k) s lt =
     ap (λ (i : walk.Visited). continue_walk (search k t m) (searches.decided t (state c row) i))
-      (leaf_is_visited t m c row back s.0) ∙ search_is_of_the_list t m (after_leaf c back) 0 is k
-      s.1 (omega arith)
+    (leaf_is_visited t m c row back s.0) ∙ search_is_of_the_list t m (after_leaf c back) 0 is k
+    s.1 (omega arith)
 search_is_of_the_list t m c row (Searching r ∷ is) (suc k) s lt =
     ap (λ (i : walk.Visited). continue_walk (search k t m) (searches.decided t (state c row) i))
-      (search_is_passed t m c row r s.0) ∙ search_is_of_the_list t m (context_of r.saved) 0 is k s.1
-      (omega arith)
+    (search_is_passed t m c row r s.0) ∙ search_is_of_the_list t m (context_of r.saved) 0 is k s.1
+    (omega arith)
 search_is_of_the_list t m c row (Unwinding r ∷ is) (suc k) s lt =
     ap (λ (i : walk.Visited). continue_walk (search k t m) (searches.decided t (state c row) i))
-      (unwinding_is_passed t m c row r s.0) ∙ search_is_of_the_list t m r.walk r.row is k s.1
-      (omega arith)
+    (unwinding_is_passed t m c row r s.0) ∙ search_is_of_the_list t m r.walk r.row is k s.1
+    (omega arith)
 
 -- ---- unwindings
 
@@ -73,8 +73,8 @@ module _ (t : Functions) (others : WalkState → UnwindResult) (u : WalkState) (
   past_either frame target c row f true = refl
   past_either frame target c row f false =
       row_either (rsp c) c (nat_eq (rsp c) frame)
-        (first_finally (unwound (Some f.entry.info) (distance t.base c.rip) row
-        (nat_eq (rsp c) frame) (distance t.base target)))
+      (first_finally (unwound (Some f.entry.info) (distance t.base c.rip) row
+      (nat_eq (rsp c) frame) (distance t.base target)))
 
   leaf_either : (frame target : ℕ) (c : Context) (row back : ℕ) (b : Bool)
       → continue_walk others (if_past t frame target (state c row) (caller_of_leaf c back) u b)
@@ -87,26 +87,26 @@ unfolding unwind
 unwinding_is_of_the_list t m frame target c row is zero s lt = absurd (omega arith)
 unwinding_is_of_the_list t m frame target c row [] (suc k) s lt =
     ap (λ (i : walk.Visited). continue_walk (unwind k t m frame target)
-      (unwinds.decided t frame target (state c row) i)) (stack_is_over t m c row s)
+    (unwinds.decided t frame target (state c row) i)) (stack_is_over t m c row s)
 unwinding_is_of_the_list t m frame target c row (Framed f ∷ is) (suc k) s lt =
     ap (λ (i : walk.Visited). continue_walk (unwind k t m frame target)
-      (unwinds.decided t frame target (state c row) i)) (frame_is_visited t m c row f s.0)
+    (unwinds.decided t frame target (state c row) i)) (frame_is_visited t m c row f s.0)
     ∙ past_either t (unwind k t m frame target) (state (after_frame c f) 0)
-      (plain_unwind t frame target (after_frame c f) 0 is)
-      (unwinding_is_of_the_list t m frame target (after_frame c f) 0 is k s.1 (omega arith)) frame
-      target c row f (nat_lt frame (rsp c))
+    (plain_unwind t frame target (after_frame c f) 0 is)
+    (unwinding_is_of_the_list t m frame target (after_frame c f) 0 is k s.1 (omega arith)) frame
+    target c row f (nat_lt frame (rsp c))
 unwinding_is_of_the_list t m frame target c row (Leaf back ∷ is) (suc k) s lt =
     ap (λ (i : walk.Visited). continue_walk (unwind k t m frame target)
-      (unwinds.decided t frame target (state c row) i)) (leaf_is_visited t m c row back s.0)
+    (unwinds.decided t frame target (state c row) i)) (leaf_is_visited t m c row back s.0)
     ∙ leaf_either t (unwind k t m frame target) (state (after_leaf c back) 0)
-      (plain_unwind t frame target (after_leaf c back) 0 is)
-      (unwinding_is_of_the_list t m frame target (after_leaf c back) 0 is k s.1 (omega arith)) frame
-      target c row back (nat_lt frame (rsp c))
+    (plain_unwind t frame target (after_leaf c back) 0 is)
+    (unwinding_is_of_the_list t m frame target (after_leaf c back) 0 is k s.1 (omega arith)) frame
+    target c row back (nat_lt frame (rsp c))
 unwinding_is_of_the_list t m frame target c row (Searching r ∷ is) (suc k) s lt =
     ap (λ (i : walk.Visited). continue_walk (unwind k t m frame target)
-      (unwinds.decided t frame target (state c row) i)) (search_is_passed t m c row r s.0)
-      ∙ unwinding_is_of_the_list t m frame target (context_of r.saved) 0 is k s.1 (omega arith)
+    (unwinds.decided t frame target (state c row) i)) (search_is_passed t m c row r s.0)
+    ∙ unwinding_is_of_the_list t m frame target (context_of r.saved) 0 is k s.1 (omega arith)
 unwinding_is_of_the_list t m frame target c row (Unwinding r ∷ is) (suc k) s lt =
     ap (λ (i : walk.Visited). continue_walk (unwind k t m frame target)
-      (unwinds.decided t frame target (state c row) i)) (unwinding_is_passed t m c row r s.0)
-      ∙ unwinding_is_of_the_list t m frame target r.walk r.row is k s.1 (omega arith)
+    (unwinds.decided t frame target (state c row) i)) (unwinding_is_passed t m c row r s.0)
+    ∙ unwinding_is_of_the_list t m frame target r.walk r.row is k s.1 (omega arith)

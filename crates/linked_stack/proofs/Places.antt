@@ -32,7 +32,7 @@ module _ (t : Functions) (fs : List Funclet) (program : LinearProgram) (p : Imag
     (name : BodyName) where
   pub regions_dropped : (row : ℕ) (xs : List ScopeRecord) (rs : List Region)
       → AreRegions t fs program p name xs rs → AreRegions t fs program p name (drop row xs)
-        (drop row rs)
+      (drop row rs)
   regions_dropped zero xs rs h = h
   regions_dropped (suc row) [] [] h = tt
   regions_dropped (suc row) (x ∷ xs) (r ∷ rs) h = regions_dropped row xs rs h.1

@@ -24,11 +24,11 @@ not_executable : (m : Memory) (at x : ℕ) → ((y : ℕ) → IsBetween y (at + 
 not_executable m at x h e = low (cases_lt x (at + 32)) (cases_lt x (at + RECORD_SIZE))
   where
     low : (x < at + 32) ⊎ (at + 32 ≤ x) → (x < at + RECORD_SIZE) ⊎ (at + RECORD_SIZE ≤ x)
-      → (x < at + 32) ⊎ (at + RECORD_SIZE ≤ x)
+        → (x < at + 32) ⊎ (at + RECORD_SIZE ≤ x)
     low (inl p) q = inl p
     low (inr p) (inr q) = inr q
     low (inr p) (inl q) = let f : (m.protection x).execute
-      ≡ false = h x (record { low = p; high = q }) in absurd cc
+        ≡ false = h x (record { low = p; high = q }) in absurd cc
 
 module _ (t : Functions) (m : Memory) (is : List StackItem) (r : DispatchRecord) (at : ℕ)
     (others : List ℕ) where
@@ -40,15 +40,15 @@ module _ (t : Functions) (m : Memory) (is : List StackItem) (r : DispatchRecord)
   -- the record is there, and what was above it still is
   is_there : (address : ℕ) (b : Bool) (above : Context) → is_search r.kind ≡ b
       → CanBePlaced m at r above → RecordIsAt (placed m at r) (context_below address at others) r
-        address b above
+      address b above
   is_there address b above kind p =
       let top = top_of above p (cases_lt (at + RECORD_SIZE) (2 ^ 64)) in
       record {
         at_host = refl;
         fetches = placed_is_fetched m at r top p.bytes p.fits p.readable;
         pointers = placed_points m at r top (let e : (at + 80) % 2 ^ 64 ≡ at + 80 = omega arith in
-          ap (first_refused (may_read m) 8) (sym e)
-          ∙ none_within (may_read m) RECORD_SIZE 80 8 at (omega arith) (omega arith) p.readable);
+            ap (first_refused (may_read m) 8) (sym e)
+            ∙ none_within (may_read m) RECORD_SIZE 80 8 at (omega arith) (omega arith) p.readable);
         kind = kind;
         above = p.below;
         small = p.small;
@@ -62,20 +62,24 @@ module _ (t : Functions) (m : Memory) (is : List StackItem) (r : DispatchRecord)
       kept_by_other_stores t m (placed m at r).byte above is
       (record {
         code = λ x e. placing_leaves_others m at r x top p.fits
-          (not_executable m at x p.not_code e);
+            (not_executable m at x p.not_code e);
         owned = λ x o. placing_leaves_others m at r x top p.fits
-          (high x o (cases_lt x (rsp above)));
+            (high x o (cases_lt x (rsp above)));
       }) s
     where
       high : (x : ℕ) → Owned above is x → (x < rsp above) ⊎ (rsp above ≤ x)
-        → (x < at + 32) ⊎ (at + RECORD_SIZE ≤ x)
+          → (x < at + 32) ⊎ (at + RECORD_SIZE ≤ x)
       high x o (inl q) = absurd (nothing_below_is_owned t m above is x s q o)
       high x o (inr q) = let a = p.below in inr (omega arith)
 
 pub record_is_one_more : RecordIsOneMore
 record_is_one_more t m is r at others = record {
-  search = λ k p s. (is_there t m is r at others filter_return true (context_of r.saved) k p,
-      rest_is_at t m is r at others (context_of r.saved) p s);
-  unwinding = λ k p s. (is_there t m is r at others finally_return false r.walk k p,
-      rest_is_at t m is r at others r.walk p s);
+  search = λ k p s. (
+    is_there t m is r at others filter_return true (context_of r.saved) k p,
+    rest_is_at t m is r at others (context_of r.saved) p s,
+  );
+  unwinding = λ k p s. (
+    is_there t m is r at others finally_return false r.walk k p,
+    rest_is_at t m is r at others r.walk p s,
+  );
 }

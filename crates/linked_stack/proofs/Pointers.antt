@@ -23,7 +23,7 @@ module _ (m : Memory) (at : ℕ) (r : DispatchRecord) (top : at + RECORD_SIZE < 
       let o : (48 + i) % 8 ≡ i = omega arith in
       let a : (at + 96) % 2 ^ 64 ≡ at + 96 = omega arith in
       ap (λ k. get_or (words at r) k 0 / 256 ^ ((48 + i) % 8) % 256) q
-        ∙ ap (λ j. (at + 96) % 2 ^ 64 / 256 ^ j % 256) o ∙ ap (λ v. v / 256 ^ i % 256) a
+      ∙ ap (λ j. (at + 96) % 2 ^ 64 / 256 ^ j % 256) o ∙ ap (λ v. v / 256 ^ i % 256) a
 
   of_block : (i : ℕ) → i < 8 → (placed m at r).byte (pointers_at + i)
       ≡ byte_of (words at r) (48 + i)
@@ -36,7 +36,7 @@ module _ (m : Memory) (at : ℕ) (r : DispatchRecord) (top : at + RECORD_SIZE < 
       let l : x < start + 8 * 192 = omega arith in
       let o : x - start ≡ 48 + i = omega arith in
       ap (λ b. block_byte m.byte start (words at r) x (b && nat_lt x (start + 8 * 192)))
-        (le-leb start x p)
+      (le-leb start x p)
       ∙ ap (block_byte m.byte start (words at r) x) (lt-ltb x (start + 8 * 192) l)
       ∙ ap (byte_of (words at r)) o
 
@@ -45,16 +45,16 @@ module _ (m : Memory) (at : ℕ) (r : DispatchRecord) (top : at + RECORD_SIZE < 
   of_number i lt =
       let d : distance pointers_at (pointers_at + i) ≡ i = omega arith in
       among m.byte 8 pointers_at (at + 96) (pointers_at + i) (omega arith) (omega arith)
-        ∙ ap (λ k. (at + 96) / 256 ^ k % 256) d
+      ∙ ap (λ k. (at + 96) / 256 ^ k % 256) d
 
   number_placed : number_at (placed m at r).byte 8 pointers_at ≡ at + 96
   number_placed =
       let s : (at + 96) % 256 ^ 8 ≡ at + 96 = omega arith in
       number_same (placed m at r).byte (with_number m.byte 8 pointers_at (at + 96)) 8 pointers_at
-        (omega arith) (λ i lt.
+      (omega arith) (λ i lt.
       let e : (pointers_at + i) % 2 ^ 64 ≡ pointers_at + i = omega arith in
       ap (placed m at r).byte e ∙ of_block i lt ∙ of_word i lt ∙ sym (of_number i lt)
-        ∙ ap (with_number m.byte 8 pointers_at (at + 96)) (sym e))
+      ∙ ap (with_number m.byte 8 pointers_at (at + 96)) (sym e))
       ∙ stored_is_loaded m.byte 8 pointers_at (at + 96) (omega arith) (omega arith)
       ∙ s
 
@@ -64,5 +64,5 @@ module _ (m : Memory) (at : ℕ) (r : DispatchRecord) (top : at + RECORD_SIZE < 
   unfolding placed
   placed_points readable_there =
       ap (λ (o : Option ℕ). readable (at + 80)
-        (access false o (number_at (placed m at r).byte 8 (at + 80)))) readable_there
+      (access false o (number_at (placed m at r).byte 8 (at + 80)))) readable_there
       ∙ ap (λ v. Ok v) number_placed

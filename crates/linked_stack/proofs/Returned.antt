@@ -50,7 +50,7 @@ module _ (t : Functions) (fs : List Funclet) (program : LinearProgram) (p : Imag
       ap (filter_returned t s at) h.on.is_there.stack.0.fetches
       ∙ ap (if_searching t s at r) h.on.is_there.stack.0.kind
       ∙ ap (λ (x : ℤ). with_event (events.Answer x) (by_answer t s at r v (v == 0)))
-        (signed_low (register s.cpu Rax))
+      (signed_low (register s.cpu Rax))
 
   -- EAX has 32 bits
   low_answer : low W32 v ≡ v
@@ -61,22 +61,22 @@ module _ (t : Functions) (fs : List Funclet) (program : LinearProgram) (p : Imag
       → (next : Next)
       → linear_answer program s exception resumption asked rest c next
       ≡ pick a (search program next rest exception resumption (answered s c))
-        (pick b (accept program asked exception next (answered s c))
-        (pick d (raise program next noncontinuable resumption (answered s c))
-        (next (resumed resumption (answered s c)))))
+      (pick b (accept program asked exception next (answered s c))
+      (pick d (raise program next noncontinuable resumption (answered s c))
+      (next (resumed resumption (answered s c)))))
   linear a b d e f g next =
       ap (λ x. pick x (search program next rest exception resumption (answered s c))
-        (pick (nat_lt (low W32 v) (2 ^ 31)) (accept program asked exception next (answered s c))
-        (pick exception.flag (raise program next noncontinuable resumption (answered s c))
-        (next (resumed resumption (answered s c)))))) (ap (λ n. nat_eq n 0) low_answer ∙ e)
+      (pick (nat_lt (low W32 v) (2 ^ 31)) (accept program asked exception next (answered s c))
+      (pick exception.flag (raise program next noncontinuable resumption (answered s c))
+      (next (resumed resumption (answered s c)))))) (ap (λ n. nat_eq n 0) low_answer ∙ e)
       ∙ ap (λ x. pick a (search program next rest exception resumption (answered s c))
-        (pick x (accept program asked exception next (answered s c))
-        (pick exception.flag (raise program next noncontinuable resumption (answered s c))
-        (next (resumed resumption (answered s c)))))) (ap (λ n. nat_lt n (2 ^ 31)) low_answer ∙ f)
+      (pick x (accept program asked exception next (answered s c))
+      (pick exception.flag (raise program next noncontinuable resumption (answered s c))
+      (next (resumed resumption (answered s c)))))) (ap (λ n. nat_lt n (2 ^ 31)) low_answer ∙ f)
       ∙ ap (λ x. pick a (search program next rest exception resumption (answered s c))
-        (pick b (accept program asked exception next (answered s c))
-        (pick x (raise program next noncontinuable resumption (answered s c))
-        (next (resumed resumption (answered s c)))))) g
+      (pick b (accept program asked exception next (answered s c))
+      (pick x (raise program next noncontinuable resumption (answered s c))
+      (next (resumed resumption (answered s c)))))) g
 
   asks_the_next : nat_eq v 0 ≡ true → AsksTheNext t program s r exception resumption asked rest c
   unfolding pick
@@ -98,7 +98,7 @@ module _ (t : Functions) (fs : List Funclet) (program : LinearProgram) (p : Imag
             ∙ ap (λ x. with_answer s (by_sign t s at r x)) f
             ∙ ap (with_answer s) b.takes_over;
         goes = λ next. linear false true exception.flag e
-          (lt-ltb v (2 ^ 31) (leb-false (2 ^ 31) v f)) refl next;
+            (lt-ltb v (2 ^ 31) (leb-false (2 ^ 31) v f)) refl next;
         frame_small = b.frame_small;
         address_small = b.address_small;
         aimed = b.aimed;
@@ -111,7 +111,7 @@ module _ (t : Functions) (fs : List Funclet) (program : LinearProgram) (p : Imag
       ∙ ap (λ x. with_answer s (by_answer t s at r v x)) e
       ∙ ap (λ x. with_answer s (by_sign t s at r x)) f
       ∙ ap (λ x. with_answer s (continued t s at r x))
-        (h.on.is_there.linked.0.carries.flag ∙ ap not g)
+      (h.on.is_there.linked.0.carries.flag ∙ ap not g)
 
   is_continued : nat_eq v 0 ≡ false → nat_le (2 ^ 31) v ≡ true → exception.flag ≡ false
       → ContinuesException t fs program p s r is acts exception resumption asked rest c
@@ -119,11 +119,18 @@ module _ (t : Functions) (fs : List Funclet) (program : LinearProgram) (p : Imag
   is_continued e f g = record {
     turns = below_zero e f false g;
     goes = λ next. linear false false false e (le-ltb v (2 ^ 31) (leb-true (2 ^ 31) v f)) g next;
-    on = record { is_there = record { stack = h.on.is_there.stack.1;
-      linked = h.on.is_there.linked.1 }; data_alone = h.on.data_alone };
-    sane = record { rip_small = h.on.is_there.linked.0.own.fits.rip;
+    on = record {
+      is_there = record {
+        stack = h.on.is_there.stack.1;
+        linked = h.on.is_there.linked.1;
+      };
+      data_alone = h.on.data_alone;
+    };
+    sane = record {
+      rip_small = h.on.is_there.linked.0.own.fits.rip;
       count = h.on.is_there.linked.0.own.fits.registers;
-      small = h.on.is_there.linked.0.own.fits.registers_small };
+      small = h.on.is_there.linked.0.own.fits.registers_small;
+    };
     resumes = h.on.is_there.linked.0.resumes;
   }
 

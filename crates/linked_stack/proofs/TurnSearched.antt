@@ -40,8 +40,8 @@ use Rattle.linked_stack.proofs.Entered.{with_record, fits_in_hand, few_items, en
 module _ (t : Functions) (fs : List Funclet) (program : LinearProgram) (p : ImagePlan) (s : State)
     (at : ℕ) (r : DispatchRecord) (is : List StackItem) (acts : List Activation)
     (exception : Exception) (resumption : Resumption) (found : List Handler) (c : Configuration)
-      (h : IsSearching t fs program p s at r is acts exception found c)
-      (resumes : p.resumes resumption c.frame r.saved ≡ true) where
+    (h : IsSearching t fs program p s at r is acts exception found c)
+    (resumes : p.resumes resumption c.frame r.saved ≡ true) where
   abbrev items : List Item
   items = Waits c.frame ∷ c.below
 
@@ -52,19 +52,22 @@ module _ (t : Functions) (fs : List Funclet) (program : LinearProgram) (p : Imag
   pointers_above : (hand : DispatchRecord) → RecordHasRoom s.memory at hand
       (rsp (context_of r.saved)) → (frame k : ℕ) → p.funclet k < 2 ^ 64 → frame < 2 ^ 64
       → let cpu : Cpu = (entered (with_record t fs program p s at hand) at filter_return
-        (p.funclet k) ((at + 80) % 2 ^ 64) frame).cpu in register cpu Rcx ≡ register cpu Rsp + 88
+      (p.funclet k) ((at + 80) % 2 ^ 64) frame).cpu in register cpu Rcx ≡ register cpu Rsp + 88
   pointers_above hand room frame k handler_small frame_small =
       let old : State = with_record t fs program p s at hand in
-      let sane : IsSane old = record { rip_small = h.sane.rip_small; count = h.sane.count;
-        small = h.sane.small } in
+      let sane : IsSane old = record {
+        rip_small = h.sane.rip_small;
+        count = h.sane.count;
+        small = h.sane.small;
+      } in
       let b = room.below in
       let small = room.small in
       let place : IsPlace at = place_of s.memory at (omega arith) room.room in
       let l : 0x70000008 ≤ at = place.low in
       let first = entered_first old at filter_return (p.funclet k) ((at + 80) % 2 ^ 64) frame sane
-        handler_small (omega arith) frame_small in
+      handler_small (omega arith) frame_small in
       let sp = entered_stack old at filter_return (p.funclet k) ((at + 80) % 2 ^ 64) frame sane
-        handler_small (omega arith) frame_small in
+      handler_small (omega arith) frame_small in
       let e : (at + 80) % 2 ^ 64 ≡ return_address_at at + 88 = omega arith in
       first ∙ e ∙ ap (λ x. x + 88) (sym sp)
 
@@ -78,11 +81,15 @@ module _ (t : Functions) (fs : List Funclet) (program : LinearProgram) (p : Imag
       let hand : DispatchRecord = in_hand r a.frame a.next a.to in
       let hand_fits : RecordFits hand = fits_in_hand r a.frame a.next a.to h.room.fits a.kept in
       let room : RecordHasRoom s.memory at hand
-        above = record { fits = hand_fits; below = h.room.below; small = h.room.small;
-        room = h.room.room } in
+      above = record {
+        fits = hand_fits;
+        below = h.room.below;
+        small = h.room.small;
+        room = h.room.room;
+      } in
       let kind : is_search hand.kind ≡ true = ap is_search h.kind in
       let new : State = entered (with_record t fs program p s at hand) at filter_return
-        (p.funclet k) ((at + 80) % 2 ^ 64) a.frame in
+      (p.funclet k) ((at + 80) % 2 ^ 64) a.frame in
       let le = a.above in
       let frame_small = a.kept.frame_small in
       record {
@@ -94,24 +101,28 @@ module _ (t : Functions) (fs : List Funclet) (program : LinearProgram) (p : Imag
         turns =
             ap turn_of a.answer
             ∙ ap (λ (o : Option ℕ). arrived t fs
-              (if_placed s at hand (λ u. Continues
-              (entered u at filter_return (p.funclet k) ((at + 80) % 2 ^ 64) a.frame) []) o))
-              h.room.room
+            (if_placed s at hand (λ u. Continues
+            (entered u at filter_return (p.funclet k) ((at + 80) % 2 ^ 64) a.frame) []) o))
+            h.room.room
             ∙ ap (Continues new) (a.named new.cpu);
         goes = λ next. ap (λ (o : Option ℕ). consult program o f rest exception resumption next c)
-          e;
+            e;
         arrives = arrives t fs program p s at hand filter_return ((at + 80) % 2 ^ 64) a.frame above
-          k f.activation a.name (Searching hand ∷ is) (Searches exception resumption f rest ∷ items)
-          acts
+            k f.activation a.name (Searching hand ∷ is) (Searches exception resumption f rest ∷ items)
+            acts
             h.sane h.on.data_alone room le frame_small (omega arith) (omega arith) a.funclet
-              a.reaches
+            a.reaches
             (λ others. search_is_one_more t fs program p s.memory at hand is items acts exception
-              resumption f rest others h.on kind room
+            resumption f rest others h.on kind room
             (record {
               own = record { fits = hand_fits; room = h.room.room };
-              carries = record { code = h.carries.code; flag = h.carries.flag;
-                one_flag = h.carries.one_flag; count = h.carries.count;
-                parameters = h.carries.parameters };
+              carries = record {
+                code = h.carries.code;
+                flag = h.carries.flag;
+                one_flag = h.carries.one_flag;
+                count = h.carries.count;
+                parameters = h.carries.parameters;
+              };
               resumes = resumes;
               onward = a.onward;
               address = a.address;
@@ -125,14 +136,14 @@ module _ (t : Functions) (fs : List Funclet) (program : LinearProgram) (p : Imag
         list = refl;
         pointers = pointers_above hand room a.frame k a.funclet.small frame_small;
         untouched = laid_record_leaves_others s.memory at hand filter_return above h.on.data_alone
-          room (in_stack t fs program p s.memory (context_of r.saved) is items acts
-          h.on.is_there.stack h.on.is_there.linked) (omega arith);
+            room (in_stack t fs program p s.memory (context_of r.saved) is items acts
+            h.on.is_there.stack h.on.is_there.linked) (omega arith);
       }
 
   takes_over : (x : SearchResult) (f : Handler) (rest : List Handler) → f.filter ≡ None
       → Accepts t fs program p (context_of r.saved) is items x f
       → TakesOver t fs program p s at r (turn_of x) (f ∷ rest) exception resumption
-        (context_of r.saved) is c
+      (context_of r.saved) is c
   takes_over x f rest e a =
       record {
         handler = f;
@@ -140,7 +151,7 @@ module _ (t : Functions) (fs : List Funclet) (program : LinearProgram) (p : Imag
         address = a.address;
         turns = ap turn_of a.answer;
         goes = λ next. ap (λ (o : Option ℕ). consult program o f rest exception resumption next c)
-          e;
+            e;
         frame_small = a.frame_small;
         address_small = a.address_small;
         aimed = a.aimed;
@@ -150,7 +161,7 @@ module _ (t : Functions) (fs : List Funclet) (program : LinearProgram) (p : Imag
   Turned x hs =
       FilterBegins t fs program p s at r (turn_of x) hs exception resumption is acts c
       ⊎ (TakesOver t fs program p s at r (turn_of x) hs exception resumption (context_of r.saved) is
-        c
+      c
       ⊎ NobodyTakesOver t fs program p (turn_of x) hs exception resumption c)
 
   by_filter : (x : SearchResult) (f : Handler) (rest : List Handler) (o : Option ℕ) → f.filter ≡ o
@@ -164,7 +175,7 @@ module _ (t : Functions) (fs : List Funclet) (program : LinearProgram) (p : Imag
   found_turned x [] e =
       inr (inr (record {
         turns = ap turn_of e ∙ ap (λ v. Ends []
-          (ends.Unhandled (let code : Code = record { 0 = v } in code))) h.carries.code;
+            (ends.Unhandled (let code : Code = record { 0 = v } in code))) h.carries.code;
         goes = λ next. refl;
       }))
   found_turned x (f ∷ rest) a = by_filter x f rest f.filter refl a
@@ -175,9 +186,13 @@ module _ (t : Functions) (fs : List Funclet) (program : LinearProgram) (p : Imag
       let few = few_items t s.memory (context_of r.saved) is h.on.is_there.stack small in
       found_turned (search steps t s.memory (walk_in r)) found
       (search_continues t fs program p s.memory (context_of r.saved) is items acts r.walk r.row
-        found steps
-      (record { gives = h.gives; stack = h.on.is_there.stack; linked = h.on.is_there.linked;
-        wide = wide_saved r h.room.fits }) h.onward (omega arith))
+      found steps
+      (record {
+        gives = h.gives;
+        stack = h.on.is_there.stack;
+        linked = h.on.is_there.linked;
+        wide = wide_saved r h.room.fits;
+      }) h.onward (omega arith))
 
 pub search_turns : SearchTurns
 search_turns t fs program p s at r is acts exception resumption found c h resumes = searched t fs

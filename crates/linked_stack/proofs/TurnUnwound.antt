@@ -46,8 +46,15 @@ module _ (t : Functions) (fs : List Funclet) (program : LinearProgram) (p : Imag
   turn_of x = arrived t fs (after_unwind s at r x)
 
   abbrev course : Course
-  course = record { target = w.target; frame = r.target_frame; address = r.target; low = rsp r.walk;
-      depth = length w.acts + w.target.held; source = w.source; events = w.shown }
+  course = record {
+    target = w.target;
+    frame = r.target_frame;
+    address = r.target;
+    low = rsp r.walk;
+    depth = length w.acts + w.target.held;
+    source = w.source;
+    events = w.shown;
+  }
 
   abbrev seen : Next → Seen
   seen next = linear.unwind program next w.target w.items w.left w.shown (store_of w.source w.acts)
@@ -65,17 +72,25 @@ module _ (t : Functions) (fs : List Funclet) (program : LinearProgram) (p : Imag
       let frame_small = a.kept.frame_small in
       let low_enough = h.room.below in
       let room : RecordHasRoom s.memory at hand
-        above = record { fits = hand_fits; below = h.room.below; small = h.room.small;
-        room = h.room.room } in
+      above = record {
+        fits = hand_fits;
+        below = h.room.below;
+        small = h.room.small;
+        room = h.room.room;
+      } in
       let room_to : RecordHasRoom s.memory at hand
-        (rsp a.to) = record { fits = hand_fits; below = omega arith; small = a.kept.frame_small;
-        room = h.room.room } in
+      (rsp a.to) = record {
+        fits = hand_fits;
+        below = omega arith;
+        small = a.kept.frame_small;
+        room = h.room.room;
+      } in
       let new : State = entered (with_record t fs program p s at hand) at finally_return
-        (p.funclet a.block) 1 (rsp a.to) in
+      (p.funclet a.block) 1 (rsp a.to) in
       let first = entered_first (with_record t fs program p s at hand) at finally_return
-        (p.funclet a.block) 1 (rsp a.to) (record
-        { rip_small = h.sane.rip_small; count = h.sane.count; small = h.sane.small })
-        a.funclet.small (omega arith) frame_small in
+      (p.funclet a.block) 1 (rsp a.to) (record
+      { rip_small = h.sane.rip_small; count = h.sane.count; small = h.sane.small })
+      a.funclet.small (omega arith) frame_small in
       record {
         block = a.block;
         held = a.held;
@@ -89,20 +104,22 @@ module _ (t : Functions) (fs : List Funclet) (program : LinearProgram) (p : Imag
         turns =
             ap turn_of a.answer
             ∙ ap (λ (o : Option ℕ). arrived t fs
-              (if_placed s at hand (λ u. Continues
-              (entered u at finally_return (p.funclet a.block) 1 (rsp a.to)) []) o)) h.room.room
+            (if_placed s at hand (λ u. Continues
+            (entered u at finally_return (p.funclet a.block) 1 (rsp a.to)) []) o)) h.room.room
             ∙ ap (Continues new) (a.named new.cpu
             ∙ ap (λ v. events.Finally (a.block + 1) (not (low W32 v == 0)) ∷ []) first);
         goes = a.goes;
         arrives = arrives t fs program p s at hand finally_return 1 (rsp a.to) above a.block
-          a.body.activation a.body.body (Unwinding hand ∷ a.is)
-          (Unwinds a.left (record w.target { held = a.held }) ∷ Waits a.body ∷ a.below) a.acts
+            a.body.activation a.body.body (Unwinding hand ∷ a.is)
+            (Unwinds a.left (record w.target { held = a.held }) ∷ Waits a.body ∷ a.below) a.acts
             h.sane h.on.data_alone room le frame_small (omega arith) (omega arith) a.funclet
-              a.reaches
+            a.reaches
             (λ others. unwinding_is_one_more t fs program p s.memory at hand a.is
-              (Waits a.body ∷ a.below) a.acts a.left (record w.target { held = a.held }) others
-              (record { is_there = record { stack = a.stack; linked = a.linked };
-              data_alone = h.on.data_alone }) h.kind room_to
+            (Waits a.body ∷ a.below) a.acts a.left (record w.target { held = a.held }) others
+            (record {
+              is_there = record { stack = a.stack; linked = a.linked };
+              data_alone = h.on.data_alone;
+            }) h.kind room_to
             (record {
               own = record { fits = hand_fits; room = h.room.room };
               purpose = purpose_kept w.target.code h.purpose;
@@ -111,10 +128,10 @@ module _ (t : Functions) (fs : List Funclet) (program : LinearProgram) (p : Imag
               space = subst (λ n. HasSpace at (below_end + record_room) n) (sym a.counted) h.space;
             }));
         untouched = laid_record_leaves_others s.memory at hand finally_return above h.on.data_alone
-          room (in_stack t fs program p s.memory r.walk is w.items w.acts h.on.is_there.stack
-          h.on.is_there.linked) (omega arith);
+            room (in_stack t fs program p s.memory r.walk is w.items w.acts h.on.is_there.stack
+            h.on.is_there.linked) (omega arith);
         named = a.named new.cpu ∙ ap (λ v. events.Finally (a.block + 1) (not (low W32 v == 0)) ∷ [])
-          first;
+            first;
         to = a.to;
         row = a.row;
         inner = a.is;
@@ -124,24 +141,24 @@ module _ (t : Functions) (fs : List Funclet) (program : LinearProgram) (p : Imag
         list = refl;
         same_walk = refl;
         frame = entered_frame (with_record t fs program p s at hand) at finally_return
-          (p.funclet a.block) 1 (rsp a.to) (record
-          { rip_small = h.sane.rip_small; count = h.sane.count; small = h.sane.small })
-          a.funclet.small (omega arith) frame_small;
+            (p.funclet a.block) 1 (rsp a.to) (record
+            { rip_small = h.sane.rip_small; count = h.sane.count; small = h.sane.small })
+            a.funclet.small (omega arith) frame_small;
       }
     where
       purpose_kept : (o : Option ℕ) → HasPurpose t fs program p o r
-        → HasPurpose t fs program p o (in_hand r (rsp a.to) a.row a.to)
+          → HasPurpose t fs program p o (in_hand r (rsp a.to) a.row a.to)
       purpose_kept None e = e
       purpose_kept (Some code) e = e
 
   -- an exception's unwinding and a local one land
   by_code : (to : Context) (o : Option ℕ) → HasPurpose t fs program p o r
       → by_purpose s r to r.kind ≡ Continues (at_landing s to (landing_value o) r.target)
-        (landing_events o)
+      (landing_events o)
   by_code to None e = ap (by_purpose s r to) e
   by_code to (Some code) e = ap (by_purpose s r to) e.0
       ∙ ap (λ v. Continues (at_landing s to v r.target)
-        (events.Except (let c : Code = record { 0 = v } in c) ∷ [])) e.1
+      (events.Except (let c : Code = record { 0 = v } in c) ∷ [])) e.1
 
   value_small : (o : Option ℕ) → HasPurpose t fs program p o r → landing_value o < 2 ^ 64
   value_small None e = none_small
@@ -150,8 +167,11 @@ module _ (t : Functions) (fs : List Funclet) (program : LinearProgram) (p : Imag
 
   landed_sane : (to : Context) (v : ℕ) → IsWide to.kept → v < 2 ^ 64
       → IsSane (at_landing s to v r.target)
-  landed_sane to v wide small = record { rip_small = h.room.fits.target; count = refl;
-      small = each }
+  landed_sane to v wide small = record {
+    rip_small = h.room.fits.target;
+    count = refl;
+    small = each;
+  }
     where
       kept_small : (k : ℕ) → k < 9 → slice_index to.kept k < 2 ^ 64
       kept_small k lt = let n = wide.count in wide.each k (omega arith)
@@ -163,14 +183,15 @@ module _ (t : Functions) (fs : List Funclet) (program : LinearProgram) (p : Imag
       each (suc (suc (suc (suc (suc zero))))) l = kept_small 2 (omega arith)
       each (suc (suc (suc (suc (suc (suc zero)))))) l = kept_small 3 (omega arith)
       each (suc (suc (suc (suc (suc (suc (suc zero))))))) l = kept_small 4 (omega arith)
-      each (suc (suc (suc (suc (suc (suc (suc (suc (suc (suc (suc (suc zero))))))))))))
-        l = kept_small 5 (omega arith)
-      each (suc (suc (suc (suc (suc (suc (suc (suc (suc (suc (suc (suc (suc zero)))))))))))))
-        l = kept_small 6 (omega arith)
+      each (suc (suc (suc (suc (suc (suc (suc (suc (suc (suc (suc (suc zero)))))))))))) l =
+          kept_small 5 (omega arith)
+      each (suc (suc (suc (suc (suc (suc (suc (suc (suc (suc (suc (suc (suc zero))))))))))))) l =
+          kept_small 6 (omega arith)
       each (suc (suc (suc (suc (suc (suc (suc (suc (suc (suc (suc (suc (suc (suc zero))))))))))))))
-        l = kept_small 7 (omega arith)
+          l =
+          kept_small 7 (omega arith)
       each (suc (suc (suc (suc (suc (suc (suc
-        (suc (suc (suc (suc (suc (suc (suc (suc zero))))))))))))))) l = kept_small 8 (omega arith)
+          (suc (suc (suc (suc (suc (suc (suc (suc zero))))))))))))))) l = kept_small 8 (omega arith)
       each (suc zero) l = none_small
       each (suc (suc zero)) l = none_small
       each (suc (suc (suc (suc (suc (suc (suc (suc zero)))))))) l = none_small
@@ -178,7 +199,7 @@ module _ (t : Functions) (fs : List Funclet) (program : LinearProgram) (p : Imag
       each (suc (suc (suc (suc (suc (suc (suc (suc (suc (suc zero)))))))))) l = none_small
       each (suc (suc (suc (suc (suc (suc (suc (suc (suc (suc (suc zero))))))))))) l = none_small
       each (suc (suc (suc (suc (suc (suc (suc
-        (suc (suc (suc (suc (suc (suc (suc (suc (suc j)))))))))))))))) l = absurd (omega arith)
+          (suc (suc (suc (suc (suc (suc (suc (suc (suc j)))))))))))))))) l = absurd (omega arith)
 
   appended : (o : Option ℕ) (es : List Event) → es ≡ [] → landing_events o ++ es ≡ landing_events o
   appended None es e = e
@@ -203,15 +224,17 @@ module _ (t : Functions) (fs : List Funclet) (program : LinearProgram) (p : Imag
             ap turn_of a.answer
             ∙ ap (arrived t fs) (by_code a.to w.target.code h.purpose)
             ∙ ap (Continues u) (appended w.target.code
-              (arrivals u.cpu (distance t.base r.target) 1 fs) (a.quiet u.cpu));
+            (arrivals u.cpu (distance t.base r.target) 1 fs) (a.quiet u.cpu));
         goes = a.goes;
         at_frame = a.at_frame;
         at_address = a.at_address;
         lands = a.lands;
-        on = record { is_there = record { stack = a.stack; linked = a.linked };
-          data_alone = h.on.data_alone };
+        on = record {
+          is_there = record { stack = a.stack; linked = a.linked };
+          data_alone = h.on.data_alone;
+        };
         sane = landed_sane a.to (landing_value w.target.code) a.wide
-          (value_small w.target.code h.purpose);
+            (value_small w.target.code h.purpose);
       }
 
   by_answer : (x : UnwindResult) → unwind steps t s.memory r.target_frame r.target (walk_in r) ≡ x
@@ -227,9 +250,13 @@ module _ (t : Functions) (fs : List Funclet) (program : LinearProgram) (p : Imag
       let few = few_items t s.memory r.walk is h.on.is_there.stack small in
       by_answer (unwind steps t s.memory r.target_frame r.target (walk_in r)) refl
       (unwinding_is_the_lists t fs program p s.memory r.walk is w.items w.acts r.row w.left w.target
-        r.target_frame r.target w.source w.shown steps
-      (record { gives = h.gives; stack = h.on.is_there.stack; linked = h.on.is_there.linked;
-        wide = wide_walk r h.room.fits }) h.at_row h.aimed (omega arith))
+      r.target_frame r.target w.source w.shown steps
+      (record {
+        gives = h.gives;
+        stack = h.on.is_there.stack;
+        linked = h.on.is_there.linked;
+        wide = wide_walk r h.room.fits;
+      }) h.at_row h.aimed (omega arith))
 
 pub unwind_turns : UnwindTurns
 unwind_turns t fs program p s at r is w h = unwound t fs program p s at r is w h

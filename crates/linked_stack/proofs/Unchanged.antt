@@ -21,13 +21,13 @@ module _ (m m' : Memory) (same : SameCode m m') where
   executable_same zero a = refl
   executable_same (suc n) a =
       ap (λ b. cond b (m'.byte a ∷ executable m' n (next a)) []) (same.execute a)
-        ∙ here (executable_same n (next a)) ((m.protection a).execute) refl
+      ∙ here (executable_same n (next a)) ((m.protection a).execute) refl
     where
       here : executable m' n (next a) ≡ executable m n (next a) → (b : Bool)
-        → (m.protection a).execute ≡ b → cond b (m'.byte a ∷ executable m' n (next a)) []
-        ≡ cond b (m.byte a ∷ executable m n (next a)) []
+          → (m.protection a).execute ≡ b → cond b (m'.byte a ∷ executable m' n (next a)) []
+          ≡ cond b (m.byte a ∷ executable m n (next a)) []
       here more true e = ap (λ x. x ∷ executable m' n (next a)) (same.byte a e)
-        ∙ ap (λ (t : List ℕ). m.byte a ∷ t) more
+          ∙ ap (λ (t : List ℕ). m.byte a ∷ t) more
       here more false e = refl
 
   fetched_same : (a : ℕ) → fetched_at m' a ≡ fetched_at m a
@@ -39,9 +39,9 @@ module _ (m m' : Memory) (same : SameCode m m') where
   tail_same zero first f a = refl
   tail_same (suc n) first f a =
       ap (λ (o : Option FetchedInstr). from_item (λ k. tail n false f m' ((a + k) % 2 ^ 64)) f first
-        o) (fetched_same a)
+      o) (fetched_same a)
       ∙ ap (λ (others : ℕ → Option (List Instr)). from_item others f first (fetched_at m a))
-        (λ i k. tail_same n false f ((a + k) % 2 ^ 64) i)
+      (λ i k. tail_same n false f ((a + k) % 2 ^ 64) i)
 
   pub tail_at_same : (f a : ℕ) → tail_at f m' a ≡ tail_at f m a
   unfolding tail_at
@@ -58,7 +58,7 @@ refused_same may may' zero a lt h = refl
 refused_same may may' (suc n) a lt h =
     let e : next a ≡ a + 1 = omega arith in
     let more = refused_same may may' n (next a) (omega arith)
-      (λ x p q. h x (omega arith) (omega arith)) in
+    (λ x p q. h x (omega arith) (omega arith)) in
     ap (λ b. cond b (first_refused may' n (next a)) (Some a)) (h a (omega arith) (omega arith))
     ∙ ap (λ (o : Option ℕ). cond (may a) o (Some a)) more
 
@@ -71,8 +71,8 @@ number_same b d (suc n) a lt h =
     let z : (a + 0) % 2 ^ 64 ≡ a = omega arith in
     let first : b a ≡ d a = ap b (sym z) ∙ h 0 (omega arith) ∙ ap d z in
     let rest = number_same b d n (next a) (omega arith)
-      (λ i il. let e : (next a + i) % 2 ^ 64 ≡ (a + suc i) % 2 ^ 64 = omega arith in ap b e
-      ∙ h (suc i) (omega arith) ∙ ap d (sym e)) in
+    (λ i il. let e : (next a + i) % 2 ^ 64 ≡ (a + suc i) % 2 ^ 64 = omega arith in ap b e
+    ∙ h (suc i) (omega arith) ∙ ap d (sym e)) in
     ap (λ x. x + 256 * number_at b n (next a)) first ∙ ap (λ x. d a + 256 * x) rest
 
 -- where the protections and the bytes of a word are the same
@@ -81,12 +81,12 @@ pub word_kept : (m m' : Memory) (a : ℕ) → a + 8 < 2 ^ 64
     → ((x : ℕ) → a ≤ x → x < a + 8 → m'.byte x ≡ m.byte x) → word m' a ≡ word m a
 word_kept m m' a lt modes h =
     ap (λ (o : Option ℕ). readable a (access false o (number_at m'.byte 8 a)))
-      (refused_same (may_read m) (may_read m') 8 a lt
-      (λ x p q. ap (λ (r : Protection). is_readable r.rights) (modes x p q)))
+    (refused_same (may_read m) (may_read m') 8 a lt
+    (λ x p q. ap (λ (r : Protection). is_readable r.rights) (modes x p q)))
     ∙ ap (λ x. readable a (access false (first_refused (may_read m) 8 a) x))
     (number_same m'.byte m.byte 8 a (omega arith)
-      (λ i il. let e : (a + i) % 2 ^ 64 ≡ a + i = omega arith in ap m'.byte e
-      ∙ h (a + i) (omega arith) (omega arith) ∙ ap m.byte (sym e)))
+    (λ i il. let e : (a + i) % 2 ^ 64 ≡ a + i = omega arith in ap m'.byte e
+    ∙ h (a + i) (omega arith) (omega arith) ∙ ap m.byte (sym e)))
 
 pub word_same : (m : Memory) (byte : ℕ → ℕ) (a : ℕ) → a + 8 < 2 ^ 64
     → ((x : ℕ) → a ≤ x → x < a + 8 → byte x ≡ m.byte x) → word (with_bytes m byte) a ≡ word m a

@@ -39,7 +39,7 @@ frame_popped m rip (k ∷ ks) n back lt room w =
     let e : (k + n) % 2 ^ 64 ≡ k + n = omega arith in
     let f : ((k + n) % 2 ^ 64 + 8) % 2 ^ 64 ≡ k + n + 8 = omega arith in
     ap (λ (o : Answer ℕ). o >>= up_by ((k + n) % 2 ^ 64) ks) (ap (word m) e ∙ w)
-      ∙ ap (λ x. Ok (record { rip = back; kept = x ∷ ks })) f
+    ∙ ap (λ x. Ok (record { rip = back; kept = x ∷ ks })) f
 
 base_is_rsp : (i : Info) (c : Context) → i.frame_register ≡ 0
     → base_if i c (not (nat_eq i.frame_register 0)) ≡ rsp c
@@ -54,13 +54,13 @@ body_found m c f none no_parents codes kept room returns =
     let i = f.entry.info in
     let base = base_if i c (not (nat_eq i.frame_register 0)) in
     ap (λ b. found b (Some i) (unwound m b i f.entry.parents (operations i.codes) c))
-      (base_is_rsp i c none)
+    (base_is_rsp i c none)
     ∙ ap (λ (a : List Info). found (rsp c) (Some i) (unwound m (rsp c) i a (operations i.codes) c))
-      no_parents
+    no_parents
     ∙ ap (λ (k : List UnwindCode). found (rsp c) (Some i) (unwound m (rsp c) i [] (operations k) c))
-      codes
+    codes
     ∙ ap (λ (r : Answer Context). found (rsp c) (Some i) r)
-      (frame_popped m c.rip c.kept f.size f.return_address (omega arith) room returns)
+    (frame_popped m c.rip c.kept f.size f.return_address (omega arith) room returns)
 
 pub frame_called : (t : Functions) (m : Memory) (c : Context) (f : StackFrame) → FrameIsAt t m c f
     → caller_in t m c ≡ Ok (caller_frame c f)
@@ -68,7 +68,7 @@ unfolding caller_in
 frame_called t m c f h =
     let rva = distance t.base c.rip in
     let up : rsp (after_frame c f) ≡ rsp c + f.size
-      + 8 = set_head c.kept (rsp c + f.size + 8) (let k = h.kept in omega arith) in
+    + 8 = set_head c.kept (rsp c + f.size + 8) (let k = h.kept in omega arith) in
     let rises : nat_lt (rsp c) (rsp (after_frame c f)) ≡ true = lt-ltb _ _ (omega arith) in
     ap (λ (o : Option Entry). of_entry m c rva o >>= rising c) h.found
     ∙ ap (λ b. by_distance m f.entry.info f.entry.parents c (rva - f.entry.range.begin) b
@@ -76,7 +76,7 @@ frame_called t m c f h =
     ∙ ap (λ (o : Option (List Instr)). past_prologue m f.entry.info f.entry.parents c o
     >>= rising c) h.not_epilogue
     ∙ ap (λ (r : Answer CallerFrame). r >>= rising c)
-      (body_found m c f h.no_register h.no_parents h.codes h.kept h.room h.returns)
+    (body_found m c f h.no_register h.no_parents h.codes h.kept h.room h.returns)
     ∙ ap (risen c (caller_frame c f)) rises
 
 pub frame_is_visited : FrameIsVisited
@@ -84,7 +84,7 @@ unfolding visited
 frame_is_visited t m c row f h =
     let w : WalkState = state c row in
     ap (if_over t m w) h.live ∙ ap (if_filter t m w) h.not_filter
-      ∙ ap (if_finally t m w) h.not_finally ∙ ap framed (frame_called t m c f h)
+    ∙ ap (if_finally t m w) h.not_finally ∙ ap framed (frame_called t m c f h)
 
 -- the return address popped
 leaf_popped : (m : Memory) (rip : ℕ) (kept : List ℕ) (back : ℕ) → 0 < length kept
@@ -95,18 +95,18 @@ leaf_popped m rip [] back lt room w = absurd (omega arith)
 leaf_popped m rip (k ∷ ks) back lt room w =
     let e : (k + 8) % 2 ^ 64 ≡ k + 8 = omega arith in
     ap (λ (o : Answer ℕ). o >>= up_by k ks) w
-      ∙ ap (λ x. Ok (record { rip = back; kept = x ∷ ks })) e
+    ∙ ap (λ x. Ok (record { rip = back; kept = x ∷ ks })) e
 
 leaf_called : (t : Functions) (m : Memory) (c : Context) (back : ℕ) → LeafIsAt t m c back
     → caller_in t m c ≡ Ok (caller_of_leaf c back)
 unfolding caller_in
 leaf_called t m c back h =
     let up : rsp (after_leaf c back) ≡ rsp c + 8 = set_head c.kept (rsp c + 8)
-      (let k = h.kept in omega arith) in
+    (let k = h.kept in omega arith) in
     let rises : nat_lt (rsp c) (rsp (after_leaf c back)) ≡ true = lt-ltb _ _ (omega arith) in
     ap (λ (o : Option Entry). of_entry m c (distance t.base c.rip) o >>= rising c) h.none
     ∙ ap (λ (r : Answer Context). found (rsp c) None r >>= rising c)
-      (leaf_popped m c.rip c.kept back (let k = h.kept in omega arith) h.room h.returns)
+    (leaf_popped m c.rip c.kept back (let k = h.kept in omega arith) h.room h.returns)
     ∙ ap (risen c (caller_of_leaf c back)) rises
 
 pub leaf_is_visited : LeafIsVisited
@@ -114,7 +114,7 @@ unfolding visited
 leaf_is_visited t m c row back h =
     let w : WalkState = state c row in
     ap (if_over t m w) h.live ∙ ap (if_filter t m w) h.not_filter
-      ∙ ap (if_finally t m w) h.not_finally ∙ ap framed (leaf_called t m c back h)
+    ∙ ap (if_finally t m w) h.not_finally ∙ ap framed (leaf_called t m c back h)
 
 -- a return address of the host isn't the end
 at_filter : (t : Functions) (m : Memory) (w : WalkState) → w.context.rip ≡ filter_return
@@ -139,13 +139,13 @@ search_is_passed t m c row r h =
     let order : rsp c + RECORD_SIZE ≤ rsp (context_of r.saved) = h.above in
     let rises : nat_lt (rsp c) (rsp (context_of r.saved)) ≡ true = lt-ltb _ _ (omega arith) in
     at_filter t m (state c row) h.at_host ∙ ap (past_filter (rsp c)) h.fetches
-      ∙ ap (if_search (rsp c) (above (rsp c) (saved_in r))) h.kind
-      ∙ ap (if_above (rsp c) (saved_in r)) rises
+    ∙ ap (if_search (rsp c) (above (rsp c) (saved_in r))) h.kind
+    ∙ ap (if_above (rsp c) (saved_in r)) rises
 
 pub unwinding_is_passed : UnwindingIsPassed
 unwinding_is_passed t m c row r h =
     let order : rsp c + RECORD_SIZE ≤ rsp r.walk = h.above in
     let rises : nat_lt (rsp c) (rsp r.walk) ≡ true = lt-ltb _ _ (omega arith) in
     at_finally t m (state c row) h.at_host ∙ ap (past_finally (rsp c)) h.fetches
-      ∙ ap (λ b. if_search (rsp c) (above (rsp c) (walk_in r)) (not b)) h.kind
-      ∙ ap (if_above (rsp c) (walk_in r)) rises
+    ∙ ap (λ b. if_search (rsp c) (above (rsp c) (walk_in r)) (not b)) h.kind
+    ∙ ap (if_above (rsp c) (walk_in r)) rises

@@ -29,10 +29,10 @@ record_same m byte c r at is next same s =
     record {
       at_host = s.at_host;
       fetches = fetched_by_its_bytes m (with_bytes m byte) (rsp c) (omega arith) refl
-        (λ x p q. same x (within x (rsp c + 32) (rsp c + RECORD_SIZE) p q)) ∙ s.fetches;
+          (λ x p q. same x (within x (rsp c + 32) (rsp c + RECORD_SIZE) p q)) ∙ s.fetches;
       pointers = word_same m byte (rsp c + 80) (omega arith)
-        (λ x p q. same x (within x (rsp c + 32) (rsp c + RECORD_SIZE) (omega arith) (omega arith)))
-        ∙ s.pointers;
+          (λ x p q. same x (within x (rsp c + 32) (rsp c + RECORD_SIZE) (omega arith) (omega arith)))
+          ∙ s.pointers;
       kind = s.kind;
       above = s.above;
       small = s.small;
@@ -51,15 +51,15 @@ item_is_same t m byte c (Framed f) code same s =
       found = s.found;
       past_prologue = s.past_prologue;
       not_epilogue = tail_at_same m (with_bytes m byte)
-        (record { execute = λ x. refl; byte = code }) f.entry.info.frame_register c.rip
-        ∙ s.not_epilogue;
+          (record { execute = λ x. refl; byte = code }) f.entry.info.frame_register c.rip
+          ∙ s.not_epilogue;
       codes = s.codes;
       no_register = s.no_register;
       no_parents = s.no_parents;
       kept = s.kept;
       room = s.room;
       returns = word_same m byte (rsp c + f.size) (omega arith)
-        (λ x p q. same x (within x (rsp c + f.size) (rsp c + f.size + 8) p q)) ∙ s.returns;
+          (λ x p q. same x (within x (rsp c + f.size) (rsp c + f.size + 8) p q)) ∙ s.returns;
     }
 item_is_same t m byte c (Leaf back) code same s =
     let room = s.room in
@@ -71,7 +71,7 @@ item_is_same t m byte c (Leaf back) code same s =
       kept = s.kept;
       room = s.room;
       returns = word_same m byte (rsp c) (omega arith)
-        (λ x p q. same x (within x (rsp c) (rsp c + 8) p q)) ∙ s.returns;
+          (λ x p q. same x (within x (rsp c) (rsp c + 8) p q)) ∙ s.returns;
     }
 item_is_same t m byte c (Searching r) code same s = record_same m byte c r filter_return true
     (context_of r.saved) same s
@@ -80,10 +80,11 @@ item_is_same t m byte c (Unwinding r) code same s = record_same m byte c r final
 
 pub kept_by_other_stores : KeptByOtherStores
 kept_by_other_stores t m byte c [] agree s = s
-kept_by_other_stores t m byte c (i ∷ is) agree s =
-    (item_is_same t m byte c i agree.code (λ a o. agree.owned a (inl o)) s.0,
-      kept_by_other_stores t m byte (context_after c i) is
-      (record { code = agree.code; owned = λ a o. agree.owned a (inr o) }) s.1)
+kept_by_other_stores t m byte c (i ∷ is) agree s = (
+  item_is_same t m byte c i agree.code (λ a o. agree.owned a (inl o)) s.0,
+  kept_by_other_stores t m byte (context_after c i) is
+      (record { code = agree.code; owned = λ a o. agree.owned a (inr o) }) s.1,
+)
 
 -- ---- what isn't owned
 

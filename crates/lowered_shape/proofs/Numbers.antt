@@ -90,8 +90,12 @@ mutual
   statement_count owner names (IfElse c s t) =
       let x = statement_count owner names s in
       let y = statement_count owner names t in
-      omega (arith, length-append (statement_funclets owner names s)
-        (statement_funclets owner names t), length-append (funclets_in s) (funclets_in t))
+      omega (
+        arith,
+        length-append (statement_funclets owner names s)
+            (statement_funclets owner names t),
+        length-append (funclets_in s) (funclets_in t),
+      )
   statement_count owner names (For ds first c next s) = statement_count owner names s
   statement_count owner names (DoWhile s c) = statement_count owner names s
   statement_count owner names (Return e) = refl
@@ -104,16 +108,23 @@ mutual
       let z = filter_count owner (filter_names names) filter in
       let a = filter_funclets owner (filter_names names) filter in
       let b = statements_funclets owner (except_names names) block in
-      omega (arith, length-append (statements_funclets owner names body) (a ++ b),
-        length-append a b, length-append (funclets body ++ filter_funclet filter) (funclets block),
-        length-append (funclets body) (filter_funclet filter))
+      omega (
+        arith,
+        length-append (statements_funclets owner names body) (a ++ b),
+        length-append a b,
+        length-append (funclets body ++ filter_funclet filter) (funclets block),
+        length-append (funclets body) (filter_funclet filter),
+      )
   statement_count owner names (TryFinally body k last) =
       let x = statements_count owner names body in
       let y = statements_count (in_funclet (k - 1) owner) (finally_names names) last in
       let b = finally_funclet owner names last
-        ∷ statements_funclets (in_funclet (k - 1) owner) (finally_names names) last in
-      omega (arith, length-append (statements_funclets owner names body) b,
-        length-append (funclets body) (k ∷ funclets last))
+      ∷ statements_funclets (in_funclet (k - 1) owner) (finally_names names) last in
+      omega (
+        arith,
+        length-append (statements_funclets owner names body) b,
+        length-append (funclets body) (k ∷ funclets last),
+      )
 
   statements_count : (owner : Owner) (names : Names) (ss : Statements)
       → length (statements_funclets owner names ss) ≡ length (funclets ss)
@@ -121,8 +132,12 @@ mutual
   statements_count owner names (Then s ss) =
       let x = statement_count owner names s in
       let y = statements_count owner names ss in
-      omega (arith, length-append (statement_funclets owner names s)
-        (statements_funclets owner names ss), length-append (funclets_in s) (funclets ss))
+      omega (
+        arith,
+        length-append (statement_funclets owner names s)
+            (statements_funclets owner names ss),
+        length-append (funclets_in s) (funclets ss),
+      )
 
 pub functions_count : (number : ℕ) (fs : List Function)
     → length (all_funclets number fs) ≡ length (sound.all_funclets fs)
@@ -131,8 +146,11 @@ functions_count number (f ∷ fs) =
     let owner : Owner = record { function = number; locals = all_locals f; parent = None } in
     let x = statements_count owner (scope_of f).names f.body in
     let y = functions_count (number + 1) fs in
-    omega (arith, length-append (lowered_funclets number f) (all_funclets (number + 1) fs),
-      length-append (funclets f.body) (sound.all_funclets fs))
+    omega (
+      arith,
+      length-append (lowered_funclets number f) (all_funclets (number + 1) fs),
+      length-append (funclets f.body) (sound.all_funclets fs),
+    )
 
 -- ---- sums over numbers
 
@@ -222,7 +240,7 @@ none_beyond m n (k ∷ ks) up some le =
     let h = and_parts (k == n) (count_up (n + 1) ks) up in
     let e = eqb-true k n h.0 in
     let here : beyond m (k - 1) ≡ 0 = ap (λ (b : Bool). cond b 0 1)
-      (lt-ltb (k - 1) m (omega arith)) in
+    (lt-ltb (k - 1) m (omega arith)) in
     let rest = none_beyond m (n + 1) ks h.1 (omega arith) (omega arith) in
     omega arith
 
@@ -272,10 +290,10 @@ lowered_names_funclets p ok =
     let n = functions_count 0 p.functions in
     record {
       there = all_small (length (lowered p).funclets) (named (regions (lowered p)))
-        (sums_agree (beyond (length (lowered p).funclets)) p
-        ∙ none_beyond (length (lowered p).funclets) 1 (sound.all_funclets p.functions) up
+          (sums_agree (beyond (length (lowered p).funclets)) p
+          ∙ none_beyond (length (lowered p).funclets) 1 (sound.all_funclets p.functions) up
           (omega arith) (omega arith));
       once = all_distinct (named (regions (lowered p)))
-        (λ j. (let s = sums_agree (is j) p in
-        let o = once j 1 (sound.all_funclets p.functions) up (omega arith) in omega arith));
+          (λ j. (let s = sums_agree (is j) p in
+          let o = once j 1 (sound.all_funclets p.functions) up (omega arith) in omega arith));
     }

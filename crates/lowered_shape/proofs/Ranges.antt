@@ -39,9 +39,10 @@ wider : (from to from' to' : ℕ) (rs : List Region) → from' ≤ from → to �
 wider from to from' to' [] l m h = tt
 wider from to from' to' (r ∷ rs) l m h =
     let low = h.0.low in
-    let high = h.0.high in
-    (record { low = omega arith; some = h.0.some; high = omega arith },
-      wider from to from' to' rs l m h.1)
+    let high = h.0.high in (
+      record { low = omega arith; some = h.0.some; high = omega arith },
+      wider from to from' to' rs l m h.1,
+    )
 
 mutual
   statement_within : (s : Statement) (at : ℕ)
@@ -58,13 +59,13 @@ mutual
       let end = at + statement_size (IfElse c s t) in
       both at end (statement_regions s begin) (statement_regions t otherwise)
       (wider begin (begin + statement_size s) at end (statement_regions s begin) (omega arith)
-        (omega arith) (statement_within s begin))
+      (omega arith) (statement_within s begin))
       (wider otherwise (otherwise + statement_size t) at end (statement_regions t otherwise)
-        (omega arith) (omega arith) (statement_within t otherwise))
+      (omega arith) (omega arith) (statement_within t otherwise))
   statement_within (For ds first c next s) at =
       let begin = at + all_declared_size ds + discarded_size first + condition_size c in
       wider begin (begin + statement_size s) at (at + statement_size (For ds first c next s))
-        (statement_regions s begin) (omega arith) (omega arith) (statement_within s begin)
+      (statement_regions s begin) (omega arith) (omega arith) (statement_within s begin)
   statement_within (DoWhile s c) at = wider at (at + statement_size s) at
       (at + statement_size (DoWhile s c)) (statement_regions s at) (omega arith) (omega arith)
       (statement_within s at)
@@ -77,16 +78,17 @@ mutual
       let end = at + statement_size (TryExcept body filter block) in
       both at end (statements_regions body at) _
       (wider at (at + statements_size body) at end (statements_regions body at) (omega arith)
-        (omega arith) (statements_within body at))
-      (record { low = omega arith; some = omega arith; high = omega arith },
+      (omega arith) (statements_within body at)) (
+        record { low = omega arith; some = omega arith; high = omega arith },
         wider (target + 1) (target + 1 + statements_size block) at end
-        (statements_regions block (target + 1)) (omega arith) (omega arith)
-        (statements_within block (target + 1)))
+            (statements_regions block (target + 1)) (omega arith) (omega arith)
+            (statements_within block (target + 1)),
+      )
   statement_within (TryFinally body k last) at =
       let end = at + statement_size (TryFinally body k last) in
       both at end (statements_regions body at) _
       (wider at (at + statements_size body) at end (statements_regions body at) (omega arith)
-        (omega arith) (statements_within body at))
+      (omega arith) (statements_within body at))
       (record { low = omega arith; some = omega arith; high = omega arith }, tt)
 
   statements_within : (ss : Statements) (at : ℕ)
@@ -97,9 +99,9 @@ mutual
       let end = at + statements_size (Then s ss) in
       both at end (statement_regions s at) (statements_regions ss next)
       (wider at next at end (statement_regions s at) (omega arith) (omega arith)
-        (statement_within s at))
+      (statement_within s at))
       (wider next (next + statements_size ss) at end (statements_regions ss next) (omega arith)
-        (omega arith) (statements_within ss next))
+      (omega arith) (statements_within ss next))
 
 -- ---- bodies
 
@@ -115,7 +117,7 @@ function_ranges f =
     let code = statements_code (scope_of f) f.body 0 in
     let last = constant 0 0 ∷ instructions.Return (Temporary 0) ∷ [] in
     ranges (length (code ++ last)) (statements_regions f.body 0) (0 + statements_size f.body)
-      (omega (arith, length-append code last)) (statements_within f.body 0)
+    (omega (arith, length-append code last)) (statements_within f.body 0)
 
 finally_ranges : (owner : Owner) (names : Names) (last : Statements)
     → HasRanges (finally_funclet owner names last).body
@@ -124,7 +126,7 @@ finally_ranges owner names last =
     let code = statements_code (finally_scope names) last 0 in
     let end = instructions.Return (Local names.free) ∷ [] in
     ranges (length (code ++ end)) (statements_regions last 0) (0 + statements_size last)
-      (omega (arith, length-append code end)) (statements_within last 0)
+    (omega (arith, length-append code end)) (statements_within last 0)
 
 -- ---- funclets
 
@@ -158,18 +160,20 @@ mutual
   statement_have owner names Leave = tt
   statement_have owner names (TryExcept body filter block) =
       have_both (statements_funclets owner names body)
-        (filter_funclets owner (filter_names names) filter
-        ++ statements_funclets owner (except_names names) block) (statements_have owner names body)
+      (filter_funclets owner (filter_names names) filter
+      ++ statements_funclets owner (except_names names) block) (statements_have owner names body)
       (have_both (filter_funclets owner (filter_names names) filter)
-        (statements_funclets owner (except_names names) block)
-        (filter_have owner (filter_names names) filter)
-        (statements_have owner (except_names names) block))
+      (statements_funclets owner (except_names names) block)
+      (filter_have owner (filter_names names) filter)
+      (statements_have owner (except_names names) block))
   statement_have owner names (TryFinally body k last) =
       have_both (statements_funclets owner names body)
-        (finally_funclet owner names last ∷ statements_funclets (in_funclet (k - 1) owner)
-        (finally_names names) last) (statements_have owner names body)
-      (finally_ranges owner names last, statements_have (in_funclet (k - 1) owner)
-        (finally_names names) last)
+      (finally_funclet owner names last ∷ statements_funclets (in_funclet (k - 1) owner)
+      (finally_names names) last) (statements_have owner names body) (
+        finally_ranges owner names last,
+        statements_have (in_funclet (k - 1) owner)
+            (finally_names names) last,
+      )
 
   statements_have : (owner : Owner) (names : Names) (ss : Statements)
       → FuncletsHave (statements_funclets owner names ss)
@@ -192,5 +196,7 @@ all_have number (f ∷ fs) = have_both (lowered_funclets number f) (all_funclets
     (scope_of f).names f.body) (all_have (number + 1) fs)
 
 pub lowered_has_regions : LoweredHasRegions
-lowered_has_regions p = record { functions = functions_have p.functions;
-    funclets = all_have 0 p.functions }
+lowered_has_regions p = record {
+  functions = functions_have p.functions;
+  funclets = all_have 0 p.functions;
+}

@@ -93,8 +93,8 @@ lowered_is_shaped p ok fits =
       names = lowered_names_funclets p ok;
       tries = shape.count ∙ sym (regions_length rs) ∙ program_total one one 1 p ∙ tries_length ts;
       finally = shape.finally ∙ sym (regions_finally rs) ∙ program_total one none 0 p
-        ∙ tries_finally ts;
+          ∙ tries_finally ts;
       always = shape.always ∙ sym (regions_always rs) ∙ program_total none none 1 p
-        ∙ tries_always ts;
+          ∙ tries_always ts;
       handlers = handlers_differ (lowered p) fits (lowered_names_funclets p ok);
     }

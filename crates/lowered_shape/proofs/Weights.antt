@@ -66,23 +66,26 @@ module _ (finally filter : ℕ → ℕ) (always : ℕ) where
 
   mutual
     statement_total : (owner : Owner) (names : Names) (s : Statement) (at : ℕ)
-      → total (statement_regions s at) + funclets_total (statement_funclets owner names s)
-      ≡ try_total (tries_in s)
+        → total (statement_regions s at) + funclets_total (statement_funclets owner names s)
+        ≡ try_total (tries_in s)
     statement_total owner names (Declare d) at = refl
     statement_total owner names (Block ss) at = statements_total owner names ss at
     statement_total owner names (Evaluate e) at = refl
     statement_total owner names (If c s) at = statement_total owner names s
-      (at + expression_size c + 1)
+        (at + expression_size c + 1)
     statement_total owner names (IfElse c s t) at =
         let begin = at + expression_size c + 1 in
         let otherwise = at + expression_size c + 1 + statement_size s + 1 in
         let x = statement_total owner names s begin in
         let y = statement_total owner names t otherwise in
-        omega (arith, total_both (statement_regions s begin) (statement_regions t otherwise),
+        omega (
+          arith,
+          total_both (statement_regions s begin) (statement_regions t otherwise),
           funclets_both (statement_funclets owner names s) (statement_funclets owner names t),
-          tries_both (tries_in s) (tries_in t))
+          tries_both (tries_in s) (tries_in t),
+        )
     statement_total owner names (For ds first c next s) at = statement_total owner names s
-      (at + all_declared_size ds + discarded_size first + condition_size c)
+        (at + all_declared_size ds + discarded_size first + condition_size c)
     statement_total owner names (DoWhile s c) at = statement_total owner names s at
     statement_total owner names (Return e) at = refl
     statement_total owner names Break at = refl
@@ -95,14 +98,14 @@ module _ (finally filter : ℕ → ℕ) (always : ℕ) where
         let k = kind_is filter' target in
         let none = filter_is owner (filter_names names) filter' in
         let more = filter_funclets owner (filter_names names) filter'
-          ++ statements_funclets owner (except_names names) block in
+        ++ statements_funclets owner (except_names names) block in
         omega (
           arith,
           total_both (statements_regions body at)
-            (region at target (except_kind filter' target) ∷ statements_regions block (target + 1)),
+              (region at target (except_kind filter' target) ∷ statements_regions block (target + 1)),
           funclets_both (statements_funclets owner names body) more,
           funclets_both (filter_funclets owner (filter_names names) filter')
-            (statements_funclets owner (except_names names) block),
+              (statements_funclets owner (except_names names) block),
           tries_both (tries body) (with_filter filter' ∷ tries block),
         )
     statement_total owner names (TryFinally body k last) at =
@@ -110,7 +113,7 @@ module _ (finally filter : ℕ → ℕ) (always : ℕ) where
         let y = statements_total (in_funclet (k - 1) owner) (finally_names names) last 0 in
         let r = region at (at + statements_size body + 1) (kinds.Finally (k - 1)) in
         let more = finally_funclet owner names last
-          ∷ statements_funclets (in_funclet (k - 1) owner) (finally_names names) last in
+        ∷ statements_funclets (in_funclet (k - 1) owner) (finally_names names) last in
         omega (
           arith,
           total_both (statements_regions body at) (r ∷ []),
@@ -119,16 +122,19 @@ module _ (finally filter : ℕ → ℕ) (always : ℕ) where
         )
 
     statements_total : (owner : Owner) (names : Names) (ss : Statements) (at : ℕ)
-      → total (statements_regions ss at) + funclets_total (statements_funclets owner names ss)
-      ≡ try_total (tries ss)
+        → total (statements_regions ss at) + funclets_total (statements_funclets owner names ss)
+        ≡ try_total (tries ss)
     statements_total owner names Empty at = refl
     statements_total owner names (Then s ss) at =
         let x = statement_total owner names s at in
         let y = statements_total owner names ss (at + statement_size s) in
-        omega (arith, total_both (statement_regions s at)
-          (statements_regions ss (at + statement_size s)),
+        omega (
+          arith,
+          total_both (statement_regions s at)
+              (statements_regions ss (at + statement_size s)),
           funclets_both (statement_funclets owner names s) (statements_funclets owner names ss),
-          tries_both (tries_in s) (tries ss))
+          tries_both (tries_in s) (tries ss),
+        )
 
   -- ---- programs
 
@@ -149,9 +155,9 @@ module _ (finally filter : ℕ → ℕ) (always : ℕ) where
       omega (
         arith,
         total_both (statements_regions f.body 0)
-          (regions_in (function_bodies (map lowered_function fs))),
+            (regions_in (function_bodies (map lowered_function fs))),
         funclets_both (statements_funclets owner (scope_of f).names f.body)
-          (all_funclets (number + 1) fs),
+            (all_funclets (number + 1) fs),
         tries_both (tries f.body) (tries_of fs),
       )
 
@@ -159,5 +165,8 @@ module _ (finally filter : ℕ → ℕ) (always : ℕ) where
   program_total p =
       let x = functions_total 0 p.functions in
       let y = funclet_regions (lowered p).funclets in
-      omega (arith, total_both (regions_in (function_bodies (lowered p).functions))
-        (regions_in (funclet_bodies (lowered p).funclets)))
+      omega (
+        arith,
+        total_both (regions_in (function_bodies (lowered p).functions))
+            (regions_in (funclet_bodies (lowered p).funclets)),
+      )

@@ -33,5 +33,5 @@ accepted_follows text xs within accepted = lowered_follows (program_of text xs)
 pub accepted_shows_no_more : AcceptedShowsNoMore
 accepted_shows_no_more text xs bytes within accepted few =
     slower (program_of text xs) (lowered (program_of text xs)) (pace_of (program_of text xs))
-      (pace_in bytes) (pace_is_bounded text xs bytes few)
-      (lowered_shows_no_more (program_of text xs) (accepted_is_sound text xs within accepted))
+    (pace_in bytes) (pace_is_bounded text xs bytes few)
+    (lowered_shows_no_more (program_of text xs) (accepted_is_sound text xs within accepted))

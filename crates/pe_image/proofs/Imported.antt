@@ -58,7 +58,7 @@ module _ (ss : List Section) (xs : List Import) (index look slot : ℕ) where
       → little_number 8 b ≡ 0 → onto xs (library n ss index look slot) ≡ Ok xs
   entries_end n m b e is z =
       ap (onto xs) (there n m b e is ∙ ap (next_entry ss index slot
-        (library m ss (index + 1) (look + 8) (slot + 8))) z)
+      (library m ss (index + 1) (look + 8) (slot + 8))) z)
       ∙ ap (λ (t : List Import). Ok t) (append-nil xs)
 
   some : (others : Answered) (k : ℕ) → k ≢ 0 → next_entry ss index slot others k
@@ -72,8 +72,8 @@ module _ (ss : List Section) (xs : List Import) (index look slot : ℕ) where
   import_missing n m b e is ne none =
       let others = library m ss (index + 1) (look + 8) (slot + 8) in
       ap (onto xs) (there n m b e is ∙ some others (little_number 8 b) ne
-        ∙ ap (λ (o : Option Import). or_refused o (refusals.ImportBad index)
-        >>= λ i. prepend i others) none)
+      ∙ ap (λ (o : Option Import). or_refused o (refusals.ImportBad index)
+      >>= λ i. prepend i others) none)
 
   pub import_passed : (n m : ℕ) (b : List ℕ) (i : Import) → n ≡ m + 1 → stored ss look 8 ≡ Some b
       → little_number 8 b ≢ 0 → import_at ss slot (little_number 8 b) ≡ Some i
@@ -116,9 +116,9 @@ module _ (ss : List Section) (xs : List Import) (index at : ℕ) where
       ≡ next_library (λ ys. libraries m ss (index + length ys) (at + 20)) (entries_of ss index d) b
   descriptor_there n m d b e is z =
       library_first n m e ∙ ap (λ (o : Option (List ℕ)). or_refused o (refusals.ImportBad index)
-        >>= after m) is
+      >>= after m) is
       ∙ ap (next_library (λ ys. libraries m ss (index + length ys) (at + 20))
-        (entries_of ss index d)) z
+      (entries_of ss index d)) z
 
   pub libraries_end : (n m : ℕ) (d : List ℕ) → n ≡ m + 1 → stored ss at 20 ≡ Some d
       → is_zero d ≡ true → onto xs (libraries n ss index at) ≡ Ok xs
@@ -139,7 +139,7 @@ module _ (ss : List Section) (xs : List Import) (index at : ℕ) where
       let all : xs ++ ys ≡ zs = cc in
       let n : length zs ≡ index + length ys = omega (arith, ap length all, length-append xs ys) in
       ap (λ (t : List Import). onto t (f (length zs))) (sym all) ∙ ap (λ k. onto (xs ++ ys) (f k)) n
-        ∙ ap (onto (xs ++ ys)) (sym (same ys)) ∙ sym (onto_all xs ys (others ys))
+      ∙ ap (onto (xs ++ ys)) (sym (same ys)) ∙ sym (onto_all xs ys (others ys))
   gathered_in (Err f) others zs g same at_end h = cc
 
   pub library_refused : (n m : ℕ) (d : List ℕ) (f : ImageErr) → n ≡ m + 1 → stored ss at 20 ≡ Some d
@@ -147,8 +147,8 @@ module _ (ss : List Section) (xs : List Import) (index at : ℕ) where
       → onto xs (libraries n ss index at) ≡ Err f
   library_refused n m d f e is z h =
       ap (onto xs) (descriptor_there n m d false e is z
-        ∙ refused_in (entries_of ss index d) (λ ys. libraries m ss (index + length ys) (at + 20)) f
-          h)
+      ∙ refused_in (entries_of ss index d) (λ ys. libraries m ss (index + length ys) (at + 20)) f
+      h)
 
   pub library_passed : (n m : ℕ) (d : List ℕ) (zs : List Import) → n ≡ m + 1
       → stored ss at 20 ≡ Some d → is_zero d ≡ false → index ≡ length xs
@@ -156,7 +156,7 @@ module _ (ss : List Section) (xs : List Import) (index at : ℕ) where
       → onto zs (libraries m ss (length zs) (at + 20)) ≡ onto xs (libraries n ss index at)
   library_passed n m d zs e is z at_end h =
       gathered_in (entries_of ss index d) (λ ys. libraries m ss (index + length ys) (at + 20)) zs
-        (λ k. libraries m ss k (at + 20)) (λ ys. refl) at_end h
+      (λ k. libraries m ss k (at + 20)) (λ ys. refl) at_end h
       ∙ sym (ap (onto xs) (descriptor_there n m d false e is z))
 
 pub refused_at : (k n : ℕ) → k ≡ n → (let r : Answered = Err (refusals.ImportBad k) in r)
@@ -178,14 +178,14 @@ module _ (ss : List Section) (dir : DataDirectory) (xs : List Import) (n m look 
     (d : List ℕ) (at : ℕ) (some : dir.size ≢ 0) (e : n ≡ m + 1) (is : stored ss at 20 ≡ Some d)
     (z : is_zero d ≡ false)
     (e1 : look ≡ lookups (field 4 d 0) (field 4 d 16)) (e2 : slot ≡ field 4 d 16)
-      (so_far : onto xs (libraries n ss (length xs) at) ≡ libraries max_count ss 0 dir.rva) where
+    (so_far : onto xs (libraries n ss (length xs) at) ≡ libraries max_count ss 0 dir.rva) where
   pub whole_refused : (f : ImageErr) → Refuses f
       (onto xs (library max_count ss (length xs) look slot)) → Refuses f (imports_in ss dir)
   whole_refused refusals.Memory h = tt
   whole_refused f h =
       with_directory ss dir _ some (sym so_far
-        ∙ library_refused ss xs (length xs) at n m d f e is z
-          (ap (onto xs) (sym (same_entries ss (length xs) look slot d e1 e2)) ∙ h))
+      ∙ library_refused ss xs (length xs) at n m d f e is z
+      (ap (onto xs) (sym (same_entries ss (length xs) look slot d e1 e2)) ∙ h))
 
   pub whole_continues : (zs : List Import) (next : ℕ)
       → onto xs (library max_count ss (length xs) look slot) ≡ Ok zs → next ≡ at + 20
@@ -193,5 +193,5 @@ module _ (ss : List Section) (dir : DataDirectory) (xs : List Import) (n m look 
   whole_continues zs next h there =
       ap (λ k. onto zs (libraries m ss (length zs) k)) there
       ∙ library_passed ss xs (length xs) at n m d zs e is z refl
-        (ap (onto xs) (sym (same_entries ss (length xs) look slot d e1 e2)) ∙ h)
+      (ap (onto xs) (sym (same_entries ss (length xs) look slot d e1 e2)) ∙ h)
       ∙ so_far

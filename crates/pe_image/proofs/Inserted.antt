@@ -20,9 +20,9 @@ elsewhere k q n = elim (cases_order k q) [
 
 module _ {X : Type 0} (old new : BTreeMap ℕ X) (k : ℕ) (x : X)
     (has : (q : ℕ) → get nat_cmp new q ≡ cond (is_at (nat_cmp k) q) (Some x) (get nat_cmp old q))
-    where
-  pub at_key : (q : ℕ) → q ≡ k → get nat_cmp new q ≡ Some x
-  at_key q e = has q ∙ ap (λ b. cond b (Some x) (get nat_cmp old q)) (here k q e)
+  where
+    pub at_key : (q : ℕ) → q ≡ k → get nat_cmp new q ≡ Some x
+    at_key q e = has q ∙ ap (λ b. cond b (Some x) (get nat_cmp old q)) (here k q e)
 
-  pub off_key : (q : ℕ) → q ≢ k → get nat_cmp new q ≡ get nat_cmp old q
-  off_key q n = has q ∙ ap (λ b. cond b (Some x) (get nat_cmp old q)) (elsewhere k q n)
+    pub off_key : (q : ℕ) → q ≢ k → get nat_cmp new q ≡ get nat_cmp old q
+    off_key q n = has q ∙ ap (λ b. cond b (Some x) (get nat_cmp old q)) (elsewhere k q n)

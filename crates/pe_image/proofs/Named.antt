@@ -62,7 +62,7 @@ module _ (ss : List Section) (up : AreAscending 0 ss) (at : ℕ) (bytes : List �
   after_hint : stored_in (at + 2) (section_at (at + 2) ss) ≡ drop 2 bytes
   after_hint =
       let there : 2 < length (stored_in at (section_at at ss)) = subst
-        (λ (b : List ℕ). 2 < length b) is long in
+      (λ (b : List ℕ). 2 < length b) is long in
       stored_after at 2 ss up there ∙ ap (drop 2) (sym is)
 
   ended : (o : Option ℕ) → o ≡ position is_zero (stored_in (at + 2) (section_at (at + 2) ss))
@@ -79,7 +79,7 @@ module _ (ss : List Section) (up : AreAscending 0 ss) (at : ℕ) (bytes : List �
   named len e =
       sym (ap hinted (sym is)
       ∙ ap (λ (o : Option ℕ). unless_short (option_map (λ n. take n (drop 2 bytes)) o)
-        (leb 2 (length bytes))) (ended (Some len) e)
+      (leb 2 (length bytes))) (ended (Some len) e)
       ∙ ap (unless_short (Some (take len (drop 2 bytes)))) (le-leb 2 (length bytes) (omega arith)))
 
   pub unnamed : None ≡ position is_zero (stored_in (at + 2) (section_at (at + 2) ss))
@@ -87,5 +87,5 @@ module _ (ss : List Section) (up : AreAscending 0 ss) (at : ℕ) (bytes : List �
   unnamed e =
       sym (ap hinted (sym is)
       ∙ ap (λ (o : Option ℕ). unless_short (option_map (λ n. take n (drop 2 bytes)) o)
-        (leb 2 (length bytes))) (ended None e)
+      (leb 2 (length bytes))) (ended None e)
       ∙ none_is_short (leb 2 (length bytes)))

@@ -24,31 +24,31 @@ sections_from bytes limit index end hs = all_laid_out (length bytes) limit index
 headers_more : (bytes : List ℕ) (count index at : ℕ) → index < count
     → headers_from bytes (count - index) (at + 40 * index)
     ≡ header_at bytes (at + 40 * index) ∷ headers_from bytes (count - (index + 1))
-      (at + 40 * (index + 1))
+    (at + 40 * (index + 1))
 headers_more bytes count index at lt =
     let k : count - index ≡ suc (count - (index + 1)) = omega arith in
     let next : at + 40 * index + 40 ≡ at + 40 * (index + 1) = omega arith in
     ap (λ n. headers_from bytes n (at + 40 * index)) k
-      ∙ ap (λ n. header_at bytes (at + 40 * index) ∷ headers_from bytes (count - (index + 1)) n)
-        next
+    ∙ ap (λ n. header_at bytes (at + 40 * index) ∷ headers_from bytes (count - (index + 1)) n)
+    next
 
 -- a section that lies as it must
 laid_out : (bytes : List ℕ) (limit index end : ℕ) (s : SectionHeader) (hs : List SectionHeader)
     → is_laid_out (length bytes) limit end s ≡ true
     → (front : List Section) → with_front front (sections_from bytes limit index end (s ∷ hs))
     ≡ with_front (front ++ section_of bytes s ∷ [])
-      (sections_from bytes limit (index + 1) (s.address + s.size) hs)
+    (sections_from bytes limit (index + 1) (s.address + s.size) hs)
 laid_out bytes limit index end s hs fits front =
     ap (λ b. with_front front ((unless b (refusals.Layout index)
-      >>= λ _. all_laid_out (length bytes) limit (index + 1) (s.address + s.size) hs)
-      >>= λ _. Ok (map (section_of bytes) (s ∷ hs)))) fits
+    >>= λ _. all_laid_out (length bytes) limit (index + 1) (s.address + s.size) hs)
+    >>= λ _. Ok (map (section_of bytes) (s ∷ hs)))) fits
     ∙ regroup (all_laid_out (length bytes) limit (index + 1) (s.address + s.size) hs)
   where
     regroup : (r : Result Unit ImageErr) → with_front front
-      (r >>= λ _. Ok (map (section_of bytes) (s ∷ hs)))
-      ≡ with_front (front ++ section_of bytes s ∷ []) (r >>= λ _. Ok (map (section_of bytes) hs))
+        (r >>= λ _. Ok (map (section_of bytes) (s ∷ hs)))
+        ≡ with_front (front ++ section_of bytes s ∷ []) (r >>= λ _. Ok (map (section_of bytes) hs))
     regroup (Ok x) = ap (λ (ss : List Section). Ok ss)
-      (sym (append_assoc front (section_of bytes s ∷ []) (map (section_of bytes) hs)))
+        (sym (append_assoc front (section_of bytes s ∷ []) (map (section_of bytes) hs)))
     regroup (Err e) = refl
 
 not_laid_out : (bytes : List ℕ) (limit index end : ℕ) (s : SectionHeader) (hs : List SectionHeader)
@@ -57,24 +57,24 @@ not_laid_out : (bytes : List ℕ) (limit index end : ℕ) (s : SectionHeader) (h
     ≡ Err (refusals.Layout index)
 not_laid_out bytes limit index end s hs not front =
     ap (λ b. with_front front ((unless b (refusals.Layout index)
-      >>= λ _. all_laid_out (length bytes) limit (index + 1) (s.address + s.size) hs)
-      >>= λ _. Ok (map (section_of bytes) (s ∷ hs)))) not
+    >>= λ _. all_laid_out (length bytes) limit (index + 1) (s.address + s.size) hs)
+    >>= λ _. Ok (map (section_of bytes) (s ∷ hs)))) not
 
 pub continues : (bytes : List ℕ) (limit index end at count : ℕ) (s : SectionHeader)
     (front : List Section) (all : Result (List Section) ImageErr)
     → index < count → s ≡ header_at bytes (at + 40 * index)
     → is_laid_out (length bytes) limit end s ≡ true
     → with_front front (sections_from bytes limit index end
-      (headers_from bytes (count - index) (at + 40 * index))) ≡ all
+    (headers_from bytes (count - index) (at + 40 * index))) ≡ all
     → with_front (front ++ section_of bytes s ∷ [])
-      (sections_from bytes limit (index + 1) (s.address + s.size)
-      (headers_from bytes (count - (index + 1)) (at + 40 * (index + 1)))) ≡ all
+    (sections_from bytes limit (index + 1) (s.address + s.size)
+    (headers_from bytes (count - (index + 1)) (at + 40 * (index + 1)))) ≡ all
 continues bytes limit index end at count s front all lt is fits so_far =
     let hs = headers_from bytes (count - (index + 1)) (at + 40 * (index + 1)) in
     sym (laid_out bytes limit index end s hs fits front)
     ∙ ap (λ h. with_front front (sections_from bytes limit index end (h ∷ hs))) is
     ∙ sym (ap (λ hs. with_front front (sections_from bytes limit index end hs))
-      (headers_more bytes count index at lt))
+    (headers_more bytes count index at lt))
     ∙ so_far
 
 pub stops : (bytes : List ℕ) (limit index end at count : ℕ) (s : SectionHeader)
@@ -82,25 +82,25 @@ pub stops : (bytes : List ℕ) (limit index end at count : ℕ) (s : SectionHead
     → index < count → s ≡ header_at bytes (at + 40 * index)
     → is_laid_out (length bytes) limit end s ≡ false
     → with_front front (sections_from bytes limit index end
-      (headers_from bytes (count - index) (at + 40 * index))) ≡ all
+    (headers_from bytes (count - index) (at + 40 * index))) ≡ all
     → all ≡ Err (refusals.Layout index)
 stops bytes limit index end at count s front all lt is not so_far =
     let hs = headers_from bytes (count - (index + 1)) (at + 40 * (index + 1)) in
     sym so_far
     ∙ ap (λ hs. with_front front (sections_from bytes limit index end hs))
-      (headers_more bytes count index at lt)
+    (headers_more bytes count index at lt)
     ∙ sym (ap (λ h. with_front front (sections_from bytes limit index end (h ∷ hs))) is)
     ∙ not_laid_out bytes limit index end s hs not front
 
 pub is_done : (bytes : List ℕ) (limit index end at count : ℕ) (front : List Section)
     (all : Result (List Section) ImageErr) → count ≤ index
     → with_front front (sections_from bytes limit index end
-      (headers_from bytes (count - index) (at + 40 * index))) ≡ all → all ≡ Ok front
+    (headers_from bytes (count - index) (at + 40 * index))) ≡ all → all ≡ Ok front
 is_done bytes limit index end at count front all le so_far =
     let k : count - index ≡ 0 = omega arith in
     sym so_far ∙ ap (λ n. with_front front (sections_from bytes limit index end
-      (headers_from bytes n (at + 40 * index)))) k
-      ∙ ap (λ (ss : List Section). Ok ss) (append-nil front)
+    (headers_from bytes n (at + 40 * index)))) k
+    ∙ ap (λ (ss : List Section). Ok ss) (append-nil front)
 
 passed : (b : Bool) (e : ImageErr) (r : Result Unit ImageErr) → (unless b e >>= λ _. r) ≡ Ok tt
     → (b ≡ true) × (r ≡ Ok tt)
@@ -114,13 +114,13 @@ laid_out_rise : (bytes : List ℕ) (limit index end : ℕ) (hs : List SectionHea
 laid_out_rise bytes limit index end [] e = tt
 laid_out_rise bytes limit index end (s ∷ hs) e =
     let both = passed (is_laid_out (length bytes) limit end s) (refusals.Layout index)
-      (all_laid_out (length bytes) limit (index + 1) (s.address + s.size) hs) e in
+    (all_laid_out (length bytes) limit (index + 1) (s.address + s.size) hs) e in
     let fits = and_parts (((s.raw_size == 0) || leb (s.raw_at + s.raw_size) (length bytes))
-      && (s.address % PAGE == 0) && leb end s.address) (leb (s.address + s.size) limit) both.0 in
+    && (s.address % PAGE == 0) && leb end s.address) (leb (s.address + s.size) limit) both.0 in
     let above = and_parts (((s.raw_size == 0) || leb (s.raw_at + s.raw_size) (length bytes))
-      && (s.address % PAGE == 0)) (leb end s.address) fits.0 in
+    && (s.address % PAGE == 0)) (leb end s.address) fits.0 in
     let aligned = and_parts ((s.raw_size == 0) || leb (s.raw_at + s.raw_size) (length bytes))
-      (s.address % PAGE == 0) above.0 in
+    (s.address % PAGE == 0) above.0 in
     let placed : IsPlacedAfter end (section_of bytes s) = record {
       above = leb-true end s.address above.1;
       aligned = eqb-true (s.address % PAGE) 0 aligned.1;

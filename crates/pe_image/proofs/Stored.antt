@@ -47,22 +47,22 @@ pub last_below : (rva end : ℕ) (ss : List Section) (k : ℕ) (d : Section) →
 last_below rva end [] k d up lt le above = absurd (omega arith)
 last_below rva end (s ∷ ss) zero d up lt le above =
     let others : section_at rva ss ≡ None = none_above rva ss
-      (λ j e h. above (suc j) e (omega arith) (omega arith)) in
+    (λ j e h. above (suc j) e (omega arith) (omega arith)) in
     ap (λ o. stored_in rva (section_or o s (stores_byte rva s))) others
     ∙ (elim (cases_lt rva (s.address + length s.raw)) as
-      (λ _. stored_in rva (section_or None s (stores_byte rva s)) ≡ drop (rva - s.address) s.raw) [
+    (λ _. stored_in rva (section_or None s (stores_byte rva s)) ≡ drop (rva - s.address) s.raw) [
       | inl inside ↦ ap (λ b. stored_in rva (section_or None s b))
-        (and_from (leb s.address rva) (ltb rva (s.address + length s.raw)) (le-leb s.address rva le)
-        (lt-ltb rva (s.address + length s.raw) inside))
+          (and_from (leb s.address rva) (ltb rva (s.address + length s.raw)) (le-leb s.address rva le)
+          (lt-ltb rva (s.address + length s.raw) inside))
       | inr past ↦ ap (λ b. stored_in rva (section_or None s b)) (above_holds_none rva s past)
-      ∙ sym (drop_all (rva - s.address) s.raw (omega arith))
+          ∙ sym (drop_all (rva - s.address) s.raw (omega arith))
     ])
 last_below rva end (s ∷ ss) (suc k) d up lt le above =
     let later = lies_above (s.address + s.size) ss k d up.1 (omega arith) in
     ap (λ b. stored_in rva (section_or (section_at rva ss) s b))
-      (above_holds_none rva s (omega (arith, up.0.stored)))
+    (above_holds_none rva s (omega (arith, up.0.stored)))
     ∙ last_below rva (s.address + s.size) ss k d up.1 (omega arith) le
-      (λ j e h1 h2. above (suc j) e (omega arith) (omega arith))
+    (λ j e h1 h2. above (suc j) e (omega arith) (omega arith))
 
 -- the same by how many begin at or below it
 pub begun_before : (rva n : ℕ) (ss : List Section) (s : Section) → AreAscending 0 ss → n ≤ length ss
@@ -73,7 +73,7 @@ pub begun_before : (rva n : ℕ) (ss : List Section) (s : Section) → AreAscend
 begun_before rva n ss s up within some is begun later =
     ap (λ (t : Section). drop (rva - t.address) t.raw) is
     ∙ sym (last_below rva 0 ss (n - 1) s up (omega arith) (begun (n - 1) s (omega arith))
-      (λ j e h1 h2. later j e (omega arith) h2))
+    (λ j e h1 h2. later j e (omega arith) h2))
 
 -- ---- bytes after others
 
@@ -96,12 +96,15 @@ storing end rva (t ∷ ss) s up e = by_case (storing (t.address + t.size) rva ss
     (stores_byte rva t) refl e
   where
     by_case : (section_at rva ss ≡ Some s → StoresByte (t.address + t.size) rva s) → (b : Bool)
-      → stores_byte rva t ≡ b → section_or (section_at rva ss) t b ≡ Some s → StoresByte end rva s
+        → stores_byte rva t ≡ b → section_or (section_at rva ss) t b ≡ Some s → StoresByte end rva s
     by_case others true is found = let same : t ≡ s = cc in
-      subst (StoresByte end rva) same (stores end rva t up.0.above is)
+        subst (StoresByte end rva) same (stores end rva t up.0.above is)
     by_case others false is found = let later = others found in
-      record { above = omega (arith, up.0.above, later.above); begun = later.begun;
-      within = later.within }
+        record {
+          above = omega (arith, up.0.above, later.above);
+          begun = later.begun;
+          within = later.within;
+        }
 
 -- an address in the section of another has this section too
 section_stays : (end rva at : ℕ) (ss : List Section) (s : Section) → AreAscending end ss
@@ -113,21 +116,21 @@ section_stays end rva at (t ∷ ss) s up e le lt = by_case
     refl e
   where
     by_case : (section_at rva ss ≡ Some s → section_at at ss ≡ Some s) → (b : Bool)
-      → stores_byte rva t ≡ b → section_or (section_at rva ss) t b ≡ Some s
-      → section_or (section_at at ss) t (stores_byte at t) ≡ Some s
+        → stores_byte rva t ≡ b → section_or (section_at rva ss) t b ≡ Some s
+        → section_or (section_at at ss) t (stores_byte at t) ≡ Some s
     by_case others true is found =
         let same : s ≡ t = cc in
         let le' : t.address ≤ at = subst (λ (u : Section). u.address ≤ at) same le in
         let lt' : at < t.address + length t.raw = subst
-          (λ (u : Section). at < u.address + length u.raw) same lt in
+        (λ (u : Section). at < u.address + length u.raw) same lt in
         ap (section_or (section_at at ss) t) (and_from (leb t.address at)
-          (ltb at (t.address + length t.raw)) (le-leb t.address at le')
-          (lt-ltb at (t.address + length t.raw) lt'))
+        (ltb at (t.address + length t.raw)) (le-leb t.address at le')
+        (lt-ltb at (t.address + length t.raw) lt'))
         ∙ ap (λ (u : Section). Some u) (sym same)
     by_case others false is found =
         let later = storing (t.address + t.size) rva ss s up.1 found in
         ap (section_or (section_at at ss) t) (above_holds_none at t
-          (omega (arith, up.0.stored, later.above)))
+        (omega (arith, up.0.stored, later.above)))
         ∙ others found
 
 -- the bytes after some that a section stores are stored there
@@ -137,15 +140,15 @@ pub stored_after : (rva n : ℕ) (ss : List Section) → AreAscending 0 ss
 stored_after rva n ss up lt = by_case (section_at rva ss) refl lt
   where
     by_case : (o : Option Section) → section_at rva ss ≡ o → n < length (stored_in rva o)
-      → stored_in (rva + n) (section_at (rva + n) ss) ≡ drop n (stored_in rva o)
+        → stored_in (rva + n) (section_at (rva + n) ss) ≡ drop n (stored_in rva o)
     by_case None is lt = absurd (omega arith)
     by_case (Some s) is lt =
         let here = storing 0 rva ss s up is in
         let begun : s.address ≤ rva = here.begun in
         let within : rva - s.address + n < length s.raw = omega
-          (arith, length-drop (rva - s.address) s.raw) in
+        (arith, length-drop (rva - s.address) s.raw) in
         let there : rva + n - s.address ≡ rva - s.address + n = omega arith in
         ap (stored_in (rva + n)) (section_stays 0 rva (rva + n) ss s up is (omega arith)
-          (omega arith))
+        (omega arith))
         ∙ ap (λ k. drop k s.raw) there
         ∙ sym (drop-drop n (rva - s.address) s.raw)

@@ -61,11 +61,23 @@ pub same_image : (bytes : List ℕ) (ss : List Section) (base entry size : ℕ)
     (imports exceptions : DataDirectory)
     → base ≡ image_base bytes → entry ≡ entry_point bytes → size ≡ image_size bytes
     → imports ≡ directory bytes 1 → exceptions ≡ directory bytes 3
-    → image_with bytes ss ≡ record { base = base; entry = entry; size = size; sections = ss;
-      imports = imports; exceptions = exceptions }
-same_image bytes ss base entry size imports exceptions e1 e2 e3 e4
-    e5 = λ i. record { base = sym e1 i; entry = sym e2 i; size = sym e3 i; sections = ss;
-    imports = sym e4 i; exceptions = sym e5 i }
+    → image_with bytes ss ≡ record {
+      base = base;
+      entry = entry;
+      size = size;
+      sections = ss;
+      imports = imports;
+      exceptions = exceptions;
+    }
+same_image bytes ss base entry size imports exceptions e1 e2 e3 e4 e5 =
+    λ i. record {
+      base = sym e1 i;
+      entry = sym e2 i;
+      size = sym e3 i;
+      sections = ss;
+      imports = sym e4 i;
+      exceptions = sym e5 i;
+    }
 
 -- ---- the imports
 

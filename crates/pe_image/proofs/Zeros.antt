@@ -15,15 +15,15 @@ is_there : (xs : List ℕ) (i : ℕ) → i < length xs
     → position is_zero xs ≡ Some i
 is_there xs i lt before here =
     let e : position_or_len is_zero xs ≡ i = position_or_len_is is_zero xs i 0 (omega arith) before
-      (λ _. here) in
+    (λ _. here) in
     ap (λ (n : ℕ). cond (ltb n (length xs)) (Some n) None) e
-      ∙ ap (λ (b : Bool). cond b (Some i) None) (lt-ltb i (length xs) lt)
+    ∙ ap (λ (b : Bool). cond b (Some i) None) (lt-ltb i (length xs) lt)
 
 none_is_at : (xs : List ℕ) → position is_zero xs ≡ None → (k : ℕ) → k < length xs
     → is_zero (get_or xs k 0) ≡ false
 none_is_at xs none k lt = elim (cases_lt (position_or_len is_zero xs) (length xs)) [
   | inl found ↦ let e = sym (ap (λ (b : Bool). cond b (Some (position_or_len is_zero xs)) None)
-    (lt-ltb (position_or_len is_zero xs) (length xs) found)) ∙ none in cc
+      (lt-ltb (position_or_len is_zero xs) (length xs) found)) ∙ none in cc
   | inr past ↦ fails_before_first is_zero xs k 0 (omega arith)
 ]
 
@@ -52,10 +52,10 @@ first_past_front n i xs le none e =
     is_there xs (n + i) (omega (arith, length-drop n xs, p.0))
     (λ k before. elim (cases_lt k n) [
       | inl lt ↦ sym (ap is_zero (get_or-take n xs k 0 lt))
-      ∙ none_is_at (take n xs) none k (omega (arith, length-take-le n xs le))
+          ∙ none_is_at (take n xs) none k (omega (arith, length-take-le n xs le))
       | inr ge ↦
           let there : n + (k - n) ≡ k = omega arith in
           sym (ap (λ j. is_zero (get_or xs j 0)) there)
-            ∙ sym (ap is_zero (get_or-drop n xs (k - n) 0)) ∙ p.2 (k - n) (omega arith)
+          ∙ sym (ap is_zero (get_or-drop n xs (k - n) 0)) ∙ p.2 (k - n) (omega arith)
     ])
     (sym (ap is_zero (get_or-drop n xs i 0)) ∙ p.1)

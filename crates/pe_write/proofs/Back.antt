@@ -23,8 +23,11 @@ use Rattle.pe_write.specs.Written.{SectionParts, ImageParts, PlacedSection, page
 
 pub raw_length : (s : SectionParts) → length (raw_data s) ≡ raw_size s
 unfolding raw_data zeros
-raw_length s = omega (arith, length-append s.bytes (replicate (raw_size s - length s.bytes) 0),
-    length-replicate {A = ℕ} (raw_size s - length s.bytes) 0)
+raw_length s = omega (
+  arith,
+  length-append s.bytes (replicate (raw_size s - length s.bytes) 0),
+  length-replicate {A = ℕ} (raw_size s - length s.bytes) 0,
+)
 
 data_length : (ss : List SectionParts) → AllByRecursion IsSection ss
     → length (flat_map raw_data ss) ≤ sum_by (λ s. pages s.size) ss
@@ -40,7 +43,7 @@ raw_more : (b : List ℕ) (raw_at : ℕ) (s : SectionParts) (ss : List SectionPa
     → drop (raw_at + raw_size s) b ≡ flat_map raw_data ss
 raw_more b raw_at s ss e =
     sym (drop-drop (raw_size s) raw_at b) ∙ ap (drop (raw_size s)) e
-      ∙ drop_at (raw_data s) (flat_map raw_data ss) (raw_size s) (raw_length s)
+    ∙ drop_at (raw_data s) (flat_map raw_data ss) (raw_size s) (raw_length s)
 
 raw_within : (b : List ℕ) (raw_at : ℕ) (s : SectionParts) (ss : List SectionParts)
     → drop raw_at b ≡ flat_map raw_data (s ∷ ss)
@@ -49,12 +52,12 @@ raw_within b raw_at s ss e = elim (cases_eq (raw_size s) 0) [
   | inl none ↦ or_left _ _ (eq-eqb (raw_size s) 0 none)
   | inr some ↦
       let both : length b - raw_at ≡ length (raw_data s ++ flat_map raw_data ss) = sym
-        (length-drop raw_at b) ∙ ap length e in
+      (length-drop raw_at b) ∙ ap length e in
       let sum : length (raw_data s ++ flat_map raw_data ss)
-        ≡ raw_size s + length (flat_map raw_data ss) = length-append (raw_data s)
-          (flat_map raw_data ss) ∙ ap (λ n. n + length (flat_map raw_data ss)) (raw_length s) in
+      ≡ raw_size s + length (flat_map raw_data ss) = length-append (raw_data s)
+      (flat_map raw_data ss) ∙ ap (λ n. n + length (flat_map raw_data ss)) (raw_length s) in
       or_right (raw_size s == 0) _ (le-leb (raw_at + raw_size s) (length b)
-        (passes (raw_size s) (length b) raw_at (length (flat_map raw_data ss)) some (both ∙ sum)))
+      (passes (raw_size s) (length b) raw_at (length (flat_map raw_data ss)) some (both ∙ sum)))
 ]
   where
     passes : (n file at more : ℕ) → n ≢ 0 → file - at ≡ n + more → at + n ≤ file
@@ -70,16 +73,21 @@ laid_out b limit index end address page raw_at (s ∷ ss) whole up below e =
     let one = raw_within b raw_at s ss e in
     let two : (address % 4096 == 0) ≡ true = eq-eqb (address % 4096) 0 (omega arith) in
     let fits : is_laid_out (length b) limit end
-      (record { size = s.size; address = address; raw_size = raw_size s; raw_at = raw_at;
-      flags = s.flags }) ≡ true =
+    (record {
+      size = s.size;
+      address = address;
+      raw_size = raw_size s;
+      raw_at = raw_at;
+      flags = s.flags;
+    }) ≡ true =
     and_from _ _ (and_from _ _ (and_from _ _ one two) (le-leb end address up))
-      (le-leb (address + s.size) limit (omega arith)) in
+    (le-leb (address + s.size) limit (omega arith)) in
     ap (λ t. unless t (refusals.Layout index)
-      >>= λ _. all_laid_out (length b) limit (index + 1) (address + s.size)
-        (headers_read (placed (address + pages s.size) (raw_at + raw_size s) ss))) fits
+    >>= λ _. all_laid_out (length b) limit (index + 1) (address + s.size)
+    (headers_read (placed (address + pages s.size) (raw_at + raw_size s) ss))) fits
     ∙ laid_out b limit (index + 1) (address + s.size) (address + pages s.size)
-      (page + (s.size + 4095) / 4096) (raw_at + raw_size s) ss (omega arith) (omega arith)
-      (omega arith) (raw_more b raw_at s ss e)
+    (page + (s.size + 4095) / 4096) (raw_at + raw_size s) ss (omega arith) (omega arith)
+    (omega arith) (raw_more b raw_at s ss e)
 
 raw_again : (b : List ℕ) (raw_at : ℕ) (s : SectionParts) (ss : List SectionParts)
     → drop raw_at b ≡ flat_map raw_data (s ∷ ss)
@@ -87,18 +95,18 @@ raw_again : (b : List ℕ) (raw_at : ℕ) (s : SectionParts) (ss : List SectionP
 raw_again b raw_at s ss e =
     ap (take (min s.size (raw_size s))) e
     ∙ take-append-le (min s.size (raw_size s)) (raw_data s) (flat_map raw_data ss)
-      (omega (arith, raw_length s))
+    (omega (arith, raw_length s))
     ∙ ap (λ n. take (min s.size n) (raw_data s)) (sym (raw_length s))
     ∙ take_min s.size (raw_data s)
 
 sections_again : (b : List ℕ) (address raw_at : ℕ) (ss : List SectionParts)
     → drop raw_at b ≡ flat_map raw_data ss → map (section_of b)
-      (headers_read (placed address raw_at ss)) ≡ sections_read (placed address raw_at ss)
+    (headers_read (placed address raw_at ss)) ≡ sections_read (placed address raw_at ss)
 sections_again b address raw_at [] e = refl
 sections_again b address raw_at (s ∷ ss) e =
     let raw = raw_again b raw_at s ss e in
     let others = sections_again b (address + pages s.size) (raw_at + raw_size s) ss
-      (raw_more b raw_at s ss e) in
+    (raw_more b raw_at s ss e) in
     λ i. record { address = address; size = s.size; raw = raw i; flags = s.flags } ∷ others i
 
 -- ---- the whole
@@ -122,8 +130,8 @@ module _ (image : ImageParts) (fits : CanBeWritten image) where
   parts =
       append_assoc (front_of image) (table_of image) (flat_map raw_data image.sections)
       ∙ ap (λ (t : List ℕ). front_of image ++ t)
-        (append_assoc (section_table ps) (zeros (696 - 40 * length image.sections))
-        (flat_map raw_data image.sections))
+      (append_assoc (section_table ps) (zeros (696 - 40 * length image.sections))
+      (flat_map raw_data image.sections))
 
   table_length : (address raw_at : ℕ) (ss : List SectionParts) → AllByRecursion IsSection ss
       → length (section_table (placed address raw_at ss)) ≡ 40 * length ss
@@ -131,17 +139,27 @@ module _ (image : ImageParts) (fits : CanBeWritten image) where
   table_length address raw_at (s ∷ ss) h =
       let p : PlacedSection = record { parts = s; address = address; raw_at = raw_at } in
       let others = table_length (address + pages s.size) (raw_at + raw_size s) ss h.1 in
-      omega (arith, length-append (section_header p)
-        (section_table (placed (address + pages s.size) (raw_at + raw_size s) ss)),
-        length-append s.name (section_fields p), h.0.name, fields_length p)
+      omega (
+        arith,
+        length-append (section_header p)
+            (section_table (placed (address + pages s.size) (raw_at + raw_size s) ss)),
+        length-append s.name (section_fields p),
+        h.0.name,
+        fields_length p,
+      )
 
   headers_length : length (front_of image ++ table_of image) ≡ 1024
   headers_length =
       let count = fits.table in
       let pad = 696 - 40 * length image.sections in
-      omega (arith, length-append (front_of image) (table_of image), front_length image,
+      omega (
+        arith,
+        length-append (front_of image) (table_of image),
+        front_length image,
         length-append (section_table ps) (zeros pad),
-        table_length 0x1000 1024 image.sections fits.sections, zeros_length pad)
+        table_length 0x1000 1024 image.sections fits.sections,
+        zeros_length pad,
+      )
 
   whole_length : length (written image) ≡ 1024 + length (flat_map raw_data image.sections)
   unfolding written
@@ -162,8 +180,13 @@ module _ (image : ImageParts) (fits : CanBeWritten image) where
   unfolding written
   long =
       let same = ap length parts in
-      omega (arith, same, headers_length, length-append (front_of image ++ table_of image)
-        (flat_map raw_data image.sections))
+      omega (
+        arith,
+        same,
+        headers_length,
+        length-append (front_of image ++ table_of image)
+            (flat_map raw_data image.sections),
+      )
 
   abbrev b : List ℕ
   b = front_of image ++ (section_table ps ++ tail)
@@ -172,26 +195,26 @@ module _ (image : ImageParts) (fits : CanBeWritten image) where
       (length (front_of image))) ≡ Ok (sections_read ps)
   sections_are =
       let there : drop 1024 b ≡ flat_map raw_data image.sections = ap (drop 1024) (sym parts)
-        ∙ data_there in
+      ∙ data_there in
       let inside = rounded (image_size b) (end_of image.sections)
-        (size_is image fits (section_table ps ++ tail) long) in
+      (size_is image fits (section_table ps ++ tail) long) in
       ap (sections_of b (image_end b)) (rows (front_of image) 0x1000 1024 image.sections tail
-        fits.sections fits.end (omega arith))
+      fits.sections fits.end (omega arith))
       ∙ ap (λ r. r >>= λ _. Ok (map (section_of b) (headers_read ps)))
-        (laid_out b (image_end b) 0 0 0x1000 1 1024 image.sections refl (omega arith) inside there)
+      (laid_out b (image_end b) 0 0 0x1000 1 1024 image.sections refl (omega arith) inside there)
       ∙ ap (λ (ss : List Section). Ok ss) (sections_again b 0x1000 1024 image.sections there)
 
   outline_parts : outline b ≡ Ok (image_read image)
   outline_parts =
       let rest = section_table ps ++ tail in
       read_whole b (sections_read ps) (image_end b) (length image.sections)
-        (length (front_of image)) (headers_pass image fits rest long) refl
-        (sym (count_is image fits rest long))
-        (front_length image ∙ sym (sections_at_is image fits rest long)) sections_are
+      (length (front_of image)) (headers_pass image fits rest long) refl
+      (sym (count_is image fits rest long))
+      (front_length image ∙ sym (sections_at_is image fits rest long)) sections_are
       ∙ ap (λ (i : Image). Ok i) (same_image b (sections_read ps) 0x140000000 image.entry
-        (end_of image.sections) image.imports image.exceptions (sym (base_is image fits rest long))
-        (sym (entry_is image fits rest long)) (sym (size_is image fits rest long))
-        (sym (imports_is image fits rest long)) (sym (exceptions_is image fits rest long)))
+      (end_of image.sections) image.imports image.exceptions (sym (base_is image fits rest long))
+      (sym (entry_is image fits rest long)) (sym (size_is image fits rest long))
+      (sym (imports_is image fits rest long)) (sym (exceptions_is image fits rest long)))
 
   pub read_again : IsImage (written image) (image_read image)
   read_again = ap reading parts ∙ whole_read b (image_read image) (imports_of (image_read image))

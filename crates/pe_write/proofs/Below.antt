@@ -15,7 +15,7 @@ some_below p (s ∷ ss) fits =
     let one = raw_below s fits.0 in
     let all = sum_by-cons (λ s. pages s.size) s ss in
     elim (p s) as (λ b. sum_by raw_size (cond b (s ∷ filter p ss) (filter p ss))
-      ≤ sum_by (λ s. pages s.size) (s ∷ ss)) [
+    ≤ sum_by (λ s. pages s.size) (s ∷ ss)) [
       | true ↦ let some = sum_by-cons raw_size s (filter p ss) in omega arith
       | false ↦ omega arith
     ]

@@ -21,7 +21,7 @@ front =
 abbrev table : List ℕ
 table =
     (46 ∷ 100 ∷ 97 ∷ 116 ∷ 97 ∷ 0 ∷ 0 ∷ 0 ∷ []) ++ u32 4096 ++ u32 0x1000 ++ u32 0 ++ u32 1024
-      ++ zeros 12 ++ u32 0xC0000040
+    ++ zeros 12 ++ u32 0xC0000040
     ++ (46 ∷ 116 ∷ 101 ∷ 120 ∷ 116 ∷ 0 ∷ 0 ∷ 0 ∷ []) ++ u32 6 ++ u32 0x2000 ++ u32 512 ++ u32 1024
     ++ zeros 12 ++ u32 0x60000020
 
@@ -32,10 +32,18 @@ abbrev parts : ImageParts
 parts = record {
   entry = 0x2000;
   sections =
-      record { name = 46 ∷ 100 ∷ 97 ∷ 116 ∷ 97 ∷ 0 ∷ 0 ∷ 0 ∷ []; flags = 0xC0000040; size = 4096;
-        bytes = [] }
-      ∷ record { name = 46 ∷ 116 ∷ 101 ∷ 120 ∷ 116 ∷ 0 ∷ 0 ∷ 0 ∷ []; flags = 0x60000020; size = 6;
-        bytes = code }
+      record {
+        name = 46 ∷ 100 ∷ 97 ∷ 116 ∷ 97 ∷ 0 ∷ 0 ∷ 0 ∷ [];
+        flags = 0xC0000040;
+        size = 4096;
+        bytes = [];
+      }
+      ∷ record {
+        name = 46 ∷ 116 ∷ 101 ∷ 120 ∷ 116 ∷ 0 ∷ 0 ∷ 0 ∷ [];
+        flags = 0x60000020;
+        size = 6;
+        bytes = code;
+      }
       ∷ [];
   imports = record { rva = 0; size = 0 };
   exceptions = record { rva = 0x2003; size = 12 };

@@ -83,15 +83,19 @@ module _ (image : ImageParts) (fits : CanBeWritten image) (rest : List ℕ) wher
   imports_there : field 4 bytes 208 ≡ image.imports.rva × field 4 bytes 212 ≡ image.imports.size
   unfolding dos_header file_header standard_fields windows_fields directories directory_entry u16
       u32 u64 zeros
-  imports_there = (four_is image.imports.rva fits.imports.0,
-      four_is image.imports.size fits.imports.1)
+  imports_there = (
+    four_is image.imports.rva fits.imports.0,
+    four_is image.imports.size fits.imports.1,
+  )
 
   exceptions_there : field 4 bytes 224 ≡ image.exceptions.rva
       × field 4 bytes 228 ≡ image.exceptions.size
   unfolding dos_header file_header standard_fields windows_fields directories directory_entry u16
       u32 u64 zeros
-  exceptions_there = (four_is image.exceptions.rva fits.exceptions.0,
-      four_is image.exceptions.size fits.exceptions.1)
+  exceptions_there = (
+    four_is image.exceptions.rva fits.exceptions.0,
+    four_is image.exceptions.size fits.exceptions.1,
+  )
 
 -- ---- the fields, where the headers look for them
 
@@ -151,23 +155,31 @@ module _ (image : ImageParts) (fits : CanBeWritten image) (rest : List ℕ)
 
   pub imports_is : directory b 1 ≡ image.imports
   imports_is =
-      ap (λ n. if nat_lt 1 n then record { rva = field 4 b (directories_at b + 8);
-        size = field 4 b (directories_at b + 8 + 4) } else record { rva = 0; size = 0 })
-        directory_count_is
-      ∙ (λ i. record { rva = (ap (λ n. field 4 b (n + 8)) directories_at_is
-      ∙ (imports_there image fits rest).0) i;
+      ap (λ n. if nat_lt 1 n then record {
+        rva = field 4 b (directories_at b + 8);
+        size = field 4 b (directories_at b + 8 + 4);
+      } else record { rva = 0; size = 0 })
+      directory_count_is
+      ∙ (λ i. record {
+        rva = (ap (λ n. field 4 b (n + 8)) directories_at_is
+            ∙ (imports_there image fits rest).0) i;
         size = (ap (λ n. field 4 b (n + 8 + 4)) directories_at_is
-      ∙ (imports_there image fits rest).1) i })
+            ∙ (imports_there image fits rest).1) i;
+      })
 
   pub exceptions_is : directory b 3 ≡ image.exceptions
   exceptions_is =
-      ap (λ n. if nat_lt 3 n then record { rva = field 4 b (directories_at b + 24);
-        size = field 4 b (directories_at b + 24 + 4) } else record { rva = 0; size = 0 })
-        directory_count_is
-      ∙ (λ i. record { rva = (ap (λ n. field 4 b (n + 24)) directories_at_is
-      ∙ (exceptions_there image fits rest).0) i;
+      ap (λ n. if nat_lt 3 n then record {
+        rva = field 4 b (directories_at b + 24);
+        size = field 4 b (directories_at b + 24 + 4);
+      } else record { rva = 0; size = 0 })
+      directory_count_is
+      ∙ (λ i. record {
+        rva = (ap (λ n. field 4 b (n + 24)) directories_at_is
+            ∙ (exceptions_there image fits rest).0) i;
         size = (ap (λ n. field 4 b (n + 24 + 4)) directories_at_is
-      ∙ (exceptions_there image fits rest).1) i })
+            ∙ (exceptions_there image fits rest).1) i;
+      })
 
   pub headers_pass : headers b ≡ Ok tt
   unfolding headers
@@ -175,25 +187,25 @@ module _ (image : ImageParts) (fits : CanBeWritten image) (rest : List ℕ)
       let table = fits.table in
       let directories_end : 8 * directory_count b ≡ 128 = ap (λ n. 8 * n) directory_count_is in
       let table_end : 40 * section_count b ≡ 40 * length image.sections = ap (λ n. 40 * n)
-        count_is in
+      count_is in
       nine _ _ _ _ _ _ _ _ _
       (refusals.Truncated 0) (refusals.NotPe 0) (refusals.Truncated (signature_at b))
-        (refusals.NotPe (signature_at b)) (refusals.Machine (machine b))
-        (refusals.Truncated (optional_at b)) (refusals.Magic (magic b))
-        (refusals.Truncated (directories_at b)) (refusals.Truncated (sections_at b))
+      (refusals.NotPe (signature_at b)) (refusals.Machine (machine b))
+      (refusals.Truncated (optional_at b)) (refusals.Magic (magic b))
+      (refusals.Truncated (directories_at b)) (refusals.Truncated (sections_at b))
       (le-leb 64 (length b) (omega (arith, long)))
       (eq-eqb _ _ (mark_there image fits rest))
       (room (length b) (signature_at b) 64 24 (signature_there image fits rest)
-        (omega (arith, long)))
+      (omega (arith, long)))
       (eq-eqb _ _ (ap (λ n. field 4 b n) (signature_there image fits rest)
-        ∙ pe_there image fits rest))
+      ∙ pe_there image fits rest))
       (eq-eqb _ _ machine_is)
       (and_from _ _ (room (length b) (optional_at b) 88 112 optional_at_is (omega (arith, long)))
-        (ap (leb 112) optional_size_is))
+      (ap (leb 112) optional_size_is))
       (eq-eqb _ _ magic_is)
       (and_from _ _ (λ i. leb (112 + directories_end i) (optional_size_is i))
-        (ap (λ n. leb (directories_at b + n) (length b)) directories_end
-        ∙ room (length b) (directories_at b) 200 128 directories_at_is (omega (arith, long))))
+      (ap (λ n. leb (directories_at b + n) (length b)) directories_end
+      ∙ room (length b) (directories_at b) 200 128 directories_at_is (omega (arith, long))))
       (ap (λ n. leb (sections_at b + n) (length b)) table_end
-        ∙ room (length b) (sections_at b) 328 (40 * length image.sections) sections_at_is
-          (omega (arith, long, table)))
+      ∙ room (length b) (sections_at b) 328 (40 * length image.sections) sections_at_is
+      (omega (arith, long, table)))

@@ -24,23 +24,39 @@ module _ (p : ImageContents) (fits : CanBeImage p) where
   r = rdata_at (sizes_of p)
 
   abbrev globals : Section
-  globals = record { address = 0x1000; size = p.data_size; raw = raw_data (data_section p);
-      flags = 0xC0000040 }
+  globals = record {
+    address = 0x1000;
+    size = p.data_size;
+    raw = raw_data (data_section p);
+    flags = 0xC0000040;
+  }
 
   abbrev code : Section
-  code = record { address = text_at (sizes_of p); size = length p.text; raw = p.text;
-      flags = 0x60000020 }
+  code = record {
+    address = text_at (sizes_of p);
+    size = length p.text;
+    raw = p.text;
+    flags = 0x60000020;
+  }
 
   abbrev tables : Section
   tables = record { address = r; size = 222; raw = import_tables r; flags = 0x40000040 }
 
   abbrev infos : Section
-  infos = record { address = xdata_at (sizes_of p); size = length p.xdata; raw = p.xdata;
-      flags = 0x40000040 }
+  infos = record {
+    address = xdata_at (sizes_of p);
+    size = length p.xdata;
+    raw = p.xdata;
+    flags = 0x40000040;
+  }
 
   abbrev functions : Section
-  functions = record { address = pdata_at (sizes_of p); size = length p.pdata; raw = p.pdata;
-      flags = 0x40000040 }
+  functions = record {
+    address = pdata_at (sizes_of p);
+    size = length p.pdata;
+    raw = p.pdata;
+    flags = 0x40000040;
+  }
 
   abbrev others : List Section
   others = infos ∷ functions ∷ []
@@ -59,47 +75,47 @@ module _ (p : ImageContents) (fits : CanBeImage p) where
       ≡ section_at rva (tables ∷ others)
   past_code rva le =
       ap (section_or (section_at rva (code ∷ tables ∷ others)) globals)
-        (above_holds_none rva globals (omega (arith, stored_of_data)))
+      (above_holds_none rva globals (omega (arith, stored_of_data)))
       ∙ ap (section_or (section_at rva (tables ∷ others)) code)
-        (above_holds_none rva code (omega arith))
+      (above_holds_none rva code (omega arith))
 
   past_tables : (rva : ℕ) → xdata_at (sizes_of p) ≤ rva
       → section_at rva (sections_of p) ≡ section_at rva others
   past_tables rva le =
       past_code rva (omega arith)
       ∙ ap (section_or (section_at rva others) tables)
-        (above_holds_none rva tables (omega (arith, tables_length r)))
+      (above_holds_none rva tables (omega (arith, tables_length r)))
 
   pub tables_are_at : (k : ℕ) → k < 222 → stored_in (r + k) (section_at (r + k) (sections_of p))
       ≡ drop k (import_tables r)
   tables_are_at k lt =
       let back : r + k - r ≡ k = omega arith in
       ap (stored_in (r + k)) (past_code (r + k) (omega arith)
-        ∙ ap (section_or (section_at (r + k) others) tables)
-          (inside (r + k) tables (omega arith) (omega (arith, tables_length r))))
+      ∙ ap (section_or (section_at (r + k) others) tables)
+      (inside (r + k) tables (omega arith) (omega (arith, tables_length r))))
       ∙ ap (λ n. drop n (import_tables r)) back
 
   pub xdata_is_at : (k : ℕ) → k < length p.xdata
       → stored_in (xdata_at (sizes_of p) + k)
-        (section_at (xdata_at (sizes_of p) + k) (sections_of p)) ≡ drop k p.xdata
+      (section_at (xdata_at (sizes_of p) + k) (sections_of p)) ≡ drop k p.xdata
   xdata_is_at k lt =
       let at = xdata_at (sizes_of p) in
       let back : at + k - at ≡ k = omega arith in
       ap (stored_in (at + k)) (past_tables (at + k) (omega arith)
-        ∙ ap (section_or (section_at (at + k) (functions ∷ [])) infos)
-          (inside (at + k) infos (omega arith) (omega arith)))
+      ∙ ap (section_or (section_at (at + k) (functions ∷ [])) infos)
+      (inside (at + k) infos (omega arith) (omega arith)))
       ∙ ap (λ n. drop n p.xdata) back
 
   pub pdata_is_at : (k : ℕ) → k < length p.pdata
       → stored_in (pdata_at (sizes_of p) + k)
-        (section_at (pdata_at (sizes_of p) + k) (sections_of p)) ≡ drop k p.pdata
+      (section_at (pdata_at (sizes_of p) + k) (sections_of p)) ≡ drop k p.pdata
   pdata_is_at k lt =
       let at = pdata_at (sizes_of p) in
       let back : at + k - at ≡ k = omega arith in
       ap (stored_in (at + k))
       (past_tables (at + k) (omega arith)
       ∙ ap (section_or (section_at (at + k) (functions ∷ [])) infos)
-        (above_holds_none (at + k) infos (omega arith))
+      (above_holds_none (at + k) infos (omega arith))
       ∙ ap (section_or None functions) (inside (at + k) functions (omega arith) (omega arith)))
       ∙ ap (λ n. drop n p.pdata) back
 
@@ -120,7 +136,7 @@ module _ (p : ImageContents) (fits : CanBeImage p) where
   rdata_is =
       ap (λ n. take n (raw_data (rdata_section p))) (sym (tables_length r))
       ∙ take-append_seam (import_tables r) (zeros
-        (raw_size (rdata_section p) - length (import_tables r)))
+      (raw_size (rdata_section p) - length (import_tables r)))
 
   xdata_is : take (length p.xdata) (raw_data (xdata_section p)) ≡ p.xdata
   unfolding raw_data
@@ -140,13 +156,25 @@ module _ (p : ImageContents) (fits : CanBeImage p) where
     size = size_is i;
     sections =
         record { address = 0x1000; size = p.data_size; raw = data_is i; flags = 0xC0000040 }
-        ∷ record { address = text_at (sizes_of p); size = length p.text; raw = text_is i;
-          flags = 0x60000020 }
+        ∷ record {
+          address = text_at (sizes_of p);
+          size = length p.text;
+          raw = text_is i;
+          flags = 0x60000020;
+        }
         ∷ record { address = r; size = 222; raw = rdata_is i; flags = 0x40000040 }
-        ∷ record { address = xdata_at (sizes_of p); size = length p.xdata; raw = xdata_is i;
-          flags = 0x40000040 }
-        ∷ record { address = pdata_at (sizes_of p); size = length p.pdata; raw = pdata_is i;
-          flags = 0x40000040 }
+        ∷ record {
+          address = xdata_at (sizes_of p);
+          size = length p.xdata;
+          raw = xdata_is i;
+          flags = 0x40000040;
+        }
+        ∷ record {
+          address = pdata_at (sizes_of p);
+          size = length p.pdata;
+          raw = pdata_is i;
+          flags = 0x40000040;
+        }
         ∷ [];
     imports = import_directory p;
     exceptions = exception_directory p;
@@ -185,7 +213,7 @@ module _ (p : ImageContents) (fits : CanBeImage p) where
         exceptions = (omega arith, omega arith);
         import_addresses = (omega arith, omega arith);
         imported = ap imports image_is ∙ imports_are ∙ ap (λ (xs : List Import). Ok xs) (sym listed)
-          ∙ ap (λ i. Ok (importing.imports_of i)) (sym image_is);
+            ∙ ap (λ i. Ok (importing.imports_of i)) (sym image_is);
       }
 
 pub read_again : (p : ImageContents) (t : Result (Vec ℕ) AllocError) → CanBeImage p
@@ -241,7 +269,7 @@ pub same_parts : (p : ImageContents) (s : Sizes) (n entry : ℕ) (ss : List Sect
 same_parts p s n entry ss rdata pdata e1 e2 e3 e4 e5 e6 =
     ap (λ s. with_places (n + entry) ss rdata pdata s.pdata_size) e1
     ∙ (λ i. with_places ((e2 ∙ ap text_at e1) i + e3 i) (e4 i) ((e5 ∙ ap rdata_at e1) i)
-      ((e6 ∙ ap pdata_at e1) i) (length p.pdata))
+    ((e6 ∙ ap pdata_at e1) i) (length p.pdata))
 
 pub places_fit : (p : ImageContents) (s : Sizes) (n entry : ℕ) (ss : List SectionParts)
     (rdata pdata : ℕ) → CanBeImage p → s ≡ sizes_of p → n ≡ text_at s → entry ≡ p.entry

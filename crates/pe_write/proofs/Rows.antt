@@ -65,8 +65,13 @@ size_again s fits = elim (cases_eq s.size 0) [
 
 abbrev pub headers_read : List PlacedSection → List SectionHeader
 headers_read [] = []
-headers_read (s ∷ ss) = record { size = s.parts.size; address = s.address;
-    raw_size = raw_size s.parts; raw_at = s.raw_at; flags = s.parts.flags } ∷ headers_read ss
+headers_read (s ∷ ss) = record {
+  size = s.parts.size;
+  address = s.address;
+  raw_size = raw_size s.parts;
+  raw_at = s.raw_at;
+  flags = s.parts.flags;
+} ∷ headers_read ss
 
 -- a row of the section table, after a front
 module _ (s : PlacedSection) (fits : IsSection s.parts) (size : s.parts.size < 2 ^ 32)
@@ -76,18 +81,23 @@ module _ (s : PlacedSection) (fits : IsSection s.parts) (size : s.parts.size < 2
       (length front + n) ≡ field 4 (section_fields s ++ rest) k
   at_field k n e =
       let split : front ++ (section_header s ++ rest)
-        ≡ (front ++ s.parts.name) ++ (section_fields s ++ rest) = ap (λ (t : List ℕ). front ++ t)
-          (append_assoc s.parts.name (section_fields s) rest)
-        ∙ sym (append_assoc front s.parts.name (section_fields s ++ rest)) in
+      ≡ (front ++ s.parts.name) ++ (section_fields s ++ rest) = ap (λ (t : List ℕ). front ++ t)
+      (append_assoc s.parts.name (section_fields s) rest)
+      ∙ sym (append_assoc front s.parts.name (section_fields s ++ rest)) in
       let place : length front + n ≡ length (front ++ s.parts.name)
-        + k = omega (arith, length-append front s.parts.name, fits.name) in
+      + k = omega (arith, length-append front s.parts.name, fits.name) in
       ap (λ (t : List ℕ). field 4 t (length front + n)) split
-        ∙ ap (field 4 ((front ++ s.parts.name) ++ (section_fields s ++ rest))) place
-        ∙ field_after 4 (front ++ s.parts.name) (section_fields s ++ rest) k
+      ∙ ap (field 4 ((front ++ s.parts.name) ++ (section_fields s ++ rest))) place
+      ∙ field_after 4 (front ++ s.parts.name) (section_fields s ++ rest) k
 
   row_read : header_at (front ++ (section_header s ++ rest)) (length front)
-      ≡ record { size = s.parts.size; address = s.address; raw_size = raw_size s.parts;
-        raw_at = s.raw_at; flags = s.parts.flags }
+      ≡ record {
+        size = s.parts.size;
+        address = s.address;
+        raw_size = raw_size s.parts;
+        raw_at = s.raw_at;
+        flags = s.parts.flags;
+      }
   row_read =
       let e1 = at_field 0 8 refl ∙ size_there s rest size in
       let e2 = at_field 8 16 refl ∙ raw_size_there s rest raw in
@@ -95,7 +105,7 @@ module _ (s : PlacedSection) (fits : IsSection s.parts) (size : s.parts.size < 2
       let e4 = at_field 12 20 refl ∙ raw_at_there s rest raw_at in
       let e5 = at_field 28 36 refl ∙ flags_there s rest fits.flags in
       let e6 = ap (λ n. size_of n (field 4 (front ++ (section_header s ++ rest))
-        (length front + 16))) e1 ∙ ap (size_of s.parts.size) e2 ∙ size_again s.parts fits in
+      (length front + 16))) e1 ∙ ap (size_of s.parts.size) e2 ∙ size_again s.parts fits in
       λ i. record { size = e6 i; address = e3 i; raw_size = e2 i; raw_at = e4 i; flags = e5 i }
 
 pub fields_length : (s : PlacedSection) → length (section_fields s) ≡ 32
@@ -106,7 +116,7 @@ pub rows : (front : List ℕ) (address raw_at : ℕ) (ss : List SectionParts) (r
     → AllByRecursion IsSection ss → address + sum_by (λ s. pages s.size) ss < 2 ^ 32
     → raw_at ≤ address
     → headers_from (front ++ (section_table (placed address raw_at ss) ++ rest)) (length ss)
-      (length front) ≡ headers_read (placed address raw_at ss)
+    (length front) ≡ headers_read (placed address raw_at ss)
 rows front address raw_at [] rest fits end below = refl
 rows front address raw_at (s ∷ ss) rest fits end below =
     let all = sum_by-cons (λ s. pages s.size) s ss in
@@ -115,19 +125,23 @@ rows front address raw_at (s ∷ ss) rest fits end below =
     let ps = placed (address + pages s.size) (raw_at + raw_size s) ss in
     let more = section_table ps ++ rest in
     let split : front ++ (section_table (p ∷ ps) ++ rest)
-      ≡ front ++ (section_header p ++ more) = ap (λ (t : List ℕ). front ++ t)
-        (append_assoc (section_header p) (section_table ps) rest) in
-    let next : length front + 40 ≡ length (front ++ section_header p) = omega
-      (arith, length-append front (section_header p), length-append s.name (section_fields p),
-      fits.0.name, fields_length p) in
+    ≡ front ++ (section_header p ++ more) = ap (λ (t : List ℕ). front ++ t)
+    (append_assoc (section_header p) (section_table ps) rest) in
+    let next : length front + 40 ≡ length (front ++ section_header p) = omega (
+      arith,
+      length-append front (section_header p),
+      length-append s.name (section_fields p),
+      fits.0.name,
+      fields_length p,
+    ) in
     let here = row_read p fits.0 (omega arith) (omega arith) (omega arith) (omega arith) front
-      more in
+    more in
     let others : headers_from (front ++ (section_header p ++ more)) (length ss) (length front + 40)
-      ≡ headers_read ps =
+    ≡ headers_read ps =
     ap (λ (t : List ℕ). headers_from t (length ss) (length front + 40))
-      (sym (append_assoc front (section_header p) more))
+    (sym (append_assoc front (section_header p) more))
     ∙ ap (headers_from ((front ++ section_header p) ++ more) (length ss)) next
     ∙ rows (front ++ section_header p) (address + pages s.size) (raw_at + raw_size s) ss rest fits.1
-      (omega arith) (omega arith) in
+    (omega arith) (omega arith) in
     ap (λ (t : List ℕ). headers_from t (suc (length ss)) (length front)) split
-      ∙ (λ i. here i ∷ others i)
+    ∙ (λ i. here i ∷ others i)

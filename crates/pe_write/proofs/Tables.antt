@@ -50,26 +50,43 @@ module _ (r : ℕ) (low : r + 222 < 2 ^ 32) where
 
   second : Names r 48 96 154 CSpecificHandler
   unfolding import_tables descriptor hint_name u32 u64 zeros
-  second = record { look = refl; slot = refl;
-      value = let e : r + 136 + 18 ≡ r + 154 = omega arith in eight_is (r + 136 + 18) (omega arith)
-      ∙ e; name = refl }
+  second = record {
+    look = refl;
+    slot = refl;
+    value = let e : r + 136 + 18 ≡ r + 154 = omega arith in eight_is (r + 136 + 18) (omega arith)
+        ∙ e;
+    name = refl;
+  }
 
   third : Names r 56 104 178 LocalUnwind
   unfolding import_tables descriptor hint_name u32 u64 zeros
-  third = record { look = refl; slot = refl; value = let e : r + 136 + 18 + 24
-      ≡ r + 178 = omega arith in eight_is (r + 136 + 18 + 24) (omega arith) ∙ e; name = refl }
+  third = record {
+    look = refl;
+    slot = refl;
+    value = let e : r + 136 + 18 + 24
+        ≡ r + 178 = omega arith in eight_is (r + 136 + 18 + 24) (omega arith) ∙ e;
+    name = refl;
+  }
 
   fourth : Names r 64 112 194 Protect
   unfolding import_tables descriptor hint_name u32 u64 zeros
-  fourth = record { look = refl; slot = refl;
-      value = let e : r + 136 + 18 + 24 + 16 ≡ r + 194 = omega arith in
-      eight_is (r + 136 + 18 + 24 + 16) (omega arith) ∙ e; name = refl }
+  fourth = record {
+    look = refl;
+    slot = refl;
+    value = let e : r + 136 + 18 + 24 + 16 ≡ r + 194 = omega arith in
+        eight_is (r + 136 + 18 + 24 + 16) (omega arith) ∙ e;
+    name = refl;
+  }
 
   fifth : Names r 72 120 204 Put
   unfolding import_tables descriptor hint_name u32 u64 zeros
-  fifth = record { look = refl; slot = refl; value = let e : r + 136 + 18 + 24 + 16 + 10
-      ≡ r + 204 = omega arith in eight_is (r + 136 + 18 + 24 + 16 + 10) (omega arith) ∙ e;
-        name = refl }
+  fifth = record {
+    look = refl;
+    slot = refl;
+    value = let e : r + 136 + 18 + 24 + 16 + 10
+        ≡ r + 204 = omega arith in eight_is (r + 136 + 18 + 24 + 16 + 10) (omega arith) ∙ e;
+    name = refl;
+  }
 
   last : there r 80 8 ≡ Some (entry r 80) × little_number 8 (entry r 80) ≡ 0
   unfolding import_tables descriptor hint_name u32 u64 zeros
@@ -121,61 +138,61 @@ module _ (ss : List Section) (r : ℕ) (low : r + 222 < 2 ^ 32)
       → slot ≡ r + j → k < 222 → j < 222 → n < 222 → n ≢ 0
       → onto xs (library left ss index look slot)
       ≡ onto (xs ++ (record { name = name_of s; slot = slot } ∷ []))
-        (library rest ss (index + 1) (look + 8) (slot + 8))
+      (library rest ss (index + 1) (look + 8) (slot + 8))
   one k j n s is xs left rest index look slot e at slot_at lk lj ln ne =
       let bytes = at_place look k 8 at lk ∙ is.look in
       let some : little_number 8 (entry r k) ≢ 0 = let v = is.value in omega arith in
       let small = lt-ltb (r + n) (2 ^ 63) (omega arith) in
       let found : import_at ss slot (little_number 8 (entry r k))
-        ≡ Some (record { name = name_of s; slot = slot }) =
+      ≡ Some (record { name = name_of s; slot = slot }) =
       ap (import_at ss slot) is.value
       ∙ ap (unless_ordinal (option_and_then (λ name. option_and_then (with_slot slot name)
-        (stored ss slot 8)) (name_at ss (r + n)))) small
+      (stored ss slot 8)) (name_at ss (r + n)))) small
       ∙ ap (option_and_then (λ name. option_and_then (with_slot slot name) (stored ss slot 8)))
-        (ap hinted (here n ln) ∙ is.name)
+      (ap hinted (here n ln) ∙ is.name)
       ∙ ap (option_and_then (with_slot slot (name_of s)))
-        (at_place slot j 8 slot_at lj ∙ is.slot) in
+      (at_place slot j 8 slot_at lj ∙ is.slot) in
       sym (import_passed ss xs index look slot left rest (entry r k)
-        (record { name = name_of s; slot = slot }) e bytes some found)
+      (record { name = name_of s; slot = slot }) e bytes some found)
 
   all : (look slot : ℕ) → look ≡ r + 40 → slot ≡ r + 88
       → onto [] (library max_count ss 0 look slot) ≡ Ok (imported slot services)
   all look slot e1 e2 =
       one 40 88 136 RaiseException (first r low) [] max_count 4294967295 0 look slot refl e1 e2
-        (omega arith) (omega arith) (omega arith) (omega arith)
+      (omega arith) (omega arith) (omega arith) (omega arith)
       ∙ one 48 96 154 CSpecificHandler (second r low) (take 1 (imported slot services)) 4294967295
-        4294967294 1 (look + 8) (slot + 8) refl (omega arith) (omega arith) (omega arith)
-        (omega arith) (omega arith) (omega arith)
+      4294967294 1 (look + 8) (slot + 8) refl (omega arith) (omega arith) (omega arith)
+      (omega arith) (omega arith) (omega arith)
       ∙ one 56 104 178 LocalUnwind (third r low) (take 2 (imported slot services)) 4294967294
-        4294967293 2 (look + 8 + 8) (slot + 8 + 8) refl (omega arith) (omega arith) (omega arith)
-        (omega arith) (omega arith) (omega arith)
+      4294967293 2 (look + 8 + 8) (slot + 8 + 8) refl (omega arith) (omega arith) (omega arith)
+      (omega arith) (omega arith) (omega arith)
       ∙ one 64 112 194 Protect (fourth r low) (take 3 (imported slot services)) 4294967293
-        4294967292 3 (look + 8 + 8 + 8) (slot + 8 + 8 + 8) refl (omega arith) (omega arith)
-        (omega arith) (omega arith) (omega arith) (omega arith)
+      4294967292 3 (look + 8 + 8 + 8) (slot + 8 + 8 + 8) refl (omega arith) (omega arith)
+      (omega arith) (omega arith) (omega arith) (omega arith)
       ∙ one 72 120 204 Put (fifth r low) (take 4 (imported slot services)) 4294967292 4294967291 4
-        (look + 8 + 8 + 8 + 8) (slot + 8 + 8 + 8 + 8) refl (omega arith) (omega arith) (omega arith)
-        (omega arith) (omega arith) (omega arith)
+      (look + 8 + 8 + 8 + 8) (slot + 8 + 8 + 8 + 8) refl (omega arith) (omega arith) (omega arith)
+      (omega arith) (omega arith) (omega arith)
       ∙ entries_end ss (imported slot services) 5 (look + 8 + 8 + 8 + 8 + 8)
-        (slot + 8 + 8 + 8 + 8 + 8) 4294967291 4294967290 (entry r 80) refl
-        (at_place _ 80 8 (omega arith) (omega arith) ∙ (last r low).0) (last r low).1
+      (slot + 8 + 8 + 8 + 8 + 8) 4294967291 4294967290 (entry r 80) refl
+      (at_place _ 80 8 (omega arith) (omega arith) ∙ (last r low).0) (last r low).1
 
   pub tables_read : imports_in ss (record { rva = r; size = 40 }) ≡ Ok (imported (r + 88) services)
   tables_read =
       let d = library_there r low in
       let look : r + 40 ≡ lookups (field 4 d 0) (field 4 d 16) = sym
-        (ap (λ n. lookups n (field 4 d 16)) (looks r low)
-        ∙ lookups_is (r + 40) (field 4 d 16) (omega arith)) in
+      (ap (λ n. lookups n (field 4 d 16)) (looks r low)
+      ∙ lookups_is (r + 40) (field 4 d 16) (omega arith)) in
       let entries : onto [] (entries_of ss 0 d)
-        ≡ Ok (imported (r + 88) services) = ap (onto [])
-          (sym (same_entries ss 0 (r + 40) (r + 88) d look (sym (slots r low))))
-        ∙ all (r + 40) (r + 88) refl refl in
+      ≡ Ok (imported (r + 88) services) = ap (onto [])
+      (sym (same_entries ss 0 (r + 40) (r + 88) d look (sym (slots r low))))
+      ∙ all (r + 40) (r + 88) refl refl in
       let some : field 4 d 0 ≢ 0 = let h = looks r low in omega arith in
       with_directory ss (record { rva = r; size = 40 }) (Ok (imported (r + 88) services))
-        (omega arith)
+      (omega arith)
       (sym (onto_none (libraries max_count ss 0 r))
       ∙ sym (library_passed ss [] 0 r max_count 4294967295 d (imported (r + 88) services) refl
-        (at_place r 0 20 (omega arith) (omega arith) ∙ (descriptors r low).0) (some_field d some)
-        refl entries)
+      (at_place r 0 20 (omega arith) (omega arith) ∙ (descriptors r low).0) (some_field d some)
+      refl entries)
       ∙ libraries_end ss (imported (r + 88) services) 5 (r + 20) 4294967295 4294967294
-        (zeros_there r low) refl (at_place (r + 20) 20 20 refl (omega arith)
+      (zeros_there r low) refl (at_place (r + 20) 20 20 refl (omega arith)
       ∙ (descriptors r low).1) (is_last r low))

@@ -17,11 +17,13 @@ use Rattle.program_frames.proofs.Inner.{AllInner, inner_both, signed, keep_inner
 
 parameter_inner : (y : Layout) (i : ℕ) (few : Bool) → IsNear (local_at y i)
     → IsNear (stack_parameter y i) → AllInner
-      (cond few (keep_register (parameter_register i) (local_at y i) ∷ [])
-      (fetched Rax Rsp (stack_parameter y i) ∷ keep_register Rax (local_at y i) ∷ []))
+    (cond few (keep_register (parameter_register i) (local_at y i) ∷ [])
+    (fetched Rax Rsp (stack_parameter y i) ∷ keep_register Rax (local_at y i) ∷ []))
 parameter_inner y i true lt lt' = ((signed (local_at y i) lt, (λ b. refl), (λ o. refl)), tt)
-parameter_inner y i false lt lt' = ((signed (stack_parameter y i) lt', (λ b. refl), (λ o. refl)),
-    ((signed (local_at y i) lt, (λ b. refl), (λ o. refl)), tt))
+parameter_inner y i false lt lt' = (
+  (signed (stack_parameter y i) lt', (λ b. refl), (λ o. refl)),
+  ((signed (local_at y i) lt, (λ b. refl), (λ o. refl)), tt),
+)
 
 parameters_inner : (y : Layout) (i n : ℕ) → IsNear (local_at y (i + n))
     → IsNear (stack_parameter y (i + n)) → AllInner (parameters_code y i n)
@@ -33,8 +35,10 @@ parameters_inner y i (suc n) lt lt' = inner_both (parameter_code y i) (parameter
 base_inner : (parent : Option ℕ) (b : ℕ) → IsParentNear parent → IsNear b
     → AllInner (keep_base parent b)
 base_inner None b near lt = ((signed b lt, (λ b. refl), (λ o. refl)), tt)
-base_inner (Some parent) b near lt = ((signed parent near, (λ b. refl), (λ o. refl)),
-    ((signed b lt, (λ b. refl), (λ o. refl)), tt))
+base_inner (Some parent) b near lt = (
+  (signed parent near, (λ b. refl), (λ o. refl)),
+  ((signed b lt, (λ b. refl), (λ o. refl)), tt),
+)
 
 pub arguments_inner : (y : Layout) (e : Entry) → IsEntryNear y e → AllInner (argument_code y e)
 arguments_inner y (entries.Function count) near =

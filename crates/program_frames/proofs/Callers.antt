@@ -77,7 +77,7 @@ inside g e s d at to m ok has st = elim st [
         let here = b.here in
         let at' = at + bytes (items g.steps) in
         let more = following_items m at' b.done (b.item ∷ b.left) to
-          (subst (λ xs. HasItems m at' xs to) b.parts following') in
+        (subst (λ xs. HasItems m at' xs to) b.parts following') in
         let lt = before_end m (at' + bytes b.done) (b.item ∷ b.left) to more (λ z. some_items z) in
         omega arith
     | inr l ↦
@@ -86,7 +86,7 @@ inside g e s d at to m ok has st = elim st [
         let here = l.here in
         let at' = at + bytes (items g.steps) in
         let more = following_items m at' l.done (l.run ++ l.left) to
-          (subst (λ xs. HasItems m at' xs to) l.parts following') in
+        (subst (λ xs. HasItems m at' xs to) l.parts following') in
         let last = following_items m (at' + bytes l.done) l.run l.left to more in
         let lt = before_end m (at' + bytes l.done + bytes l.run) l.left to last l.continues in
         omega arith
@@ -101,14 +101,14 @@ inside g e s d at to m ok has st = elim st [
 -- a walk by the image's function table is one by its tables
 same_walk : (p : LinearProgram) (fits : FitsProgram p) → HasRegions p → (e s : State)
     → IsFound (caller_of (table p fits) s.memory (context_of s.cpu))
-      (left_to (registers e) (return_address e)) → FindsCaller p e s
+    (left_to (registers e) (return_address e)) → FindsCaller p e s
 unfolding caller_of
 same_walk p fits regions e s h =
     let es : entries_of (table p fits) ≡ or_none
-      (reading.tables (image_of (linked p))) = table_entries p fits regions
-      ∙ sym (ap or_none (tables_are_read p fits regions)) in
+    (reading.tables (image_of (linked p))) = table_entries p fits regions
+    ∙ sym (ap or_none (tables_are_read p fits regions)) in
     subst (λ (xs : List Entry). IsFound (caller_in (record { base = image_base; entries = xs })
-      s.memory (context_of s.cpu)) (left_to (registers e) (return_address e))) es h
+    s.memory (context_of s.cpu)) (left_to (registers e) (return_address e))) es h
 
 held : (p : LinearProgram) (fits : FitsProgram p) → HasRegions p → (rva : ℕ) (o : Option Entry)
     → holding rva (entries p) ≡ o → holding rva (entries_of (table p fits)) ≡ o
@@ -126,14 +126,14 @@ frames_are_found p index x f e s d framed regions entry text rip st =
     let lt = inside g e s d (image_base + x.begin) (image_base + end_of x) s.memory ok has st in
     let rva : distance image_base s.cpu.rip ≡ x.begin + d = omega arith in
     let held' = ap (λ n. holding n (entries_of (table p fits))) rva
-      ∙ held p fits regions (x.begin + d) (Some (tables.entry_of (site_of p) x f))
-        (entries_are_held p index x f (x.begin + d) fits framed.there framed.framed (omega arith)
-        (omega arith)) in
+    ∙ held p fits regions (x.begin + d) (Some (tables.entry_of (site_of p) x f))
+    (entries_are_held p index x f (x.begin + d) fits framed.there framed.framed (omega arith)
+    (omega arith)) in
     let n : f.size ≡ f.size + 0 = omega arith in
     let first' : IsEntry (f.size + 0) e = subst (λ k. IsEntry k e) n entry in
     same_walk p fits regions e s (entries_are_found (table p fits) (tables.entry_of (site_of p) x f)
-      g e s (image_base + x.begin) d (image_base + end_of x) held' refl refl rva ok first' has
-      (omega arith) rip st)
+    g e s (image_base + x.begin) d (image_base + end_of x) held' refl refl rva ok first' has
+    (omega arith) rip st)
 
 -- ---- without an entry
 
@@ -144,10 +144,10 @@ unheld : (p : LinearProgram) (fits : FitsProgram p) → HasRegions p
     → FindsCaller p e s
 unheld p fits regions e s rest rva small rip none ok entry body =
     let here : distance image_base s.cpu.rip ≡ rva = ap (distance image_base) rip
-      ∙ away rva small in
+    ∙ away rva small in
     same_walk p fits regions e s (leaves_are_found (table p fits) rest e s
-      (ap (λ n. holding n (entries_of (table p fits))) here ∙ held p fits regions rva None none) ok
-      entry body)
+    (ap (λ n. holding n (entries_of (table p fits))) here ∙ held p fits regions rva None none) ok
+    entry body)
 
 pub leaves_are_found' : LeavesAreFound
 leaves_are_found' p index x e s fits regions at none h =
@@ -156,12 +156,12 @@ leaves_are_found' p index x e s fits regions at none h =
     let small = routine_small x.routine t.near in
     let high = h.high in
     let fine = rest_fine p index x 0 (distance 0 0)
-      (plan_near (record { kept = 0; temporaries = 0; locals = 0; size = 0 }) 0 0 (omega arith)
-      (omega arith) (omega arith)) (ap size_of none) fits at t in
+    (plan_near (record { kept = 0; temporaries = 0; locals = 0; size = 0 }) 0 0 (omega arith)
+    (omega arith) (omega arith)) (ap size_of none) fits at t in
     let leads = fine.leads [] in
     unheld p fits regions e s (leaf p x) h.rva (omega arith) h.here
-      (leaves_are_held_by_none p index x h.rva fits at none h.low h.high) (ap is_body leads.1)
-      h.entry h.body
+    (leaves_are_held_by_none p index x h.rva fits at none h.low h.high) (ap is_body leads.1)
+    h.entry h.body
 
 thunk_ok : (p : LinearProgram) (service : ImportedService)
     → is_body (following 0 0 [] (thunk_of p service) (Body [])) ≡ true
@@ -186,11 +186,11 @@ thunks_are_found p service e s fits regions h =
     let low = thunk_low p service in
     let high = h.high in
     unheld p fits regions e s (thunk_of p service) h.rva (omega arith) h.here
-      (thunks_are_held_by_none p h.rva fits (omega arith)) (thunk_ok p service) h.entry h.body
+    (thunks_are_held_by_none p h.rva fits (omega arith)) (thunk_ok p service) h.entry h.body
 
 pub probes_are_found : ProbesAreFound
 probes_are_found p e s fits regions h =
     let few = fits.globals in
     let high = h.high in
     unheld p fits regions e s probe h.rva (omega arith) h.here
-      (thunks_are_held_by_none p h.rva fits (omega arith)) probe_ok h.entry h.body
+    (thunks_are_held_by_none p h.rva fits (omega arith)) probe_ok h.entry h.body

@@ -32,8 +32,11 @@ use Rattle.x64_code.specs.Near.{IsNear}
 
 pub executable_split : (m : Memory) (at : ℕ) (a b : List ℕ) → IsExecutableAt m at (a ++ b)
     → IsExecutableAt m at a × IsExecutableAt m (at + length a) b
-executable_split m at [] b h = (tt, let e : at ≡ at + 0 = omega arith in
-    subst (λ x. IsExecutableAt m x b) e h)
+executable_split m at [] b h = (
+  tt,
+  let e : at ≡ at + 0 = omega arith in
+      subst (λ x. IsExecutableAt m x b) e h,
+)
 executable_split m at (x ∷ a) b h =
     let r = executable_split m (at + 1) a b h.2 in
     let e : at + 1 + length a ≡ at + length (x ∷ a) = omega arith in
@@ -45,7 +48,7 @@ pub code_split : (m : Memory) (at : ℕ) (is js : List Instr)
     → IsExecutableAt m at (spelled is) × IsExecutableAt m (at + sizes is) (spelled js)
 code_split m at is js h =
     let r = executable_split m at (spelled is) (spelled js)
-      (subst (IsExecutableAt m at) (flat_map-append chosen is js) h) in
+    (subst (IsExecutableAt m at) (flat_map-append chosen is js) h) in
     (r.0, subst (λ (n : ℕ). IsExecutableAt m (at + n) (spelled js)) (sizes_spelled is) r.1)
 
 -- ---- a routine
@@ -57,9 +60,12 @@ code_length s at r near =
     let k = links_of (addresses s at r) in
     let e = entry_sizes at (check_stack_at s.text) r near in
     let b = body_sizes k r.layout (at + entry_size r) r.body.code in
-    omega (arith, sizes_spelled (routine_code s at r),
+    omega (
+      arith,
+      sizes_spelled (routine_code s at r),
       sizes_append (entry_code at (check_stack_at s.text) r)
-      (code_from k r.layout (at + entry_size r) r.body.code))
+          (code_from k r.layout (at + entry_size r) r.body.code),
+    )
 
 pub routine_length : (s : SiteView) (at : ℕ) (r : RoutineView) → IsRoutineNear r
     → length (routine_bytes s at r) ≡ routine_size r
@@ -85,16 +91,22 @@ module _ (s : SiteView) (text : List ℕ) (begin : ℕ) where
   there_from info at (r ∷ rs) before zero x e near lt is here =
       let y : Placed = record { routine = r; begin = at; info = info } in
       subst (IsThere s text begin) (some_same e)
-        (record { near = near.0; room = omega arith; before = before;
-        after = routines_bytes s (at + routine_size r) rs; bytes = is; here = here })
+      (record {
+        near = near.0;
+        room = omega arith;
+        before = before;
+        after = routines_bytes s (at + routine_size r) rs;
+        bytes = is;
+        here = here;
+      })
   there_from info at (r ∷ rs) before (suc index) x e near lt is here =
       let small = routine_small r near.0 in
       let bytes = routine_bytes s at r in
       let long = routine_length s at r near.0 in
       there_from (info + length (info_bytes s at r)) (at + routine_size r) rs (before ++ bytes)
-        index x e near.1 (omega arith) (is ∙ sym
-        (append_assoc before bytes (routines_bytes s (at + routine_size r) rs)))
-        (omega (arith, length-append before bytes))
+      index x e near.1 (omega arith) (is ∙ sym
+      (append_assoc before bytes (routines_bytes s (at + routine_size r) rs)))
+      (omega (arith, length-append before bytes))
 
 front_size : (text rdata : ℕ) → sizes (front_code text rdata) ≡ 51
 unfolding size modrm
@@ -102,7 +114,7 @@ front_size text rdata = refl
 
 pub there : (p : LinearProgram) (index : ℕ) (x : Placed) → FitsProgram p
     → slice_get (placed p) index ≡ Some x → IsThere (site_of p) (linked p).text
-      (text_begin p.globals) x
+    (text_begin p.globals) x
 there p index x fits e =
     let s = site_of p in
     let near = routines_near p fits in
@@ -111,8 +123,8 @@ there p index x fits e =
     let few = fits.globals in
     let f = front_size s.text s.rdata in
     there_from s (linked p).text (text_begin p.globals) (infos_begin p) (first p.globals)
-      (routines p) (spelled (front_code s.text s.rdata)) index x e near (omega arith) refl
-      (omega (arith, sizes_spelled (front_code s.text s.rdata)))
+    (routines p) (spelled (front_code s.text s.rdata)) index x e near (omega arith) refl
+    (omega (arith, sizes_spelled (front_code s.text s.rdata)))
 
 -- its instructions are at its address
 pub routine_is_at : (p : LinearProgram) (m : Memory) (x : Placed) → HasText m p
@@ -126,9 +138,9 @@ routine_is_at p m x text h =
     let here = h.here in
     let at : begin + length h.before ≡ image_base + x.begin = omega arith in
     let r = executable_split m begin h.before (bytes ++ h.after)
-      (subst (IsExecutableAt m begin) h.bytes text) in
+    (subst (IsExecutableAt m begin) h.bytes text) in
     (executable_split m (image_base + x.begin) bytes h.after
-      (subst (λ (n : ℕ). IsExecutableAt m n (bytes ++ h.after)) at r.1)).0
+    (subst (λ (n : ℕ). IsExecutableAt m n (bytes ++ h.after)) at r.1)).0
 
 -- ---- an instruction of a body
 
@@ -150,8 +162,8 @@ template_there k y at (j ∷ is) zero i e =
       before = [];
       after = code_from k y (at + template_size y j) is;
       parts = ap (λ (q : Instruction). template k y at q
-        ++ code_from k y (at + template_size y j) is) same
-        ∙ ap (λ (n : ℕ). template k y n i ++ code_from k y (at + template_size y j) is) z;
+          ++ code_from k y (at + template_size y j) is) same
+          ∙ ap (λ (n : ℕ). template k y n i ++ code_from k y (at + template_size y j) is) z;
       here = refl;
       inside = let s = ap (template_size y) same in omega arith;
     }
@@ -167,8 +179,8 @@ template_there k y at (j ∷ is) (suc number) i e =
       before = t ++ r.before;
       after = r.after;
       parts = ap (λ (q : List Instr). t ++ q) r.parts
-        ∙ sym (append_assoc t r.before (template k y (at + n + offset_of y is number) i ++ r.after))
-        ∙ ap (λ (a : ℕ). (t ++ r.before) ++ (template k y a i ++ r.after)) z;
+          ∙ sym (append_assoc t r.before (template k y (at + n + offset_of y is number) i ++ r.after))
+          ∙ ap (λ (a : ℕ). (t ++ r.before) ++ (template k y a i ++ r.after)) z;
       here = omega (arith, sizes_append t r.before);
       inside = omega arith;
     }

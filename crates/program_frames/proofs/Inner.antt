@@ -56,16 +56,24 @@ signed d lt = small_signed d (omega arith)
 
 fetch_local_inner : (o : Option ℕ) (d : ℕ) → IsBaseNear o → IsNear d
     → AllInner (fetch_local o Rax d) × AllInner (fetch_local o Rcx d)
-fetch_local_inner None d near lt = (((signed d lt, (λ b. refl), (λ o. refl)), tt),
-    ((signed d lt, (λ b. refl), (λ o. refl)), tt))
-fetch_local_inner (Some b) d near lt = (((signed b near, (λ b. refl), (λ o. refl)),
-    ((signed d lt, (λ b. refl), (λ o. refl)), tt)),
-    ((signed b near, (λ b. refl), (λ o. refl)), ((signed d lt, (λ b. refl), (λ o. refl)), tt)))
+fetch_local_inner None d near lt = (
+  ((signed d lt, (λ b. refl), (λ o. refl)), tt),
+  ((signed d lt, (λ b. refl), (λ o. refl)), tt),
+)
+fetch_local_inner (Some b) d near lt = (
+  (
+    (signed b near, (λ b. refl), (λ o. refl)),
+    ((signed d lt, (λ b. refl), (λ o. refl)), tt),
+  ),
+  ((signed b near, (λ b. refl), (λ o. refl)), ((signed d lt, (λ b. refl), (λ o. refl)), tt)),
+)
 
 keep_local_inner : (o : Option ℕ) (d : ℕ) → IsBaseNear o → IsNear d → AllInner (keep_local o d)
 keep_local_inner None d near lt = ((signed d lt, (λ b. refl), (λ o. refl)), tt)
-keep_local_inner (Some b) d near lt = ((signed b near, (λ b. refl), (λ o. refl)),
-    ((signed d lt, (λ b. refl), (λ o. refl)), tt))
+keep_local_inner (Some b) d near lt = (
+  (signed b near, (λ b. refl), (λ o. refl)),
+  ((signed d lt, (λ b. refl), (λ o. refl)), tt),
+)
 
 pub fetch_inner : (y : Layout) (x : Slot) → IsSlotNear y x → AllInner (fetch y Rax x)
 fetch_inner y (Temporary i) near = ((signed (temporary_at y i) near, (λ b. refl), (λ o. refl)), tt)
@@ -96,22 +104,40 @@ extended_inner Signed W64 Int = ((refl, (λ b. refl), (λ o. refl)), tt)
 extended_inner Signed W64 Long = ((refl, (λ b. refl), (λ o. refl)), tt)
 
 compare_inner : (r : Relation) (s : Signedness) (w : Width) → AllInner (compare r s w)
-compare_inner relations.Equal s w = ((refl, (λ b. refl), (λ o. refl)),
-    ((refl, (λ b. refl), (λ o. refl)), ((refl, (λ b. refl), (λ o. refl)), tt)))
-compare_inner relations.NotEqual s w = ((refl, (λ b. refl), (λ o. refl)),
-    ((refl, (λ b. refl), (λ o. refl)), ((refl, (λ b. refl), (λ o. refl)), tt)))
-compare_inner relations.Less s w = ((refl, (λ b. refl), (λ o. refl)),
-    ((refl, (λ b. refl), (λ o. refl)), ((refl, (λ b. refl), (λ o. refl)), tt)))
-compare_inner relations.LessOrEqual s w = ((refl, (λ b. refl), (λ o. refl)),
-    ((refl, (λ b. refl), (λ o. refl)), ((refl, (λ b. refl), (λ o. refl)), tt)))
-compare_inner relations.Greater s w = ((refl, (λ b. refl), (λ o. refl)),
-    ((refl, (λ b. refl), (λ o. refl)), ((refl, (λ b. refl), (λ o. refl)), tt)))
-compare_inner relations.GreaterOrEqual s w = ((refl, (λ b. refl), (λ o. refl)),
-    ((refl, (λ b. refl), (λ o. refl)), ((refl, (λ b. refl), (λ o. refl)), tt)))
+compare_inner relations.Equal s w = (
+  (refl, (λ b. refl), (λ o. refl)),
+  ((refl, (λ b. refl), (λ o. refl)), ((refl, (λ b. refl), (λ o. refl)), tt)),
+)
+compare_inner relations.NotEqual s w = (
+  (refl, (λ b. refl), (λ o. refl)),
+  ((refl, (λ b. refl), (λ o. refl)), ((refl, (λ b. refl), (λ o. refl)), tt)),
+)
+compare_inner relations.Less s w = (
+  (refl, (λ b. refl), (λ o. refl)),
+  ((refl, (λ b. refl), (λ o. refl)), ((refl, (λ b. refl), (λ o. refl)), tt)),
+)
+compare_inner relations.LessOrEqual s w = (
+  (refl, (λ b. refl), (λ o. refl)),
+  ((refl, (λ b. refl), (λ o. refl)), ((refl, (λ b. refl), (λ o. refl)), tt)),
+)
+compare_inner relations.Greater s w = (
+  (refl, (λ b. refl), (λ o. refl)),
+  ((refl, (λ b. refl), (λ o. refl)), ((refl, (λ b. refl), (λ o. refl)), tt)),
+)
+compare_inner relations.GreaterOrEqual s w = (
+  (refl, (λ b. refl), (λ o. refl)),
+  ((refl, (λ b. refl), (λ o. refl)), ((refl, (λ b. refl), (λ o. refl)), tt)),
+)
 
 pure_inner : (p : Pure) → AllInner (pure_code p)
-pure_inner (pures.Constant v) = ((lt-ltb (low W64 v) (2 ^ 64) (omega arith), (λ b. refl),
-    (λ o. refl)), tt)
+pure_inner (pures.Constant v) = (
+  (
+    lt-ltb (low W64 v) (2 ^ 64) (omega arith),
+    (λ b. refl),
+    (λ o. refl),
+  ),
+  tt,
+)
 pure_inner pures.First = tt
 pure_inner (pures.Extend s n z) = extended_inner s n z
 pure_inner (pures.Not z) = ((refl, (λ b. refl), (λ o. refl)), tt)
@@ -146,13 +172,19 @@ pub work_inner : (o : Operation) → AllInner (work o)
 work_inner (operations.Pure p) = pure_inner p
 work_inner (operations.Divide s Int) = ((refl, (λ b. refl), (λ o. refl)), tt)
 work_inner (operations.Divide s Long) = ((refl, (λ b. refl), (λ o. refl)), tt)
-work_inner (operations.Remainder s Int) = ((refl, (λ b. refl), (λ o. refl)),
-    ((refl, (λ b. refl), (λ o. refl)), tt))
-work_inner (operations.Remainder s Long) = ((refl, (λ b. refl), (λ o. refl)),
-    ((refl, (λ b. refl), (λ o. refl)), tt))
+work_inner (operations.Remainder s Int) = (
+  (refl, (λ b. refl), (λ o. refl)),
+  ((refl, (λ b. refl), (λ o. refl)), tt),
+)
+work_inner (operations.Remainder s Long) = (
+  (refl, (λ b. refl), (λ o. refl)),
+  ((refl, (λ b. refl), (λ o. refl)), tt),
+)
 work_inner (operations.Load W8) = ((refl, (λ b. refl), (λ o. refl)), tt)
 work_inner (operations.Load W16) = ((refl, (λ b. refl), (λ o. refl)), tt)
 work_inner (operations.Load W32) = ((refl, (λ b. refl), (λ o. refl)), tt)
 work_inner (operations.Load W64) = ((refl, (λ b. refl), (λ o. refl)), tt)
-work_inner (operations.Store w) = ((refl, (λ b. refl), (λ o. refl)),
-    ((refl, (λ b. refl), (λ o. refl)), tt))
+work_inner (operations.Store w) = (
+  (refl, (λ b. refl), (λ o. refl)),
+  ((refl, (λ b. refl), (λ o. refl)), tt),
+)

@@ -23,8 +23,10 @@ function_sized false f = refl
 functions_sized : (main index : ℕ) (fs : List LinearFunction)
     → AllByRecursion IsSized (functions_from main index fs)
 functions_sized main index [] = tt
-functions_sized main index (f ∷ fs) = (function_sized (not (index == main) && is_leaf f.body) f,
-    functions_sized main (suc index) fs)
+functions_sized main index (f ∷ fs) = (
+  function_sized (not (index == main) && is_leaf f.body) f,
+  functions_sized main (suc index) fs,
+)
 
 funclets_sized : (p : LinearProgram) (fs : List LinearFunclet)
     → AllByRecursion IsSized (map (funclet p) fs)

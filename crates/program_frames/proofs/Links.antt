@@ -30,14 +30,14 @@ links_near p x fits h =
     let s = site_of p in
     let r = x.routine in
     let n = site_near p.globals (routines p) (length p.functions) p.main fits.globals
-      (routines_near p fits) (has_places p fits) in
+    (routines_near p fits) (has_places p fits) in
     let text = n.text in
     let room = h.room in
     let small = routine_small r h.near in
     let entry = entry_small r h.near in
     let own = own_addresses x.begin r in
     let labels = labels_near r.layout (x.begin + entry_size r) r.body.code h.near.code
-      (omega arith) in
+    (omega arith) in
     record {
       label = λ l. below_at near_end own.labels l own.end labels (omega arith);
       function = λ f. below_at near_end s.functions f 0 n.functions (omega arith);

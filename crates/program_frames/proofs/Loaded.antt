@@ -41,13 +41,17 @@ module _ (p : LinearProgram) (fits : FitsProgram p) where
   at = image_base + text_begin p.globals
 
   abbrev text : Section
-  text = record { address = text_at (sizes_of program); size = length code; raw = code;
-      flags = 0x60000020 }
+  text = record {
+    address = text_at (sizes_of program);
+    size = length code;
+    raw = code;
+    flags = 0x60000020;
+  }
 
   low : r + 0x3000 < 2 ^ 32
   low =
       let fit = rdata_fits p.globals (routines p) (length p.functions) p.main fits.globals
-        (routines_near p fits) (has_places p fits) in
+      (routines_near p fits) (has_places p fits) in
       let e = rdata_is p fits in
       omega arith
 
@@ -82,7 +86,7 @@ module _ (p : LinearProgram) (fits : FitsProgram p) where
       let l = low in
       ap (λ is. with_slots image_base (stored_byte image) is a) (listed program (is p fits))
       ∙ slots-beside image_base (stored_byte image) a (imports_of program) (omega arith)
-        (beside_all a lt)
+      (beside_all a lt)
 
   -- ---- byte by byte
 
@@ -92,11 +96,11 @@ module _ (p : LinearProgram) (fits : FitsProgram p) where
       let begin = image_base + text_at (sizes_of program) in
       let h = here k in
       let past : ltb (at + k) (image_base + 0x1000 + (program.data_size + 4095) / 4096 * 4096)
-        ≡ false = le-ltb _ _ (omega arith) in
+      ≡ false = le-ltb _ _ (omega arith) in
       let after : leb (image_base + 0x1000) (at + k) ≡ true = le-leb _ _ (omega arith) in
       let begun : leb begin (at + k) ≡ true = le-leb _ _ (omega arith) in
       let before : ltb (at + k) (begin + (length code + 4095) / 4096 * 4096)
-        ≡ true = lt-ltb _ _ (omega arith) in
+      ≡ true = lt-ltb _ _ (omega arith) in
       rw (past, after, begun, before) refl
 
   byte_is : (k : ℕ) → k < length code → (mapped image).byte (at + k) ≡ get_or code k 0
@@ -129,9 +133,9 @@ executable_of m at (c ∷ bytes) b x =
       ap (λ a. (m.protection a).execute) (sym z) ∙ x 0 (omega arith),
       executable_of m (at + 1) bytes
           (λ k lt. (let e : at + 1 + k ≡ at + suc k = omega arith in ap m.byte e
-            ∙ b (suc k) (omega arith)))
+          ∙ b (suc k) (omega arith)))
           (λ k lt. (let e : at + 1 + k ≡ at + suc k = omega arith in
-            ap (λ a. (m.protection a).execute) e ∙ x (suc k) (omega arith))),
+          ap (λ a. (m.protection a).execute) e ∙ x (suc k) (omega arith))),
     )
 
 pub images_have_text : ImagesHaveText

@@ -48,7 +48,7 @@ same_epilogue (suc n) probe = sym (ap (by_size (suc n) probe)
 inner_of : (p : FramePlan) (i : Instr) → p.frame ≡ 0 → Inner i → is_inner p (spell i) ≡ true
 inner_of p i e h =
     ap (λ (f : ℕ). is_other (role_of f (spell i).plain i)
-      && may_write_all f (operations_of p) (written i)) e
+    && may_write_all f (operations_of p) (written i)) e
     ∙ and_from _ _ (ap is_other (h.1 (spell i).plain)) (h.2 (operations_of p))
 
 pub all_inner : (p : FramePlan) (is : List Instr) → p.frame ≡ 0 → AllInner is
@@ -87,19 +87,24 @@ module _ (n probe : ℕ) (is_plan : IsPlan (with_size n probe)) where
   pub leads_both : (a b : List Instr) → Leads a → Leads b → Leads (a ++ b)
   leads_both a b h k rs =
       let x = h rs in
-      let y = k x.0 in
-      (y.0, ap (λ (xs : List FetchedInstr). following 0 0 (operations_of p) xs (Body rs))
-        (spelled_both a b) ∙ following-append 0 0 (operations_of p) (spelled_by spell a)
-        (spelled_by spell b) (Body rs) (Body x.0) x.1 ∙ y.1)
+      let y = k x.0 in (
+        y.0,
+        ap (λ (xs : List FetchedInstr). following 0 0 (operations_of p) xs (Body rs))
+            (spelled_both a b) ∙ following-append 0 0 (operations_of p) (spelled_by spell a)
+            (spelled_by spell b) (Body rs) (Body x.0) x.1 ∙ y.1,
+      )
 
   pub inner_leads : (is : List Instr) → AllInner is → Leads is
   inner_leads is h rs = inner_following spell spells_all p (spelled_by spell is) rs
       (all_inner p is refl h)
 
   epilogue_leads : (k : ℕ) → k ≡ n → Leads (epilogue k)
-  epilogue_leads k e rs = ([], ap (λ (is : List Instr). following 0 0 (operations_of p)
-      (spelled_by spell is) (Body rs)) (ap epilogue e ∙ same_epilogue n probe)
-      ∙ epilogue_following spell spells_all p is_plan rs)
+  epilogue_leads k e rs = (
+    [],
+    ap (λ (is : List Instr). following 0 0 (operations_of p)
+        (spelled_by spell is) (Body rs)) (ap epilogue e ∙ same_epilogue n probe)
+        ∙ epilogue_following spell spells_all p is_plan rs,
+  )
 
   epilogue_encodable : (k : ℕ) → k ≡ n → all_encodable (epilogue k) ≡ true
   epilogue_encodable k e = ap all_encodable (ap epilogue e ∙ same_epilogue n probe)
@@ -114,8 +119,10 @@ module _ (n probe : ℕ) (is_plan : IsPlan (with_size n probe)) where
   fine_inner is h = record { leads = inner_leads is h; encodable = inner_encodable is h }
 
   pub fine_both : (a b : List Instr) → IsFine a → IsFine b → IsFine (a ++ b)
-  fine_both a b h k = record { leads = leads_both a b h.leads k.leads;
-      encodable = encodable_both a b h.encodable k.encodable }
+  fine_both a b h k = record {
+    leads = leads_both a b h.leads k.leads;
+    encodable = encodable_both a b h.encodable k.encodable;
+  }
 
   return_fine : (y : Layout) (from : Slot) → y.frame ≡ n
       → IsInstructionNear y (instructions.Return from) → IsFine (return_code y from)
@@ -154,5 +161,5 @@ module _ (n probe : ℕ) (is_plan : IsPlan (with_size n probe)) where
   body_fine k y at (i ∷ is) e links near lt =
       let small = instruction_in_room y i near.0 in
       fine_both (template k y at i) (code_from k y (at + template_size y i) is)
-        (template_fine k y at i e links near.0 (omega arith))
-        (body_fine k y (at + template_size y i) is e links near.1 (omega arith))
+      (template_fine k y at i e links near.0 (omega arith))
+      (body_fine k y (at + template_size y i) is e links near.1 (omega arith))

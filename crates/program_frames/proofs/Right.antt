@@ -55,8 +55,12 @@ allowed_by n false = refl
 -- with an allocation, or without
 pub plan_near : (f : FrameLayout) (next to : ℕ) → f.size < 2 ^ 31 → next < 2 ^ 31 → IsNear to
     → IsPlan (plan_of f (distance next to))
-plan_near f next to size a b = record { size = size; distance = omega arith;
-    probe = near_signed next to a b; allowed = allowed_by f.size (not (eqb f.size 0)) }
+plan_near f next to size a b = record {
+  size = size;
+  distance = omega arith;
+  probe = near_signed next to a b;
+  allowed = allowed_by f.size (not (eqb f.size 0));
+}
 
 pub one_code : (f : FrameLayout) (probe : ℕ) → 0 < f.size
     → operations_of (plan_of f probe) ≡ Allocate f.size ∷ []
@@ -68,7 +72,7 @@ spelled_steps : (p : FramePlan) (at : ℕ) (xs : List UnwindOperation)
 spelled_steps p at [] = refl
 spelled_steps p at (x ∷ xs) = spelled_both (instructions_of p x) (flat_map (instructions_of p) xs)
     ∙ ap (λ (ys : List FetchedInstr). spelled_by spell (instructions_of p x) ++ ys)
-      (spelled_steps p (at + bytes (spelled_by spell (instructions_of p x))) xs)
+    (spelled_steps p (at + bytes (spelled_by spell (instructions_of p x))) xs)
 
 -- ---- what comes after the prologue
 
@@ -82,11 +86,11 @@ rest_fine p index x n probe is_plan size fits e h =
     let entry = entry_small r h.near in
     let room = h.room in
     fine_both n probe is_plan (argument_code r.layout r.entry)
-      (code_from (links p x) r.layout (body_begin x) r.body.code)
+    (code_from (links p x) r.layout (body_begin x) r.body.code)
     (fine_inner n probe is_plan (argument_code r.layout r.entry)
-      (arguments_inner r.layout r.entry h.near.entry))
+    (arguments_inner r.layout r.entry h.near.entry))
     (body_fine n probe is_plan (links p x) r.layout (body_begin x) r.body.code
-      (sized p index x e ∙ size) (links_near p x fits h) h.near.code (omega arith))
+    (sized p index x e ∙ size) (links_near p x fits h) h.near.code (omega arith))
 
 module _ (p : LinearProgram) (index : ℕ) (x : Placed) (f : FrameLayout)
     (framed : IsFramed p index x f) where
@@ -99,12 +103,12 @@ module _ (p : LinearProgram) (index : ℕ) (x : Placed) (f : FrameLayout)
   is_plan : IsPlan (plan p x f)
   is_plan =
       let n = site_near p.globals (routines p) (length p.functions) p.main framed.fits.globals
-        (routines_near p framed.fits) (has_places p framed.fits) in
+      (routines_near p framed.fits) (has_places p framed.fits) in
       let text = n.text in
       let room = here.room in
       let most = sizes.1 in
       plan_near f (x.begin + 10) (check_stack_at (site_of p).text) (omega arith) (omega arith)
-        (omega arith)
+      (omega arith)
 
   rest : IsFine f.size (distance (x.begin + 10) (check_stack_at (site_of p).text)) is_plan
       (rest_of p x)
@@ -116,7 +120,7 @@ module _ (p : LinearProgram) (index : ℕ) (x : Placed) (f : FrameLayout)
       let q = plan p x f in
       let planned = plans_are_right spell q [] [] spells_all is_plan refl refl in
       let d = describes f (taking_size f.size) (info_of f Nothing).codes sizes.0 refl refl
-        q.probe in
+      q.probe in
       let leads = rest.leads [] in
       record {
         offset = omega arith;
@@ -127,8 +131,8 @@ module _ (p : LinearProgram) (index : ℕ) (x : Placed) (f : FrameLayout)
         allowed = refl;
         frame = λ ne. absurd (ne refl);
         body = ap (λ (os : List UnwindOperation). is_body
-          (following 0 0 os (spelled_by spell (rest_of p x)) (Body [])))
-          (sym (one_code f q.probe sizes.0)) ∙ ap is_body leads.1;
+            (following 0 0 os (spelled_by spell (rest_of p x)) (Body [])))
+            (sym (one_code f q.probe sizes.0)) ∙ ap is_body leads.1;
       }
 
   -- its code, in two parts
@@ -139,7 +143,7 @@ module _ (p : LinearProgram) (index : ℕ) (x : Placed) (f : FrameLayout)
       let a = argument_code r.layout r.entry in
       let b = code_from (links p x) r.layout (body_begin x) r.body.code in
       ap (λ (o : Option FrameLayout). (frame_code x.begin check o ++ a) ++ b) framed.framed
-        ∙ append_assoc (prologue_code (plan p x f)) a b
+      ∙ append_assoc (prologue_code (plan p x f)) a b
 
   pub is_there : (m : Memory) → HasText m p → HasItems m (image_base + x.begin)
       (items (function_of p x f).steps ++ (function_of p x f).rest) (image_base + end_of x)
@@ -150,21 +154,21 @@ module _ (p : LinearProgram) (index : ℕ) (x : Placed) (f : FrameLayout)
       let room = here.room in
       let small = routine_small x.routine here.near in
       let long : length (spelled code) ≡ routine_size x.routine = ap
-        (λ (is : List Instr). length (spelled is)) (sym parts)
-        ∙ code_length (site_of p) x.begin x.routine here.near in
+      (λ (is : List Instr). length (spelled is)) (sym parts)
+      ∙ code_length (site_of p) x.begin x.routine here.near in
       let enc = encodable_both (prologue_code q) (rest_of p x) (plans_are_encodable q is_plan).0
-        rest.encodable in
+      rest.encodable in
       let has = items_are_at m at code enc (omega arith)
-        (subst (λ (is : List Instr). IsExecutableAt m at (spelled is)) parts
-        (routine_is_at p m x text here)) in
+      (subst (λ (is : List Instr). IsExecutableAt m at (spelled is)) parts
+      (routine_is_at p m x text here)) in
       let same : spelled_by spell code ≡ items (function_of p x f).steps
-        ++ (function_of p x f).rest = spelled_both (prologue_code q) (rest_of p x)
-        ∙ ap (λ (ys : List FetchedInstr). ys ++ spelled_by spell (rest_of p x))
-          (spelled_steps q 0 (rules.turned [] (operations_of q))) in
+      ++ (function_of p x f).rest = spelled_both (prologue_code q) (rest_of p x)
+      ∙ ap (λ (ys : List FetchedInstr). ys ++ spelled_by spell (rest_of p x))
+      (spelled_steps q 0 (rules.turned [] (operations_of q))) in
       let end : at + length (spelled code) ≡ image_base + end_of x = omega arith in
       subst (λ (n : ℕ). HasItems m at (items (function_of p x f).steps ++ (function_of p x f).rest)
-        n) end (subst (λ (ys : List FetchedInstr). HasItems m at ys (at + length (spelled code)))
-        same has)
+      n) end (subst (λ (ys : List FetchedInstr). HasItems m at ys (at + length (spelled code)))
+      same has)
 
 pub functions_are_at : FunctionsAreInMemory
 functions_are_at p index x f m framed text = is_there p index x f framed m text

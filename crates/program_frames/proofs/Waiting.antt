@@ -72,7 +72,7 @@ no_epilogue at m i inner is_there lt =
     let few = longest i in
     let l = ap length one in
     let has = items_are_at m at (i ∷ []) (and_from _ true inner.0 refl) (omega arith)
-      (subst (IsExecutableAt m at) (sym one) is_there) in
+    (subst (IsExecutableAt m at) (sym one) is_there) in
     tail_none 0xFFFF_FFFF_FFFF_FFFF 0 at true m (spell i) has.0 (inner.1 (spell i).plain)
 
 -- ---- the instruction at an address of a body
@@ -102,7 +102,7 @@ item_there p x rva fits h b =
     let y = r.layout in
     let k = links p x in
     let t = template_there k y (x.begin + entry_size r) r.body.code b.number b.instruction
-      b.there in
+    b.there in
     let size = template_sizes k y (template_at x b.number) b.instruction in
     let room = h.room in
     let small = routine_small r h.near in
@@ -110,13 +110,16 @@ item_there p x rva fits h b =
     let here = b.here in
     let whole = ap sizes b.parts in
     let near = near_at (IsInstructionNear y) r.body.code b.number b.instruction h.near.code
-      b.there in
+    b.there in
     let all = template_inner k y (template_at x b.number) b.instruction (links_near p x fits h) near
-      (omega arith) b.continues in
+    (omega arith) b.continues in
     let inner : Inner b.item = inner_at b.done b.left b.item (subst AllInner b.parts all) in
     let some = size_some b.item inner in
-    record { inner = inner; past = omega arith;
-      inside = omega (arith, sizes_append b.done (b.item ∷ b.left)) }
+    record {
+      inner = inner;
+      past = omega arith;
+      inside = omega (arith, sizes_append b.done (b.item ∷ b.left));
+    }
 
 -- where its routine's code is
 pub item_is_at : (p : LinearProgram) (m : Memory) (x : Placed) (rva : ℕ)
@@ -137,18 +140,18 @@ item_is_at p m x rva code h b =
     let base = image_base + x.begin in
     let body = (code_split m base entry (code_from k r.layout begin r.body.code) code).1 in
     let from = (code_split m (base + sizes entry) t.before (own ++ t.after)
-      (subst (λ (q : List Instr). IsExecutableAt m (base + sizes entry) (spelled q)) t.parts
-      body)).1 in
+    (subst (λ (q : List Instr). IsExecutableAt m (base + sizes entry) (spelled q)) t.parts
+    body)).1 in
     let split : own ++ t.after ≡ b.done ++ ((b.item ∷ b.left) ++ t.after) = ap
-      (λ (q : List Instr). q ++ t.after) b.parts ∙ append_assoc b.done (b.item ∷ b.left) t.after in
+    (λ (q : List Instr). q ++ t.after) b.parts ∙ append_assoc b.done (b.item ∷ b.left) t.after in
     let last = (code_split m (base + sizes entry + sizes t.before) b.done
-      ((b.item ∷ b.left) ++ t.after) (subst (λ (q : List Instr). IsExecutableAt m
-      (base + sizes entry + sizes t.before) (spelled q)) split from)).1 in
+    ((b.item ∷ b.left) ++ t.after) (subst (λ (q : List Instr). IsExecutableAt m
+    (base + sizes entry + sizes t.before) (spelled q)) split from)).1 in
     let place : base + sizes entry + sizes t.before + sizes b.done
-      ≡ image_base + rva = omega arith in
+    ≡ image_base + rva = omega arith in
     subst (λ (n : ℕ). IsExecutableAt m n (chosen b.item)) place
-      (executable_split m (base + sizes entry + sizes t.before + sizes b.done) (chosen b.item)
-      (spelled (b.left ++ t.after)) last).0
+    (executable_split m (base + sizes entry + sizes t.before + sizes b.done) (chosen b.item)
+    (spelled (b.left ++ t.after)) last).0
 
 -- ---- a frame
 
@@ -164,7 +167,7 @@ pub found_in : (p : LinearProgram) (index : ℕ) (x : Placed) (f : FrameLayout) 
     ≡ Some (tables.entry_of (site_of p) x f)
 found_in p index x f rva fits regions e framed le lt small =
     ap (λ (t : Table (List Entry)). holding (distance image_base (image_base + rva)) (or_none t))
-      (tables_are_read p fits regions)
+    (tables_are_read p fits regions)
     ∙ ap (λ (n : ℕ). holding n (entries p)) (away rva small)
     ∙ entries_are_held p index x f rva fits e framed le lt
 
@@ -196,15 +199,15 @@ frame_at p m index x f c rva back fits regions e framed first here kept room' re
     record {
       live = ne_eqb c.rip 0 (λ z. (let q : c.rip ≡ 0 = z in absurd (omega arith)));
       not_filter = ne_eqb c.rip filter_return
-        (λ z. (let q : c.rip ≡ filter_return = z in absurd (omega arith)));
+          (λ z. (let q : c.rip ≡ filter_return = z in absurd (omega arith)));
       not_finally = ne_eqb c.rip finally_return
-        (λ z. (let q : c.rip ≡ finally_return = z in absurd (omega arith)));
+          (λ z. (let q : c.rip ≡ finally_return = z in absurd (omega arith)));
       found = ap (entry_of (functions_in (image_of (linked p)))) here
-        ∙ found_in p index x f rva fits regions e framed (omega arith) inside far;
+          ∙ found_in p index x f rva fits regions e framed (omega arith) inside far;
       past_prologue = le-ltb (distance image_base c.rip - x.begin) (taking_size f.size)
-        (omega arith);
+          (omega arith);
       not_epilogue = ap (tail_at 0 m) here ∙ no_epilogue (image_base + rva) m first.item first.inner
-        first.is_there (omega arith);
+          first.is_there (omega arith);
       codes = refl;
       no_register = refl;
       no_parents = refl;
@@ -224,14 +227,19 @@ frame_is_at p m index x f c rva back fits regions e framed code body here kept r
     let h = there p index x fits e in
     let i = item_there p x rva fits h body in
     frame_at p m index x f c rva back fits regions e framed
-    (record { item = body.item; inner = i.inner; past = i.past; inside = i.inside;
-      is_there = item_is_at p m x rva code h body })
+    (record {
+      item = body.item;
+      inner = i.inner;
+      past = i.past;
+      inside = i.inside;
+      is_there = item_is_at p m x rva code h body;
+    })
     here kept room' returns
 
 pub bodies_have_frames : BodiesHaveFrames
 bodies_have_frames p m index x f c rva back fits regions e framed w =
     frame_is_at p m index x f c rva back fits regions e framed
-      (routine_is_at p m x w.text (there p index x fits e)) w.body w.here w.kept w.room w.returns
+    (routine_is_at p m x w.text (there p index x fits e)) w.body w.here w.kept w.room w.returns
 
 -- ---- a leaf function
 
@@ -241,7 +249,7 @@ pub none_in : (p : LinearProgram) (index : ℕ) (x : Placed) (rva : ℕ) → Fit
     → entry_of (functions_in (image_of (linked p))) (image_base + rva) ≡ None
 none_in p index x rva fits regions e none le lt small =
     ap (λ (t : Table (List Entry)). holding (distance image_base (image_base + rva)) (or_none t))
-      (tables_are_read p fits regions)
+    (tables_are_read p fits regions)
     ∙ ap (λ (n : ℕ). holding n (entries p)) (away rva small)
     ∙ leaves_are_held_by_none p index x rva fits e none le lt
 
@@ -258,11 +266,11 @@ leaf_at p m index x c rva back fits regions e none past inside here kept room' r
     record {
       live = ne_eqb c.rip 0 (λ z. (let q : c.rip ≡ 0 = z in absurd (omega arith)));
       not_filter = ne_eqb c.rip filter_return
-        (λ z. (let q : c.rip ≡ filter_return = z in absurd (omega arith)));
+          (λ z. (let q : c.rip ≡ filter_return = z in absurd (omega arith)));
       not_finally = ne_eqb c.rip finally_return
-        (λ z. (let q : c.rip ≡ finally_return = z in absurd (omega arith)));
+          (λ z. (let q : c.rip ≡ finally_return = z in absurd (omega arith)));
       none = ap (entry_of (functions_in (image_of (linked p)))) here
-        ∙ none_in p index x rva fits regions e none past inside (omega arith);
+          ∙ none_in p index x rva fits regions e none past inside (omega arith);
       kept = kept;
       room = room';
       returns = returns;
@@ -273,4 +281,4 @@ leaves_are_at p m index x c rva back fits regions e none w =
     let i = item_there p x rva fits (there p index x fits e) w.body in
     let past = i.past in
     leaf_at p m index x c rva back fits regions e none (omega arith) i.inside w.here w.kept w.room
-      w.returns
+    w.returns

@@ -82,9 +82,12 @@ unfolding routine_bytes
 routine_length s at r near =
     let e = entry_sizes at (check_stack_at s.text) r near in
     let b = body_sizes (links_of (addresses s at r)) r.layout (at + entry_size r) r.body.code in
-    omega (arith, sizes_spelled (routine_code s at r),
+    omega (
+      arith,
+      sizes_spelled (routine_code s at r),
       sizes_append (entry_code at (check_stack_at s.text) r)
-      (code_from (links_of (addresses s at r)) r.layout (at + entry_size r) r.body.code))
+          (code_from (links_of (addresses s at r)) r.layout (at + entry_size r) r.body.code),
+    )
 
 routines_length : (s : SiteView) (at : ℕ) (rs : List RoutineView) → AllByRecursion IsRoutineNear rs
     → length (routines_bytes s at rs) ≡ total rs
@@ -99,8 +102,12 @@ pub text_length : (s : SiteView) (rs : List RoutineView) → AllByRecursion IsRo
 text_length s rs near =
     let l = routines_length s (s.text + 51) rs near in
     let f = front_size s.text s.rdata in
-    omega (arith, length-append (spelled (front_code s.text s.rdata))
-      (routines_bytes s (s.text + 51) rs), sizes_spelled (front_code s.text s.rdata))
+    omega (
+      arith,
+      length-append (spelled (front_code s.text s.rdata))
+          (routines_bytes s (s.text + 51) rs),
+      sizes_spelled (front_code s.text s.rdata),
+    )
 
 -- ---- the tables
 
@@ -120,11 +127,17 @@ ranges_few : (s : SiteView) (info at : ℕ) (rs : List RoutineView)
     → length (ranges s info at rs) ≤ length rs
 ranges_few s info at [] = omega arith
 ranges_few s info at (r ∷ rs) =
-    let o = range_few r.frame (record { begin = at; end = at + routine_size r;
-      unwind_info = info }) in
+    let o = range_few r.frame (record {
+      begin = at;
+      end = at + routine_size r;
+      unwind_info = info;
+    }) in
     let l = ranges_few s (info + length (info_bytes s at r)) (at + routine_size r) rs in
-    omega (arith, length-append (range_of info at r)
-      (ranges s (info + length (info_bytes s at r)) (at + routine_size r) rs))
+    omega (
+      arith,
+      length-append (range_of info at r)
+          (ranges s (info + length (info_bytes s at r)) (at + routine_size r) rs),
+    )
 
 table_length : (ranges : List RuntimeFunction) → length (table_bytes ranges) ≡ 12 * length ranges
 unfolding u32

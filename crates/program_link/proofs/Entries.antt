@@ -54,7 +54,7 @@ frame_sizes : (at check : ℕ) (o : Option FrameLayout) → IsFrameNear o
 frame_sizes at check None near = refl
 frame_sizes at check (Some f) near =
     planned f (distance (at + 10) check) near.0
-      ∙ allocating_sizes (distance (at + 10) check) f.size (leb f.size 4096)
+    ∙ allocating_sizes (distance (at + 10) check) f.size (leb f.size 4096)
     ∙ sym (allocating_sizes (distance 10 0) f.size (leb f.size 4096))
     ∙ sym (planned f (distance 10 0) near.0)
 
@@ -68,7 +68,7 @@ frame_small at check (Some f) near = let p = planned f (distance (at + 10) check
 
 parameter_by : (y : Layout) (i : ℕ) (few : Bool)
     → length (cond few (keep_register (parameter_register i) (local_at y i) ∷ [])
-      (fetched Rax Rsp (stack_parameter y i) ∷ keep_register Rax (local_at y i) ∷ [])) ≤ 2
+    (fetched Rax Rsp (stack_parameter y i) ∷ keep_register Rax (local_at y i) ∷ [])) ≤ 2
 parameter_by y i true = omega arith
 parameter_by y i false = omega arith
 
@@ -77,8 +77,11 @@ parameters_small y i zero = omega arith
 parameters_small y i (suc n) =
     let r = parameters_small y (i + 1) n in
     let l : length (parameter_code y i) ≤ 2 = parameter_by y i (ltb i 4) in
-    omega (arith, sizes_append (parameter_code y i) (parameters_code y (i + 1) n),
-      sizes_small (parameter_code y i))
+    omega (
+      arith,
+      sizes_append (parameter_code y i) (parameters_code y (i + 1) n),
+      sizes_small (parameter_code y i),
+    )
 
 base_small : (parent : Option ℕ) (b : ℕ) → length (keep_base parent b) ≤ 2
 base_small None b = omega arith
@@ -106,8 +109,11 @@ pub entry_sizes : (at check : ℕ) (r : RoutineView) → IsRoutineNear r
 unfolding entry_size
 entry_sizes at check r near =
     let f = frame_sizes at check r.frame near.frame in
-    omega (arith, sizes_append (frame_code at check r.frame) (argument_code r.layout r.entry),
-      sizes_append (frame_code 0 0 r.frame) (argument_code r.layout r.entry))
+    omega (
+      arith,
+      sizes_append (frame_code at check r.frame) (argument_code r.layout r.entry),
+      sizes_append (frame_code 0 0 r.frame) (argument_code r.layout r.entry),
+    )
 
 pub entry_small : (r : RoutineView) → IsRoutineNear r → entry_size r ≤ 285
 unfolding entry_size
@@ -151,13 +157,16 @@ entry_alone at check r old new near none e =
     let l = ap length e in
     let z = ap length none in
     let s = entry_sizes at check r near in
-    omega (arith, length-append old (spelled (entry_code at check r)),
-      sizes_spelled (entry_code at check r))
+    omega (
+      arith,
+      length-append old (spelled (entry_code at check r)),
+      sizes_spelled (entry_code at check r),
+    )
 
 pub text_next : (s : SiteView) (at : ℕ) (rs : List RoutineView) (i : ℕ) (d : RoutineView)
     → i < length rs → routines_bytes s at (drop i rs)
     ≡ routine_bytes s at (get_or rs i d) ++ routines_bytes s (at + routine_size (get_or rs i d))
-      (drop (i + 1) rs)
+    (drop (i + 1) rs)
 text_next s at rs i d lt = ap (routines_bytes s at) (drop-cons rs i d lt)
     ∙ ap (λ (n : ℕ). routine_bytes s at (get_or rs i d)
     ++ routines_bytes s (at + routine_size (get_or rs i d)) (drop n rs)) (after i)
@@ -188,5 +197,8 @@ framed_some f =
     let p = planned frame (distance 10 0) some in
     let a = allocating_sizes (distance 10 0) frame.size (leb frame.size 4096) in
     let s = allocating_some frame.size (leb frame.size 4096) in
-    omega (arith, sizes_append (frame_code 0 0 (Some frame))
-      (argument_code (framed f).layout (framed f).entry))
+    omega (
+      arith,
+      sizes_append (frame_code 0 0 (Some frame))
+          (argument_code (framed f).layout (framed f).entry),
+    )

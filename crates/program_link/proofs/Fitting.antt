@@ -15,8 +15,8 @@ pub function_fits : (fs : List IrFunction) (i : ℕ) (f : IrFunction)
 function_fits fs i f all lt is =
     let m = length-map fs linear_function in
     subst FitsFunction (get_or-map linear_function fs i f (linear_function f) lt
-      ∙ ap linear_function (sym is)) (all_at FitsFunction (map linear_function fs) i
-        (linear_function f) all (omega (arith, m)))
+    ∙ ap linear_function (sym is)) (all_at FitsFunction (map linear_function fs) i
+    (linear_function f) all (omega (arith, m)))
 
 pub funclet_fits : (p : LinearProgram) (fs : List IrFunclet) (i : ℕ) (f : IrFunclet)
     → AllByRecursion (FitsFunclet p) (map linear_funclet fs) → i < length fs → f ≡ get_or fs i f
@@ -24,8 +24,8 @@ pub funclet_fits : (p : LinearProgram) (fs : List IrFunclet) (i : ℕ) (f : IrFu
 funclet_fits p fs i f all lt is =
     let m = length-map fs linear_funclet in
     subst (FitsFunclet p) (get_or-map linear_funclet fs i f (linear_funclet f) lt
-      ∙ ap linear_funclet (sym is)) (all_at (FitsFunclet p) (map linear_funclet fs) i
-        (linear_funclet f) all (omega (arith, m)))
+    ∙ ap linear_funclet (sym is)) (all_at (FitsFunclet p) (map linear_funclet fs) i
+    (linear_funclet f) all (omega (arith, m)))
 
 pub function_below : (fs : List IrFunction) (i : ℕ) → i < length (map linear_function fs)
     → i < length fs

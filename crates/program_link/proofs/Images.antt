@@ -49,9 +49,12 @@ site_near g rs functions main few near places =
     let t = total_small rs near in
     let r = places.room in
     let b = bounds_near (first g) rs near (omega arith) in
-    record { text = omega arith; rdata = omega arith;
+    record {
+      text = omega arith;
+      rdata = omega arith;
       functions = take_near functions (bounds (first g) rs) b;
-      funclets = drop_near functions (bounds (first g) rs) b }
+      funclets = drop_near functions (bounds (first g) rs) b;
+    }
 
 pub tables_fit : (g : List ℕ) (rs : List RoutineView) (functions main : ℕ) → length g ≤ MOST_GLOBALS
     → AllByRecursion IsRoutineNear rs → HasPlaces rs functions main
@@ -78,14 +81,23 @@ is_program g rs functions main few near places d =
     let pdata = tables_small s (xdata_at (front_sizes g rs)) (first g) rs in
     let some = places.some d in
     let below = bounds_below (first g) rs main 0 d places.there in
-    record { whole = omega arith; some = omega arith; stored = omega arith; entry = omega arith;
-      end = omega arith }
+    record {
+      whole = omega arith;
+      some = omega arith;
+      stored = omega arith;
+      entry = omega arith;
+      end = omega arith;
+    }
 
 -- ---- what the code has computed
 
 abbrev pub got_sizes : ℕ → ℕ → Sizes
-got_sizes size_of_data t = record { data_size = size_of_data; text_size = t; xdata_size = 0;
-    pdata_size = 0 }
+got_sizes size_of_data t = record {
+  data_size = size_of_data;
+  text_size = t;
+  xdata_size = 0;
+  pdata_size = 0;
+}
 
 -- what is known where routines between bounds are linked: the bytes of `.data`, and those of the text
 pub record IsMeasured (g b : List ℕ) (rs : List RoutineView)
@@ -104,7 +116,7 @@ module _ (g b : List ℕ) (rs : List RoutineView) (functions main size_of_data t
       let d = h.sized in
       let begin : first g ≡ (4096 + size_of_data) + 51 = omega arith in
       let same : t ≡ 51 + total rs = h.text ∙ text_size b (first g) (4096 + size_of_data) rs
-        h.between begin in
+      h.between begin in
       λ i. record { data_size = d i; text_size = same i; xdata_size = 0; pdata_size = 0 }
 
   pub rdata_small : (rdata : ℕ) → rdata ≡ rdata_at (got_sizes size_of_data t) → rdata < 2 ^ 31
@@ -117,27 +129,41 @@ module _ (g b : List ℕ) (rs : List RoutineView) (functions main size_of_data t
       let f = tables_fit g rs functions main h.few h.near h.places in omega arith
 
   module _ (s : SiteView) (rdata : ℕ) (is : s
-      ≡ record { text = 4096 + size_of_data; rdata = rdata; functions = take functions b;
-        funclets = drop functions b })
+      ≡ record {
+        text = 4096 + size_of_data;
+        rdata = rdata;
+        functions = take functions b;
+        funclets = drop functions b;
+      })
       (r : rdata ≡ rdata_at (got_sizes size_of_data t)) where
     site_is : s ≡ site g rs functions
     site_is =
         let d = h.sized in
         let e = h.between in
         let same : rdata ≡ rdata_at (front_sizes g rs) = r ∙ ap rdata_at sizes_are in
-        is ∙ λ i. record { text = 4096 + d i; rdata = same i; functions = take functions (e i);
-          funclets = drop functions (e i) }
+        is ∙ λ i. record {
+          text = 4096 + d i;
+          rdata = same i;
+          functions = take functions (e i);
+          funclets = drop functions (e i);
+        }
 
     pub is_site_near : IsSiteNear s
     is_site_near = subst IsSiteNear (sym site_is)
-      (site_near g rs functions main h.few h.near h.places)
+        (site_near g rs functions main h.few h.near h.places)
 
     pub image_is : (at entry : ℕ) (text xdata pdata : List ℕ)
-      → at ≡ xdata_at (got_sizes size_of_data t) → entry ≡ get_or b main 0 - (4096 + size_of_data)
+        → at ≡ xdata_at (got_sizes size_of_data t) → entry ≡ get_or b main 0 - (4096 + size_of_data)
         → text ≡ text_bytes s rs → xdata ≡ infos s (4096 + size_of_data + 51) rs
         → pdata ≡ table_bytes (ranges s at (4096 + size_of_data + 51) rs)
-        → record { data_size = size_of_data; data_bytes = g; text = text; entry = entry;
-          xdata = xdata; pdata = pdata } ≡ image_of g rs functions main
+        → record {
+          data_size = size_of_data;
+          data_bytes = g;
+          text = text;
+          entry = entry;
+          xdata = xdata;
+          pdata = pdata;
+        } ≡ image_of g rs functions main
     image_is at entry text xdata pdata x n k i p =
         let d = h.sized in
         let of = site g rs functions in
@@ -145,20 +171,29 @@ module _ (g b : List ℕ) (rs : List RoutineView) (functions main size_of_data t
         let table = x ∙ ap xdata_at sizes_are in
         let text' = k ∙ ap (λ (s : SiteView). text_bytes s rs) site_is in
         let entry' = n ∙ ap (λ (xs : List ℕ). get_or xs main 0 - (4096 + size_of_data)) h.between
-          ∙ ap (λ (n : ℕ). get_or (bounds (first g) rs) main 0 - (4096 + n)) d in
+        ∙ ap (λ (n : ℕ). get_or (bounds (first g) rs) main 0 - (4096 + n)) d in
         let xdata' = i ∙ ap (λ (s : SiteView). infos s (4096 + size_of_data + 51) rs) site_is
-          ∙ ap (λ (n : ℕ). infos of n rs) begin in
+        ∙ ap (λ (n : ℕ). infos of n rs) begin in
         let pdata' = p ∙ ap (λ (s : SiteView). table_bytes
-          (ranges s at (4096 + size_of_data + 51) rs)) site_is
+        (ranges s at (4096 + size_of_data + 51) rs)) site_is
         ∙ ap (λ (n : ℕ). table_bytes (ranges of n (4096 + size_of_data + 51) rs)) table
         ∙ ap (λ (n : ℕ). table_bytes (ranges of (xdata_at (front_sizes g rs)) n rs)) begin in
-        λ i. record { data_size = d i; data_bytes = g; text = text' i; entry = entry' i;
-          xdata = xdata' i; pdata = pdata' i }
+        λ i. record {
+          data_size = d i;
+          data_bytes = g;
+          text = text' i;
+          entry = entry' i;
+          xdata = xdata' i;
+          pdata = pdata' i;
+        }
 
 abbrev pub no_routine : RoutineView
-no_routine = record { entry = entries.Function 0; frame = None;
-    layout = record { base = None; pointers = 0; locals = 0; temporaries = 0; frame = 0 };
-    body = record { locals = 0; temporaries = 0; passed = 0; code = []; regions = [] } }
+no_routine = record {
+  entry = entries.Function 0;
+  frame = None;
+  layout = record { base = None; pointers = 0; locals = 0; temporaries = 0; frame = 0 };
+  body = record { locals = 0; temporaries = 0; passed = 0; code = []; regions = [] };
+}
 
 -- ---- programs
 
@@ -184,8 +219,11 @@ get_first (r ∷ a) b zero d lt = refl
 get_first (r ∷ a) b (suc i) d lt = get_first a b i d (omega arith)
 
 abbrev no_function : LinearFunction
-no_function = record { parameters = 0; body =
-    record { locals = 0; temporaries = 0; passed = 0; code = []; regions = [] } }
+no_function = record {
+  parameters = 0;
+  body =
+      record { locals = 0; temporaries = 0; passed = 0; code = []; regions = [] };
+}
 
 main_is : (p : LinearProgram) → FitsProgram p → (d : RoutineView)
     → get_or (routines p) p.main d ≡ framed (get_or p.functions p.main no_function)
@@ -193,8 +231,8 @@ main_is p fits d =
     let lt = fits.main in
     let c = functions_count p.main 0 p.functions in
     get_first (functions_from p.main 0 p.functions) (map (funclet p) p.funclets) p.main d
-      (omega arith) ∙ functions_main p.main 0 p.main p.functions d no_function lt
-      (let z : 0 + p.main ≡ p.main = omega arith in z)
+    (omega arith) ∙ functions_main p.main 0 p.main p.functions d no_function lt
+    (let z : 0 + p.main ≡ p.main = omega arith in z)
 
 same_body : (b : Bool) (f : LinearFunction) → (leaf_if b f).body ≡ f.body
 same_body true f = refl
@@ -206,7 +244,7 @@ functions_tables main index [] = refl
 functions_tables main index (f ∷ fs) =
     let r = functions_tables main (suc index) fs in
     let s = ap (λ (b : LinearBody). length b.regions)
-      (same_body (not (index == main) && is_leaf f.body) f) in
+    (same_body (not (index == main) && is_leaf f.body) f) in
     omega arith
 
 funclets_tables : (p : LinearProgram) (fs : List LinearFunclet)
@@ -239,7 +277,7 @@ has_places p fits =
       fewer = omega (arith, length-append a b);
       there = omega (arith, length-append a b);
       some = λ d. subst (λ (r : RoutineView). 0 < routine_size r) (sym (main_is p fits d))
-        (framed_some (get_or p.functions p.main no_function));
+          (framed_some (get_or p.functions p.main no_function));
     }
 
 -- its entries take no more than what no entry of a routine needs of its room

@@ -19,7 +19,7 @@ use Rattle.program_link.specs.Tables.{trailer, scope_record, scope_records, scop
 
 slots_by : (offset n : ℕ) (small short : Bool)
     → length (padded ((if small then slot offset 2 (n / 8 - 1)
-      else (if short then slot offset 1 0 ++ u16 (n / 8) else slot offset 1 1 ++ u32 n)) ++ [])) ≤ 8
+    else (if short then slot offset 1 0 ++ u16 (n / 8) else slot offset 1 1 ++ u32 n)) ++ [])) ≤ 8
 unfolding u16 u32
 slots_by offset n true short = omega arith
 slots_by offset n false true = omega arith
@@ -50,8 +50,12 @@ unwind_small f t le =
     let offset = taking_size f.size in
     let slots = slots_by offset f.size (is_small f.size) (is_short 8 f.size) in
     let bytes = allocation offset f.size ++ [] in
-    omega (arith, length-append (header (info_of f t) (length bytes))
-      (padded bytes ++ trailer_bytes t), length-append (padded bytes) (trailer_bytes t))
+    omega (
+      arith,
+      length-append (header (info_of f t) (length bytes))
+          (padded bytes ++ trailer_bytes t),
+      length-append (padded bytes) (trailer_bytes t),
+    )
 
 info_by : (s : SiteView) (labels : List ℕ) (end : ℕ) (r : RoutineView) (o : Option FrameLayout)
     → length (info_if s labels end r o) ≤ info_room r
@@ -61,8 +65,11 @@ info_by s labels end r (Some f) =
     let t = trailer h r.body.regions in
     let u = unwind_small f t (trailer_small h r.body.regions) in
     let k = scopes_small s.funclets labels end r.body.regions in
-    omega (arith, length-append (unwind_bytes (info_of f t))
-      (scope_table s.funclets labels end r.body.regions))
+    omega (
+      arith,
+      length-append (unwind_bytes (info_of f t))
+          (scope_table s.funclets labels end r.body.regions),
+    )
 
 pub info_small : (s : SiteView) (at : ℕ) (r : RoutineView)
     → length (info_bytes s at r) ≤ info_room r
@@ -84,11 +91,11 @@ infos_next s at rs i d lt = ap (infos s at) (drop-cons rs i d lt)
 pub ranges_next : (s : SiteView) (info at : ℕ) (rs : List RoutineView) (i : ℕ) (d : RoutineView)
     → i < length rs → ranges s info at (drop i rs)
     ≡ range_of info at (get_or rs i d) ++ ranges s (info + length (info_bytes s at (get_or rs i d)))
-      (at + routine_size (get_or rs i d)) (drop (i + 1) rs)
+    (at + routine_size (get_or rs i d)) (drop (i + 1) rs)
 ranges_next s info at rs i d lt = ap (ranges s info at) (drop-cons rs i d lt)
     ∙ ap (λ (n : ℕ). range_of info at (get_or rs i d)
     ++ ranges s (info + length (info_bytes s at (get_or rs i d)))
-      (at + routine_size (get_or rs i d)) (drop n rs)) (after i)
+    (at + routine_size (get_or rs i d)) (drop n rs)) (after i)
 
 pub infos_room_next : (rs : List RoutineView) (i : ℕ) (d : RoutineView) → i < length rs
     → infos_room (drop i rs) ≡ info_room (get_or rs i d) + infos_room (drop (i + 1) rs)

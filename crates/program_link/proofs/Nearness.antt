@@ -33,24 +33,29 @@ slot_near : (y : Layout) (b : LinearBody) (x : Slot) → IsLow y → FitsBody b 
     → IsSlotNear y x
 slot_near y b (Temporary i) low fits lt = let t = low.temporaries in let w = fits.words in
     omega arith
-slot_near y b (Local i) low fits lt = (let l = low.locals in let w = fits.words in
-    omega arith, low.base)
+slot_near y b (Local i) low fits lt = (
+  let l = low.locals in let w = fits.words in
+      omega arith,
+  low.base,
+)
 
 instruction_near : (y : Layout) (b : LinearBody) (i : Instruction) → IsLow y → FitsBody b
     → FitsInstruction b i → IsInstructionNear y i
-instruction_near y b (instructions.Compute to o first second) low fits
-    h = (slot_near y b to low fits h.0, slot_near y b first low fits h.1,
-    slot_near y b second low fits h.2)
-instruction_near y b (instructions.Information to field) low fits
-    h = (slot_near y b to low fits h.0, (let p = low.pointers in omega arith), h.1)
+instruction_near y b (instructions.Compute to o first second) low fits h = (
+  slot_near y b to low fits h.0,
+  slot_near y b first low fits h.1,
+  slot_near y b second low fits h.2,
+)
+instruction_near y b (instructions.Information to field) low fits h =
+    (slot_near y b to low fits h.0, (let p = low.pointers in omega arith), h.1)
 instruction_near y b (instructions.Landing to) low fits h = slot_near y b to low fits h
 instruction_near y b (instructions.Jump label) low fits h = tt
 instruction_near y b (instructions.JumpIfZero slot label) low fits h = slot_near y b slot low fits h
-instruction_near y b (instructions.Call function first count) low fits
-    h = let t = low.temporaries in let w = fits.words in let a = h.0 in
+instruction_near y b (instructions.Call function first count) low fits h =
+    let t = low.temporaries in let w = fits.words in let a = h.0 in
     record { few = h.1; temporaries = omega arith }
-instruction_near y b (instructions.CallBuiltIn function first) low fits
-    h = let t = low.temporaries in let w = fits.words in
+instruction_near y b (instructions.CallBuiltIn function first) low fits h =
+    let t = low.temporaries in let w = fits.words in
     record { few = omega arith; temporaries = omega arith }
 instruction_near y b (instructions.CallFinally f) low fits h = tt
 instruction_near y b (instructions.LocalUnwind label) low fits h = tt
@@ -61,8 +66,10 @@ instruction_near y b (instructions.Return from) low fits
 code_near : (y : Layout) (b : LinearBody) (is : List Instruction) → IsLow y → FitsBody b
     → AllByRecursion (FitsInstruction b) is → AllByRecursion (IsInstructionNear y) is
 code_near y b [] low fits all = tt
-code_near y b (i ∷ is) low fits all = (instruction_near y b i low fits all.0,
-    code_near y b is low fits all.1)
+code_near y b (i ∷ is) low fits all = (
+  instruction_near y b i low fits all.0,
+  code_near y b is low fits all.1,
+)
 
 -- ---- functions
 
@@ -70,23 +77,38 @@ leaf_near : (f : LinearFunction) → FitsFunction f → IsRoutineNear (leaf f)
 leaf_near f fits =
     let w = fits.body.words in
     let few = fits.parameters in
-    let low : IsLow (leaf_layout f.body) = record { base = tt; pointers = omega arith;
-      locals = omega arith; temporaries = omega arith; frame = omega arith } in
-    record { frame = tt; entry = (few, record { locals = omega arith; stack = omega arith });
+    let low : IsLow (leaf_layout f.body) = record {
+      base = tt;
+      pointers = omega arith;
+      locals = omega arith;
+      temporaries = omega arith;
+      frame = omega arith;
+    } in
+    record {
+      frame = tt;
+      entry = (few, record { locals = omega arith; stack = omega arith });
       code = code_near (leaf_layout f.body) f.body f.body.code low fits.body fits.body.code;
-      regions = fits.body.regions }
+      regions = fits.body.regions;
+    }
 
 framed_near : (f : LinearFunction) → FitsFunction f → IsRoutineNear (framed f)
 framed_near f fits =
     let w = fits.body.words in
     let few = fits.parameters in
     let y = function_layout (function_frame f.body) in
-    let low : IsLow y = record { base = tt; pointers = omega arith; locals = omega arith;
-      temporaries = omega arith; frame = omega arith } in
-    record { frame = (omega arith, omega arith);
+    let low : IsLow y = record {
+      base = tt;
+      pointers = omega arith;
+      locals = omega arith;
+      temporaries = omega arith;
+      frame = omega arith;
+    } in
+    record {
+      frame = (omega arith, omega arith);
       entry = (few, record { locals = omega arith; stack = omega arith });
       code = code_near y f.body f.body.code low fits.body fits.body.code;
-      regions = fits.body.regions }
+      regions = fits.body.regions;
+    }
 
 function_near : (b : Bool) (f : LinearFunction) → FitsFunction f → IsRoutineNear (leaf_if b f)
 function_near true f fits = leaf_near f fits
@@ -95,8 +117,11 @@ function_near false f fits = framed_near f fits
 functions_near : (main index : ℕ) (fs : List LinearFunction) → AllByRecursion FitsFunction fs
     → AllByRecursion IsRoutineNear (functions_from main index fs)
 functions_near main index [] all = tt
-functions_near main index (f ∷ fs) all = (function_near (not (index == main) && is_leaf f.body) f
-    all.0, functions_near main (suc index) fs all.1)
+functions_near main index (f ∷ fs) all = (
+  function_near (not (index == main) && is_leaf f.body) f
+      all.0,
+  functions_near main (suc index) fs all.1,
+)
 
 -- ---- funclets
 
@@ -122,33 +147,43 @@ funclet_low p f fits h =
     let b = function_at p f.function fits h.function in
     let v = b.words in
     let w = h.body.words in
-    record { base = omega arith; pointers = omega arith; locals = omega arith;
-      temporaries = omega arith; frame = omega arith }
+    record {
+      base = omega arith;
+      pointers = omega arith;
+      locals = omega arith;
+      temporaries = omega arith;
+      frame = omega arith;
+    }
 
 entry_near : (p : LinearProgram) (f : LinearFunclet) (k : FuncletKind) → FitsProgram p
     → FitsFunclet p f → FitsKind f.body k → IsEntryNear
-      (funclet_layout (function_frame (body_of_function p f.function)) (funclet_frame f.body))
-      (entry_of k (kept_by p f.parent))
+    (funclet_layout (function_frame (body_of_function p f.function)) (funclet_frame f.body))
+    (entry_of k (kept_by p f.parent))
 entry_near p f Filter fits h kind =
-    let w = h.body.words in
-    (record { parent_near = parent_near p f.parent fits h.parent; base_near = omega arith },
-      omega arith)
+    let w = h.body.words in (
+      record { parent_near = parent_near p f.parent fits h.parent; base_near = omega arith },
+      omega arith,
+    )
 entry_near p f (Finally flag) fits h kind =
     let w = h.body.words in
     let y = funclet_layout (function_frame (body_of_function p f.function))
-      (funclet_frame f.body) in
-    (record { parent_near = parent_near p f.parent fits h.parent; base_near = omega arith },
-      slot_near y f.body (Local flag) (funclet_low p f fits h) h.body kind)
+    (funclet_frame f.body) in (
+      record { parent_near = parent_near p f.parent fits h.parent; base_near = omega arith },
+      slot_near y f.body (Local flag) (funclet_low p f fits h) h.body kind,
+    )
 
 funclet_near : (p : LinearProgram) (f : LinearFunclet) → FitsProgram p → FitsFunclet p f
     → IsRoutineNear (funclet p f)
 funclet_near p f fits h =
     let w = h.body.words in
     let y = funclet_layout (function_frame (body_of_function p f.function))
-      (funclet_frame f.body) in
-    record { frame = (omega arith, omega arith); entry = entry_near p f f.kind fits h h.kind;
+    (funclet_frame f.body) in
+    record {
+      frame = (omega arith, omega arith);
+      entry = entry_near p f f.kind fits h h.kind;
       code = code_near y f.body f.body.code (funclet_low p f fits h) h.body h.body.code;
-      regions = h.body.regions }
+      regions = h.body.regions;
+    }
 
 funclets_near : (p : LinearProgram) (fs : List LinearFunclet) → FitsProgram p
     → AllByRecursion (FitsFunclet p) fs → AllByRecursion IsRoutineNear (map (funclet p) fs)
@@ -179,7 +214,7 @@ functions_room main index [] = refl
 functions_room main index (f ∷ fs) =
     let r = functions_room main (suc index) fs in
     let s = ap (λ (b : LinearBody). code_room b.code)
-      (same_body (not (index == main) && is_leaf f.body) f) in
+    (same_body (not (index == main) && is_leaf f.body) f) in
     omega arith
 
 funclets_room : (p : LinearProgram) (fs : List LinearFunclet)

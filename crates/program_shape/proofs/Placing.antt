@@ -40,26 +40,32 @@ not_one (x ∷ xs) (suc k) far e = not_one xs k far.1 e
 
 module _ (p : LinearProgram) (far : AreFar (site_of p).funclets) (y : Layout) (start : ℕ)
     (body : List Instruction) (end : ℕ) (some : 0 < start) (fits : start + body_size y body ≤ end)
-    where
-  target_some : (i : ℕ) → address_or (label_list y start body) i end ≢ 0
-  target_some i e = let l = label_least y start body i end fits in
-      let q : address_or (label_list y start body) i end ≡ 0 = e in omega arith
+  where
+    target_some : (i : ℕ) → address_or (label_list y start body) i end ≢ 0
+    target_some i e = let l = label_least y start body i end fits in
+        let q : address_or (label_list y start body) i end ≡ 0 = e in omega arith
 
-  finally_by : (k : RegionKind) → (jump_target (label_list y start body) end k == 0) ≡ is_finally k
-  finally_by (kinds.Finally funclet) = refl
-  finally_by (kinds.Filter funclet target) = ne_eqb _ 0 (target_some target)
-  finally_by (kinds.Always target) = ne_eqb _ 0 (target_some target)
+    finally_by : (k : RegionKind) → (jump_target (label_list y start body) end k == 0) ≡ is_finally k
+    finally_by (kinds.Finally funclet) = refl
+    finally_by (kinds.Filter funclet target) = ne_eqb _ 0 (target_some target)
+    finally_by (kinds.Always target) = ne_eqb _ 0 (target_some target)
 
-  always_by : (k : RegionKind) → (handler_address (site_of p).funclets k == 1) ≡ is_always k
-  always_by (kinds.Finally funclet) = ne_eqb _ 1 (not_one (site_of p).funclets funclet far)
-  always_by (kinds.Filter funclet target) = ne_eqb _ 1 (not_one (site_of p).funclets funclet far)
-  always_by (kinds.Always target) = refl
+    always_by : (k : RegionKind) → (handler_address (site_of p).funclets k == 1) ≡ is_always k
+    always_by (kinds.Finally funclet) = ne_eqb _ 1 (not_one (site_of p).funclets funclet far)
+    always_by (kinds.Filter funclet target) = ne_eqb _ 1 (not_one (site_of p).funclets funclet far)
+    always_by (kinds.Always target) = refl
 
-  pub routine_rows : (rs : List Region) → AreRows p
-      (scope_records (site_of p).funclets (label_list y start body) end rs) rs
-  routine_rows [] = tt
-  routine_rows (r ∷ rs) = (record { finally = finally_by r.kind; always = always_by r.kind;
-      handler = refl }, routine_rows rs)
+    pub routine_rows : (rs : List Region) → AreRows p
+        (scope_records (site_of p).funclets (label_list y start body) end rs) rs
+    routine_rows [] = tt
+    routine_rows (r ∷ rs) = (
+      record {
+        finally = finally_by r.kind;
+        always = always_by r.kind;
+        handler = refl;
+      },
+      routine_rows rs,
+    )
 
 -- ---- routines without a frame have no regions
 
@@ -79,22 +85,27 @@ function_bare : (f : LinearFunction) (other leaf : Bool) → (other && is_leaf f
 function_bare f other true e none =
     let p = and_parts other (is_leaf f.body) e in
     let q = and_parts (nat_le (f.body.locals + f.body.temporaries) 4)
-      ((length f.body.regions == 0) && not (has_call f.body.code)) p.1 in
+    ((length f.body.regions == 0) && not (has_call f.body.code)) p.1 in
     none_left f.body.regions (and_parts (length f.body.regions == 0) (not (has_call f.body.code))
-      q.1).0
+    q.1).0
 function_bare f other false e none = let q = ap is_some none in absurd (omega arith)
 
 functions_bare : (main index : ℕ) (fs : List LinearFunction)
     → AllByRecursion IsBare (functions_from main index fs)
 functions_bare main index [] = tt
-functions_bare main index (f ∷ fs) = (function_bare f (not (index == main))
-    (not (index == main) && is_leaf f.body) refl, functions_bare main (suc index) fs)
+functions_bare main index (f ∷ fs) = (
+  function_bare f (not (index == main))
+      (not (index == main) && is_leaf f.body) refl,
+  functions_bare main (suc index) fs,
+)
 
 funclets_bare : (p : LinearProgram) (fs : List LinearFunclet)
     → AllByRecursion IsBare (map (funclet p) fs)
 funclets_bare p [] = tt
-funclets_bare p (f ∷ fs) = ((λ none. (let q = ap is_some none in absurd (omega arith))),
-    funclets_bare p fs)
+funclets_bare p (f ∷ fs) = (
+  (λ none. (let q = ap is_some none in absurd (omega arith))),
+  funclets_bare p fs,
+)
 
 both_bare : (a b : List RoutineView) → AllByRecursion IsBare a → AllByRecursion IsBare b
     → AllByRecursion IsBare (a ++ b)
@@ -146,7 +157,7 @@ module _ (p : LinearProgram) (far : AreFar (site_of p).funclets) where
   rows_if : (x : Placed) (o : Option FrameLayout) (es : List Entry) (qs : List Region)
       → (o ≡ None → x.routine.body.regions ≡ []) → AreRows p (scopes_of s x) x.routine.body.regions
       → AreRows p (rows_of es) qs → AreRows p (rows_of (entry_if s x o ++ es))
-        (x.routine.body.regions ++ qs)
+      (x.routine.body.regions ++ qs)
   rows_if x None es qs bare own others = subst
       (λ (rs : List Region). AreRows p (rows_of es) (rs ++ qs)) (sym (bare refl)) others
   rows_if x (Some f) es qs bare own others = rows_both p (scopes_of s x) (rows_of es)
@@ -158,9 +169,9 @@ module _ (p : LinearProgram) (far : AreFar (site_of p).funclets) where
   all_rows info at (r ∷ rs) some bare =
       let x : Placed = record { routine = r; begin = at; info = info } in
       rows_if x r.frame (entries_of s (placed_from s (info + length (info_bytes s at r))
-        (at + routine_size r) rs)) (regions_in (bodies rs)) bare.0
+      (at + routine_size r) rs)) (regions_in (bodies rs)) bare.0
       (routine_rows p far r.layout (at + entry_size r) r.body.code (at + routine_size r)
-        (omega arith) (omega arith) r.body.regions)
+      (omega arith) (omega arith) r.body.regions)
       (all_rows (info + length (info_bytes s at r)) (at + routine_size r) rs (omega arith) bare.1)
 
   order_less : (a b : ℕ) (es : List Entry) → b ≤ a → AreInOrder a es → AreInOrder b es
@@ -179,9 +190,9 @@ module _ (p : LinearProgram) (far : AreFar (site_of p).funclets) where
   in_order info at last (r ∷ rs) near le =
       let next = info + length (info_bytes s at r) in
       order_if (record { routine = r; begin = at; info = info }) r.frame
-        (entries_of s (placed_from s next (at + routine_size r) rs)) last le
-        (λ f e. framed_room r f near.0 e) (in_order next (at + routine_size r) (at + routine_size r)
-        rs near.1 (omega arith))
+      (entries_of s (placed_from s next (at + routine_size r) rs)) last le
+      (λ f e. framed_room r f near.0 e) (in_order next (at + routine_size r) (at + routine_size r)
+      rs near.1 (omega arith))
 
 -- ---- where routines begin
 
@@ -206,9 +217,14 @@ pub record IsPlaced (s : SiteView) (info at : ℕ) (rs : List RoutineView) (inde
 pub is_placed : (s : SiteView) (info at : ℕ) (rs : List RoutineView) (index : ℕ) (d : RoutineView)
     → index < length rs → IsPlaced s info at rs index d
 is_placed s info at [] index d lt = absurd (omega arith)
-is_placed s info at (r ∷ rs) zero d lt = record { placed =
-    record { routine = r; begin = at; info = info }; there = refl; begins = refl; routine = refl }
+is_placed s info at (r ∷ rs) zero d lt = record {
+  placed =
+      record { routine = r; begin = at; info = info };
+  there = refl;
+  begins = refl;
+  routine = refl;
+}
 is_placed s info at (r ∷ rs) (suc index) d lt =
     let h = is_placed s (info + length (info_bytes s at r)) (at + routine_size r) rs index d
-      (omega arith) in
+    (omega arith) in
     record { placed = h.placed; there = h.there; begins = h.begins; routine = h.routine }

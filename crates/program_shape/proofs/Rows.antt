@@ -65,7 +65,7 @@ handlers_are p [] [] h = refl
 handlers_are p (x ∷ rows) (r ∷ rs) h =
     ap (λ (b : Bool). cond b (handlers rows) (x.handler_address ∷ handlers rows)) h.0.always
     ∙ handler_by p r.kind x.handler_address (handlers rows) rs h.0.handler
-      (handlers_are p rows rs h.1)
+    (handlers_are p rows rs h.1)
 handlers_are p [] (r ∷ rs) h = absurd h
 handlers_are p (x ∷ rows) [] h = absurd h
 

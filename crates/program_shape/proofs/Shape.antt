@@ -72,8 +72,12 @@ module _ (p : LinearProgram) (fits : FitsProgram p) where
   pub as_long : length rs ≡ n + length p.funclets
   as_long =
       let c = functions_count p.main 0 p.functions in
-      omega (arith, length-append (functions_from p.main 0 p.functions)
-        (map (funclet p) p.funclets), length-map p.funclets (funclet p))
+      omega (
+        arith,
+        length-append (functions_from p.main 0 p.functions)
+            (map (funclet p) p.funclets),
+        length-map p.funclets (funclet p),
+      )
 
   -- a funclet is the routine of its number after the functions
   pub funclet_is : (k : ℕ) → k < length p.funclets
@@ -81,7 +85,7 @@ module _ (p : LinearProgram) (fits : FitsProgram p) where
   funclet_is k lt =
       let c = functions_count p.main 0 p.functions in
       get_second (functions_from p.main 0 p.functions) (map (funclet p) p.funclets) k (n + k)
-        no_routine (omega arith)
+      no_routine (omega arith)
       ∙ get_or-map (funclet p) p.funclets k no_funclet no_routine lt
 
   pub begin_is : (k : ℕ) → funclet_begin p k ≡ get_or (bounds (first p.globals) rs) (n + k) 0
@@ -92,26 +96,26 @@ module _ (p : LinearProgram) (fits : FitsProgram p) where
   funclet_size k lt =
       let l = as_long in
       framed_room (get_or rs (n + k) no_routine)
-        (funclet_frame (get_or p.funclets k no_funclet).body)
-        (all_at IsRoutineNear rs (n + k) no_routine near (omega arith))
-        (ap (λ (r : RoutineView). r.frame) (funclet_is k lt))
+      (funclet_frame (get_or p.funclets k no_funclet).body)
+      (all_at IsRoutineNear rs (n + k) no_routine near (omega arith))
+      (ap (λ (r : RoutineView). r.frame) (funclet_is k lt))
 
   begins : (k : ℕ) → k < length p.funclets → BeginsEntry p (funclet_begin p k)
   begins k lt =
       let l = as_long in
       let h = is_placed (site_of p) (infos_begin p) (first p.globals) rs (n + k) no_routine
-        (omega arith) in
+      (omega arith) in
       let x = h.placed in
       let at : x.begin ≡ funclet_begin p k = h.begins ∙ sym (begin_is k) in
       let f = funclet_frame (get_or p.funclets k no_funclet).body in
       let framed : x.routine.frame ≡ Some f = ap (λ (r : RoutineView). r.frame)
-        (h.routine ∙ funclet_is k lt) in
+      (h.routine ∙ funclet_is k lt) in
       let some : 0 < routine_size x.routine = subst (λ (r : RoutineView). 0 < routine_size r)
-        (sym h.routine) (funclet_size k lt) in
+      (sym h.routine) (funclet_size k lt) in
       record {
         entry = entry_of (site_of p) x f;
         held = entries_are_held p (n + k) x f (funclet_begin p k) fits h.there framed (omega arith)
-          (omega arith);
+            (omega arith);
         begins = at;
       }
 
@@ -132,7 +136,7 @@ module _ (p : LinearProgram) (fits : FitsProgram p) where
   rises j k lt in' =
       let l = as_long in
       let b = bounds_rise (first p.globals) rs (n + j) (n + k) 0 no_routine (omega arith)
-        (omega arith) in
+      (omega arith) in
       let some = funclet_size j (omega arith) in
       let x = begin_is j in
       let y = begin_is k in
@@ -142,10 +146,10 @@ module _ (p : LinearProgram) (fits : FitsProgram p) where
       → funclet_begin p j ≢ funclet_begin p k
   apart j k a b ne e = elim (cases_lt j k) [
     | inl lt ↦ let r = rises j k lt b in let q : funclet_begin p j ≡ funclet_begin p k = e in
-      omega arith
+        omega arith
     | inr le ↦ elim (cases_lt k j) [
       | inl lt ↦ let r = rises k j lt a in let q : funclet_begin p j ≡ funclet_begin p k = e in
-        omega arith
+          omega arith
       | inr le' ↦ ne (omega arith)
     ]
   ]
@@ -154,10 +158,11 @@ module _ (p : LinearProgram) (fits : FitsProgram p) where
       → AllByRecursion (λ k. k < length p.funclets) ks → AllByRecursion (λ k. (j == k) ≡ false) ks
       → AllByRecursion (λ a. (funclet_begin p j == a) ≡ false) (map (funclet_begin p) ks)
   none_same j [] lt all differ = tt
-  none_same j (k ∷ ks) lt all differ =
-      (ne_eqb (funclet_begin p j) (funclet_begin p k)
+  none_same j (k ∷ ks) lt all differ = (
+    ne_eqb (funclet_begin p j) (funclet_begin p k)
         (apart j k lt all.0 (λ e. false≢true (sym differ.0 ∙ eq-eqb j k e))),
-        none_same j ks lt all.1 differ.1)
+    none_same j ks lt all.1 differ.1,
+  )
 
   pub distinct : (ks : List ℕ) → AllByRecursion (λ k. k < length p.funclets) ks → AreDifferent ks
       → AreDifferent (map (funclet_begin p) ks)
@@ -185,15 +190,17 @@ unwound_of h (r ∷ rs) = unwound_by (has_except (r ∷ rs)) (has_finally (r ∷
 pub entries_are_flagged : EntriesAreFlagged
 entries_are_flagged s x f =
     let h = thunk_at s.text CSpecificHandler in
-    record { searched = searched_of h x.routine.body.regions;
-      unwound = unwound_of h x.routine.body.regions }
+    record {
+      searched = searched_of h x.routine.body.regions;
+      unwound = unwound_of h x.routine.body.regions;
+    }
 
 -- ---- frames
 
 pub frames_are_small : FramesAreSmall
 frames_are_small p index x f fits e framed =
     let near = placed_has IsRoutineNear (site_of p) (infos_begin p) (first p.globals) (routines p)
-      index x (routines_near p fits) e in
+    index x (routines_near p fits) e in
     let size = subst IsFrameNear framed near.frame in
     let most = size.1 in
     omega arith

@@ -49,9 +49,9 @@ slot_is rva to le lt =
     let d = distance (rva + 6) to in
     let short : d < 2 ^ 31 = omega arith in
     let e : extended (field 4 (jump_bytes d) 2) ≡ d = ap extended (displaced d short)
-      ∙ extended_is d short in
+    ∙ extended_is d short in
     ap (λ (n : ℕ). (rva + 6 + n) % 2 ^ 64) e ∙
-      (let z : (rva + 6 + d) % 2 ^ 64 ≡ to = omega arith in z)
+    (let z : (rva + 6 + d) % 2 ^ 64 ≡ to = omega arith in z)
 
 jumps : (image : Image) (rva to : ℕ) → rva + 6 ≤ to → to < 2 ^ 31
     → stored image.sections rva 6 ≡ Some (jump_bytes (distance (rva + 6) to))
@@ -66,12 +66,12 @@ bound : (r to : ℕ) → to ≡ r + 96 → bound_name to (imported (slots_at r) 
     ≡ Some (name_of CSpecificHandler)
 bound r to e =
     let put : eqb (r + 88 + 8 + 8 + 8 + 8) to
-      ≡ false = ne_eqb _ to (λ z. (let w : r + 88 + 8 + 8 + 8 + 8 ≡ to = z in
-        absurd (omega arith))) in
+    ≡ false = ne_eqb _ to (λ z. (let w : r + 88 + 8 + 8 + 8 + 8 ≡ to = z in
+    absurd (omega arith))) in
     let protect : eqb (r + 88 + 8 + 8 + 8) to
-      ≡ false = ne_eqb _ to (λ z. (let w : r + 88 + 8 + 8 + 8 ≡ to = z in absurd (omega arith))) in
+    ≡ false = ne_eqb _ to (λ z. (let w : r + 88 + 8 + 8 + 8 ≡ to = z in absurd (omega arith))) in
     let unwind : eqb (r + 88 + 8 + 8) to ≡ false = ne_eqb _ to
-      (λ z. (let w : r + 88 + 8 + 8 ≡ to = z in absurd (omega arith))) in
+    (λ z. (let w : r + 88 + 8 + 8 ≡ to = z in absurd (omega arith))) in
     let c : eqb (r + 88 + 8) to ≡ true = eq-eqb (r + 88 + 8) to (omega arith) in
     rw (put, protect, unwind, c) refl
 
@@ -81,7 +81,7 @@ is_c : (image : Image) (rva r to : ℕ) → jump_slot image rva ≡ Some to
 unfolding is_c_handler
 is_c image rva r to j i e =
     ap (λ (o : Option ℕ). option_map_or is_c_name
-      (option_and_then (λ slot. bound_name slot (imports_of image)) o) false) j
+    (option_and_then (λ slot. bound_name slot (imports_of image)) o) false) j
     ∙ ap (λ (xs : List Import). option_map_or is_c_name (bound_name to xs) false) i
     ∙ ap (λ (o : Option (List ℕ)). option_map_or is_c_name o false) (bound r to e)
 
@@ -90,4 +90,4 @@ pub handler_is_c : (image : Image) (rva r : ℕ) → rva + 6 ≤ r + 96 → r + 
     → imports_of image ≡ imported (slots_at r) services → is_c_handler image rva ≡ true
 handler_is_c image rva r le lt h i =
     is_c image rva r (r + 96) (jumps image rva (r + 96) le lt
-      (h ∙ ap (λ (bytes : List ℕ). Some bytes) (thunk_bytes (distance (rva + 6) (r + 96))))) i refl
+    (h ∙ ap (λ (bytes : List ℕ). Some bytes) (thunk_bytes (distance (rva + 6) (r + 96))))) i refl

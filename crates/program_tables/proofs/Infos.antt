@@ -63,9 +63,15 @@ can_be f t some lt is =
     let few = taking_few f.size some lt in
     let least = few.1 in
     let h = can_be_written f.size (taking_size f.size) (info_of f Nothing).codes (omega arith)
-      refl in
-    record { register = h.register; offset = h.offset; codes = h.codes; order = h.order;
-      slots = h.slots; trailer = is }
+    refl in
+    record {
+      register = h.register;
+      offset = h.offset;
+      codes = h.codes;
+      order = h.order;
+      slots = h.slots;
+      trailer = is;
+    }
 
 pub is_info : (f : FrameLayout) (t : Trailer) → f.size < 2 ^ 31 → HasTrailer t
     → IsUnwindInfo (info_of f t)
@@ -75,7 +81,7 @@ is_info f t lt has = record { operations = (omega arith, tt); trailer = has }
 
 slots_by : (offset n : ℕ) (small short : Bool)
     → length (padded ((if small then slot offset 2 (n / 8 - 1)
-      else (if short then slot offset 1 0 ++ u16 (n / 8) else slot offset 1 1 ++ u32 n)) ++ [])) % 4
+    else (if short then slot offset 1 0 ++ u16 (n / 8) else slot offset 1 1 ++ u32 n)) ++ [])) % 4
     ≡ 0
 unfolding u16 u32
 slots_by offset n true short = refl
@@ -96,8 +102,12 @@ unwind_four f h rs =
     let bytes = allocation offset f.size ++ [] in
     let t = trailer h rs in
     let last = trailer_four h rs in
-    omega (arith, length-append (header (info_of f t) (length bytes))
-      (padded bytes ++ trailer_bytes t), length-append (padded bytes) (trailer_bytes t))
+    omega (
+      arith,
+      length-append (header (info_of f t) (length bytes))
+          (padded bytes ++ trailer_bytes t),
+      length-append (padded bytes) (trailer_bytes t),
+    )
 
 pub unwind_some : (f : FrameLayout) (t : Trailer) → 0 < length (unwind_bytes (info_of f t))
 unfolding unwind_bytes
@@ -122,8 +132,11 @@ info_four s labels end r (Some f) =
     let h = thunk_at s.text CSpecificHandler in
     let a = unwind_four f h r.body.regions in
     let b = scopes_four s.funclets labels end r.body.regions in
-    omega (arith, length-append (unwind_bytes (info_of f (trailer h r.body.regions)))
-      (scope_table s.funclets labels end r.body.regions))
+    omega (
+      arith,
+      length-append (unwind_bytes (info_of f (trailer h r.body.regions)))
+          (scope_table s.funclets labels end r.body.regions),
+    )
 
 pub info_aligned : (s : SiteView) (at : ℕ) (r : RoutineView) → length (info_bytes s at r) % 4 ≡ 0
 unfolding info_bytes

@@ -59,15 +59,21 @@ pub template_some : (y : Layout) (i : Instruction) → 0 < template_size y i
 unfolding template_size
 template_some y (instructions.Compute to o first second) =
     let s = fetch_some y first in
-    omega (arith, sizes_append (operands_code y o first second) (finish_code y o to),
-      sizes_append (fetch y Rax first) (fetch y Rcx second ++ before o))
+    omega (
+      arith,
+      sizes_append (operands_code y o first second) (finish_code y o to),
+      sizes_append (fetch y Rax first) (fetch y Rcx second ++ before o),
+    )
 template_some y (instructions.Information to field) = let s = fetched_rax y.pointers in omega arith
 template_some y (instructions.Landing to) = keep_some y to
 template_some y (instructions.Jump label) = let s = jump_size 5 0 in omega arith
 template_some y (instructions.JumpIfZero slot label) =
     let s = fetch_some y slot in
-    omega (arith, sizes_append (fetch y Rax slot)
-      (compare_zero ∷ jump_equal (0 + sizes (test_code y slot) + 6) 0 ∷ []))
+    omega (
+      arith,
+      sizes_append (fetch y Rax slot)
+          (compare_zero ∷ jump_equal (0 + sizes (test_code y slot) + 6) 0 ∷ []),
+    )
 template_some y (instructions.Call function first count) = let s = passing_call_size y first count 0
     0 in omega arith
 template_some y (instructions.CallBuiltIn function first) = let s = clear_some in omega arith

@@ -52,8 +52,8 @@ module _ (s : SiteView) (rva : ℕ) where
   below info at (r ∷ rs) lt =
       let next = info + length (info_bytes s at r) in
       below_if (record { routine = r; begin = at; info = info }) r.frame
-        (entries_of s (placed_from s next (at + routine_size r) rs)) lt
-        (below next (at + routine_size r) rs (omega arith))
+      (entries_of s (placed_from s next (at + routine_size r) rs)) lt
+      (below next (at + routine_size r) rs (omega arith))
 
   -- past an entry
   past : (x : Placed) (o : Option FrameLayout) (es : List Entry) → end_of x ≤ rva
@@ -67,8 +67,8 @@ module _ (s : SiteView) (rva : ℕ) where
   here x f o es e le lt =
       ap (λ (q : Option FrameLayout). holding rva (entry_if s x q ++ es)) e
       ∙ ap (entry_or (holding rva es) (entry_of s x f))
-        (and_from (leb x.begin rva) (ltb rva (end_of x)) (le-leb x.begin rva le)
-        (lt-ltb rva (end_of x) lt))
+      (and_from (leb x.begin rva) (ltb rva (end_of x)) (le-leb x.begin rva le)
+      (lt-ltb rva (end_of x) lt))
 
   -- a routine of an index begins at the first one's begin, or after it
   least : (info at : ℕ) (rs : List RoutineView) (index : ℕ) (x : Placed)
@@ -87,17 +87,17 @@ module _ (s : SiteView) (rva : ℕ) where
   held info at (r ∷ rs) zero x f e framed le lt =
       let first : Placed = record { routine = r; begin = at; info = info } in
       let es = entries_of s (placed_from s (info + length (info_bytes s at r)) (at + routine_size r)
-        rs) in
+      rs) in
       subst (λ (y : Placed). y.routine.frame ≡ Some f → y.begin ≤ rva → rva < end_of y
-        → holding rva (entry_if s first r.frame ++ es) ≡ Some (entry_of s y f)) (some_same e)
-          (λ f' le' lt'. here first f r.frame es f' le' lt') framed le lt
+      → holding rva (entry_if s first r.frame ++ es) ≡ Some (entry_of s y f)) (some_same e)
+      (λ f' le' lt'. here first f r.frame es f' le' lt') framed le lt
   held info at (r ∷ rs) (suc index) x f e framed le lt =
       let first : Placed = record { routine = r; begin = at; info = info } in
       let es = entries_of s (placed_from s (info + length (info_bytes s at r)) (at + routine_size r)
-        rs) in
+      rs) in
       let l = least (info + length (info_bytes s at r)) (at + routine_size r) rs index x e in
       past first r.frame es (omega arith) ∙ held (info + length (info_bytes s at r))
-        (at + routine_size r) rs index x f e framed le lt
+      (at + routine_size r) rs index x f e framed le lt
 
   unheld : (info at : ℕ) (rs : List RoutineView) (index : ℕ) (x : Placed)
       → slice_get (placed_from s info at rs) index ≡ Some x → x.routine.frame ≡ None → x.begin ≤ rva
@@ -107,18 +107,18 @@ module _ (s : SiteView) (rva : ℕ) where
   unheld info at (r ∷ rs) zero x e leaf le lt =
       let first : Placed = record { routine = r; begin = at; info = info } in
       let es = entries_of s (placed_from s (info + length (info_bytes s at r)) (at + routine_size r)
-        rs) in
+      rs) in
       let end = ap end_of (some_same e) in
       let none : r.frame ≡ None = ap (λ (y : Placed). y.routine.frame) (some_same e) ∙ leaf in
       ap (λ (o : Option FrameLayout). holding rva (entry_if s first o ++ es)) none
-        ∙ below (info + length (info_bytes s at r)) (at + routine_size r) rs (omega arith)
+      ∙ below (info + length (info_bytes s at r)) (at + routine_size r) rs (omega arith)
   unheld info at (r ∷ rs) (suc index) x e leaf le lt =
       let first : Placed = record { routine = r; begin = at; info = info } in
       let es = entries_of s (placed_from s (info + length (info_bytes s at r)) (at + routine_size r)
-        rs) in
+      rs) in
       let l = least (info + length (info_bytes s at r)) (at + routine_size r) rs index x e in
       past first r.frame es (omega arith) ∙ unheld (info + length (info_bytes s at r))
-        (at + routine_size r) rs index x e leaf le lt
+      (at + routine_size r) rs index x e leaf le lt
 
 pub entries_are_held : EntriesAreHeld
 entries_are_held p index x f rva fits there framed le lt = held (site_of p) rva (infos_begin p)

@@ -36,7 +36,7 @@ prologue_sizes f probe some =
     ∙ taking_by probe f.size (leb f.size 4096)
     ∙ sym (ap sizes (code_is 0 f.size some))
     ∙ sym (bytes_sizes (prologue_code (plan_of
-      (record { kept = 0; temporaries = 0; locals = 0; size = f.size }) 0)))
+    (record { kept = 0; temporaries = 0; locals = 0; size = f.size }) 0)))
 
 entry_by : (r : RoutineView) (f : FrameLayout) (o : Option FrameLayout) → o ≡ Some f → 0 < f.size
     → sizes (frame_code 0 0 o) ≡ taking_size f.size

@@ -39,7 +39,7 @@ pub checked_is : (index size n : ℕ) (rows : List ScopeRecord) → AreWithin si
 checked_is index size n [] all = refl
 checked_is index size n (r ∷ rows) all =
     ap (λ (b : Bool). unless b (refusals.ScopeRange index n)
-      >>= λ _. checked index size (n + 1) rows) all.0
+    >>= λ _. checked index size (n + 1) rows) all.0
     ∙ checked_is index size (n + 1) rows all.1
 
 -- ---- addresses
@@ -100,6 +100,7 @@ module _ (funclets : List ℕ) (y : Layout) (start : ℕ) (body : List Instructi
       let b = label_below r.begin in
       let e = label_below r.end in
       let h = handler_below r.kind in
-      let j = target_below r.kind in
-      (record { begin = omega arith; end = omega arith; handler = omega arith; jump = omega arith },
-        rows_small rs le)
+      let j = target_below r.kind in (
+        record { begin = omega arith; end = omega arith; handler = omega arith; jump = omega arith },
+        rows_small rs le,
+      )

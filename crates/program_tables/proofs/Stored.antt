@@ -32,21 +32,41 @@ there ss rva k all front bytes more h e at =
 
 module _ (p : ImageContents) (fits : CanBeImage p) where
   abbrev globals : Section
-  globals = record { address = 0x1000; size = p.data_size; raw = raw_data (data_section p);
-      flags = 0xC0000040 }
+  globals = record {
+    address = 0x1000;
+    size = p.data_size;
+    raw = raw_data (data_section p);
+    flags = 0xC0000040;
+  }
 
   abbrev code : Section
-  code = record { address = text_at (sizes_of p); size = length p.text; raw = p.text;
-      flags = 0x60000020 }
+  code = record {
+    address = text_at (sizes_of p);
+    size = length p.text;
+    raw = p.text;
+    flags = 0x60000020;
+  }
 
   abbrev others : List Section
   others =
-      record { address = rdata_at (sizes_of p); size = 222;
-        raw = import_tables (rdata_at (sizes_of p)); flags = 0x40000040 }
-      ∷ record { address = xdata_at (sizes_of p); size = length p.xdata; raw = p.xdata;
-        flags = 0x40000040 }
-      ∷ record { address = pdata_at (sizes_of p); size = length p.pdata; raw = p.pdata;
-        flags = 0x40000040 }
+      record {
+        address = rdata_at (sizes_of p);
+        size = 222;
+        raw = import_tables (rdata_at (sizes_of p));
+        flags = 0x40000040;
+      }
+      ∷ record {
+        address = xdata_at (sizes_of p);
+        size = length p.xdata;
+        raw = p.xdata;
+        flags = 0x40000040;
+      }
+      ∷ record {
+        address = pdata_at (sizes_of p);
+        size = length p.pdata;
+        raw = p.pdata;
+        flags = 0x40000040;
+      }
       ∷ []
 
   text_is_at : (k : ℕ) → k < length p.text → stored_in (text_at (sizes_of p) + k)
@@ -58,41 +78,47 @@ module _ (p : ImageContents) (fits : CanBeImage p) where
       let h = fits.stored in
       let w = fits.whole in
       let within : stores_byte (at + k) code ≡ true = and_from (leb at (at + k))
-        (ltb (at + k) (at + length p.text)) (le-leb at (at + k) (omega arith))
-        (lt-ltb (at + k) (at + length p.text) (omega arith)) in
+      (ltb (at + k) (at + length p.text)) (le-leb at (at + k) (omega arith))
+      (lt-ltb (at + k) (at + length p.text) (omega arith)) in
       ap (stored_in (at + k)) (ap (section_or (section_at (at + k) (code ∷ others)) globals)
-        (above_holds_none (at + k) globals (omega arith))
-        ∙ ap (section_or (section_at (at + k) others) code) within)
+      (above_holds_none (at + k) globals (omega arith))
+      ∙ ap (section_or (section_at (at + k) others) code) within)
       ∙ ap (λ n. drop n p.text) back
 
   -- ---- bytes that are there, between others
 
   pub text_there : (front bytes more : List ℕ) → p.text ≡ front ++ (bytes ++ more)
       → 0 < length bytes → stored (sections_of p) (text_at (sizes_of p) + length front)
-        (length bytes) ≡ Some bytes
+      (length bytes) ≡ Some bytes
   text_there front bytes more e some =
       let l = ap length e in
       let k = length front in
       there (sections_of p) (text_at (sizes_of p) + k) k p.text front bytes more
-        (text_is_at k (omega (arith, length-append front (bytes ++ more),
-        length-append bytes more))) e refl
+      (text_is_at k (omega (
+        arith,
+        length-append front (bytes ++ more),
+        length-append bytes more,
+      ))) e refl
 
   pub xdata_there : (front bytes more : List ℕ) → p.xdata ≡ front ++ (bytes ++ more)
       → 0 < length bytes → stored (sections_of p) (xdata_at (sizes_of p) + length front)
-        (length bytes) ≡ Some bytes
+      (length bytes) ≡ Some bytes
   xdata_there front bytes more e some =
       let l = ap length e in
       let k = length front in
       there (sections_of p) (xdata_at (sizes_of p) + k) k p.xdata front bytes more
-        (xdata_is_at p fits k (omega (arith, length-append front (bytes ++ more),
-        length-append bytes more))) e refl
+      (xdata_is_at p fits k (omega (
+        arith,
+        length-append front (bytes ++ more),
+        length-append bytes more,
+      ))) e refl
 
   -- the whole function table, also where it is empty
   pub pdata_there : stored (sections_of p) (pdata_at (sizes_of p)) (length p.pdata) ≡ Some p.pdata
   pdata_there = go p.pdata refl
     where
       go : (bytes : List ℕ) → p.pdata ≡ bytes
-        → stored (sections_of p) (pdata_at (sizes_of p)) (length bytes) ≡ Some bytes
+          → stored (sections_of p) (pdata_at (sizes_of p)) (length bytes) ≡ Some bytes
       go [] e = refl
       go (b ∷ bytes) e =
           let at = pdata_at (sizes_of p) in
@@ -101,4 +127,4 @@ module _ (p : ImageContents) (fits : CanBeImage p) where
           let h = pdata_is_at p fits 0 (omega arith) in
           let all : p.pdata ≡ [] ++ ((b ∷ bytes) ++ []) = e ∙ sym (append-nil (b ∷ bytes)) in
           there (sections_of p) at 0 p.pdata [] (b ∷ bytes) []
-            (ap (λ n. stored_in n (section_at n (sections_of p))) (sym zero-less) ∙ h) all refl
+          (ap (λ n. stored_in n (section_at n (sections_of p))) (sym zero-less) ∙ h) all refl

@@ -52,9 +52,15 @@ use Rattle.host_layout.specs.declared.limit.TheConstants.{MOST_IMAGE}
 -- ---- the entries as they are written
 
 abbrev pub written_of : SiteView → Placed → FrameLayout → WrittenEntry
-written_of s x f = record { range = record { begin = x.begin; end = end_of x;
-    unwind_info = x.info }; own = record { info = unwind_of s x f; scopes = scopes_of s x };
-    parents = [] }
+written_of s x f = record {
+  range = record {
+    begin = x.begin;
+    end = end_of x;
+    unwind_info = x.info;
+  };
+  own = record { info = unwind_of s x f; scopes = scopes_of s x };
+  parents = [];
+}
 
 abbrev pub written_if : SiteView → Placed → Option FrameLayout → List WrittenEntry
 written_if s x None = []
@@ -66,7 +72,7 @@ written_from s (x ∷ xs) = written_if s x x.routine.frame ++ written_from s xs
 
 range_same : (s : SiteView) (x : Placed) (o : Option FrameLayout)
     → ranges_of (written_if s x o) ≡ range_if o
-      (record { begin = x.begin; end = end_of x; unwind_info = x.info })
+    (record { begin = x.begin; end = end_of x; unwind_info = x.info })
 range_same s x None = refl
 range_same s x (Some f) = refl
 
@@ -78,7 +84,7 @@ ranges_same s info at (r ∷ rs) =
     let more = placed_from s (info + length (info_bytes s at r)) (at + routine_size r) rs in
     map-append (λ (w : WrittenEntry). w.range) (written_if s x r.frame) (written_from s more)
     ∙ (λ i. range_same s x r.frame i ++ ranges_same s (info + length (info_bytes s at r))
-      (at + routine_size r) rs i)
+    (at + routine_size r) rs i)
 
 -- ---- in their order
 
@@ -108,9 +114,9 @@ in_order s info at last [] near le = tt
 in_order s info at last (r ∷ rs) near le =
     let next = info + length (info_bytes s at r) in
     order_if s (record { routine = r; begin = at; info = info }) r.frame
-      (written_from s (placed_from s next (at + routine_size r) rs)) last le
-      (λ f e. framed_room r f near.0 e) (in_order s next (at + routine_size r) (at + routine_size r)
-      rs near.1 (omega arith))
+    (written_from s (placed_from s next (at + routine_size r) rs)) last le
+    (λ f e. framed_room r f near.0 e) (in_order s next (at + routine_size r) (at + routine_size r)
+    rs near.1 (omega arith))
 
 small_if : (s : SiteView) (x : Placed) (o : Option FrameLayout) (ws : List WrittenEntry)
     → end_of x < 2 ^ 32 → x.info < 2 ^ 32 → AllByRecursion IsRuntimeFunction (ranges_of ws)
@@ -120,14 +126,14 @@ small_if s x (Some f) ws lt lt' more = (record { begin = omega arith; end = lt; 
 
 ranges_small : (s : SiteView) (info at : ℕ) (rs : List RoutineView) → at + total rs < 2 ^ 32
     → info + infos_room rs < 2 ^ 32 → AllByRecursion IsRuntimeFunction
-      (ranges_of (written_from s (placed_from s info at rs)))
+    (ranges_of (written_from s (placed_from s info at rs)))
 ranges_small s info at [] lt lt' = tt
 ranges_small s info at (r ∷ rs) lt lt' =
     let small = info_small s at r in
     let next = info + length (info_bytes s at r) in
     small_if s (record { routine = r; begin = at; info = info }) r.frame
-      (written_from s (placed_from s next (at + routine_size r) rs)) (omega arith) (omega arith)
-      (ranges_small s next (at + routine_size r) rs (omega arith) (omega arith))
+    (written_from s (placed_from s next (at + routine_size r) rs)) (omega arith) (omega arith)
+    (ranges_small s next (at + routine_size r) rs (omega arith) (omega arith))
 
 -- ---- regions of routines
 
@@ -142,9 +148,11 @@ functions_have : (main index : ℕ) (fs : List LinearFunction)
     → AllByRecursion (λ (f : LinearFunction). HasRanges f.body) fs
     → AllByRecursion RoutineHasRanges (functions_from main index fs)
 functions_have main index [] all = tt
-functions_have main index (f ∷ fs) all = (subst HasRanges
-    (sym (same_body (not (index == main) && is_leaf f.body) f)) all.0,
-    functions_have main (suc index) fs all.1)
+functions_have main index (f ∷ fs) all = (
+  subst HasRanges
+      (sym (same_body (not (index == main) && is_leaf f.body) f)) all.0,
+  functions_have main (suc index) fs all.1,
+)
 
 funclets_have : (p : LinearProgram) (fs : List LinearFunclet)
     → AllByRecursion (λ (f : LinearFunclet). HasRanges f.body) fs
@@ -166,8 +174,10 @@ routines_have p h = both_have (functions_from p.main 0 p.functions) (map (funcle
 bounds_below : (size at : ℕ) (rs : List RoutineView) → at + total rs < size
     → AreBelow size (bounds at rs)
 bounds_below size at [] lt = (omega arith, tt)
-bounds_below size at (r ∷ rs) lt = (omega arith,
-    bounds_below size (at + routine_size r) rs (omega arith))
+bounds_below size at (r ∷ rs) lt = (
+  omega arith,
+  bounds_below size (at + routine_size r) rs (omega arith),
+)
 
 drop_below : (size n : ℕ) (xs : List ℕ) → AreBelow size xs → AreBelow size (drop n xs)
 drop_below size zero xs all = all
@@ -239,25 +249,25 @@ module _ (p : LinearProgram) (fits : FitsProgram p) where
       let c = spelled (rest_of_front s.text s.rdata) in
       let d = routines_bytes s (first p.globals) rs in
       let e : program.text ≡ a ++ (b ++ (c ++ d)) = append_assoc a (b ++ c) d
-        ∙ ap (λ t. a ++ t) (append_assoc b c d) in
+      ∙ ap (λ t. a ++ t) (append_assoc b c d) in
       let m : length a ≡ 6 = ap length (thunk_bytes _) in
       let n : length b ≡ 6 = ap length (thunk_bytes _) in
       let at : text_at (sizes_of program) + length a
-        ≡ thunk_at s.text CSpecificHandler = omega arith in
+      ≡ thunk_at s.text CSpecificHandler = omega arith in
       let h = text_there program is a b (c ++ d) e (omega arith) in
       ap (λ (k : ℕ). stored image.sections k 6) (sym at)
-        ∙ ap (stored image.sections (text_at (sizes_of program) + length a)) (sym n) ∙ h
+      ∙ ap (stored image.sections (text_at (sizes_of program) + length a)) (sym n) ∙ h
 
   c_handler : is_c_handler image (thunk_at s.text CSpecificHandler) ≡ true
   c_handler =
       let r = rdata_at (sizes_of program) in
       let t = text_is in
       let fit = rdata_fits p.globals rs (length p.functions) p.main fits.globals near
-        (has_places p fits) in
+      (has_places p fits) in
       let at = thunk_at s.text CSpecificHandler in
       handler_is_c image at r (omega arith) (omega arith)
-        (handler_there ∙ ap (λ (n : ℕ). Some (chosen (thunk (distance (at + 6) (n + 96)))))
-        (sym rdata_is)) (listed program is)
+      (handler_there ∙ ap (λ (n : ℕ). Some (chosen (thunk (distance (at + 6) (n + 96)))))
+      (sym rdata_is)) (listed program is)
 
   -- ---- its unwind infos
 
@@ -267,22 +277,27 @@ module _ (p : LinearProgram) (fits : FitsProgram p) where
       → AllByRecursion (IsRegionRange (length r.body.code)) regions
       → 16 * length regions ≤ MOST_IMAGE → at + routine_size r ≤ first p.globals + total rs
       → program.xdata ≡ front ++ ((unwind_bytes
-        (info_of f (trailer (thunk_at s.text CSpecificHandler) regions))
+      (info_of f (trailer (thunk_at s.text CSpecificHandler) regions))
       ++ scope_table s.funclets (own_addresses at r).labels (own_addresses at r).end regions)
       ++ more)
       → info ≡ xdata_at (sizes_of program) + length front
-      → HasScopes image info (record { info = info_of f
-        (trailer (thunk_at s.text CSpecificHandler) regions);
+      → HasScopes image info (record {
+        info = info_of f
+            (trailer (thunk_at s.text CSpecificHandler) regions);
         scopes = scope_records s.funclets (own_addresses at r).labels (own_addresses at r).end
-        regions }) (has_rows regions)
+            regions;
+      }) (has_rows regions)
   scopes_by info at r f [] front more ranges few le e here =
       let h = thunk_at s.text CSpecificHandler in
       let u = unwind_bytes (info_of f (trailer h [])) in
       let some = unwind_some f (trailer h []) in
       let all : program.xdata ≡ front ++ (u ++ more) = e
-        ∙ ap (λ t. front ++ t) (append_assoc u [] more) in
-      record { none = refl; stored = subst (λ (k : ℕ). stored image.sections k (length u) ≡ Some u)
-        (sym here) (xdata_there program is front u more all some) }
+      ∙ ap (λ t. front ++ t) (append_assoc u [] more) in
+      record {
+        none = refl;
+        stored = subst (λ (k : ℕ). stored image.sections k (length u) ≡ Some u)
+            (sym here) (xdata_there program is front u more all some);
+      }
   scopes_by info at r f (q ∷ qs) front more ranges few le e here =
       let h = thunk_at s.text CSpecificHandler in
       let own = own_addresses at r in
@@ -293,27 +308,27 @@ module _ (p : LinearProgram) (fits : FitsProgram p) where
       let inside = end_inside in
       let small = image_small in
       let funclets = drop_below image.size (length p.functions) (bounds (first p.globals) rs)
-        (bounds_below image.size (first p.globals) rs end_inside) in
+      (bounds_below image.size (first p.globals) rs end_inside) in
       let fit : (at + entry_size r) + body_size r.layout r.body.code
-        ≤ at + routine_size r = omega arith in
+      ≤ at + routine_size r = omega arith in
       let within = rows_within s.funclets r.layout (at + entry_size r) r.body.code
-        (at + routine_size r) image.size fit (omega arith) funclets (omega arith) (q ∷ qs) ranges in
+      (at + routine_size r) image.size fit (omega arith) funclets (omega arith) (q ∷ qs) ranges in
       record {
         records = rows_small s.funclets r.layout (at + entry_size r) r.body.code
-          (at + routine_size r) image.size fit (omega arith) funclets (omega arith) (q ∷ qs)
-          (omega arith);
+            (at + routine_size r) image.size fit (omega arith) funclets (omega arith) (q ∷ qs)
+            (omega arith);
         count = omega (arith, length-map (q ∷ qs) (scope_record s.funclets own.labels own.end));
         of_code = λ index. checked_is index image.size 0 rows within;
         stored = subst (λ (k : ℕ). stored image.sections k (length bytes) ≡ Some bytes) (sym here)
-          (xdata_there program is front bytes more e
-          (omega (arith, length-append u (scope_bytes rows))));
+            (xdata_there program is front bytes more e
+            (omega (arith, length-append u (scope_bytes rows))));
       }
 
   entry_is : (info at : ℕ) (r : RoutineView) (f : FrameLayout) (front more : List ℕ)
       → IsRoutineNear r → HasRanges r.body → r.frame ≡ Some f
       → at + routine_size r ≤ first p.globals + total rs
       → program.xdata ≡ front ++ (info_bytes_of s (own_addresses at r).labels
-        (own_addresses at r).end r f ++ more) → info ≡ xdata_at (sizes_of program) + length front
+      (own_addresses at r).end r f ++ more) → info ≡ xdata_at (sizes_of program) + length front
       → info % 4 ≡ 0
       → IsEntryWritten image (written_of s (record { routine = r; begin = at; info = info }) f)
   entry_is info at r f front more close ranges framed le e here four =
@@ -327,13 +342,13 @@ module _ (p : LinearProgram) (fits : FitsProgram p) where
       record {
         own = record {
           info = is_info f (trailer h r.body.regions) (omega arith)
-            (has_trailer h r.body.regions (omega arith));
+              (has_trailer h r.body.regions (omega arith));
           can = can_be f (trailer h r.body.regions) some (omega arith)
-            (is_trailer h r.body.regions);
+              (is_trailer h r.body.regions);
           aligned = four;
           stored = subst (HasScopes image info
-            (written_of s (record { routine = r; begin = at; info = info }) f).own)
-            (sym (handled image f h r.body.regions c_handler)) by;
+              (written_of s (record { routine = r; begin = at; info = info }) f).own)
+              (sym (handled image f h r.body.regions c_handler)) by;
         };
         chain = no_parent h r.body.regions;
         count = omega arith;
@@ -358,14 +373,14 @@ module _ (p : LinearProgram) (fits : FitsProgram p) where
       let more = infos s (at + routine_size r) qs in
       let aligned = info_aligned s at r in
       let own : (f : FrameLayout) → r.frame ≡ Some f
-        → IsEntryWritten image (written_of s (record { routine = r; begin = at; info = info })
-          f) = λ f same. entry_is info at r f front more close.0 ranges.0 same (omega arith)
-          (e ∙ ap (λ t. front ++ (t ++ more)) (bytes_of s at r f same)) here four in
+      → IsEntryWritten image (written_of s (record { routine = r; begin = at; info = info })
+      f) = λ f same. entry_is info at r f front more close.0 ranges.0 same (omega arith)
+      (e ∙ ap (λ t. front ++ (t ++ more)) (bytes_of s at r f same)) here four in
       written_if_so (record { routine = r; begin = at; info = info }) r.frame
-        (written_from s (placed_from s (info + length bytes) (at + routine_size r) qs)) own
+      (written_from s (placed_from s (info + length bytes) (at + routine_size r) qs)) own
       (all_written (info + length bytes) (at + routine_size r) qs (front ++ bytes) close.1 ranges.1
-        (omega arith) (e ∙ sym (append_assoc front bytes more))
-        (omega (arith, length-append front bytes)) (omega arith))
+      (omega arith) (e ∙ sym (append_assoc front bytes more))
+      (omega (arith, length-append front bytes)) (omega arith))
 
   -- ---- what is read
 
@@ -374,9 +389,15 @@ module _ (p : LinearProgram) (fits : FitsProgram p) where
   read_if x None = refl
   read_if x (Some f) =
       let h = thunk_at s.text CSpecificHandler in
-      ap (λ (b : Bool). record { range = record { begin = x.begin; end = end_of x;
-        unwind_info = x.info }; info = info_written (unwind_of s x f) b (scopes_of s x);
-        parents = [] } ∷ []) (handled image f h x.routine.body.regions c_handler)
+      ap (λ (b : Bool). record {
+        range = record {
+          begin = x.begin;
+          end = end_of x;
+          unwind_info = x.info;
+        };
+        info = info_written (unwind_of s x f) b (scopes_of s x);
+        parents = [];
+      } ∷ []) (handled image f h x.routine.body.regions c_handler)
 
   read_all : (xs : List Placed) → map (as_read image) (written_from s xs) ≡ entries_of s xs
   read_all [] = refl
@@ -392,7 +413,7 @@ module _ (p : LinearProgram) (fits : FitsProgram p) where
   are_ranges : AllByRecursion IsRuntimeFunction (ranges_of written)
   are_ranges =
       let fit = tables_fit p.globals rs (length p.functions) p.main fits.globals near
-        (has_places p fits) in
+      (has_places p fits) in
       let inside = end_inside in
       let small = image_small in
       ranges_small s (infos_begin p) (first p.globals) rs (omega arith) (omega arith)
@@ -415,7 +436,7 @@ module _ (p : LinearProgram) (fits : FitsProgram p) where
       let at = infos_are in
       reads_table image written are_ranges aligned as_long ranges_there
       (all_written (infos_begin p) (first p.globals) rs [] near (routines_have p regions)
-        (omega arith) refl (omega arith) (omega arith))
+      (omega arith) refl (omega arith) (omega arith))
       (in_order s (infos_begin p) (first p.globals) 0 rs near (omega arith))
       ∙ ap (λ (es : List Entry). let t : Table (List Entry) = Ok es in t) (read_all (placed p))
 

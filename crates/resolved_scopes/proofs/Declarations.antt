@@ -27,19 +27,19 @@ any_found seen (Some t) fs h = h
 
 condition_found : (seen : SeenNames) (at : ℕ) (o : Option TypedNode) (fs : List FaultAt)
     → WithinIf seen o → expression_within seen
-      (condition at (record { found = o; faults = fs })).value ≡ true
+    (condition at (record { found = o; faults = fs })).value ≡ true
 condition_found seen at None fs h = refl
 condition_found seen at (Some t) fs h = h
 
 typed_found : (seen : SeenNames) (type : CType) (at : ℕ) (o : Option TypedNode) (fs : List FaultAt)
     → WithinIf seen o → expression_within seen
-      (to_type type at (record { found = o; faults = fs })).value ≡ true
+    (to_type type at (record { found = o; faults = fs })).value ≡ true
 typed_found seen type at None fs h = refl
 typed_found seen type at (Some t) fs h = h
 
 answer_found : (seen : SeenNames) (at : ℕ) (o : Option TypedNode) (fs : List FaultAt)
     → WithinIf seen o → expression_within seen
-      (to_answer at (record { found = o; faults = fs })).value ≡ true
+    (to_answer at (record { found = o; faults = fs })).value ≡ true
 answer_found seen at None fs h = refl
 answer_found seen at (Some t) fs h = h
 
@@ -124,9 +124,9 @@ within_append : (seen : SeenNames) (xs ys : List checked.Statement)
 within_append seen [] ys h k = k
 within_append seen (x ∷ xs) ys h k =
     let first = both_left (statement_within seen x)
-      (statements_within (after_statement seen x) (checked.statements xs)) h in
+    (statements_within (after_statement seen x) (checked.statements xs)) h in
     let rest = both_right (statement_within seen x)
-      (statements_within (after_statement seen x) (checked.statements xs)) h in
+    (statements_within (after_statement seen x) (checked.statements xs)) h in
     and_true first (within_append (after_statement seen x) xs ys rest k)
 
 -- each part names what is seen there, and the names of the block after it mean what is seen then
@@ -136,9 +136,12 @@ pub record ResolvesWithin (seen : SeenNames) (m : ResolvedStatements) : Type 0 w
 
 pub follow_within : (seen : SeenNames) (m next : ResolvedStatements) → ResolvesWithin seen m
     → ResolvesWithin (after_all seen m.done) next → ResolvesWithin seen (follow m next)
-follow_within seen m next p q = record { within = within_append seen m.done next.done p.within
-    q.within; block = subst (λ v. ScopeSeen v next.block) (sym (after_append seen m.done next.done))
-    q.block }
+follow_within seen m next p q = record {
+  within = within_append seen m.done next.done p.within
+      q.within;
+  block = subst (λ v. ScopeSeen v next.block) (sym (after_append seen m.done next.done))
+      q.block;
+}
 
 -- a part that is one statement, of which a list is made
 pub only_within : (seen : SeenNames) (ss : List checked.Statement)
@@ -160,11 +163,11 @@ declare_within seen a base l block n h k =
     let part = sees_before seen number in
     let after = with_name block name (LocalVariable number type) in
     let here : ScopeSeen inner after = with_name_seen inner block name (LocalVariable number type)
-      (scope_wider seen inner part block h) (sees_own seen number) in
+    (scope_wider seen inner part block h) (sees_own seen number) in
     let known = names_seen inner a after here (scope_wider seen inner part a.outer k) in
     let value = value_within inner (λ e. to_type type (start e)
-      (resolve_expression (names_at a after) e))
-      (λ e. typed_within inner (names_at a after) known type (start e) e) l.initialiser in
+    (resolve_expression (names_at a after) e))
+    (λ e. typed_within inner (names_at a after) known type (start e) e) l.initialiser in
     record { within = and_true value refl; block = here }
 
 pub declare_all_within : (seen : SeenNames) (a : Environment) (base : Base) (ls : List Local)
@@ -176,8 +179,8 @@ declare_all_within seen a base (l ∷ ls) block n h k =
     let first = declare_within seen a base l block n h k in
     let inner = after_all seen m.done in
     follow_within seen m (declare_all a base ls m.block m.counts) first
-      (declare_all_within inner a base ls m.block m.counts first.block
-      (scope_wider seen inner (all_grow seen m.done) a.outer k))
+    (declare_all_within inner a base ls m.block m.counts first.block
+    (scope_wider seen inner (all_grow seen m.done) a.outer k))
 
 -- ---- what a `for` does first
 
@@ -188,7 +191,7 @@ names_only_within seen [] h = refl
 names_only_within seen (checked.Declare d ∷ ss) h =
     let rest = statements_within (after_declared seen d) (checked.statements ss) in
     and_true (both_left (declared_within seen d) rest h)
-      (names_only_within (after_declared seen d) ss (both_right (declared_within seen d) rest h))
+    (names_only_within (after_declared seen d) ss (both_right (declared_within seen d) rest h))
 names_only_within seen (s ∷ ss) h = names_only_within seen ss
     (both_right (statement_within seen s) (statements_within seen (checked.statements ss)) h)
 
@@ -216,9 +219,16 @@ pub begins_within : (seen : SeenNames) (a : Environment) (f : ForInitialiser) (n
 begins_within seen a (Declaring base ls) n k =
     let m = declare_all a base ls [] n in
     let r = declare_all_within seen a base ls [] n tt k in
-    record { declared = names_only_within seen m.done r.within; first = refl;
-      block = subst (λ v. ScopeSeen v m.block) (sym (names_only_after seen m.done)) r.block }
+    record {
+      declared = names_only_within seen m.done r.within;
+      first = refl;
+      block = subst (λ v. ScopeSeen v m.block) (sym (names_only_after seen m.done)) r.block;
+    }
 begins_within seen a (Evaluating e) n k =
-    record { declared = refl; first = value_within seen
-      (λ e. any (resolve_expression (names_at a []) e))
-      (λ e. any_within seen (names_at a []) (names_seen seen a [] tt k) e) e; block = tt }
+    record {
+      declared = refl;
+      first = value_within seen
+          (λ e. any (resolve_expression (names_at a []) e))
+          (λ e. any_within seen (names_at a []) (names_seen seen a [] tt k) e) e;
+      block = tt;
+    }

@@ -132,8 +132,8 @@ with_within : (seen : SeenNames) (at : ℕ) (ws : List Wanted) (t : CType)
     → WithinIf seen (call_with at ws t make args).found
 with_within seen at ws t make args h go =
     given_that_within seen (nat_eq (length ws) (length args)) at _ _ _
-      (called_within seen t make (pass_all ws args).found (pass_all ws args).faults
-      (pass_all_within seen ws args h) go)
+    (called_within seen t make (pass_all ws args).found (pass_all ws args).faults
+    (pass_all_within seen ws args h) go)
 
 call_within : (seen : SeenNames) (s : Names) (at : ℕ) (e : Option Entity) (args : List Argument)
     → EachWithin seen args → WithinIf seen (call s at e args).found
@@ -169,39 +169,39 @@ mutual
   resolved_within seen s known (trees.Parentheses at e) = resolved_within seen s known e
   resolved_within seen s known (trees.Index a at i) =
       rule_2_within seen at _ _ (resolve_expression s a).found (resolve_expression s i).found
-        (resolved_within seen s known a) (resolved_within seen s known i)
+      (resolved_within seen s known a) (resolved_within seen s known i)
       (λ x y p q. element_within seen x y p q)
   resolved_within seen s known (trees.Postfix e o at) =
       given_that_within seen _ (start e) _ _ _
-        (rule_1_within seen at _ _ (resolve_expression s e).found (resolved_within seen s known e)
-        (λ x p. incremented_within seen x p _ o))
+      (rule_1_within seen at _ _ (resolve_expression s e).found (resolved_within seen s known e)
+      (λ x p. incremented_within seen x p _ o))
   resolved_within seen s known (trees.Prefix at o e) =
       given_that_within seen _ (start e) _ _ _
-        (rule_1_within seen at _ _ (resolve_expression s e).found (resolved_within seen s known e)
-        (λ x p. incremented_within seen x p _ o))
+      (rule_1_within seen at _ _ (resolve_expression s e).found (resolved_within seen s known e)
+      (λ x p. incremented_within seen x p _ o))
   resolved_within seen s known (trees.Unary at o e) =
       given_that_within seen _ (start e) _ _ _
-        (rule_1_within seen at _ _ (resolve_expression s e).found (resolved_within seen s known e)
-        (λ x p. unary_within seen x p o))
+      (rule_1_within seen at _ _ (resolve_expression s e).found (resolved_within seen s known e)
+      (λ x p. unary_within seen x p o))
   resolved_within seen s known (trees.Cast at t e) = rule_1_within seen at _ _
       (resolve_expression s e).found (resolved_within seen s known e)
       (λ x p. cast_within seen x p t)
   resolved_within seen s known (trees.Binary a at o b) =
       rule_2_within seen at _ _ (resolve_expression s a).found (resolve_expression s b).found
-        (resolved_within seen s known a) (resolved_within seen s known b)
+      (resolved_within seen s known a) (resolved_within seen s known b)
       (λ x y p q. binary_within seen x y p q o)
   resolved_within seen s known (trees.Conditional c at a b) =
       rule_3_within seen at _ _ (resolve_expression s c).found (resolve_expression s a).found
-        (resolve_expression s b).found
+      (resolve_expression s b).found
       (resolved_within seen s known c) (resolved_within seen s known a)
-        (resolved_within seen s known b) (λ z x y o p q. conditional_within seen z x y o p q)
+      (resolved_within seen s known b) (λ z x y o p q. conditional_within seen z x y o p q)
   resolved_within seen s known (trees.Assign a at o b) =
       given_that_within seen _ (start a) _ _ _
-        (changed_within seen o at (start b) (resolve_expression s a) (resolve_expression s b)
-        (resolved_within seen s known a) (resolved_within seen s known b))
+      (changed_within seen o at (start b) (resolve_expression s a) (resolve_expression s b)
+      (resolved_within seen s known a) (resolved_within seen s known b))
   resolved_within seen s known (trees.Comma a at b) =
       rule_2_within seen at comma_of _ (resolve_expression s a).found (resolve_expression s b).found
-        (resolved_within seen s known a) (resolved_within seen s known b)
+      (resolved_within seen s known a) (resolved_within seen s known b)
       (λ x y p q. comma_within seen x y p q)
 
   each_within : (seen : SeenNames) (s : Names) → NamesSeen seen s → (es : trees.Arguments)

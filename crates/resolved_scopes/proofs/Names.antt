@@ -92,7 +92,7 @@ with_globals_seen : (seen : SeenNames) (text : List ℕ) (base : Base) (gs : Lis
 with_globals_seen seen text base [] file h = h
 with_globals_seen seen text base (g ∷ gs) file h =
     with_globals_seen seen text base gs (with_global text base g file)
-      (with_name_seen seen file.scope (spelled text g.name) _ h (global_seen seen _ _ g.length))
+    (with_name_seen seen file.scope (spelled text g.name) _ h (global_seen seen _ _ g.length))
 
 declared_seen : (seen : SeenNames) (text : List ℕ) (x : ExternalDeclaration) (file : File)
     → ScopeSeen seen file.scope → ScopeSeen seen (with_external_declaration text x file).scope
@@ -118,6 +118,6 @@ pub parameters_seen : (text : List ℕ) (total : ℕ) (ps : List Parameter) (blo
 parameters_seen text total [] block n few h = h
 parameters_seen text total (p ∷ ps) block n few h =
     parameters_seen text total ps (with_name block (spelled text p.name) (LocalVariable n p.of))
-      (n + 1) (omega arith)
+    (n + 1) (omega arith)
     (with_name_seen (first_seen total) block (spelled text p.name) (LocalVariable n p.of) h
-      (lt-ltb n total (omega arith)))
+    (lt-ltb n total (omega arith)))

@@ -70,18 +70,18 @@ module _ (seen : SeenNames) (a b : TypedNode) (p : IsWithin seen a) (q : IsWithi
   sum_within : WithinIf seen (sum a b)
   sum_within =
       within_if seen (is_pointer a.type) _ _ (within_only seen
-        (is_sized_pointer a.type && is_integer b.type) _ (and_true p q))
+      (is_sized_pointer a.type && is_integer b.type) _ (and_true p q))
       (within_if seen (is_pointer b.type) _ _
-        (within_only seen (is_sized_pointer b.type && is_integer a.type) _ (and_true p q))
-        (on_integers_within arithmetic.Add))
+      (within_only seen (is_sized_pointer b.type && is_integer a.type) _ (and_true p q))
+      (on_integers_within arithmetic.Add))
 
   difference_within : WithinIf seen (difference a b)
   difference_within =
       within_if seen (is_pointer a.type && is_pointer b.type) _ _
-        (within_only seen _ _ (and_true p q))
+      (within_only seen _ _ (and_true p q))
       (within_if seen (is_pointer a.type) _ _
-        (within_only seen (is_sized_pointer a.type && is_integer b.type) _ (and_true p q))
-        (on_integers_within arithmetic.Subtract))
+      (within_only seen (is_sized_pointer a.type && is_integer b.type) _ (and_true p q))
+      (on_integers_within arithmetic.Subtract))
 
   arithmetic_within : (o : Arithmetic) → WithinIf seen (arithmetic_of o a b)
   arithmetic_within arithmetic.Add = sum_within
@@ -109,10 +109,10 @@ module _ (seen : SeenNames) (a b : TypedNode) (p : IsWithin seen a) (q : IsWithi
   compound_within o =
       within_if seen (is_pointer a.type) _ _
       (within_if seen (is_additive o && is_sized_pointer a.type && is_integer b.type) _ _
-        (place_within seen a.node _ p (λ x h. and_true h q)) tt)
+      (place_within seen a.node _ p (λ x h. and_true h q)) tt)
       (within_if seen (is_integer a.type && is_integer b.type) _ _
-        (place_within seen a.node _ p (λ x h. and_true h
-        (right_within seen o (working_type o a.type b.type) b q))) tt)
+      (place_within seen a.node _ p (λ x h. and_true h
+      (right_within seen o (working_type o a.type b.type) b q))) tt)
 
   pub comma_within : WithinIf seen (comma_of a b)
   comma_within = and_true p q

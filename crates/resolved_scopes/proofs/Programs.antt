@@ -27,14 +27,14 @@ begun ps number = record { sizes = parameter_sizes ps; number = number }
 body_within : (text : List ℕ) (file : Scope) → ((seen : SeenNames) → ScopeSeen seen file)
     → (t : CType) (ps : List Parameter) (body : Statements) (number : ℕ)
     → statements_within (first_seen (length (parameter_sizes ps)))
-      (checked.statements (resolve_statements body (around text file t)
-      (with_parameters text ps [] 0) (begun ps number)).done) ≡ true
+    (checked.statements (resolve_statements body (around text file t)
+    (with_parameters text ps [] 0) (begun ps number)).done) ≡ true
 body_within text file known t ps body number =
     let total = length (parameter_sizes ps) in
     let same : total ≡ length ps = length-map ps (λ (p : Parameter). size_of p.of) in
     let block = parameters_seen text total ps [] 0 (omega (arith, same)) tt in
     (all_resolve_within (first_seen total) body (around text file t) (with_parameters text ps [] 0)
-      (begun ps number) block (known (first_seen total))).within
+    (begun ps number) block (known (first_seen total))).within
 
 all_within : (text : List ℕ) (file : Scope) → ((seen : SeenNames) → ScopeSeen seen file)
     → (xs : List ExternalDeclaration) (number : ℕ)
@@ -43,7 +43,7 @@ all_within text file known [] number = refl
 all_within text file known (Globals base gs ∷ xs) number = all_within text file known xs number
 all_within text file known (Function t n ps body ∷ xs) number =
     and_true (body_within text file known t ps body number)
-      (all_within text file known xs (function_of text file t n ps body number).number)
+    (all_within text file known xs (function_of text file t n ps body number).number)
 
 pub resolved_is_scoped : ResolvedIsScoped
 resolved_is_scoped text xs = all_within text (file_of text xs empty_file).scope

@@ -71,7 +71,7 @@ one_part : (w : Weights) (a at : ℕ) (rule : TypedNode → Option TypedNode) (f
 one_part w a at rule fs o h go =
     let e = times_1 w.each a in
     rule_1_light w (w.each * a) (w.each * (1 + a)) at rule fs o h
-      (λ x l. lighter w (w.each + weight w x) (w.each * (1 + a)) (rule x) (omega arith) (go x))
+    (λ x l. lighter w (w.each + weight w x) (w.each * (1 + a)) (rule x) (omega arith) (go x))
 
 two_parts : (w : Weights) (a b at : ℕ) (rule : TypedNode → TypedNode → Option TypedNode)
     (fs : List FaultAt) (o q : Option TypedNode) → LightIf w (w.each * a) o
@@ -81,20 +81,20 @@ two_parts : (w : Weights) (a b at : ℕ) (rule : TypedNode → TypedNode → Opt
 two_parts w a b at rule fs o q h h' go =
     let e = times_2 w.each a b in
     rule_2_light w (w.each * a) (w.each * b) (w.each * (1 + (a + b))) at rule fs o q h h'
-      (λ x y l l'. lighter w (w.each + (weight w x + weight w y)) (w.each * (1 + (a + b)))
-      (rule x y) (omega arith) (go x y))
+    (λ x y l l'. lighter w (w.each + (weight w x + weight w y)) (w.each * (1 + (a + b)))
+    (rule x y) (omega arith) (go x y))
 
 three_parts : (w : Weights) (c a b at : ℕ) (rule : TypedNode → TypedNode → TypedNode
     → Option TypedNode) (fs : List FaultAt) (o q r : Option TypedNode) → LightIf w (w.each * c) o
     → LightIf w (w.each * a) q → LightIf w (w.each * b) r
     → ((z x y : TypedNode) → LightIf w (w.each + (weight w z + (weight w x + weight w y)))
-      (rule z x y)) → LightIf w (w.each * (1 + (c + (a + b)))) (rule_3 at rule fs o q r).found
+    (rule z x y)) → LightIf w (w.each * (1 + (c + (a + b)))) (rule_3 at rule fs o q r).found
 three_parts w c a b at rule fs o q r h h' h'' go =
     let e = times_3 w.each c a b in
     rule_3_light w (w.each * c) (w.each * a) (w.each * b) (w.each * (1 + (c + (a + b)))) at rule fs
-      o q r h h' h'' (λ z x y l l' l''. lighter w
-      (w.each + (weight w z + (weight w x + weight w y))) (w.each * (1 + (c + (a + b))))
-      (rule z x y) (omega arith) (go z x y))
+    o q r h h' h'' (λ z x y l l' l''. lighter w
+    (w.each + (weight w z + (weight w x + weight w y))) (w.each * (1 + (c + (a + b))))
+    (rule z x y) (omega arith) (go z x y))
 
 -- ---- what has no parts
 
@@ -156,7 +156,7 @@ pass_light w adds x at m n fs None rest h l = tt
 pass_light w adds x at m n fs (Some a) rest h l =
     let e = passed_weight w adds x a in
     fit_light w (m + n) (fits x a) (before fs (passed x a) rest) (spoiled _ rest)
-      (before_light w adds m n fs (passed x a) rest.found rest.faults (omega arith) l) refl
+    (before_light w adds m n fs (passed x a) rest.found rest.faults (omega arith) l) refl
 
 called_light : (w : Weights) (n : ℕ) (t : CType) (make : nodes.Arguments → Node)
     (o : Option nodes.Arguments) (fs : List FaultAt) → AreLight w n o
@@ -212,45 +212,45 @@ mutual
   resolved_light w adds s (trees.Call n es) =
       let e = times_1 w.each (nodes_of_arguments es) in
       lighter w (w.each + w.each * nodes_of_arguments es) (w.each * (1 + nodes_of_arguments es))
-        (resolve_expression s (trees.Call n es)).found (omega arith)
+      (resolve_expression s (trees.Call n es)).found (omega arith)
       (call_light w adds s (w.each * nodes_of_arguments es) n.start (s.entity n)
-        (resolve_arguments s es) (arguments_light w adds s es))
+      (resolve_arguments s es) (arguments_light w adds s es))
   resolved_light w adds s (trees.Parentheses at e) =
       let t = times_1 w.each (counted.nodes e) in
-        lighter w (w.each * counted.nodes e) (w.each * (1 + counted.nodes e))
-        (resolve_expression s e).found (omega arith) (resolved_light w adds s e)
+      lighter w (w.each * counted.nodes e) (w.each * (1 + counted.nodes e))
+      (resolve_expression s e).found (omega arith) (resolved_light w adds s e)
   resolved_light w adds s (trees.Index a at i) =
       two_parts w (counted.nodes a) (counted.nodes i) at _ _ (resolve_expression s a).found
-        (resolve_expression s i).found (resolved_light w adds s a) (resolved_light w adds s i)
-        (element_light w adds)
+      (resolve_expression s i).found (resolved_light w adds s a) (resolved_light w adds s i)
+      (element_light w adds)
   resolved_light w adds s (trees.Postfix e o at) =
       given_that_light w _ _ (start e) _ _ _ (one_part w (counted.nodes e) at _ _
-        (resolve_expression s e).found (resolved_light w adds s e) (incremented_light w adds _ o))
+      (resolve_expression s e).found (resolved_light w adds s e) (incremented_light w adds _ o))
   resolved_light w adds s (trees.Prefix at o e) =
       given_that_light w _ _ (start e) _ _ _ (one_part w (counted.nodes e) at _ _
-        (resolve_expression s e).found (resolved_light w adds s e) (incremented_light w adds _ o))
+      (resolve_expression s e).found (resolved_light w adds s e) (incremented_light w adds _ o))
   resolved_light w adds s (trees.Unary at o e) =
       given_that_light w _ _ (start e) _ _ _ (one_part w (counted.nodes e) at _ _
-        (resolve_expression s e).found (resolved_light w adds s e) (unary_light w adds o))
+      (resolve_expression s e).found (resolved_light w adds s e) (unary_light w adds o))
   resolved_light w adds s (trees.Cast at t e) = one_part w (counted.nodes e) at _ _
       (resolve_expression s e).found (resolved_light w adds s e) (cast_light w adds t)
   resolved_light w adds s (trees.Binary a at o b) =
       two_parts w (counted.nodes a) (counted.nodes b) at _ _ (resolve_expression s a).found
-        (resolve_expression s b).found (resolved_light w adds s a) (resolved_light w adds s b)
-        (binary_light w adds o)
+      (resolve_expression s b).found (resolved_light w adds s a) (resolved_light w adds s b)
+      (binary_light w adds o)
   resolved_light w adds s (trees.Conditional c at a b) =
       three_parts w (counted.nodes c) (counted.nodes a) (counted.nodes b) at _ _
-        (resolve_expression s c).found (resolve_expression s a).found (resolve_expression s b).found
+      (resolve_expression s c).found (resolve_expression s a).found (resolve_expression s b).found
       (resolved_light w adds s c) (resolved_light w adds s a) (resolved_light w adds s b)
-        (conditional_light w adds)
+      (conditional_light w adds)
   resolved_light w adds s (trees.Assign a at o b) =
       given_that_light w _ _ (start a) _ _ _ (changed_light w adds o at (start b) (counted.nodes a)
-        (counted.nodes b) (resolve_expression s a) (resolve_expression s b)
-        (resolved_light w adds s a) (resolved_light w adds s b))
+      (counted.nodes b) (resolve_expression s a) (resolve_expression s b)
+      (resolved_light w adds s a) (resolved_light w adds s b))
   resolved_light w adds s (trees.Comma a at b) =
       two_parts w (counted.nodes a) (counted.nodes b) at comma_of _ (resolve_expression s a).found
-        (resolve_expression s b).found (resolved_light w adds s a) (resolved_light w adds s b)
-        (comma_light w adds)
+      (resolve_expression s b).found (resolved_light w adds s a) (resolved_light w adds s b)
+      (comma_light w adds)
 
   arguments_light : (w : Weights) → NodesAdd w → (s : Names) (es : trees.Arguments)
       → ArgumentsLight w (w.each * nodes_of_arguments es) (resolve_arguments s es)
@@ -259,8 +259,8 @@ mutual
   arguments_light w adds s (trees.Next e es) [] = let h = adds.no_argument in omega arith
   arguments_light w adds s (trees.Next e es) (x ∷ ws) =
       subst (λ n. AreLight w n (pass_all (x ∷ ws) (resolve_arguments s (trees.Next e es))).found)
-        (sym (mul-add w.each (counted.nodes e) (nodes_of_arguments es)))
+      (sym (mul-add w.each (counted.nodes e) (nodes_of_arguments es)))
       (pass_light w adds x (start e) (w.each * counted.nodes e) (w.each * nodes_of_arguments es)
-        (resolve_expression s e).faults (resolve_expression s e).found
-        (pass_all ws (resolve_arguments s es)) (resolved_light w adds s e)
-        (arguments_light w adds s es ws))
+      (resolve_expression s e).faults (resolve_expression s e).found
+      (pass_all ws (resolve_arguments s es)) (resolved_light w adds s e)
+      (arguments_light w adds s es ws))

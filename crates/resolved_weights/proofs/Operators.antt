@@ -89,8 +89,8 @@ on_integers_light : (w : Weights) → NodesAdd w → (o : Arithmetic) (a b : Typ
 on_integers_light w adds o a b =
     let t = working_type o a.type b.type in
     light_only w _ (is_integer a.type && is_integer b.type) _
-      (operation_weight w adds (operation_in o t) (as_type t a) (right_operand o t b) a b
-      (typed_weight w adds t a) (right_weight w adds o t b))
+    (operation_weight w adds (operation_in o t) (as_type t a) (right_operand o t b) a b
+    (typed_weight w adds t a) (right_weight w adds o t b))
 
 moved_weight : (w : Weights) → NodesAdd w → (o : Arithmetic) (p i : TypedNode)
     → weight w (moved o p i) ≤ w.each + (weight w p + weight w i)
@@ -102,11 +102,11 @@ sum_light : (w : Weights) → NodesAdd w → (a b : TypedNode)
 sum_light w adds a b =
     let n = w.each + (weight w a + weight w b) in
     light_if w n (is_pointer a.type) _ _ (light_only w n
-      (is_sized_pointer a.type && is_integer b.type) _ (moved_weight w adds arithmetic.Add a b))
+    (is_sized_pointer a.type && is_integer b.type) _ (moved_weight w adds arithmetic.Add a b))
     (light_if w n (is_pointer b.type) _ _
     (light_only w n (is_sized_pointer b.type && is_integer a.type) _
-      (operation_weight w adds (long_operation arithmetic.Add) (as_index b.type a) (as_is b) a b
-      (index_weight w adds b.type a) (kept_weight w adds b)))
+    (operation_weight w adds (long_operation arithmetic.Add) (as_index b.type a) (as_is b) a b
+    (index_weight w adds b.type a) (kept_weight w adds b)))
     (on_integers_light w adds arithmetic.Add a b))
 
 apart_weight : (w : Weights) → NodesAdd w → (n : ℕ) (a b : TypedNode)
@@ -120,11 +120,11 @@ difference_light : (w : Weights) → NodesAdd w → (a b : TypedNode)
 difference_light w adds a b =
     let n = w.each + (weight w a + weight w b) in
     light_if w n (is_pointer a.type && is_pointer b.type) _ _
-      (light_only w n _ _ (apart_weight w adds (bytes_in (pointed a.type)) a b))
+    (light_only w n _ _ (apart_weight w adds (bytes_in (pointed a.type)) a b))
     (light_if w n (is_pointer a.type) _ _ (light_only w n
-      (is_sized_pointer a.type && is_integer b.type) _
-      (moved_weight w adds arithmetic.Subtract a b))
-      (on_integers_light w adds arithmetic.Subtract a b))
+    (is_sized_pointer a.type && is_integer b.type) _
+    (moved_weight w adds arithmetic.Subtract a b))
+    (on_integers_light w adds arithmetic.Subtract a b))
 
 arithmetic_light : (w : Weights) → NodesAdd w → (o : Arithmetic) (a b : TypedNode)
     → LightIf w (w.each + (weight w a + weight w b)) (arithmetic_of o a b)
@@ -142,8 +142,8 @@ comparison_light : (w : Weights) → NodesAdd w → (c : Comparison) (a b : Type
 comparison_light w adds c a b =
     let n = w.each + (weight w a + weight w b) in
     light_if w n (is_pointer a.type || is_pointer b.type) _ _
-      (light_only w n _ _ (compared_weight w adds c void_pointer a b))
-      (light_only w n _ _ (compared_weight w adds c (common a.type b.type) a b))
+    (light_only w n _ _ (compared_weight w adds c void_pointer a b))
+    (light_only w n _ _ (compared_weight w adds c (common a.type b.type) a b))
 
 and_weight : (w : Weights) → NodesAdd w → (a b : TypedNode)
     → w.converted + w.node (nodes.And (as_is a) (as_is b)) ≤ w.each + (weight w a + weight w b)
@@ -194,13 +194,13 @@ incremented_light w adds m i a =
     let n = w.each + weight w a in
     light_if w n (is_pointer a.type) _ _
     (light_if w n (is_sized_pointer a.type) _ _
-      (place_light w a.node _ n (λ p e. increment_weight w adds m p
-      (long_operation (increment_operator i)) (bytes_in (pointed a.type)) Kept a.node e
-      adds.no_conversion)) tt)
+    (place_light w a.node _ n (λ p e. increment_weight w adds m p
+    (long_operation (increment_operator i)) (bytes_in (pointed a.type)) Kept a.node e
+    adds.no_conversion)) tt)
     (light_if w n (is_integer a.type) _ _
     (place_light w a.node _ n (λ p e. increment_weight w adds m p
-      (operation_in (increment_operator i) (promoted a.type)) 1
-      (conversion (promoted a.type) a.type) a.node e (adds.of_types (promoted a.type) a.type))) tt)
+    (operation_in (increment_operator i) (promoted a.type)) 1
+    (conversion (promoted a.type) a.type) a.node e (adds.of_types (promoted a.type) a.type))) tt)
 
 assignment_weight : (w : Weights) → NodesAdd w
     → (p : Lvalue) (f : Expression) (a : Node) (b : TypedNode) → a ≡ nodes.Read p
@@ -214,8 +214,8 @@ pub assigned_light : (w : Weights) → NodesAdd w → (a b : TypedNode)
 assigned_light w adds a b =
     let n = w.each + (weight w a + weight w b) in
     light_if w n (can_become a.type b) _ _ (place_light w a.node _ n
-      (λ p e. assignment_weight w adds p (as_type a.type b) a.node b e
-      (typed_weight w adds a.type b))) tt
+    (λ p e. assignment_weight w adds p (as_type a.type b) a.node b e
+    (typed_weight w adds a.type b))) tt
 
 compound_weight : (w : Weights) → NodesAdd w → (p : Lvalue) (before : Conversion) (o : Operation)
     (f : Expression) (after : Conversion) (a : Node) (b : TypedNode) → a ≡ nodes.Read p
@@ -233,12 +233,12 @@ compound_light w adds o a b =
     light_if w n (is_pointer a.type) _ _
     (light_if w n (is_additive o && is_sized_pointer a.type && is_integer b.type) _ _
     (place_light w a.node _ n (λ p e. compound_weight w adds p Kept (long_operation o)
-      (as_index a.type b) Kept a.node b e adds.no_conversion adds.no_conversion
-      (index_weight w adds a.type b))) tt)
+    (as_index a.type b) Kept a.node b e adds.no_conversion adds.no_conversion
+    (index_weight w adds a.type b))) tt)
     (light_if w n (is_integer a.type && is_integer b.type) _ _
     (place_light w a.node _ n (λ p e. compound_weight w adds p (conversion a.type t)
-      (operation_in o t) (right_operand o t b) (conversion t a.type) a.node b e
-      (adds.of_types a.type t) (adds.of_types t a.type) (right_weight w adds o t b))) tt)
+    (operation_in o t) (right_operand o t b) (conversion t a.type) a.node b e
+    (adds.of_types a.type t) (adds.of_types t a.type) (right_weight w adds o t b))) tt)
 
 -- ---- one operand
 

@@ -76,7 +76,7 @@ found_any w adds n (Some t) fs h p = let k = kept_weight w adds t in omega arith
 
 found_condition : (w : Weights) → NodesAdd w → (n at : ℕ) (o : Option TypedNode) (fs : List FaultAt)
     → LightIf w n o → w.each ≤ n → w.expression
-      (condition at (record { found = o; faults = fs })).value ≤ n
+    (condition at (record { found = o; faults = fs })).value ≤ n
 found_condition w adds n at None fs h p = nothing_light w adds n p
 found_condition w adds n at (Some t) fs h p = let k = kept_weight w adds t in omega arith
 
@@ -88,7 +88,7 @@ found_typed w adds n type at (Some t) fs h p = let c = typed_weight w adds type 
 
 found_answer : (w : Weights) → NodesAdd w → (n at : ℕ) (o : Option TypedNode) (fs : List FaultAt)
     → LightIf w n o → w.each ≤ n → w.expression
-      (to_answer at (record { found = o; faults = fs })).value ≤ n
+    (to_answer at (record { found = o; faults = fs })).value ≤ n
 found_answer w adds n at None fs h p = nothing_light w adds n p
 found_answer w adds n at (Some t) fs h p = let c = typed_weight w adds int t in omega arith
 
@@ -172,9 +172,9 @@ declares_light w on_nodes adds a base (l ∷ ls) block n =
     let m = declare a base l block n in
     let type : CType = record { base = base; pointers = l.pointers } in
     declared_light w adds _ (declare_all a base ls m.block m.counts).done
-      (nodes_of_optional l.initialiser) (nodes_of_locals ls)
+    (nodes_of_optional l.initialiser) (nodes_of_locals ls)
     (optional_light w (λ e. to_type type (start e) (resolve_expression (names_at a m.block) e))
-      (λ e. typed_light w on_nodes (names_at a m.block) type (start e) e) l.initialiser)
+    (λ e. typed_light w on_nodes (names_at a m.block) type (start e) e) l.initialiser)
     (declares_light w on_nodes adds a base ls m.block m.counts)
 
 names_light : (w : Weights) → StatementsAdd w → (ss : List checked.Statement)
@@ -198,7 +198,7 @@ begins_light w on_nodes adds a (Declaring base ls) n =
     omega arith
 begins_light w on_nodes adds a (Evaluating e) n =
     let v = optional_light w (λ e. any (resolve_expression (names_at a []) e))
-      (λ e. any_light w on_nodes (names_at a []) e) e in
+    (λ e. any_light w on_nodes (names_at a []) e) e in
     let h = adds.no_declared in
     omega arith
 
@@ -258,9 +258,9 @@ mutual
       alone w adds _ _ (omega arith)
   statement_light w on_nodes adds (statements.Evaluate e) a block n =
       let v = optional_light w (λ e. any (resolve_expression (names_at a block) e))
-        (λ e. any_light w on_nodes (names_at a block) e) e in
+      (λ e. any_light w on_nodes (names_at a block) e) e in
       let h = adds.evaluation (optional_of (λ e. any (resolve_expression (names_at a block) e))
-        e).value in
+      e).value in
       let t = times_1 w.each (nodes_of_optional e) in
       alone w adds _ _ (omega arith)
   statement_light w on_nodes adds (statements.If at c s) a block n =
@@ -268,7 +268,7 @@ mutual
       let u = condition_light w on_nodes (names_at a block) at c in
       let v = part_light w adds s m (statement_light w on_nodes adds s (inside a block) [] n) in
       let h = adds.if_alone (condition at (resolve_expression (names_at a block) c)).value
-        (only m) in
+      (only m) in
       let t = times_2 w.each (counted.nodes c) (nodes_of_statement s) in
       alone w adds _ _ (omega arith)
   statement_light w on_nodes adds (statements.IfElse at c s u) a block n =
@@ -276,20 +276,20 @@ mutual
       let k = resolve_statement u (inside a block) [] m.counts in
       let v = condition_light w on_nodes (names_at a block) at c in
       let x = part_light w adds s m.done (statement_light w on_nodes adds s (inside a block) []
-        n) in
+      n) in
       let y = part_light w adds u k.done (statement_light w on_nodes adds u (inside a block) []
-        m.counts) in
+      m.counts) in
       let h = adds.if_else (condition at (resolve_expression (names_at a block) c)).value
-        (only m.done) (only k.done) in
+      (only m.done) (only k.done) in
       let t = times_3 w.each (counted.nodes c) (nodes_of_statement s) (nodes_of_statement u) in
       alone w adds _ _ (omega arith)
   statement_light w on_nodes adds (statements.While at c s) a block n =
       let m = (resolve_statement s (record (inside a block) { loop = Near }) [] n).done in
       let u = condition_light w on_nodes (names_at a block) at c in
       let v = part_light w adds s m (statement_light w on_nodes adds s
-        (record (inside a block) { loop = Near }) [] n) in
+      (record (inside a block) { loop = Near }) [] n) in
       let h = adds.for_loop [] None (Some (condition at
-        (resolve_expression (names_at a block) c)).value) None (only m) in
+      (resolve_expression (names_at a block) c)).value) None (only m) in
       let k = adds.no_declared in
       let t = times_2 w.each (counted.nodes c) (nodes_of_statement s) in
       alone w adds _ _ (omega arith)
@@ -297,9 +297,9 @@ mutual
       let m = (resolve_statement s (record (inside a block) { loop = Near }) [] n).done in
       let u = condition_light w on_nodes (names_at a block) at c in
       let v = part_light w adds s m (statement_light w on_nodes adds s
-        (record (inside a block) { loop = Near }) [] n) in
+      (record (inside a block) { loop = Near }) [] n) in
       let h = adds.do_loop (only m) (condition at
-        (resolve_expression (names_at a block) c)).value in
+      (resolve_expression (names_at a block) c)).value in
       let t = times_2 w.each (nodes_of_statement s) (counted.nodes c) in
       alone w adds _ _ (omega arith)
   statement_light w on_nodes adds (statements.For at f c next s) a block n =
@@ -307,19 +307,19 @@ mutual
       let b = resolve_for_initialiser here f n in
       let names = names_at here b.resolved.block in
       let m = (resolve_statement s (record (inside here b.resolved.block) { loop = Near }) []
-        b.resolved.counts).done in
+      b.resolved.counts).done in
       let u = begins_light w on_nodes adds here f n in
       let v = optional_light w (λ e. condition at (resolve_expression names e))
-        (λ e. condition_light w on_nodes names at e) c in
+      (λ e. condition_light w on_nodes names at e) c in
       let x = optional_light w (λ e. any (resolve_expression names e))
-        (λ e. any_light w on_nodes names e) next in
+      (λ e. any_light w on_nodes names e) next in
       let y = part_light w adds s m (statement_light w on_nodes adds s
-        (record (inside here b.resolved.block) { loop = Near }) [] b.resolved.counts) in
+      (record (inside here b.resolved.block) { loop = Near }) [] b.resolved.counts) in
       let h = adds.for_loop b.declared b.first.value
-        (optional_of (λ e. condition at (resolve_expression names e)) c).value
-        (optional_of (λ e. any (resolve_expression names e)) next).value (only m) in
+      (optional_of (λ e. condition at (resolve_expression names e)) c).value
+      (optional_of (λ e. any (resolve_expression names e)) next).value (only m) in
       let t = times_4 w.each (nodes_of_for_initialiser f) (nodes_of_optional c)
-        (nodes_of_optional next) (nodes_of_statement s) in
+      (nodes_of_optional next) (nodes_of_statement s) in
       alone w adds _ _ (omega arith)
   statement_light w on_nodes adds (statements.Return at e) a block n =
       let v = returned_light w on_nodes a block at e in
@@ -337,26 +337,30 @@ mutual
       let m = resolve_statements body (record here { body = Near }) [] n in
       let q = resolve_filter a block f m.counts.number in
       let k = resolve_statements handler (record here { code = true }) []
-        (with_number m.counts q.number) in
+      (with_number m.counts q.number) in
       let u = statements_light w on_nodes adds body (record here { body = Near }) [] n in
       let v = filter_light w on_nodes a block f m.counts.number in
       let x = statements_light w on_nodes adds handler (record here { code = true }) []
-        (with_number m.counts q.number) in
+      (with_number m.counts q.number) in
       let h = try_light w adds (checked.statements m.done) q.filter (checked.statements k.done) in
       let t = times_3 w.each (nodes_of_statements body) (counted.nodes f)
-        (nodes_of_statements handler) in
+      (nodes_of_statements handler) in
       alone w adds _ _ (omega arith)
   statement_light w on_nodes adds (statements.TryFinally body at last) a block n =
       let here = inside a block in
       let m = resolve_statements body (record here { body = Near }) [] n in
-      let there : Environment = record here { loop = past_finally a.loop;
-        body = past_finally a.body; function = Beyond; abnormal = true } in
+      let there : Environment = record here {
+        loop = past_finally a.loop;
+        body = past_finally a.body;
+        function = Beyond;
+        abnormal = true;
+      } in
       let k = resolve_statements last there [] (with_number m.counts (m.counts.number + 1)) in
       let u = statements_light w on_nodes adds body (record here { body = Near }) [] n in
       let x = statements_light w on_nodes adds last there []
-        (with_number m.counts (m.counts.number + 1)) in
+      (with_number m.counts (m.counts.number + 1)) in
       let h = adds.finishing (checked.statements m.done) m.counts.number
-        (checked.statements k.done) in
+      (checked.statements k.done) in
       let t = times_2 w.each (nodes_of_statements body) (nodes_of_statements last) in
       alone w adds _ _ (omega arith)
 
@@ -396,10 +400,10 @@ functions_light w on_nodes adds text file (Globals base gs ∷ xs) number =
     omega arith
 functions_light w on_nodes adds text file (Function t n ps body ∷ xs) number =
     function_light w adds _ (functions_of text file xs
-      (function_of text file t n ps body number).number).done (length ps) (nodes_of_statements body)
-      (nodes_of xs)
+    (function_of text file t n ps body number).number).done (length ps) (nodes_of_statements body)
+    (nodes_of xs)
     (statements_light w on_nodes adds body (around text file t) (with_parameters text ps [] 0)
-      (record { sizes = map (λ p. size_of p.of) ps; number = number }))
+    (record { sizes = map (λ p. size_of p.of) ps; number = number }))
     (functions_light w on_nodes adds text file xs (function_of text file t n ps body number).number)
 
 pub weight_is_bounded : WeightIsBounded

@@ -60,21 +60,23 @@ pub of_checked : (text image : List ℕ) (whole : List ExternalDeclaration) (p :
 of_checked text image whole p short checked link =
     let a = checked.accepted in
     let w : IsImageOf image (resolve text whole).program = subst
-      (λ (r : Program). IsImageOf image r) checked.resolved link in
+    (λ (r : Program). IsImageOf image r) checked.resolved link in
     let fits = texts_fit text a.read.tokens whole a.read.lexed a.read.derives a.read.within a.rules
-      short in
+    short in
     let sound = accepted_is_sound text whole a.read.within a.rules in
     record {
       whole = whole;
       accepted = a;
       linked = w;
-      table = record { read = tables_are_read (lowered (resolve text whole).program) fits
-        (lowered_has_regions (resolve text whole).program);
-        shape = lowered_is_shaped (resolve text whole).program sound fits };
+      table = record {
+        read = tables_are_read (lowered (resolve text whole).program) fits
+            (lowered_has_regions (resolve text whole).program);
+        shape = lowered_is_shaped (resolve text whole).program sound fits;
+      };
       realises = realise text whole image a.read.within a.rules fits w;
       no_more = nothing_more text whole image a.read.within a.rules fits w (length text)
-        (few text whole a);
+          (few text whole a);
       frames = lowered_finds_callers (resolve text whole).program fits;
       walks = accepted_walk_the_shadow text whole image a.read.within a.rules fits w (length text)
-        (few text whole a);
+          (few text whole a);
     }

@@ -43,14 +43,14 @@ headline source image compiled options arg n low enough =
     subst (λ (m : ℕ). Covers meant.events end (machine image options.argument m)) same
     (subst (λ (a : ℤ). Covers meant.events end (machine image a (k + j))) (sym enough.argument)
     (covers_then meant.events end (machine image (pos arg) k) (machine image (pos arg) (k + j))
-      (real.shows arg n low) (images_cover image (pos arg) k j))) in
+    (real.shows arg n low) (images_cover image (pos arg) k j))) in
     let ended : (e : RunEnd) → end ≡ Some e → end_by options image ≡ e =
     λ e is. ap (λ (x : Shown RunEnd). end_within options.turns x.end) (covers.ends e is) in
     record {
       covers = covers;
       ended = ended;
       whole = λ e is. ap (λ (x : Shown RunEnd). text x.events (end_within options.turns x.end)
-        options.trace) (covers.ends e is);
+          options.trace) (covers.ends e is);
       status = λ last e is end_is.
           ap status_of (ended e (ap run_end_of is ∙ end_is)) ∙ same_status last e end_is;
     }
@@ -59,7 +59,7 @@ pub nothing_more : NothingMore
 nothing_more source image compiled options arg n low same paces calm =
     let program = (resolve source compiled.whole).program in
     subst (λ (a : ℤ). ShowsNoMore (meaning program (pos arg) n) (machine image a options.turns))
-      (sym same)
+    (sym same)
     (compiled.no_more arg options.turns n low paces calm)
 
 pub walks : Walks

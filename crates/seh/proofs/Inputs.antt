@@ -30,15 +30,15 @@ same_input limit source source' read bytes same input = subst
 pub from_text : (text : List ℕ) (source source' out out' : Stream)
     (answer : Result CommandOutcome Refusal) → IsInput text_limit source source' text
     → IsCompileAnswer text out out' answer → IsInputAnswer text_limit IsCompileAnswer source source'
-      out out' answer
+    out out' answer
 from_text text source source' out out' (Ok done) input
     h = record { bytes = text; input = input; comes = h }
-from_text text source source' out out' (Err (refusals.Text e)) input
-    h = record { bytes = text; input = input; comes = h }
-from_text text source source' out out' (Err refusals.WriteFault) input
-    h = record { bytes = text; input = input; comes = h }
-from_text text source source' out out' (Err refusals.NoMemory) input
-    h = (lost_all text_limit source source' text input, h)
+from_text text source source' out out' (Err (refusals.Text e)) input h =
+    record { bytes = text; input = input; comes = h }
+from_text text source source' out out' (Err refusals.WriteFault) input h =
+    record { bytes = text; input = input; comes = h }
+from_text text source source' out out' (Err refusals.NoMemory) input h =
+    (lost_all text_limit source source' text input, h)
 from_text text source source' out out' (Err r) input h = absurd h
 
 -- of a text that was compiled and run
@@ -46,18 +46,18 @@ pub from_run : (options : RunOptions) (text : List ℕ) (source source' out out'
     (answer : Result CommandOutcome Refusal) → IsInput text_limit source source' text
     → IsTextRunAnswer options text out out' answer
     → IsInputAnswer text_limit (IsTextRunAnswer options) source source' out out' answer
-from_run options text source source' out out' (Ok done) input
-    h = record { bytes = text; input = input; comes = h }
-from_run options text source source' out out' (Err (refusals.Text e)) input
-    h = record { bytes = text; input = input; comes = h }
-from_run options text source source' out out' (Err (refusals.Image e)) input
-    h = record { bytes = text; input = input; comes = h }
-from_run options text source source' out out' (Err (refusals.Load e)) input
-    h = record { bytes = text; input = input; comes = h }
-from_run options text source source' out out' (Err refusals.WriteFault) input
-    h = record { bytes = text; input = input; comes = h }
-from_run options text source source' out out' (Err refusals.NoMemory) input
-    h = (lost_all text_limit source source' text input, h)
+from_run options text source source' out out' (Ok done) input h =
+    record { bytes = text; input = input; comes = h }
+from_run options text source source' out out' (Err (refusals.Text e)) input h =
+    record { bytes = text; input = input; comes = h }
+from_run options text source source' out out' (Err (refusals.Image e)) input h =
+    record { bytes = text; input = input; comes = h }
+from_run options text source source' out out' (Err (refusals.Load e)) input h =
+    record { bytes = text; input = input; comes = h }
+from_run options text source source' out out' (Err refusals.WriteFault) input h =
+    record { bytes = text; input = input; comes = h }
+from_run options text source source' out out' (Err refusals.NoMemory) input h =
+    (lost_all text_limit source source' text input, h)
 from_run options text source source' out out' (Err refusals.Usage) input h = absurd h.2
 from_run options text source source' out out' (Err refusals.ReadFault) input h = absurd h.2
 from_run options text source source' out out' (Err (refusals.TooLong most)) input h = absurd h.2
@@ -67,12 +67,12 @@ pub from_meaning : (options : RunOptions) (text : List ℕ) (source source' out 
     (answer : Result CommandOutcome Refusal) → IsInput text_limit source source' text
     → IsMeaningAnswer options text out out' answer
     → IsMeaningInputAnswer options source source' out out' answer
-from_meaning options text source source' out out' (Ok done) input
-    h = record { bytes = text; input = input; comes = h }
-from_meaning options text source source' out out' (Err (refusals.Text e)) input
-    h = record { bytes = text; input = input; comes = h }
-from_meaning options text source source' out out' (Err refusals.WriteFault) input
-    h = record { bytes = text; input = input; comes = h }
+from_meaning options text source source' out out' (Ok done) input h =
+    record { bytes = text; input = input; comes = h }
+from_meaning options text source source' out out' (Err (refusals.Text e)) input h =
+    record { bytes = text; input = input; comes = h }
+from_meaning options text source source' out out' (Err refusals.WriteFault) input h =
+    record { bytes = text; input = input; comes = h }
 from_meaning options text source source' out out' (Err refusals.NoMemory) input h = inr
     (record { bytes = text; input = input; front = h })
 from_meaning options text source source' out out' (Err r) input h = absurd h
@@ -82,33 +82,33 @@ pub from_image : (options : RunOptions) (bytes : List ℕ) (source source' out o
     (answer : Result CommandOutcome Refusal) → IsInput image_limit source source' bytes
     → IsRunAnswer options bytes out out' answer
     → IsInputAnswer image_limit (IsRunAnswer options) source source' out out' answer
-from_image options bytes source source' out out' (Ok done) input
-    h = record { bytes = bytes; input = input; comes = h }
-from_image options bytes source source' out out' (Err (refusals.Image e)) input
-    h = record { bytes = bytes; input = input; comes = h }
-from_image options bytes source source' out out' (Err (refusals.Load e)) input
-    h = record { bytes = bytes; input = input; comes = h }
-from_image options bytes source source' out out' (Err refusals.WriteFault) input
-    h = record { bytes = bytes; input = input; comes = h }
+from_image options bytes source source' out out' (Ok done) input h =
+    record { bytes = bytes; input = input; comes = h }
+from_image options bytes source source' out out' (Err (refusals.Image e)) input h =
+    record { bytes = bytes; input = input; comes = h }
+from_image options bytes source source' out out' (Err (refusals.Load e)) input h =
+    record { bytes = bytes; input = input; comes = h }
+from_image options bytes source source' out out' (Err refusals.WriteFault) input h =
+    record { bytes = bytes; input = input; comes = h }
 from_image options bytes source source' out out' (Err r) input h = absurd h
 
 -- of an image whose function table was shown
 pub from_shown : (bytes : List ℕ) (source source' out out' : Stream)
     (answer : Result CommandOutcome Refusal) → IsInput image_limit source source' bytes
     → IsShowAnswer bytes out out' answer → IsInputAnswer image_limit IsShowAnswer source source' out
-      out' answer
+    out' answer
 from_shown bytes source source' out out' (Ok done) input
     h = record { bytes = bytes; input = input; comes = h }
-from_shown bytes source source' out out' (Err (refusals.Image e)) input
-    h = record { bytes = bytes; input = input; comes = h }
-from_shown bytes source source' out out' (Err refusals.WriteFault) input
-    h = record { bytes = bytes; input = input; comes = h }
+from_shown bytes source source' out out' (Err (refusals.Image e)) input h =
+    record { bytes = bytes; input = input; comes = h }
+from_shown bytes source source' out out' (Err refusals.WriteFault) input h =
+    record { bytes = bytes; input = input; comes = h }
 from_shown bytes source source' out out' (Err r) input h = absurd h
 
 -- what wasn't read is the answer
 pub refused_input : (limit : ℕ) (judged : Judged) (source source' out : Stream) (e : Refusal)
     → IsInputRefusal limit source source' e → IsInputAnswer limit judged source source' out out
-      (Err e)
+    (Err e)
 refused_input limit judged source source' out refusals.ReadFault h = (h, refl)
 refused_input limit judged source source' out (refusals.TooLong most) h = (h, refl)
 refused_input limit judged source source' out refusals.NoMemory h = (h, refl)

@@ -39,8 +39,11 @@ module _ (options : RunOptions) (p : Program) (again : ℤ) (same : again ≡ op
       → (part : List ℕ) × ((rest : List ℕ) × (texts.text options.trace options.turns shown
       ≡ part ++ rest)) × Grew out.bytes part out'.bytes
       → TookMeaningFront options text out out'
-  front_same text out out' is h = record { program = p; is = is;
-      took = (h.0, (h.1.0, sym text_same ∙ h.1.1), h.2) }
+  front_same text out out' is h = record {
+    program = p;
+    is = is;
+    took = (h.0, (h.1.0, sym text_same ∙ h.1.1), h.2);
+  }
 
   pub write_same : (e : MeanErr) (n : ℕ) → e ≡ Write n → (a b : Option (List ℕ))
       → texts.TookFront e a (texts.text options.trace options.turns shown) b
@@ -50,7 +53,7 @@ module _ (options : RunOptions) (p : Program) (again : ℤ) (same : again ≡ op
 
   pub memory_same : (e : MeanErr) → e ≡ Memory → (text : List ℕ) (out out' : Stream)
       → IsProgramOf text p → texts.TookFront e out.bytes
-        (texts.text options.trace options.turns shown) out'.bytes
+      (texts.text options.trace options.turns shown) out'.bytes
       → TookMeaningFront options text out out'
   memory_same e is text out out' found h = front_same text out out' found
       (subst (λ x. texts.TookFront x out.bytes (texts.text options.trace options.turns shown)

@@ -31,10 +31,10 @@ pub record IsProgramOf (text : List ℕ) (p : Program) : Type 0 where
 
 -- a part of the text of the meaning was taken, from the front
 pub record TookMeaningFront (options : RunOptions) (text : List ℕ) (out out' : Stream) : Type 0
-    where
-  pub program : Program
-  pub is : IsProgramOf text program
-  pub took : texts.TookFront Memory out.bytes (text_of options program) out'.bytes
+  where
+    pub program : Program
+    pub is : IsProgramOf text program
+    pub took : texts.TookFront Memory out.bytes (text_of options program) out'.bytes
 
 -- the whole text of the meaning, with its end; the refusal of the text; or a part of the text,
 -- where the sink had a fault or memory was wanting

@@ -48,9 +48,9 @@ stays n m r e le =
     let sum : m ≡ n + (m - n) = omega arith in
     let s = still r.functions r.funclets (m - n) (made n r).host e in (
       ap (λ k. made k r) sum ∙ ap (with_host r)
-        (after_more r.functions r.funclets n (m - n) r.host ∙ s.0),
+          (after_more r.functions r.funclets n (m - n) r.host ∙ s.0),
       ap (λ k. shown_made k r) sum ∙ shown_more r.functions r.funclets n (m - n) r.host
-        ∙ ap (λ es. shown_made n r ++ es) s.1 ∙ append-nil (shown_made n r),
+          ∙ ap (λ es. shown_made n r ++ es) s.1 ∙ append-nil (shown_made n r),
     )
 
 -- ---- what is written of them
@@ -63,13 +63,19 @@ grew_then a b c xs ys p q before is = q (before ++ xs) (p before is)
 -- the lines of some turns were taken whole, and perhaps a part of those of one more
 pub taken_before : (x y z : Writer) (t u : List ℕ) → Wrote x t y → y.failed ≡ false → Wrote y u z
     → (more : List ℕ) × Grew x.taken (t ++ more) z.taken
-taken_before x y z t u p is q = (q.part, grew_then x.taken y.taken z.taken t q.part
-    (subst (λ s. Grew x.taken s y.taken) (p.whole is) p.grew) q.grew)
+taken_before x y z t u p is q = (
+  q.part,
+  grew_then x.taken y.taken z.taken t q.part
+      (subst (λ s. Grew x.taken s y.taken) (p.whole is) p.grew) q.grew,
+)
 
 pub taken_whole : (x z : Writer) (t : List ℕ) → Wrote x t z → z.failed ≡ false
     → (more : List ℕ) × Grew x.taken (t ++ more) z.taken
-taken_whole x z t p is = ([], subst (λ s. Grew x.taken s z.taken) (p.whole is ∙ sym (append-nil t))
-    p.grew)
+taken_whole x z t p is = (
+  [],
+  subst (λ s. Grew x.taken s z.taken) (p.whole is ∙ sym (append-nil t))
+      p.grew,
+)
 
 module _ (n k : ℕ) (trace : Bool) (r r' : Running) (x z : Writer) (le : k ≤ n)
     (host : r' ≡ made k r) (w : Wrote x (lines trace (shown_made k r)) z) where
@@ -79,21 +85,30 @@ module _ (n k : ℕ) (trace : Bool) (r r' : Running) (x z : Writer) (le : k ≤ 
       let rest = shown_in_turns r.functions r.funclets (n - k) (made k r).host in
       let sum : n ≡ k + (n - k) = omega arith in
       let all : shown_made n r ≡ shown_made k r ++ rest = ap (λ m. shown_made m r) sum
-        ∙ shown_more r.functions r.funclets k (n - k) r.host in
+      ∙ shown_more r.functions r.funclets k (n - k) r.host in
       subst (λ t. Wrote x t z) (sym (ap (lines trace) all
-        ∙ lines_append trace (shown_made k r) rest))
+      ∙ lines_append trace (shown_made k r) rest))
       (wrote_more x z z (lines trace (shown_made k r)) (lines trace rest) w
-        (wrote_nothing z (lines trace rest) was))
+      (wrote_nothing z (lines trace rest) was))
 
   pub written : (z.failed ≡ false → (made n r ≡ made k r) × (shown_made n r ≡ shown_made k r))
       → (j : ℕ) → k ≤ j + 1 → (more : List ℕ)
       × Grew x.taken (lines trace (shown_made j r) ++ more) z.taken → Written n trace r x r' z
   written all j last before = record {
-    stopped = record { turns_made = k; within = le; host = host; whole = j; last = last;
-      before = before };
+    stopped = record {
+      turns_made = k;
+      within = le;
+      host = host;
+      whole = j;
+      last = last;
+      before = before;
+    };
     all = λ is. host ∙ sym (all is).0;
-    wrote = elim (cases_Bool z.failed) [ inl was ↦ later was | inr is ↦ subst
-      (λ es. Wrote x (lines trace es) z) (sym (all is).1) w ];
+    wrote = elim (cases_Bool z.failed) [
+      | inl was ↦ later was
+      | inr is ↦ subst
+          (λ es. Wrote x (lines trace es) z) (sym (all is).1) w
+    ];
   }
 
 -- ---- one turn more, with the lines of what it shows
@@ -101,41 +116,41 @@ module _ (n k : ℕ) (trace : Bool) (r r' : Running) (x z : Writer) (le : k ≤ 
 module _ {X : Type 0} (taken : X → Option (List ℕ)) (faults : X → ℕ) (l0 l n : Lines X)
     (count i : ℕ) (r0 r r' : Running)
     (at : r ≡ made i r0) (is : l.failed ≡ false)
-      (took : TookEvents taken faults l0 (shown_made i r0) l) (goes : r' ≡ after_turn r)
-      (shows : TookEvents taken faults l (shown_of r) n) where
+    (took : TookEvents taken faults l0 (shown_made i r0) l) (goes : r' ≡ after_turn r)
+    (shows : TookEvents taken faults l (shown_of r) n) where
   pub next_host : r' ≡ made (i + 1) r0
   next_host = goes ∙ ap after_turn at ∙ sym (one_more i (i + 1) r0 refl)
 
   pub next_took : TookEvents taken faults l0 (shown_made (i + 1) r0) n
   next_took =
       subst (λ es. TookEvents taken faults l0 es n)
-        (ap (λ (s : Running). shown_made i r0 ++ shown_of s) at
-        ∙ sym (shown_by_one i (i + 1) r0 refl))
+      (ap (λ (s : Running). shown_made i r0 ++ shown_of s) at
+      ∙ sym (shown_by_one i (i + 1) r0 refl))
       (took_more taken faults l0 l n (shown_made i r0) (shown_of r) took shows)
 
   before_it : (more : List ℕ) × Grew (taken l0.sink.now) (lines l0.trace (shown_made i r0) ++ more)
       (taken n.sink.now)
   before_it =
       taken_before (writer_of taken faults l0) (writer_of taken faults l) (writer_of taken faults n)
-        (lines l0.trace (shown_made i r0)) (lines l.trace (shown_of r))
+      (lines l0.trace (shown_made i r0)) (lines l.trace (shown_of r))
       took.wrote is shows.wrote
 
   pub stops : i < count → n.failed ≡ true → Written count l0.trace r0 (writer_of taken faults l0) r'
       (writer_of taken faults n)
   stops lt was =
       written count (i + 1) l0.trace r0 r' (writer_of taken faults l0) (writer_of taken faults n)
-        (omega arith) next_host next_took.wrote
+      (omega arith) next_host next_took.wrote
       (λ not. absurd (true≢false (sym was ∙ not))) i (omega arith) before_it
 
   pub over : i < count → turns.Ended ≡ answer_of r.host
       → Written count l0.trace r0 (writer_of taken faults l0) r' (writer_of taken faults n)
   over lt ended =
       let e : turns.Ended ≡ answer_of (made i r0).host = ended
-        ∙ ap (λ (s : Running). answer_of s.host) at in
+      ∙ ap (λ (s : Running). answer_of s.host) at in
       let far = stays i count r0 e (omega arith) in
       let near = stays i (i + 1) r0 e (omega arith) in
       written count (i + 1) l0.trace r0 r' (writer_of taken faults l0) (writer_of taken faults n)
-        (omega arith) next_host next_took.wrote
+      (omega arith) next_host next_took.wrote
       (λ _. (far.0 ∙ sym near.0, far.1 ∙ sym near.1)) i (omega arith) before_it
 
 -- all turns made
@@ -147,9 +162,9 @@ all_made taken faults l0 n count i r0 r' e host is took =
     let host' : r' ≡ made count r0 = host ∙ ap (λ k. made k r0) e in
     let took' = subst (λ k. TookEvents taken faults l0 (shown_made k r0) n) e took in
     written count count l0.trace r0 r' (writer_of taken faults l0) (writer_of taken faults n)
-      (omega arith) host' took'.wrote
+    (omega arith) host' took'.wrote
     (λ _. (refl, refl)) count (omega arith) (taken_whole (writer_of taken faults l0)
-      (writer_of taken faults n) (lines l0.trace (shown_made count r0)) took'.wrote is)
+    (writer_of taken faults n) (lines l0.trace (shown_made count r0)) took'.wrote is)
 
 -- before the first
 pub none_made : (r : Running) → r ≡ made 0 r
@@ -200,23 +215,23 @@ pub part_of_text : (count taken : ℕ) (trace : Bool) (r r' : Running) (x y z : 
     → Written count trace r x r' y → Wrote y (end_line end) z
     → end ≡ end_within count (end_of r'.host) → x.count ≡ 0 → taken ≡ z.count
     → TookPart x.taken (text (run_of count r).events (end_within count (run_of count r).end) trace)
-      z.taken taken
+    z.taken taken
 part_of_text count taken trace r r' x y z end w q is fresh e =
     subst (λ t. TookPart x.taken t z.taken taken)
-      (ap (λ es. lines trace es ++ end_line (end_within count (run_of count r).end))
-      (events_of count r))
+    (ap (λ es. lines trace es ++ end_line (end_within count (run_of count r).end))
+    (events_of count r))
     (ran_part x y z (lines trace (shown_made count r))
-      (end_line (end_within count (run_of count r).end)) w.wrote last taken fresh e)
+    (end_line (end_within count (run_of count r).end)) w.wrote last taken fresh e)
   where
     last : Wrote y (end_line (end_within count (run_of count r).end)) z
     last = elim (cases_Bool y.failed) [
       | inl was ↦ whatever y z (end_line end) (end_line (end_within count (run_of count r).end)) q
-        was
+          was
       | inr not ↦
           let same : end ≡ end_within count (run_of count r).end = is
-            ∙ ap (end_within count) (ap (λ (s : Running). end_of s.host) (w.all not)
-            ∙ sym (ap (λ (s : Shown RunEnd). s.end)
-              (runs_are_turns r.functions r.funclets count r.host []))) in
+          ∙ ap (end_within count) (ap (λ (s : Running). end_of s.host) (w.all not)
+          ∙ sym (ap (λ (s : Shown RunEnd). s.end)
+          (runs_are_turns r.functions r.funclets count r.host []))) in
           subst (λ t. Wrote y (end_line t) z) same q
     ]
 
@@ -229,10 +244,13 @@ stopped_then count trace r r' x y z u w q = record {
   host = w.stopped.host;
   whole = w.stopped.whole;
   last = w.stopped.last;
-  before = (w.stopped.before.0 ++ q.part, subst (λ t. Grew x.taken t z.taken)
-      (append_assoc (lines trace (shown_made w.stopped.whole r)) w.stopped.before.0 q.part)
-      (grew_then x.taken y.taken z.taken (lines trace (shown_made w.stopped.whole r)
-      ++ w.stopped.before.0) q.part w.stopped.before.1 q.grew));
+  before = (
+    w.stopped.before.0 ++ q.part,
+    subst (λ t. Grew x.taken t z.taken)
+        (append_assoc (lines trace (shown_made w.stopped.whole r)) w.stopped.before.0 q.part)
+        (grew_then x.taken y.taken z.taken (lines trace (shown_made w.stopped.whole r)
+        ++ w.stopped.before.0) q.part w.stopped.before.1 q.grew),
+  );
 }
 
 pub same_stopped : (count : ℕ) (trace trace' : Bool) (r r' : Running) (a a' b b' : Option (List ℕ))
@@ -240,4 +258,4 @@ pub same_stopped : (count : ℕ) (trace trace' : Bool) (r r' : Running) (a a' b 
     → Stopped count trace' r a' r' b'
 same_stopped count trace trace' r r' a a' b b' e f k h =
     subst (λ c. Stopped count trace' r c r' b') e
-      (subst (λ t. Stopped count t r a r' b') f (subst (λ c. Stopped count trace r a r' c) k h))
+    (subst (λ t. Stopped count t r a r' b') f (subst (λ c. Stopped count trace r a r' c) k h))

@@ -28,7 +28,7 @@ pub last_digit : (n : ℕ) (s front all : List ℕ) → 10 ≤ n → n < 2 ^ 64
     → front ≡ s ++ decimal (n / 10) → all ≡ front ++ (48 + n % 10) ∷ [] → all ≡ s ++ decimal n
 last_digit n s front all h b p q =
     q ∙ ap (λ t. t ++ (48 + n % 10) ∷ []) p ∙ append_assoc s (decimal (n / 10)) ((48 + n % 10) ∷ [])
-      ∙ ap (λ t. s ++ t) (sym (decimal_step n h b))
+    ∙ ap (λ t. s ++ t) (sym (decimal_step n h b))
 
 pub only_digit : (n : ℕ) (s all : List ℕ) → n < 10 → all ≡ s ++ (48 + n % 10) ∷ []
     → all ≡ s ++ decimal n
@@ -45,7 +45,7 @@ unfolding hexadecimal
 hexadecimal_step n k place =
     let e : 4 * place + 4 ≡ 4 * (place + 1) = omega arith in
     ap (λ m. hexadecimal k m ++ digit_glyph true (n / 2 ^ (4 * place) % 16) ∷ [])
-      (shr-shr n (4 * place) 4 ∙ ap (λ m. n / 2 ^ m) e)
+    (shr-shr n (4 * place) 4 ∙ ap (λ m. n / 2 ^ m) e)
 
 pub length-hexadecimal : (k n : ℕ) → length (hexadecimal k n) ≡ k
 unfolding hexadecimal
@@ -62,7 +62,7 @@ pub all_places : (s : List ℕ) (digits n : ℕ) → s
 all_places s digits n =
     let e : digits - digits ≡ 0 = omega arith in
     hexadecimal_none (n / 2 ^ (4 * digits)) s
-      ∙ ap (λ k. s ++ hexadecimal k (n / 2 ^ (4 * digits))) (sym e)
+    ∙ ap (λ k. s ++ hexadecimal k (n / 2 ^ (4 * digits))) (sym e)
 
 pub next_place : (s front all : List ℕ) (digits n place : ℕ) → 0 < place → place ≤ digits
     → front ≡ s ++ hexadecimal (digits - place) (n / 2 ^ (4 * place))

@@ -26,13 +26,13 @@ pub next_bytes : (i n : ℕ) (xs : List ℕ) → take i xs ++ take n (take (leng
 next_bytes i n xs =
     let all : length (drop i xs) ≤ length xs - i = omega (arith, length-drop i xs) in
     ap (λ ys. take i xs ++ take n ys) (take_all (length xs - i) (drop i xs) all)
-      ∙ sym (take-add i n xs)
+    ∙ sym (take-add i n xs)
 
 pub grew_next : (a b c : Option (List ℕ)) (xs : List ℕ) (i n : ℕ) → Grew a (take i xs) b
     → Grew b (take n (take (length xs - i) (drop i xs))) c → Grew a (take (i + n) xs) c
 grew_next a b c xs i n p q =
     subst (λ ys. Grew a ys c) (next_bytes i n xs)
-      (grew_more a b c (take i xs) (take n (take (length xs - i) (drop i xs))) p q)
+    (grew_more a b c (take i xs) (take n (take (length xs - i) (drop i xs))) p q)
 
 pub grew_still : (a b c : Option (List ℕ)) (xs ys : List ℕ) (n : ℕ) → n ≡ 0 → Grew a xs b
     → Grew b (take n ys) c → Grew a xs c
@@ -50,16 +50,16 @@ held_more a b xs most p h all known =
 -- n bytes from a place on, laid over the front of a buffer
 pub laid : (bytes got buf : List ℕ) (at n : ℕ) → at + n ≤ length bytes
     → got ≡ take n (drop at bytes) → Lost (Some (drop at bytes)) (take n (got ++ drop n buf))
-      (Some (drop (at + n) bytes))
+    (Some (drop (at + n) bytes))
 laid bytes got buf at n within copied all known =
     let rest = drop at bytes in
     let size : length got ≡ n = ap length copied
-      ∙ length-take-le n rest (omega (arith, length-drop at bytes)) in
+    ∙ length-take-le n rest (omega (arith, length-drop at bytes)) in
     let front : take n (got ++ drop n buf) ≡ take n rest = ap (λ k. take k (got ++ drop n buf))
-      (sym size) ∙ take-append_seam got (drop n buf) ∙ copied in
+    (sym size) ∙ take-append_seam got (drop n buf) ∙ copied in
     let all_is : all ≡ rest = cc in (
       drop (at + n) bytes,
       all_is ∙ sym (take-append-drop n rest) ∙ ap (λ t. t ++ drop n rest) (sym front)
-        ∙ ap (λ t. take n (got ++ drop n buf) ++ t) (drop-drop n at bytes),
+          ∙ ap (λ t. take n (got ++ drop n buf) ++ t) (drop-drop n at bytes),
       refl,
     )

@@ -26,17 +26,17 @@ pub wrote_part : (count count' : ℕ) (taken taken' : Option (List ℕ)) (faults
     (text : List ℕ) (k : ℕ) → k ≤ length text → Grew taken (take k text) taken'
     → Rose faults faults' → faults ≤ faults' → count' ≡ min (count + k) last_count
     → Wrote (writer false count taken faults) text (writer true count' taken' faults')
-wrote_part count count' taken taken' faults faults' text k within grew rose rising
-    counted = record {
-  part = take k text;
-  begins = (drop k text, sym (take-append-drop k text));
-  grew = grew;
-  whole = λ is. not_both true refl is;
-  nothing = λ is. not_both false is refl;
-  cause = λ _ _. rose;
-  faults = rising;
-  counted = omega (arith, length-take-le k text within);
-}
+wrote_part count count' taken taken' faults faults' text k within grew rose rising counted =
+    record {
+      part = take k text;
+      begins = (drop k text, sym (take-append-drop k text));
+      grew = grew;
+      whole = λ is. not_both true refl is;
+      nothing = λ is. not_both false is refl;
+      cause = λ _ _. rose;
+      faults = rising;
+      counted = omega (arith, length-take-le k text within);
+    }
 
 -- ---- a run: a fresh writer is given the lines, then the end's line
 
@@ -50,8 +50,12 @@ module _ (x y z : Writer) (t u : List ℕ) (p : Wrote x t y) (q : Wrote y u z) w
       → TookPart x.taken (t ++ u) z.taken count
   ran_part count fresh e =
       let whole = wrote_more x y z t u p q in
-      record { part = whole.part; begins = whole.begins; grew = whole.grew;
-        counted = let counted = whole.counted in omega arith }
+      record {
+        part = whole.part;
+        begins = whole.begins;
+        grew = whole.grew;
+        counted = let counted = whole.counted in omega arith;
+      }
 
 pub on_ok : (r : Result (Unit {0}) WriteFault) (P : Type 0) (Q : WriteFault → Type 0) (R : Type 0)
     → MatchResult r (λ _. P) Q → (P → R) → OnOk r R

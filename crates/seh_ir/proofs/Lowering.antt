@@ -27,7 +27,7 @@ more_regions : (items : List Stmt) (i : ℕ) (x : Stmt) (at : ℕ) → i < lengt
     → statements_regions (statements (map statement (take (suc i) items))) at
     ≡ statements_regions (statements (map statement (take i items))) at
     ++ statement_regions (statement (get_or items i x))
-      (at + statements_size (statements (map statement (take i items))))
+    (at + statements_size (statements (map statement (take i items))))
 more_regions [] i x at lt = absurd (omega arith)
 more_regions (y ∷ ys) zero x at lt =
     let e : at ≡ at + 0 = omega arith in
@@ -39,7 +39,7 @@ more_regions (y ∷ ys) (suc i) x at lt =
     let made = statements_regions (statements (map statement (take i ys))) (at + s) in
     let l : at + s + n ≡ at + (s + n) = omega arith in
     ap (λ t. front ++ t) (more_regions ys i x (at + s) (omega arith))
-      ∙ sym (append_assoc front made (statement_regions (statement (get_or ys i x)) (at + s + n)))
+    ∙ sym (append_assoc front made (statement_regions (statement (get_or ys i x)) (at + s + n)))
     ∙ ap (λ k. (front ++ made) ++ statement_regions (statement (get_or ys i x)) k) l
 
 pub regions_next : (items : List Stmt) (i : ℕ) (x : Stmt) (at place size next : ℕ)
@@ -48,7 +48,7 @@ pub regions_next : (items : List Stmt) (i : ℕ) (x : Stmt) (at place size next 
     → mid ≡ old ++ statements_regions (statements (map statement (take i items))) at
     → size ≡ statement_size (statement x) → new ≡ mid ++ statement_regions (statement x) place
     → next ≡ place + size → (next ≡ at + statements_size
-      (statements (map statement (take (i + 1) items))))
+    (statements (map statement (take (i + 1) items))))
     × (new ≡ old ++ statements_regions (statements (map statement (take (i + 1) items))) at)
 regions_next items i x at place size next old mid new lt is p h z k n =
     let one : suc i ≡ i + 1 = omega arith in
@@ -56,25 +56,25 @@ regions_next items i x at place size next old mid new lt is p h z k n =
     let count = statements_size (statements (map statement (take i items))) in
     let made = statements_regions (statements (map statement (take i items))) at in
     let f : statement_size (statement x) ≡ statement_size (statement g) = ap
-      (λ y. statement_size (statement y)) is in
+    (λ y. statement_size (statement y)) is in
     let m = more_sizes items i x lt in
     let sized : next ≡ at + statements_size (statements (map statement (take (suc i) items))) =
-      omega arith in
+    omega arith in
     let placed : new ≡ (old ++ made) ++ statement_regions (statement g) (at + count) = k
-      ∙ ap (λ y. mid ++ statement_regions (statement y) place) is
-      ∙ ap (λ y. mid ++ statement_regions (statement g) y) p
-      ∙ ap (λ y. y ++ statement_regions (statement g) (at + count)) h in (
+    ∙ ap (λ y. mid ++ statement_regions (statement y) place) is
+    ∙ ap (λ y. mid ++ statement_regions (statement g) y) p
+    ∙ ap (λ y. y ++ statement_regions (statement g) (at + count)) h in (
       sized ∙ ap (λ j. at + statements_size (statements (map statement (take j items)))) one,
       placed ∙ append_assoc old made (statement_regions (statement g) (at + count))
-        ∙ ap (λ y. old ++ y) (sym (more_regions items i x at lt))
-        ∙ ap (λ j. old ++ statements_regions (statements (map statement (take j items))) at) one,
+          ∙ ap (λ y. old ++ y) (sym (more_regions items i x at lt))
+          ∙ ap (λ j. old ++ statements_regions (statements (map statement (take j items))) at) one,
     )
 
 -- ---- funclets
 
 more_funclets : (owner : Owner) (names : Names) (items : List Stmt) (i : ℕ) (x : Stmt)
     → i < length items → statements_funclets owner names
-      (statements (map statement (take (suc i) items)))
+    (statements (map statement (take (suc i) items)))
     ≡ statements_funclets owner names (statements (map statement (take i items)))
     ++ statement_funclets owner names (statement (get_or items i x))
 more_funclets owner names [] i x lt = absurd (omega arith)
@@ -84,7 +84,7 @@ more_funclets owner names (y ∷ ys) (suc i) x lt =
     let front = statement_funclets owner names (statement y) in
     let made = statements_funclets owner names (statements (map statement (take i ys))) in
     ap (λ t. front ++ t) (more_funclets owner names ys i x (omega arith))
-      ∙ sym (append_assoc front made (statement_funclets owner names (statement (get_or ys i x))))
+    ∙ sym (append_assoc front made (statement_funclets owner names (statement (get_or ys i x))))
 
 pub funclets_next : (owner : Owner) (names : Names) (items : List Stmt) (i : ℕ) (x : Stmt)
     (old mid new : List LinearFunclet) → i < length items → x ≡ get_or items i x
@@ -96,11 +96,11 @@ funclets_next owner names items i x old mid new lt is h k =
     let g = get_or items i x in
     let made = statements_funclets owner names (statements (map statement (take i items))) in
     k ∙ ap (λ y. mid ++ statement_funclets owner names (statement y)) is
-      ∙ ap (λ y. y ++ statement_funclets owner names (statement g)) h
+    ∙ ap (λ y. y ++ statement_funclets owner names (statement g)) h
     ∙ append_assoc old made (statement_funclets owner names (statement g))
     ∙ ap (λ y. old ++ y) (sym (more_funclets owner names items i x lt))
     ∙ ap (λ j. old ++ statements_funclets owner names (statements (map statement (take j items))))
-      one
+    one
 
 -- ---- functions
 
@@ -126,7 +126,7 @@ more_of_all number (y ∷ ys) (suc i) x lt =
     let made = all_funclets (number + 1) (map function (take i ys)) in
     let e : number + 1 + i ≡ number + suc i = omega arith in
     ap (λ t. front ++ t) (more_of_all (number + 1) ys i x (omega arith))
-      ∙ sym (append_assoc front made (lowered_funclets (number + 1 + i) (function (get_or ys i x))))
+    ∙ sym (append_assoc front made (lowered_funclets (number + 1 + i) (function (get_or ys i x))))
     ∙ ap (λ k. (front ++ made) ++ lowered_funclets k (function (get_or ys i x))) e
 
 pub functions_next : (items : List Function) (i : ℕ) (x : Function) (f : LinearFunction)
@@ -136,7 +136,7 @@ pub functions_next : (items : List Function) (i : ℕ) (x : Function) (f : Linea
 functions_next items i x f mid new lt is h e k =
     let one : suc i ≡ i + 1 = omega arith in
     k ∙ ap (λ y. y ++ f ∷ []) h ∙ ap (λ y. map lowered_function (map function (take i items)) ++ y
-      ∷ []) (e ∙ ap (λ y. lowered_function (function y)) is)
+    ∷ []) (e ∙ ap (λ y. lowered_function (function y)) is)
     ∙ sym (more_functions items i x lt)
     ∙ ap (λ j. map lowered_function (map function (take j items))) one
 
@@ -149,8 +149,8 @@ all_next items i number x mid new lt is n h k =
     let one : suc i ≡ i + 1 = omega arith in
     let z : number ≡ 0 + i = omega arith in
     k ∙ ap (λ y. mid ++ lowered_funclets number (function y)) is
-      ∙ ap (λ y. mid ++ lowered_funclets y (function (get_or items i x))) z
-      ∙ ap (λ y. y ++ lowered_funclets (0 + i) (function (get_or items i x))) h
+    ∙ ap (λ y. mid ++ lowered_funclets y (function (get_or items i x))) z
+    ∙ ap (λ y. y ++ lowered_funclets (0 + i) (function (get_or items i x))) h
     ∙ sym (more_of_all 0 items i x lt)
     ∙ ap (λ j. all_funclets 0 (map function (take j items))) one
 
@@ -161,7 +161,7 @@ pub mapped : (xs ys : List IrFunction) (x : IrFunction) → ys ≡ xs ++ x ∷ [
 mapped xs ys x e = ap (λ zs. map linear_function zs) e ∙ mapped_last xs x
   where
     mapped_last : (zs : List IrFunction) (z : IrFunction)
-      → map linear_function (zs ++ z ∷ []) ≡ map linear_function zs ++ linear_function z ∷ []
+        → map linear_function (zs ++ z ∷ []) ≡ map linear_function zs ++ linear_function z ∷ []
     mapped_last [] z = refl
     mapped_last (y ∷ zs) z = ap (λ t. linear_function y ∷ t) (mapped_last zs z)
 
@@ -174,7 +174,7 @@ pub whole_is : (items : List Function) (i main : ℕ) (globals copied : List ℕ
 whole_is items i main globals copied functions funclets p le f k g is =
     let t = take_all i items le in
     let f' : functions ≡ map lowered_function (map function items) = f
-      ∙ ap (λ xs. map lowered_function (map function xs)) t in
+    ∙ ap (λ xs. map lowered_function (map function xs)) t in
     let k' : funclets ≡ all_funclets 0 (map function items) = k
-      ∙ ap (λ xs. all_funclets 0 (map function xs)) t in
+    ∙ ap (λ xs. all_funclets 0 (map function xs)) t in
     is ∙ (λ j. record { globals = g j; main = main; functions = f' j; funclets = k' j })

@@ -78,26 +78,26 @@ mutual
   statement_length scope (If c s) at =
       let then = at + expression_size c + 1 in
       two (expression_code scope.names c 0 at)
-        (JumpIfZero (Temporary 0) (then + statement_size s) ∷ statement_code scope s then)
-        (expression_size c) (1 + statement_size s) (expression_length scope.names c 0 at)
+      (JumpIfZero (Temporary 0) (then + statement_size s) ∷ statement_code scope s then)
+      (expression_size c) (1 + statement_size s) (expression_length scope.names c 0 at)
       (more (JumpIfZero (Temporary 0) (then + statement_size s)) (statement_code scope s then)
-        (statement_size s) (statement_length scope s then))
+      (statement_size s) (statement_length scope s then))
   statement_length scope (IfElse c s t) at =
       let then = at + expression_size c + 1 in
       let otherwise = then + statement_size s + 1 in
       let jump = Jump (otherwise + statement_size t) in
       two (expression_code scope.names c 0 at)
-        (JumpIfZero (Temporary 0) otherwise ∷
-        (statement_code scope s then ++ jump ∷ statement_code scope t otherwise))
-        (expression_size c) (1 + (statement_size s + (1 + statement_size t)))
-        (expression_length scope.names c 0 at)
+      (JumpIfZero (Temporary 0) otherwise ∷
+      (statement_code scope s then ++ jump ∷ statement_code scope t otherwise))
+      (expression_size c) (1 + (statement_size s + (1 + statement_size t)))
+      (expression_length scope.names c 0 at)
       (more (JumpIfZero (Temporary 0) otherwise)
-        (statement_code scope s then ++ jump ∷ statement_code scope t otherwise)
-        (statement_size s + (1 + statement_size t))
+      (statement_code scope s then ++ jump ∷ statement_code scope t otherwise)
+      (statement_size s + (1 + statement_size t))
       (two (statement_code scope s then) (jump ∷ statement_code scope t otherwise)
-        (statement_size s) (1 + statement_size t) (statement_length scope s then)
+      (statement_size s) (1 + statement_size t) (statement_length scope s then)
       (more jump (statement_code scope t otherwise) (statement_size t)
-        (statement_length scope t otherwise))))
+      (statement_length scope t otherwise))))
   statement_length scope (For ds first c next s) at =
       let begin = at + all_declared_size ds in
       let iteration = begin + discarded_size first in
@@ -108,33 +108,33 @@ mutual
       let last = discarded_code scope.names next (again + 1) ++ Jump iteration ∷ [] in
       let turned = statement_code inner s body ++ Separator ∷ last in
       two (all_declared_code scope.names ds at)
-        (discarded_code scope.names first begin
-        ++ (condition_code scope.names c end iteration ++ turned)) (all_declared_size ds)
-          (discarded_size first + (condition_size c
-        + (statement_size s + (1 + (discarded_size next + 1)))))
-          (all_declared_length scope.names ds at)
+      (discarded_code scope.names first begin
+      ++ (condition_code scope.names c end iteration ++ turned)) (all_declared_size ds)
+      (discarded_size first + (condition_size c
+      + (statement_size s + (1 + (discarded_size next + 1)))))
+      (all_declared_length scope.names ds at)
       (two (discarded_code scope.names first begin)
-        (condition_code scope.names c end iteration ++ turned) (discarded_size first)
-        (condition_size c + (statement_size s + (1 + (discarded_size next + 1))))
-        (discarded_length scope.names first begin)
+      (condition_code scope.names c end iteration ++ turned) (discarded_size first)
+      (condition_size c + (statement_size s + (1 + (discarded_size next + 1))))
+      (discarded_length scope.names first begin)
       (two (condition_code scope.names c end iteration) turned (condition_size c)
-        (statement_size s + (1 + (discarded_size next + 1)))
-        (condition_length scope.names c end iteration)
+      (statement_size s + (1 + (discarded_size next + 1)))
+      (condition_length scope.names c end iteration)
       (two (statement_code inner s body) (Separator ∷ last) (statement_size s)
-        (1 + (discarded_size next + 1)) (statement_length inner s body)
+      (1 + (discarded_size next + 1)) (statement_length inner s body)
       (more Separator last (discarded_size next + 1)
       (two (discarded_code scope.names next (again + 1)) (Jump iteration ∷ []) (discarded_size next)
-        1 (discarded_length scope.names next (again + 1)) refl)))))
+      1 (discarded_length scope.names next (again + 1)) refl)))))
   statement_length scope (DoWhile s c) at =
       let again = at + statement_size s in
       let end = again + 1 + expression_size c + 2 in
       let inner = in_loop end again scope in
       let last = expression_code scope.names c 0 (again + 1) ++ repeated end at in
       two (statement_code inner s at) (Separator ∷ last) (statement_size s)
-        (1 + (expression_size c + 2)) (statement_length inner s at)
+      (1 + (expression_size c + 2)) (statement_length inner s at)
       (more Separator last (expression_size c + 2)
       (two (expression_code scope.names c 0 (again + 1)) (repeated end at) (expression_size c) 2
-        (expression_length scope.names c 0 (again + 1)) refl))
+      (expression_length scope.names c 0 (again + 1)) refl))
   statement_length scope (Return e) at = two (returned_code scope.names e at)
       (return_code scope.exit) (returned_size e) 2 (returned_length scope.names e at)
       (return_length scope.exit)
@@ -145,15 +145,15 @@ mutual
       let target = at + statements_size body + 1 in
       let end = target + 1 + statements_size block in
       two (statements_code (in_try end scope) body at)
-        (landed end scope.names.free ++ statements_code (in_except scope) block (target + 1))
-        (statements_size body) (2 + statements_size block)
-        (statements_length (in_try end scope) body at)
+      (landed end scope.names.free ++ statements_code (in_except scope) block (target + 1))
+      (statements_size body) (2 + statements_size block)
+      (statements_length (in_try end scope) body at)
       (two (landed end scope.names.free) (statements_code (in_except scope) block (target + 1)) 2
-        (statements_size block) refl (statements_length (in_except scope) block (target + 1)))
+      (statements_size block) refl (statements_length (in_except scope) block (target + 1)))
   statement_length scope (TryFinally body k last) at =
       let inner = in_guarded (at + statements_size body) scope in
       two (statements_code inner body at) (Separator ∷ CallFinally (k - 1) ∷ Separator ∷ [])
-        (statements_size body) 3 (statements_length inner body at) refl
+      (statements_size body) 3 (statements_length inner body at) refl
 
   pub statements_length : (scope : LoweringContext) (ss : Statements) (at : ℕ)
       → length (statements_code scope ss at) ≡ statements_size ss
@@ -195,12 +195,12 @@ pub when_is : (scope : LoweringContext) (c : Expression) (s : Statement) (size m
     → three ≡ old ++ when_code scope c s more' (length old)
 when_is scope c s size more' old one two three z a b k =
     let h = after_one (JumpIfZero (Temporary 0) (length one + (size + more'))) one two three
-      (λ at. statement_code scope s at) b k in
+    (λ at. statement_code scope s at) b k in
     after_expression scope.names c 0 old one three
-      (λ at. JumpIfZero (Temporary 0) (at + (statement_size s + more'))
-      ∷ statement_code scope s (at + 1)) a
+    (λ at. JumpIfZero (Temporary 0) (at + (statement_size s + more'))
+    ∷ statement_code scope s (at + 1)) a
     (h ∙ ap (λ n. one ++ JumpIfZero (Temporary 0) (length one + (n + more'))
-      ∷ statement_code scope s (length one + 1)) z)
+    ∷ statement_code scope s (length one + 1)) z)
 
 pub if_is : (scope : LoweringContext) (c : Expression) (s : Statement) (x : Statement)
     (old new : List Instruction) → x ≡ If c s → new ≡ old ++ when_code scope c s 1 (length old)
@@ -210,7 +210,7 @@ if_is scope c s x old new is a =
     let e : then + (statement_size s + 1) ≡ then + 1 + statement_size s = omega arith in
     of scope x (If c s) old new is
     (a ∙ ap (λ k. old ++ (expression_code scope.names c 0 (length old) ++ JumpIfZero (Temporary 0) k
-      ∷ statement_code scope s (then + 1))) e)
+    ∷ statement_code scope s (then + 1))) e)
 
 pub if_else_is : (scope : LoweringContext) (c : Expression) (s t : Statement) (x : Statement)
     (other : ℕ) (old l1 l2 l3 : List Instruction) → x ≡ IfElse c s t → other ≡ statement_size t
@@ -227,11 +227,11 @@ if_else_is scope c s t x other old l1 l2 l3 is z a b k =
     let over = JumpIfZero (Temporary 0) (at + nc + (i + 2)) in
     let long = nc + (1 + i) in
     let g = after_one (Jump (length l1 + (other + 1))) l1 l2 l3 (λ p. statement_code scope t p) b
-      k in
+    k in
     let g' = g ∙ ap (λ n. l1 ++ Jump (length l1 + (n + 1)) ∷ statement_code scope t (length l1 + 1))
-      z in
+    z in
     let h = after (when_code scope c s 2 at) long old l1 l3
-      (λ p. Jump (p + (j + 1)) ∷ statement_code scope t (p + 1)) two_lengths a g' in
+    (λ p. Jump (p + (j + 1)) ∷ statement_code scope t (p + 1)) two_lengths a g' in
     let rest = Jump (at + long + (j + 1)) ∷ statement_code scope t (at + long + 1) in
     let e : at + nc + (i + 2) ≡ at + nc + 1 + i + 1 = omega arith in
     let f : at + long + 1 ≡ at + nc + 1 + i + 1 = omega arith in
@@ -245,15 +245,15 @@ if_else_is scope c s t x other old l1 l2 l3 is z a b k =
     ∷ (body ++ Jump (at + nc + 1 + i + 1 + j) ∷ statement_code scope t p))) f)
   where
     two_lengths : length (when_code scope c s 2 (length old))
-      ≡ expression_size c + (1 + statement_size s)
+        ≡ expression_size c + (1 + statement_size s)
     two_lengths =
         two (expression_code scope.names c 0 (length old))
-          (JumpIfZero (Temporary 0) (length old + expression_size c + (statement_size s + 2))
-          ∷ statement_code scope s (length old + expression_size c + 1)) (expression_size c)
-            (1 + statement_size s) (expression_length scope.names c 0 (length old))
+        (JumpIfZero (Temporary 0) (length old + expression_size c + (statement_size s + 2))
+        ∷ statement_code scope s (length old + expression_size c + 1)) (expression_size c)
+        (1 + statement_size s) (expression_length scope.names c 0 (length old))
         (more (JumpIfZero (Temporary 0) (length old + expression_size c + (statement_size s + 2)))
-          (statement_code scope s (length old + expression_size c + 1)) (statement_size s)
-          (statement_length scope s (length old + expression_size c + 1)))
+        (statement_code scope s (length old + expression_size c + 1)) (statement_size s)
+        (statement_length scope s (length old + expression_size c + 1)))
 
 pub for_is : (scope : LoweringContext) (ds : List Declared) (first c next : Option Expression)
     (s : Statement) (nc ns nn turn last again end : ℕ) (old l0 l1 l2 l3 l4 l5 l6 : List Instruction)
@@ -275,40 +275,40 @@ for_is scope ds first c next s nc0 ns0 nn0 turn last again end old l0 l1 l2 l3 l
     let nn = discarded_size next in
     let iteration = length l1 in
     let n0 : length l0 ≡ length old + nd = longer old l0 (all_declared_code names ds (length old))
-      nd (all_declared_length names ds (length old)) h0 in
+    nd (all_declared_length names ds (length old)) h0 in
     let n1 : length l1 ≡ length l0 + nf = longer l0 l1 (discarded_code names first (length l0)) nf
-      (discarded_length names first (length l0)) h1 in
+    (discarded_length names first (length l0)) h1 in
     let inner = in_loop end again scope in
     let g5 = after (discarded_code names next (length l4)) nn l4 l5 l6 (λ at. Jump iteration ∷ [])
-      (discarded_length names next (length l4)) h5 h6 in
+    (discarded_length names next (length l4)) h5 h6 in
     let g4 = after_one Separator l3 l4 l6 (λ at. discarded_code names next at ++ Jump iteration
-      ∷ []) h4 g5 in
+    ∷ []) h4 g5 in
     let g3 = after_statement inner s l2 l3 l6
-      (λ at. Separator ∷ (discarded_code names next (at + 1) ++ Jump iteration ∷ [])) h3 g4 in
+    (λ at. Separator ∷ (discarded_code names next (at + 1) ++ Jump iteration ∷ [])) h3 g4 in
     let g2 = after (condition_code names c end (length l1)) nc l1 l2 l6
-      (λ at. statement_code inner s at ++ Separator
-      ∷ (discarded_code names next (at + ns + 1) ++ Jump iteration ∷ []))
-        (condition_length names c end (length l1)) h2 g3 in
+    (λ at. statement_code inner s at ++ Separator
+    ∷ (discarded_code names next (at + ns + 1) ++ Jump iteration ∷ []))
+    (condition_length names c end (length l1)) h2 g3 in
     let whole = λ (i b r z : ℕ). condition_code names c z i
-      ++ (statement_code (in_loop z r scope) s b ++ Separator
-      ∷ (discarded_code names next (r + 1) ++ Jump i ∷ [])) in
+    ++ (statement_code (in_loop z r scope) s b ++ Separator
+    ∷ (discarded_code names next (r + 1) ++ Jump i ∷ [])) in
     let p : length l1 + nc + ns ≡ again = omega arith in
     let g2' : l6 ≡ l1 ++ whole (length l1) (length l1 + nc) again end = g2
-      ∙ ap (λ r. l1 ++ (condition_code names c end (length l1)
-      ++ (statement_code inner s (length l1 + nc) ++ Separator
-      ∷ (discarded_code names next (r + 1) ++ Jump iteration ∷ [])))) p in
+    ∙ ap (λ r. l1 ++ (condition_code names c end (length l1)
+    ++ (statement_code inner s (length l1 + nc) ++ Separator
+    ∷ (discarded_code names next (r + 1) ++ Jump iteration ∷ [])))) p in
     let q : again ≡ length l1 + nc + ns = omega arith in
     let r : end ≡ length l1 + nc + ns + 1 + nn + 1 = omega arith in
     let g2'' : l6 ≡ l1 ++ whole (length l1) (length l1 + nc) (length l1 + nc + ns)
-      (length l1 + nc + ns + 1 + nn + 1) = g2'
-      ∙ ap (λ k. l1 ++ whole (length l1) (length l1 + nc) k end) q
-      ∙ ap (λ k. l1 ++ whole (length l1) (length l1 + nc) (length l1 + nc + ns) k) r in
+    (length l1 + nc + ns + 1 + nn + 1) = g2'
+    ∙ ap (λ k. l1 ++ whole (length l1) (length l1 + nc) k end) q
+    ∙ ap (λ k. l1 ++ whole (length l1) (length l1 + nc) (length l1 + nc + ns) k) r in
     let g1 = after (discarded_code names first (length l0)) nf l0 l1 l6
-      (λ at. whole at (at + nc) (at + nc + ns) (at + nc + ns + 1 + nn + 1))
-      (discarded_length names first (length l0)) h1 g2'' in
+    (λ at. whole at (at + nc) (at + nc + ns) (at + nc + ns + 1 + nn + 1))
+    (discarded_length names first (length l0)) h1 g2'' in
     after (all_declared_code names ds (length old)) nd old l0 l6
-      (λ at. discarded_code names first at ++ whole (at + nf) (at + nf + nc) (at + nf + nc + ns)
-      (at + nf + nc + ns + 1 + nn + 1)) (all_declared_length names ds (length old)) h0 g1
+    (λ at. discarded_code names first at ++ whole (at + nf) (at + nf + nc) (at + nf + nc + ns)
+    (at + nf + nc + ns + 1 + nn + 1)) (all_declared_length names ds (length old)) h0 g1
 
 pub do_is : (scope : LoweringContext) (s : Statement) (c : Expression) (size nc0 last again end : ℕ)
     (old l1 l2 l3 l4 : List Instruction) → size ≡ statement_size s → nc0 ≡ expression_size c
@@ -323,13 +323,13 @@ do_is scope s c size nc0 last again end old l1 l2 l3 l4 z y l a e h1 h2 h3 h4 =
     let at = length old in
     let g3 = after_expression names c 0 l2 l3 l4 (λ k. repeated end at) h3 h4 in
     let g2 = after_one Separator l1 l2 l4 (λ k. expression_code names c 0 k ++ repeated end at) h2
-      g3 in
+    g3 in
     let g1 = after_statement (in_loop end again scope) s old l1 l4
-      (λ k. Separator ∷ (expression_code names c 0 (k + 1) ++ repeated end at)) h1 g2 in
+    (λ k. Separator ∷ (expression_code names c 0 (k + 1) ++ repeated end at)) h1 g2 in
     let p : again ≡ at + ns = omega arith in
     let q : end ≡ at + ns + 1 + nc + 2 = omega arith in
     let whole = λ (r t : ℕ). statement_code (in_loop t r scope) s at ++ Separator
-      ∷ (expression_code names c 0 (at + ns + 1) ++ repeated t at) in
+    ∷ (expression_code names c 0 (at + ns + 1) ++ repeated t at) in
     g1 ∙ ap (λ k. old ++ whole k end) p ∙ ap (λ k. old ++ whole (at + ns) k) q
 
 pub return_is : (scope : LoweringContext) (e : Option Expression) (old one two : List Instruction)
@@ -342,7 +342,7 @@ return_is scope e old one two a b = joined old one two (returned_code scope.name
 abbrev Tried : LoweringContext → Statements → ℕ → ℕ → List Instruction
 Tried scope body block at =
     statements_code (in_try (at + (statements_size body + (block + 2))) scope) body at
-      ++ landed (at + (statements_size body + (block + 2))) scope.names.free
+    ++ landed (at + (statements_size body + (block + 2))) scope.names.free
 
 pub tried_is : (scope : LoweringContext) (body : Statements) (size block rest both end : ℕ)
     (old l1 l2 : List Instruction) → size ≡ statements_size body → rest ≡ block + 2
@@ -352,7 +352,7 @@ pub tried_is : (scope : LoweringContext) (body : Statements) (size block rest bo
 tried_is scope body size block rest both end old l1 l2 z w v e h1 h2 =
     let p : end ≡ length old + (statements_size body + (block + 2)) = omega arith in
     joined old l1 l2 (statements_code (in_try end scope) body (length old))
-      (landed end scope.names.free) h1 h2
+    (landed end scope.names.free) h1 h2
     ∙ ap (λ t. old ++ (statements_code (in_try t scope) body (length old)
     ++ landed t scope.names.free)) p
 
@@ -369,24 +369,24 @@ except_is scope inner body filter block x size old l1 l2 is z i h1 h2 =
     let free = scope.names.free in
     let front = statements_code (in_try end scope) body at in
     let long = two front (landed end free) nb 2 (statements_length (in_try end scope) body at)
-      refl in
+    refl in
     let h2' = h2 ∙ ap (λ (k : LoweringContext). l1 ++ statements_code k block (length l1)) i in
     let g = after (Tried scope body size at) (nb + 2) old l1 l2
-      (λ k. statements_code (in_except scope) block k) long h1 h2' in
+    (λ k. statements_code (in_except scope) block k) long h1 h2' in
     let p : end ≡ at + nb + 1 + 1 + nh = omega arith in
     let q : at + (nb + 2) ≡ at + nb + 1 + 1 = omega arith in
     let whole = λ (t k : ℕ). statements_code (in_try t scope) body at
-      ++ (landed t free ++ statements_code (in_except scope) block k) in
+    ++ (landed t free ++ statements_code (in_except scope) block k) in
     of scope x (TryExcept body filter block) old l2 is
     (g ∙ ap (λ xs. old ++ xs) (append_assoc front (landed end free)
-      (statements_code (in_except scope) block (at + (nb + 2))))
+    (statements_code (in_except scope) block (at + (nb + 2))))
     ∙ ap (λ t. old ++ whole t (at + (nb + 2))) p
     ∙ ap (λ k. old ++ whole (at + nb + 1 + 1 + nh) k) q)
 
 pub finally_is : (scope : LoweringContext) (body : Statements) (k : ℕ) (last : Statements)
     (size end : ℕ) (old one two : List Instruction) → size ≡ statements_size body
     → end ≡ length old + size → one ≡ old ++ statements_code (in_guarded end scope) body
-      (length old) → two ≡ one ++ Separator ∷ CallFinally (k - 1) ∷ Separator ∷ []
+    (length old) → two ≡ one ++ Separator ∷ CallFinally (k - 1) ∷ Separator ∷ []
     → Run scope (TryFinally body k last) old two
 finally_is scope body k last size end old one two z e a b =
     let p : end ≡ length old + statements_size body = omega arith in
@@ -400,21 +400,21 @@ more_statements : (scope : LoweringContext) (items : List Stmt) (i : ℕ) (x : S
     → i < length items → statements_code scope (statements (map statement (take (suc i) items))) at
     ≡ statements_code scope (statements (map statement (take i items))) at
     ++ statement_code scope (statement (get_or items i x))
-      (at + length (statements_code scope (statements (map statement (take i items))) at))
+    (at + length (statements_code scope (statements (map statement (take i items))) at))
 more_statements scope [] i x at lt = absurd (omega arith)
 more_statements scope (y ∷ ys) zero x at lt =
     let e : at ≡ at + 0 = omega arith in
     append-nil (statement_code scope (statement y) at)
-      ∙ ap (λ k. statement_code scope (statement y) k) e
+    ∙ ap (λ k. statement_code scope (statement y) k) e
 more_statements scope (y ∷ ys) (suc i) x at lt =
     let s = statement_size (statement y) in
     let front = statement_code scope (statement y) at in
     let made = statements_code scope (statements (map statement (take i ys))) (at + s) in
     let h = more_statements scope ys i x (at + s) (omega arith) in
     let l : at + s + length made ≡ at + length (front ++ made) = omega
-      (arith, length-append front made, statement_length scope (statement y) at) in
+    (arith, length-append front made, statement_length scope (statement y) at) in
     ap (λ t. front ++ t) h ∙ sym (append_assoc front made
-      (statement_code scope (statement (get_or ys i x)) (at + s + length made)))
+    (statement_code scope (statement (get_or ys i x)) (at + s + length made)))
     ∙ ap (λ k. (front ++ made) ++ statement_code scope (statement (get_or ys i x)) k) l
 
 pub statements_next : (scope : LoweringContext) (items : List Stmt) (i : ℕ) (x : Stmt)
@@ -422,40 +422,40 @@ pub statements_next : (scope : LoweringContext) (items : List Stmt) (i : ℕ) (x
     → mid ≡ old ++ statements_code scope (statements (map statement (take i items))) (length old)
     → new ≡ mid ++ statement_code scope (statement x) (length mid)
     → new ≡ old ++ statements_code scope (statements (map statement (take (i + 1) items)))
-      (length old)
+    (length old)
 statements_next scope items i x old mid new lt is h k =
     let made = statements_code scope (statements (map statement (take i items))) (length old) in
     let l : length mid ≡ length old + length made = longer old mid made (length made) refl h in
     let one : suc i ≡ i + 1 = omega arith in
     let k' : new ≡ mid ++ statement_code scope (statement (get_or items i x))
-      (length old + length made) = k ∙ ap (λ y. mid
-      ++ statement_code scope (statement y) (length mid)) is
-      ∙ ap (λ y. mid ++ statement_code scope (statement (get_or items i x)) y) l in
+    (length old + length made) = k ∙ ap (λ y. mid
+    ++ statement_code scope (statement y) (length mid)) is
+    ∙ ap (λ y. mid ++ statement_code scope (statement (get_or items i x)) y) l in
     joined old mid new made (statement_code scope (statement (get_or items i x))
-      (length old + length made)) h k'
+    (length old + length made)) h k'
     ∙ ap (λ t. old ++ t) (sym (more_statements scope items i x (length old) lt))
     ∙ ap (λ j. old ++ statements_code scope (statements (map statement (take j items)))
-      (length old)) one
+    (length old)) one
 
 more_declared : (names : Names) (items : List Declared') (i : ℕ) (x : Declared') (at : ℕ)
     → i < length items → all_declared_code names (map declared (take (suc i) items)) at
     ≡ all_declared_code names (map declared (take i items)) at
     ++ declared_code names (declared (get_or items i x))
-      (at + length (all_declared_code names (map declared (take i items)) at))
+    (at + length (all_declared_code names (map declared (take i items)) at))
 more_declared names [] i x at lt = absurd (omega arith)
 more_declared names (y ∷ ys) zero x at lt =
     let e : at ≡ at + 0 = omega arith in
     append-nil (declared_code names (declared y) at)
-      ∙ ap (λ k. declared_code names (declared y) k) e
+    ∙ ap (λ k. declared_code names (declared y) k) e
 more_declared names (y ∷ ys) (suc i) x at lt =
     let s = declared_size (declared y) in
     let front = declared_code names (declared y) at in
     let made = all_declared_code names (map declared (take i ys)) (at + s) in
     let h = more_declared names ys i x (at + s) (omega arith) in
     let l : at + s + length made ≡ at + length (front ++ made) = omega
-      (arith, length-append front made, declared_length names (declared y) at) in
+    (arith, length-append front made, declared_length names (declared y) at) in
     ap (λ t. front ++ t) h ∙ sym (append_assoc front made
-      (declared_code names (declared (get_or ys i x)) (at + s + length made)))
+    (declared_code names (declared (get_or ys i x)) (at + s + length made)))
     ∙ ap (λ k. (front ++ made) ++ declared_code names (declared (get_or ys i x)) k) l
 
 pub declared_next : (names : Names) (items : List Declared') (i : ℕ) (x : Declared')
@@ -468,10 +468,10 @@ declared_next names items i x old mid new lt is h k =
     let l : length mid ≡ length old + length made = longer old mid made (length made) refl h in
     let one : suc i ≡ i + 1 = omega arith in
     let k' : new ≡ mid ++ declared_code names (declared (get_or items i x))
-      (length old + length made) = k ∙ ap (λ y. mid
-      ++ declared_code names (declared y) (length mid)) is
-      ∙ ap (λ y. mid ++ declared_code names (declared (get_or items i x)) y) l in
+    (length old + length made) = k ∙ ap (λ y. mid
+    ++ declared_code names (declared y) (length mid)) is
+    ∙ ap (λ y. mid ++ declared_code names (declared (get_or items i x)) y) l in
     joined old mid new made (declared_code names (declared (get_or items i x))
-      (length old + length made)) h k'
+    (length old + length made)) h k'
     ∙ ap (λ t. old ++ t) (sym (more_declared names items i x (length old) lt))
     ∙ ap (λ j. old ++ all_declared_code names (map declared (take j items)) (length old)) one

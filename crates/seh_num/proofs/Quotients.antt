@@ -21,8 +21,11 @@ rem_sign (negsuc n) b = below_zero (suc n % unsigned_abs b)
 
 pub signed_division : (a b : ℤ) → 0 < unsigned_abs b
     → IsSignedDivision a b (int_div a b) (int_rem a b)
-signed_division a b h = record { sum = sym (quot-rem a b); small = rem_below a b h;
-    sign = rem_sign a b }
+signed_division a b h = record {
+  sum = sym (quot-rem a b);
+  small = rem_below a b h;
+  sign = rem_sign a b;
+}
 
 -- the remainder of a number of 64 bits is one
 small_fits : (r : ℤ) → unsigned_abs r < 2 ^ 63 → FitsSigned w64 r
@@ -143,16 +146,21 @@ module _ (w : Width) (a b d q : ℤ) (fa : FitsSigned w128 a) (fb : FitsSigned w
       ∙ through (int_rem a b) (wider (int_rem a b) (rem_fits a b fb some)) (rem_fits a b fb some)
 
   pub code_answer : (r : ℤ) → r ≡ int_rem (to_z w128 (of_z w128 a)) (to_z w128 (of_z w128 d))
-      → Ok (to_z w64 (of_z w64 (to_z w128 (of_z w128 q))),
-        to_z w64 (of_z w64 (to_z w128 (of_z w128 r)))) ≡ divided_signed w a b
-  code_answer r r_is = (λ i. Ok (first i, (ap (λ z. to_z w64 (of_z w64 (to_z w128 (of_z w128 z))))
-      r_is ∙ second) i)) ∙ divided w a b some is_small
+      → Ok (
+        to_z w64 (of_z w64 (to_z w128 (of_z w128 q))),
+        to_z w64 (of_z w64 (to_z w128 (of_z w128 r))),
+      ) ≡ divided_signed w a b
+  code_answer r r_is = (λ i. Ok (
+    first i,
+    (ap (λ z. to_z w64 (of_z w64 (to_z w128 (of_z w128 z))))
+        r_is ∙ second) i,
+  )) ∙ divided w a b some is_small
 
   pub code_quotient : (r : ℤ) → r ≡ int_rem (to_z w128 (of_z w128 a)) (to_z w128 (of_z w128 d))
       → IsSignedDivision a b (to_z w64 (of_z w64 (to_z w128 (of_z w128 q))))
-        (to_z w64 (of_z w64 (to_z w128 (of_z w128 r))))
+      (to_z w64 (of_z w64 (to_z w128 (of_z w128 r))))
   code_quotient r r_is =
       let e = ap (λ z. to_z w64 (of_z w64 (to_z w128 (of_z w128 z)))) r_is ∙ second in
       subst (λ (x : ℤ). IsSignedDivision a b x (to_z w64 (of_z w64 (to_z w128 (of_z w128 r)))))
-        (sym first) (subst (λ (x : ℤ). IsSignedDivision a b (int_div a b) x) (sym e)
-        (signed_division a b some))
+      (sym first) (subst (λ (x : ℤ). IsSignedDivision a b (int_div a b) x) (sym e)
+      (signed_division a b some))

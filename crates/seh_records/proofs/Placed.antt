@@ -45,7 +45,7 @@ word_back byte (w ∷ []) a (suc k) top lt = absurd (omega arith)
 word_back byte (w ∷ []) a zero top lt =
     let z : a + 8 * 0 ≡ a = omega arith in
     ap (number_at (with_number byte 8 a w) 8) z
-      ∙ stored_is_loaded byte 8 a w (omega arith) (omega arith)
+    ∙ stored_is_loaded byte 8 a w (omega arith) (omega arith)
 word_back byte (w ∷ u ∷ ws) a zero top lt =
     let e : (a + 8) % 2 ^ 64 ≡ a + 8 = omega arith in
     let z : a + 8 * 0 ≡ a = omega arith in
@@ -95,13 +95,13 @@ all_append : (xs ys : List ℕ) → Small xs → Small ys → Small (xs ++ ys)
 all_append xs ys p q = record { at = λ j lt. go j lt (cases_lt j (length xs)) }
   where
     go : (j : ℕ) → j < length (xs ++ ys) → (j < length xs) ⊎ (length xs ≤ j)
-      → get_or (xs ++ ys) j 0 < 2 ^ 64
+        → get_or (xs ++ ys) j 0 < 2 ^ 64
     go j lt (inl l) = subst (λ n. n < 2 ^ 64) (sym (get_or_append_left xs ys 0 j l)) (p.at j l)
     go j lt (inr g) =
         let z : length xs + (j - length xs) ≡ j = omega arith in
         subst (λ n. n < 2 ^ 64) (sym (get_or-append-add xs ys (j - length xs) 0)
-          ∙ ap (λ k. get_or (xs ++ ys) k 0) z)
-            (q.at (j - length xs) (omega (arith, length-append xs ys)))
+        ∙ ap (λ k. get_or (xs ++ ys) k 0) z)
+        (q.at (j - length xs) (omega (arith, length-append xs ys)))
 
 all_zeros : (n : ℕ) → Small (replicate n 0)
 all_zeros zero = all_nil
@@ -126,17 +126,17 @@ words_small at r fit =
     let w : r.code.0 + 2 ^ 32 * r.flags < 2 ^ 64 = omega arith in
     let t : r.count < 2 ^ 64 = omega arith in
     let h : Small (head at r) = all_more _ _ (lit< tt)
-      (all_more _ _ (kind_small r.kind) (all_more _ _ fit.frame
-      (all_more _ _ fit.row (all_more _ _ fit.target_frame
-      (all_more _ _ fit.target (all_more _ _ p
-      (all_more _ _ q (all_more _ _ w (all_more _ _ z
-      (all_more _ _ fit.rip (all_more _ _ t all_nil))))))))))) in
+    (all_more _ _ (kind_small r.kind) (all_more _ _ fit.frame
+    (all_more _ _ fit.row (all_more _ _ fit.target_frame
+    (all_more _ _ fit.target (all_more _ _ p
+    (all_more _ _ q (all_more _ _ w (all_more _ _ z
+    (all_more _ _ fit.rip (all_more _ _ t all_nil))))))))))) in
     let o : Small (0 ∷ []) = all_more _ _ z all_nil in
     let g : Small (front r) = all_more _ _ z (all_more _ _ z
-      (all_more _ _ z (all_more _ _ z (all_more _ _ z
-      (all_more _ _ z (all_more _ _ z (all_more _ _ z
-      (all_more _ _ flags (all_more _ _ z (all_more _ _ z
-      (all_more _ _ z (all_more _ _ z (all_more _ _ z (all_more _ _ z all_nil)))))))))))))) in
+    (all_more _ _ z (all_more _ _ z (all_more _ _ z
+    (all_more _ _ z (all_more _ _ z (all_more _ _ z
+    (all_more _ _ flags (all_more _ _ z (all_more _ _ z
+    (all_more _ _ z (all_more _ _ z (all_more _ _ z (all_more _ _ z all_nil)))))))))))))) in
     let b : Small (back r) = all_more _ _ fit.rip (all_zeros 122) in
     let v : Small (r.walk.rip ∷ []) = all_more _ _ fit.walk_rip all_nil in
     let w1 = head at r ++ r.parameters in
@@ -146,10 +146,10 @@ words_small at r fit =
     let w5 = w4 ++ back r in
     let w6 = w5 ++ (r.walk.rip ∷ []) in
     all_append w6 r.walk.kept (all_append w5 (r.walk.rip ∷ [])
-      (all_append w4 (back r) (all_append w3 r.saved.registers
-      (all_append w2 (front r) (all_append w1 (0 ∷ [])
-      (all_append (head at r) r.parameters h (record { at = fit.parameters_small })) o) g)
-      (record { at = fit.registers_small })) b) v) (record { at = fit.kept_small })
+    (all_append w4 (back r) (all_append w3 r.saved.registers
+    (all_append w2 (front r) (all_append w1 (0 ∷ [])
+    (all_append (head at r) r.parameters h (record { at = fit.parameters_small })) o) g)
+    (record { at = fit.registers_small })) b) v) (record { at = fit.kept_small })
 
 -- ---- a record
 
@@ -186,15 +186,15 @@ written_words m at r fit top =
     let a = (at + 32) % 2 ^ 64 in
     ap (λ k. words_at (with_words m.byte a (words at r)) k a) (sym n)
     ∙ run_is (with_words m.byte a (words at r)) (words at r) a (omega arith)
-      (λ j lt. word_back m.byte (words at r) a j (omega arith) lt
+    (λ j lt. word_back m.byte (words at r) a j (omega arith) lt
     ∙ (let s = (words_small at r fit).at j lt in
-      let e : get_or (words at r) j 0 % 2 ^ 64 ≡ get_or (words at r) j 0 = omega arith in e))
+    let e : get_or (words at r) j 0 % 2 ^ 64 ≡ get_or (words at r) j 0 = omega arith in e))
 
 placed_words : (m : Memory) (at : ℕ) (r : DispatchRecord) → RecordFits r → at + RECORD_SIZE ≤ 2 ^ 64
     → words_at (placed m at r).byte 192 ((at + 32) % 2 ^ 64) ≡ words at r
 placed_words m at r fit top =
     ap (λ (p : Memory). words_at p.byte 192 ((at + 32) % 2 ^ 64))
-      (sym (placed_is_written m at r fit top))
+    (sym (placed_is_written m at r fit top))
     ∙ written_words m at r fit top
 
 pub placed_is_record : PlacedIsRecord

@@ -17,8 +17,8 @@ writable m at e = go (nat_lt (2 ^ 64) (return_address_at at + PLACED_SIZE))
     (nat_lt (return_address_at at) STACK_START) e
   where
     go : (a b : Bool) → cond a (Some 0) (cond b (Some (return_address_at at))
-      (first_refused (may_write m) PLACED_SIZE (return_address_at at))) ≡ None
-      → first_refused (may_write m) PLACED_SIZE (return_address_at at) ≡ None
+        (first_refused (may_write m) PLACED_SIZE (return_address_at at))) ≡ None
+        → first_refused (may_write m) PLACED_SIZE (return_address_at at) ≡ None
     go true b e = absurd cc
     go false true e = absurd cc
     go false false e = e
@@ -28,8 +28,8 @@ pub writable_words : (m : Memory) (at : ℕ) → at < 2 ^ 64 → misplaced m at 
 writable_words m at lt e =
     let same : (return_address_at at + 40) % 2 ^ 64 ≡ (at + 32) % 2 ^ 64 = omega arith in
     ap (first_refused (may_write m) 1536) (sym same)
-      ∙ none_within (may_write m) PLACED_SIZE 40 1536 (return_address_at at) (omega arith)
-        (omega arith) (writable m at e)
+    ∙ none_within (may_write m) PLACED_SIZE 40 1536 (return_address_at at) (omega arith)
+    (omega arith) (writable m at e)
 
 -- the record ends at the last address or below it
 pub below_top : (m : Memory) (at : ℕ) → at < 2 ^ 64 → misplaced m at ≡ None
@@ -46,7 +46,7 @@ below_top m at lt e = go (nat_lt (2 ^ 64) (return_address_at at + PLACED_SIZE)) 
         → cond b (Some 0) others ≡ None → at + RECORD_SIZE ≤ 2 ^ 64
     go true h e = absurd cc
     go false h e = let f : return_address_at at + PLACED_SIZE ≤ 2 ^ 64 = ltb-false _ _ h in
-      omega arith
+        omega arith
 
 -- so its words don't wrap
 pub no_wrap : (m : Memory) (at : ℕ) → at < 2 ^ 64 → misplaced m at ≡ None
@@ -60,6 +60,6 @@ readable_bytes m at lt e =
     let from = return_address_at at in
     let same : (from + 8) % 2 ^ 64 ≡ at = omega arith in
     let written = none_within (may_write m) PLACED_SIZE 8 RECORD_SIZE from (omega arith)
-      (omega arith) in
+    (omega arith) in
     ap (first_refused (may_read m) RECORD_SIZE) (sym same)
     ∙ writable_is_readable m RECORD_SIZE ((from + 8) % 2 ^ 64) (written (writable m at e))

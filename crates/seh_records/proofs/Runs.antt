@@ -16,7 +16,7 @@ or_else (Some a) o = Some a
 
 pub first_refused-append : (may : ℕ → Bool) (n k at : ℕ) → at < 2 ^ 64
     → first_refused may (n + k) at ≡ or_else (first_refused may n at)
-      (first_refused may k ((at + n) % 2 ^ 64))
+    (first_refused may k ((at + n) % 2 ^ 64))
 unfolding first_refused
 first_refused-append may zero k at lt = let e : (at + 0) % 2 ^ 64 ≡ at = omega arith in
     let f : 0 + k ≡ k = omega arith in ap (λ j. first_refused may j at) f
@@ -25,13 +25,13 @@ first_refused-append may (suc n) k at lt =
     let f : suc n + k ≡ suc (n + k) = omega arith in
     let e : (next at + n) % 2 ^ 64 ≡ (at + suc n) % 2 ^ 64 = omega arith in
     ap (λ j. first_refused may j at) f ∙ here (may at)
-      (first_refused-append may n k (next at) (omega arith)
-      ∙ ap (λ a. or_else (first_refused may n (next at)) (first_refused may k a)) e)
+    (first_refused-append may n k (next at) (omega arith)
+    ∙ ap (λ a. or_else (first_refused may n (next at)) (first_refused may k a)) e)
   where
     here : (b : Bool) → first_refused may (n + k) (next at)
-      ≡ or_else (first_refused may n (next at)) (first_refused may k ((at + suc n) % 2 ^ 64))
-      → cond b (first_refused may (n + k) (next at)) (Some at)
-      ≡ or_else (cond b (first_refused may n (next at)) (Some at))
+        ≡ or_else (first_refused may n (next at)) (first_refused may k ((at + suc n) % 2 ^ 64))
+        → cond b (first_refused may (n + k) (next at)) (Some at)
+        ≡ or_else (cond b (first_refused may n (next at)) (Some at))
         (first_refused may k ((at + suc n) % 2 ^ 64))
     here true h = h
     here false h = refl
@@ -83,15 +83,15 @@ pub ruleset refused_steps = (words-more, words-refused, no-words)
 -- words one after another
 pub with_words-append : (byte : ℕ → ℕ) (at : ℕ) (xs ys : List ℕ) → at < 2 ^ 64
     → with_words byte at (xs ++ ys) ≡ with_words (with_words byte at xs)
-      ((at + 8 * length xs) % 2 ^ 64) ys
+    ((at + 8 * length xs) % 2 ^ 64) ys
 unfolding with_words
 with_words-append byte at [] ys lt = let e : (at + 8 * 0) % 2 ^ 64 ≡ at = omega arith in
     ap (λ a. with_words byte a ys) (sym e)
 with_words-append byte at (x ∷ xs) ys lt =
     let e : ((at + 8) % 2 ^ 64 + 8 * length xs) % 2 ^ 64
-      ≡ (at + 8 * length (x ∷ xs)) % 2 ^ 64 = omega arith in
+    ≡ (at + 8 * length (x ∷ xs)) % 2 ^ 64 = omega arith in
     with_words-append (with_number byte 8 at x) ((at + 8) % 2 ^ 64) xs ys (omega arith)
-      ∙ ap (λ a. with_words (with_words (with_number byte 8 at x) ((at + 8) % 2 ^ 64) xs) a ys) e
+    ∙ ap (λ a. with_words (with_words (with_number byte 8 at x) ((at + 8) % 2 ^ 64) xs) a ys) e
 
 pub with_words-more : (byte : ℕ → ℕ) (at i : ℕ) (ws : List ℕ) → i < length ws
     → with_words (with_number byte 8 at (get_or ws i 0)) ((at + 8) % 2 ^ 64) (drop (i + 1) ws)
@@ -134,7 +134,7 @@ pub one_more : (xs all rest : List ℕ) (i b : ℕ) → i < length xs → all �
     → all ≡ take (i + 1) (set xs i b) ++ rest
 one_more xs all rest i b lt e =
     e ∙ sym (append_assoc (take i xs) (b ∷ []) rest)
-      ∙ ap (λ (t : List ℕ). t ++ rest) (sym (take_more_set xs i b lt))
+    ∙ ap (λ (t : List ℕ). t ++ rest) (sym (take_more_set xs i b lt))
 
 -- a load of readable bytes isn't refused
 pub granted : (m : Memory) (at : ℕ) (w : Width) (x : RefusedAccess)

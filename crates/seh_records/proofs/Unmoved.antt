@@ -23,10 +23,10 @@ number_same byte other (suc n) x top h =
     let e : next x ≡ x + 1 = omega arith in
     let first = ap other (sym z) ∙ h 0 (omega arith) ∙ ap byte z in
     let rest = number_same byte other n (x + 1) (omega arith)
-      (λ i lt. let f : x + 1 + i ≡ x + suc i = omega arith in ap other f ∙ h (suc i) (omega arith)
-      ∙ ap byte (sym f)) in
+    (λ i lt. let f : x + 1 + i ≡ x + suc i = omega arith in ap other f ∙ h (suc i) (omega arith)
+    ∙ ap byte (sym f)) in
     ap (λ v. v + 256 * number_at other n (next x)) first
-      ∙ ap (λ v. byte x + 256 * v) (ap (number_at other n) e ∙ rest ∙ ap (number_at byte n) (sym e))
+    ∙ ap (λ v. byte x + 256 * v) (ap (number_at other n) e ∙ rest ∙ ap (number_at byte n) (sym e))
 
 words_same : (byte other : ℕ → ℕ) (n x : ℕ) → x + 8 * n < 2 ^ 64
     → ((i : ℕ) → i < 8 * n → other (x + i) ≡ byte (x + i)) → words_at other n x ≡ words_at byte n x
@@ -36,11 +36,11 @@ words_same byte other (suc n) x top h =
     let e : (x + 8) % 2 ^ 64 ≡ x + 8 = omega arith in
     let first = number_same byte other 8 x (omega arith) (λ i lt. h i (omega arith)) in
     let rest = words_same byte other n (x + 8) (omega arith)
-      (λ i lt. let f : x + 8 + i ≡ x + (8 + i) = omega arith in ap other f ∙ h (8 + i) (omega arith)
-      ∙ ap byte (sym f)) in
+    (λ i lt. let f : x + 8 + i ≡ x + (8 + i) = omega arith in ap other f ∙ h (8 + i) (omega arith)
+    ∙ ap byte (sym f)) in
     ap (λ v. v ∷ words_at other n ((x + 8) % 2 ^ 64)) first
-      ∙ ap (λ (t : List ℕ). number_at byte 8 x ∷ t)
-        (ap (words_at other n) e ∙ rest ∙ ap (words_at byte n) (sym e))
+    ∙ ap (λ (t : List ℕ). number_at byte 8 x ∷ t)
+    (ap (words_at other n) e ∙ rest ∙ ap (words_at byte n) (sym e))
 
 module _ (m new : Memory) (at : ℕ) (top : at + RECORD_SIZE < 2 ^ 64)
     (same : (x : ℕ) → at + 32 ≤ x → x < at + RECORD_SIZE → new.byte x ≡ m.byte x) where
@@ -49,13 +49,13 @@ module _ (m new : Memory) (at : ℕ) (top : at + RECORD_SIZE < 2 ^ 64)
   numbers n o ge le =
       let e : (at + o) % 2 ^ 64 ≡ at + o = omega arith in
       ap (number_at new.byte n) e ∙ number_same m.byte new.byte n (at + o) (omega arith)
-        (λ i lt. same (at + o + i) (omega arith) (omega arith)) ∙ ap (number_at m.byte n) (sym e)
+      (λ i lt. same (at + o + i) (omega arith) (omega arith)) ∙ ap (number_at m.byte n) (sym e)
 
   runs : (n o : ℕ) → 32 ≤ o → o + 8 * n ≤ RECORD_SIZE → words_from new at o n ≡ words_from m at o n
   runs n o ge le =
       let e : (at + o) % 2 ^ 64 ≡ at + o = omega arith in
       ap (words_at new.byte n) e ∙ words_same m.byte new.byte n (at + o) (omega arith)
-        (λ i lt. same (at + o + i) (omega arith) (omega arith)) ∙ ap (words_at m.byte n) (sym e)
+      (λ i lt. same (at + o + i) (omega arith) (omega arith)) ∙ ap (words_at m.byte n) (sym e)
 
   fields : (kind : Kind) → recorded new at kind ≡ recorded m at kind
   fields kind i = record {
@@ -68,11 +68,15 @@ module _ (m new : Memory) (at : ℕ) (top : at + RECORD_SIZE < 2 ^ 64)
     flags = numbers 4 100 (lit≤ tt) (lit≤ tt) i;
     count = numbers 4 120 (lit≤ tt) (lit≤ tt) i;
     parameters = runs 15 128 (lit≤ tt) (lit≤ tt) i;
-    saved = record { registers = runs 16 0x178 (lit≤ tt) (lit≤ tt) i;
+    saved = record {
+      registers = runs 16 0x178 (lit≤ tt) (lit≤ tt) i;
       rip = numbers 8 0x1F8 (lit≤ tt) (lit≤ tt) i;
-      flags = flags_of (numbers 4 0x144 (lit≤ tt) (lit≤ tt) i) };
-    walk = record { rip = numbers 8 1488 (lit≤ tt) (lit≤ tt) i;
-      kept = runs 9 1496 (lit≤ tt) (lit≤ tt) i };
+      flags = flags_of (numbers 4 0x144 (lit≤ tt) (lit≤ tt) i);
+    };
+    walk = record {
+      rip = numbers 8 1488 (lit≤ tt) (lit≤ tt) i;
+      kept = runs 9 1496 (lit≤ tt) (lit≤ tt) i;
+    };
   }
 
   by_kind : (o : Option Kind) → of_kind new at o ≡ of_kind m at o
@@ -101,10 +105,10 @@ pub stores_leave_it : StoresLeaveIt
 stores_leave_it m at to v w top lt apart =
     fetched_by_its_bytes m (after_store m to w v) at top
     (ap (λ (f : ℕ → Protection). first_refused (λ a. is_readable (f a).rights) RECORD_SIZE at)
-      (keeps_modes m to v w))
+    (keeps_modes m to v w))
     (λ x ge le. kept x (first_refused (may_write m) (bytes_of w) to) (apart x ge le))
   where
     kept : (x : ℕ) (o : Option ℕ) → IsApart x to (bytes_of w)
-      → (unless_refused o (with_bytes m (with_number m.byte (bytes_of w) to v)) m).byte x ≡ m.byte x
+        → (unless_refused o (with_bytes m (with_number m.byte (bytes_of w) to v)) m).byte x ≡ m.byte x
     kept x None a = untouched m.byte (bytes_of w) to v x a lt
     kept x (Some b) a = refl

@@ -41,9 +41,9 @@ enough (suc n) (suc k) t m w bytes small p q = go (λ u l b a c. enough n k t m 
     (decided t w (visited t m w)) refl
   where
     go : ((u : WalkState) → ContinuesAt (visited t m w) u → rsp u.context < 2 ^ 64
-      → 2 ^ 64 ≤ n + rsp u.context → 2 ^ 64 ≤ k + rsp u.context → search n t m u ≡ search k t m u)
-      → (r : Result WalkState SearchResult) → decided t w (visited t m w) ≡ r
-      → continue_walk (search n t m) r ≡ continue_walk (search k t m) r
+        → 2 ^ 64 ≤ n + rsp u.context → 2 ^ 64 ≤ k + rsp u.context → search n t m u ≡ search k t m u)
+        → (r : Result WalkState SearchResult) → decided t w (visited t m w) ≡ r
+        → continue_walk (search n t m) r ≡ continue_walk (search k t m) r
     go more (Err s) e = refl
     go more (Ok u) e =
         let l = leads t w (visited t m w) u e in

@@ -52,10 +52,10 @@ enough (suc n) (suc k) t m frame target w bytes small p q = go
     (decided t frame target w (visited t m w)) refl
   where
     go : ((u : WalkState) → ContinuesAt (visited t m w) u → rsp u.context < 2 ^ 64
-      → 2 ^ 64 ≤ n + rsp u.context → 2 ^ 64 ≤ k + rsp u.context
-      → unwind n t m frame target u ≡ unwind k t m frame target u)
-      → (r : Result WalkState UnwindResult) → decided t frame target w (visited t m w) ≡ r
-      → continue_walk (unwind n t m frame target) r ≡ continue_walk (unwind k t m frame target) r
+        → 2 ^ 64 ≤ n + rsp u.context → 2 ^ 64 ≤ k + rsp u.context
+        → unwind n t m frame target u ≡ unwind k t m frame target u)
+        → (r : Result WalkState UnwindResult) → decided t frame target w (visited t m w) ≡ r
+        → continue_walk (unwind n t m frame target) r ≡ continue_walk (unwind k t m frame target) r
     go more (Err s) e = refl
     go more (Ok u) e =
         let l = leads t frame target w (visited t m w) u e in

@@ -23,7 +23,7 @@ unfolding number_at
 eight_small byte a h = many (byte a) _ _ _ _ _ _ _ (h _) (h _) (h _) (h _) (h _) (h _) (h _) (h _)
   where
     many : (a b c d e f g i : ℕ) → a < 256 → b < 256 → c < 256 → d < 256 → e < 256 → f < 256
-      → g < 256 → i < 256 → a + 256 * (b + 256 *
+        → g < 256 → i < 256 → a + 256 * (b + 256 *
         (c + 256 * (d + 256 * (e + 256 * (f + 256 * (g + 256 * (i + 256 * 0))))))) < 2 ^ 64
     many a b c d e f g i p q r s t u v w = omega arith
 
@@ -95,8 +95,8 @@ module _ (m : Memory) (bytes : AreBytes m.byte) where
   one_small base i u (MachineFrame k) h =
       bind IsSmallUndo (λ e. tt) (word m ((rsp u.context + 8 * k) % 2 ^ 64)) _ (λ rip e.
       bind IsSmallUndo (λ e. tt) (word m ((rsp u.context + 8 * k + 24) % 2 ^ 64)) _
-        (λ stack f. with_rsp_small (record u.context { rip = rip }) stack
-        (word_small m ((rsp u.context + 8 * k + 24) % 2 ^ 64) stack bytes f)))
+      (λ stack f. with_rsp_small (record u.context { rip = rip }) stack
+      (word_small m ((rsp u.context + 8 * k + 24) % 2 ^ 64) stack bytes f)))
 
   undone_small : (base : ℕ) (i : Info) (xs : List UnwindOperation) (u : Undo)
       → rsp u.context < 2 ^ 64 → IsSmallUndo (undone m base i xs u)
@@ -127,8 +127,8 @@ module _ (m : Memory) (bytes : AreBytes m.byte) where
   unwound_small base i ps ops c h =
       bind IsSmall (λ e. tt) (undone m base i ops (at_start c)) _ (λ u e.
       bind IsSmall (λ e. tt) (all_undone m base ps u) _
-        (λ w f. returned_small w (subst IsSmallUndo f
-        (all_small base ps u (subst IsSmallUndo e (undone_small base i ops (at_start c) h))))))
+      (λ w f. returned_small w (subst IsSmallUndo f
+      (all_small base ps u (subst IsSmallUndo e (undone_small base i ops (at_start c) h))))))
 
   part_small : (i : Instr) (c : Context) → rsp c < 2 ^ 64 → IsSmall (left_by m i c)
   part_small (instrs.Arithmetic o w to by) c h = raised_small c (constant by)

@@ -35,7 +35,7 @@ filter_seen t w at None = refl
 filter_seen t w at (Some r) = go r.kind
   where
     go : (k : Kind) → seen t w (searching_item at r k)
-      ≡ walk.if_search at (above at (walk.saved_in r)) (walk.is_search k)
+        ≡ walk.if_search at (above at (walk.saved_in r)) (walk.is_search k)
     go Search = above_seen t w (walk.saved_in r) at
     go ExceptionUnwind = refl
     go LocalUnwind = refl
@@ -46,7 +46,7 @@ finally_seen t w at None = refl
 finally_seen t w at (Some r) = go r.kind
   where
     go : (k : Kind) → seen t w (unwinding_item at r k)
-      ≡ walk.if_search at (above at (walk.walk_in r)) (not (walk.is_search k))
+        ≡ walk.if_search at (above at (walk.walk_in r)) (not (walk.is_search k))
     go Search = refl
     go ExceptionUnwind = above_seen t w (walk.walk_in r) at
     go LocalUnwind = above_seen t w (walk.walk_in r) at

@@ -31,9 +31,9 @@ module _ (t : Functions) (m : Memory) (w : WalkState) (P : ℕ → Type 0) where
   above_keeps at v h u l = go (ltb at (rsp v.context)) refl l
     where
       go : (b : Bool) → ltb at (rsp v.context) ≡ b → ContinuesAt (if_above at v b) u
-        → P (rsp u.context)
+          → P (rsp u.context)
       go true e l = subst (λ (x : WalkState). P (rsp x.context)) l
-        (h (ltb-true at (rsp v.context) e))
+          (h (ltb-true at (rsp v.context) e))
       go false e l = absurd l
 
   search_keeps : (at : ℕ) (i : Visited) (b : Bool) → Keeps i → Keeps (if_search at i b)
@@ -61,9 +61,9 @@ module _ (t : Functions) (m : Memory) (w : WalkState) (P : ℕ → Type 0) where
 
   module _ (saved : (r : DispatchRecord) → fetched m (rsp w.context) ≡ Some r
       → rsp w.context < rsp (context_of r.saved) → P (rsp (context_of r.saved)))
-        (walk : (r : DispatchRecord) → fetched m (rsp w.context) ≡ Some r
+      (walk : (r : DispatchRecord) → fetched m (rsp w.context) ≡ Some r
       → rsp w.context < rsp r.walk → P (rsp r.walk))
-        (caller : (f : CallerFrame) → caller_in t m w.context ≡ Ok f → P (rsp f.context)) where
+      (caller : (f : CallerFrame) → caller_in t m w.context ≡ Ok f → P (rsp f.context)) where
     by_finally : (b : Bool) → Keeps (if_finally t m w b)
     by_finally true = finally_keeps (rsp w.context) (fetched m (rsp w.context)) walk
     by_finally false = framed_keeps (caller_in t m w.context) caller
@@ -92,7 +92,7 @@ risen_above c (Ok g) f e = go (ltb (rsp c) (rsp g.context)) refl e
 
     go : (b : Bool) → ltb (rsp c) (rsp g.context) ≡ b → risen c g b ≡ Ok f → rsp c < rsp f.context
     go true h e = subst (λ (x : CallerFrame). rsp c < rsp x.context) (same e)
-      (ltb-true (rsp c) (rsp g.context) h)
+        (ltb-true (rsp c) (rsp g.context) h)
     go false h e = absurd cc
 
 caller_above : (t : Functions) (m : Memory) (c : Context) (f : CallerFrame) → caller_in t m c ≡ Ok f
@@ -122,8 +122,10 @@ fetched_small m at h = by_reading (first_refused (may_read m) RECORD_SIZE at)
   where
     by_kind : (o : Option Kind) → IsSmallRecord (of_kind m at o)
     by_kind None = tt
-    by_kind (Some k) = (run_small m.byte 16 ((at + 0x178) % 2 ^ 64) 4 h,
-      run_small m.byte 9 ((at + 1496) % 2 ^ 64) 0 h)
+    by_kind (Some k) = (
+      run_small m.byte 16 ((at + 0x178) % 2 ^ 64) 4 h,
+      run_small m.byte 9 ((at + 1496) % 2 ^ 64) 0 h,
+    )
 
     by_mark : (b : Bool) → IsSmallRecord (if_marked m at b)
     by_mark true = by_kind (kind_of (word m at 40))
@@ -137,5 +139,5 @@ pub walks_stay_below : WalksStayBelow
 walks_stay_below t m w u bytes small l =
     let at = rsp w.context in
     keeps t m w (λ n. n < 2 ^ 64) (λ r e h. (subst IsSmallRecord e (fetched_small m at bytes)).0)
-      (λ r e h. (subst IsSmallRecord e (fetched_small m at bytes)).1)
-      (λ f e. subst IsSmallFound e (caller_small m bytes t w.context small)) u l
+    (λ r e h. (subst IsSmallRecord e (fetched_small m at bytes)).1)
+    (λ f e. subst IsSmallFound e (caller_small m bytes t w.context small)) u l

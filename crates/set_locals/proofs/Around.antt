@@ -22,23 +22,30 @@ use Rattle.set_locals.proofs.Pieces.{code_kept, below_with, around_declared, dec
 
 pub around_finally : (locals : ℕ) (names : Names) (before seen : SeenNames) → names.free < locals
     → IsAround locals names before seen → IsAround locals (finally_names names) before
-      (with_local names.free seen)
+    (with_local names.free seen)
 around_finally locals names before seen lt a =
     let more = with_local names.free seen in
     let g = sees_before seen names.free in
-    record { part = within before seen more a.part g;
+    record {
+      part = within before seen more a.part g;
       below = below_with locals names.free seen a.below lt;
-      code = code_kept seen more names.exception g a.code; flag = sees_own seen names.free }
+      code = code_kept seen more names.exception g a.code;
+      flag = sees_own seen names.free;
+    }
 
 pub around_filter : (locals : ℕ) (names : Names) (before seen : SeenNames)
     → IsAround locals names before seen → IsAround locals (filter_names names) before seen
-around_filter locals names before seen a = record { part = a.part; below = a.below; code = tt;
-    flag = a.flag }
+around_filter locals names before seen a = record {
+  part = a.part;
+  below = a.below;
+  code = tt;
+  flag = a.flag;
+}
 
 pub around_after : (s : Statement) (i : Inside) (locals : ℕ) (names : Names)
     (before seen : SeenNames) → length i.scope.sizes ≤ locals → statement_sound i s ≡ true
     → IsAround locals names before seen → IsAround locals names (after_statement before s)
-      (after_statement seen s)
+    (after_statement seen s)
 around_after (Declare d) i locals names before seen fits ok a = around_declared locals names before
     seen d.local (declared_small i.scope d locals fits ok) a
 around_after (Block ss) i locals names before seen fits ok a = a
@@ -88,7 +95,7 @@ module _ (linear : LinearProgram) (lists : BodyName → List SeenNames) where
 
       of : (label < last) ⊎ (last ≤ label) → IsPart seen (sets name label)
       of (inl less) = let l = statements_long body free seen in
-        above_at (lists name) at (statements_sets free seen body) seen h
-        (statements_above body free seen seen (itself seen)) label le (omega arith)
+          above_at (lists name) at (statements_sets free seen body) seen h
+          (statements_above body free seen seen (itself seen)) label le (omega arith)
       of (inr more) = let same : last ≡ label = omega arith in
-        subst (λ n. IsPart seen (sets name n)) same (is_same_back (sets name last) seen e)
+          subst (λ n. IsPart seen (sets name n)) same (is_same_back (sets name last) seen e)

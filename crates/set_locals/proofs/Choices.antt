@@ -48,8 +48,8 @@ module _ (linear : LinearProgram) (lists : BodyName → List SeenNames) (name : 
     pub is_there : At (at + expression_size c + 1) (statement_sets free seen s)
     pub end : IsRecordedAt (at + expression_size c + 1 + statement_size s) (after_statement seen s)
     pub leads : Lead (at + expression_size c + 1)
-      (statement_code scope s (at + expression_size c + 1))
-      → Lead at (statement_code scope (If c s) at)
+        (statement_code scope s (at + expression_size c + 1))
+        → Lead at (statement_code scope (If c s) at)
 
   pub if_parts : (c : Expression) (s : Statement) (at : ℕ) → expression_within before c ≡ true
       → At at (statement_sets free seen (If c s)) → IsRecordedAt (at + statement_size (If c s)) seen
@@ -69,31 +69,33 @@ module _ (linear : LinearProgram) (lists : BodyName → List SeenNames) (name : 
       let hs = back (lists name) at then tests body (omega arith) h in
       let end' = within (sets name out) seen (after_statement seen s) leaves (grows s seen) in
       let start = begins (lists name) then out body seen (after_statement seen s) hs
-        (statement_first s free seen) (omega arith) end' in
+      (statement_first s free seen) (omega arith) end' in
       let even = even_list (lists name) seen (suc n) at then (omega arith)
-        (front (lists name) at tests body h) start in
+      (front (lists name) at tests body h) start in
       record {
         is_there = hs;
         end = end';
         leads = λ x. both_lead linear sets name at place (expression_code scope.names c 0 at)
-          (JumpIfZero (Temporary 0) out ∷ statement_code scope s then) (omega arith)
+            (JumpIfZero (Temporary 0) out ∷ statement_code scope s then) (omega arith)
             (value_leads linear lists name locals room scope.names before seen around c at w
-              (even_part (sets name) seen at then at place even (omega arith) (omega arith)
-              (omega arith)))
-            (test_leads linear lists name locals room scope.names before seen around place out 0
-              (even.inside place (omega arith) (omega arith)) leaves start, x);
+            (even_part (sets name) seen at then at place even (omega arith) (omega arith)
+            (omega arith))) (
+              test_leads linear lists name locals room scope.names before seen around place out 0
+                  (even.inside place (omega arith) (omega arith)) leaves start,
+              x,
+            );
       }
 
   pub record IfElseParts (c : Expression) (s t : Statement) (at : ℕ) : Type 0 where
     pub is_there : At (at + expression_size c + 1) (statement_sets free seen s)
     pub end : IsRecordedAt (at + expression_size c + 1 + statement_size s) (after_statement seen s)
     pub other_is_at : At (at + expression_size c + 1 + statement_size s + 1)
-      (statement_sets free seen t)
+        (statement_sets free seen t)
     pub other_end : IsRecordedAt (at + expression_size c + 1 + statement_size s + 1
-      + statement_size t) (after_statement seen t)
+        + statement_size t) (after_statement seen t)
     pub leads : Lead (at + expression_size c + 1)
-      (statement_code scope s (at + expression_size c + 1))
-      → Lead (at + expression_size c + 1 + statement_size s + 1)
+        (statement_code scope s (at + expression_size c + 1))
+        → Lead (at + expression_size c + 1 + statement_size s + 1)
         (statement_code scope t (at + expression_size c + 1 + statement_size s + 1))
         → Lead at (statement_code scope (IfElse c s t) at)
 
@@ -121,32 +123,32 @@ module _ (linear : LinearProgram) (lists : BodyName → List SeenNames) (name : 
       let h2 = back (lists name) then skip yes (seen ∷ no) (omega arith) h1 in
       let end_no = within (sets name out) seen (after_statement seen t) leaves (grows t seen) in
       let start_no = begins (lists name) otherwise out no seen (after_statement seen t) h2.1
-        (statement_first t free seen) (omega arith) end_no in
+      (statement_first t free seen) (omega arith) end_no in
       let here_skip = head_recorded (lists name) skip seen no h2 in
       let end_yes = within (sets name skip) seen (after_statement seen s)
-        (is_same (sets name skip) seen here_skip) (grows s seen) in
+      (is_same (sets name skip) seen here_skip) (grows s seen) in
       let first = front (lists name) then yes (seen ∷ no) h1 in
       let start = begins (lists name) then skip yes seen (after_statement seen s) first
-        (statement_first s free seen) (omega arith) end_yes in
+      (statement_first s free seen) (omega arith) end_yes in
       let even = even_list (lists name) seen (suc n) at then (omega arith)
-        (front (lists name) at tests (yes ++ (seen ∷ no)) h) start in
+      (front (lists name) at tests (yes ++ (seen ∷ no)) h) start in
       record {
         is_there = first;
         end = end_yes;
         other_is_at = h2.1;
         other_end = end_no;
         leads = λ x y. both_lead linear sets name at place (expression_code scope.names c 0 at)
-          (JumpIfZero (Temporary 0) otherwise
-          ∷ (statement_code scope s then ++ (Jump out ∷ statement_code scope t otherwise)))
+            (JumpIfZero (Temporary 0) otherwise
+            ∷ (statement_code scope s then ++ (Jump out ∷ statement_code scope t otherwise)))
             (omega arith)
             (value_leads linear lists name locals room scope.names before seen around c at w
-              (even_part (sets name) seen at then at place even (omega arith) (omega arith)
-              (omega arith))) (
+            (even_part (sets name) seen at then at place even (omega arith) (omega arith)
+            (omega arith))) (
               test_leads linear lists name locals room scope.names before seen around place
-                otherwise 0 (even.inside place (omega arith) (omega arith)) start_no start,
+                  otherwise 0 (even.inside place (omega arith) (omega arith)) start_no start,
               both_lead linear sets name then skip (statement_code scope s then)
-                (Jump out ∷ statement_code scope t otherwise) (omega arith) x
-                (from_here linear lists name skip out seen here_skip leaves, y),
+                  (Jump out ∷ statement_code scope t otherwise) (omega arith) x
+                  (from_here linear lists name skip out seen here_skip leaves, y),
             );
       }
 
@@ -159,16 +161,16 @@ module _ (linear : LinearProgram) (lists : BodyName → List SeenNames) (name : 
       let mid = at + n in
       let same : at + (n + 2) ≡ mid + 2 = omega arith in
       let even = even_list (lists name) seen (n + 2) at (mid + 2) (omega arith) h
-        (subst (λ k. IsRecordedAt k seen) same end) in
+      (subst (λ k. IsRecordedAt k seen) same end) in
       let l = returned_length scope.names e at in
       both_lead linear sets name at mid (returned_code scope.names e at) (return_code scope.exit)
-        (omega arith)
+      (omega arith)
       (returned_leads linear lists name locals room scope.names before seen around e at w
-        (even_part (sets name) seen at (mid + 2) at mid even (omega arith) (omega arith)
-        (omega arith)))
+      (even_part (sets name) seen at (mid + 2) at mid even (omega arith) (omega arith)
+      (omega arith)))
       (return_leads linear lists name scope.exit mid seen exit
-        (even_part (sets name) seen at (mid + 2) mid (mid + 2) even (omega arith) (omega arith)
-        (omega arith)))
+      (even_part (sets name) seen at (mid + 2) mid (mid + 2) even (omega arith) (omega arith)
+      (omega arith)))
 
   -- a statement, and those after it
   pub record ThenParts (s : Statement) (ss : Statements) (at : ℕ) : Type 0 where
@@ -176,10 +178,10 @@ module _ (linear : LinearProgram) (lists : BodyName → List SeenNames) (name : 
     pub end : IsRecordedAt (at + statement_size s) (after_statement seen s)
     pub other_is_at : At (at + statement_size s) (statements_sets free (after_statement seen s) ss)
     pub other_end : IsRecordedAt (at + statement_size s + statements_size ss)
-      (after_statement seen s)
+        (after_statement seen s)
     pub leads : Lead at (statement_code scope s at)
-      → Lead (at + statement_size s) (statements_code scope ss (at + statement_size s))
-      → Lead at (statements_code scope (Then s ss) at)
+        → Lead (at + statement_size s) (statements_code scope ss (at + statement_size s))
+        → Lead at (statements_code scope (Then s ss) at)
 
   pub then_parts : (s : Statement) (ss : Statements) (at : ℕ)
       → At at (statements_sets free seen (Then s ss))
@@ -195,14 +197,14 @@ module _ (linear : LinearProgram) (lists : BodyName → List SeenNames) (name : 
       let l = statement_length scope s at in
       let same : at + (statement_size s + statements_size ss) ≡ out = omega arith in
       let end' = within (sets name out) seen more (subst (λ k. IsRecordedAt k seen) same end)
-        (grows s seen) in
+      (grows s seen) in
       let rest = back (lists name) at next sl rl (omega arith) h in
       record {
         is_there = front (lists name) at sl rl h;
         end = begins (lists name) next out rl more more rest
-          (statements_first ss free more more (itself more)) (omega arith) end';
+            (statements_first ss free more more (itself more)) (omega arith) end';
         other_is_at = rest;
         other_end = end';
         leads = λ x y. both_lead linear sets name at next (statement_code scope s at)
-          (statements_code scope ss next) (omega arith) x y;
+            (statements_code scope ss next) (omega arith) x y;
       }

@@ -68,8 +68,10 @@ module _ (locals : ℕ) (names : Names) (before seen : SeenNames)
 
   choice_fine : (d at instead other : ℕ) → lo ≤ at → at + 4 ≤ hi
       → All (choice_code d at instead other)
-  choice_fine d at instead other a b = ((tt, (omega arith, omega arith)),
-      ((tt, tt), ((omega arith, omega arith), ((tt, tt), tt))))
+  choice_fine d at instead other a b = (
+    (tt, (omega arith, omega arith)),
+    ((tt, tt), ((omega arith, omega arith), ((tt, tt), tt))),
+  )
 
   read_fine : (p : Lvalue) (address to : ℕ) → lvalue_within before p ≡ true
       → All (read_code p address to)
@@ -103,58 +105,58 @@ module _ (locals : ℕ) (names : Names) (before seen : SeenNames)
 
   operands_fine : (e f : Expression) (d at : ℕ) (rest : List Instruction)
       → All (expression_code names e d at) → All
-        (expression_code names f (d + 1) (at + expression_size e)) → All rest
+      (expression_code names f (d + 1) (at + expression_size e)) → All rest
       → All (expression_code names e d at ++ (expression_code names f (d + 1)
-        (at + expression_size e) ++ rest))
+      (at + expression_size e) ++ rest))
   operands_fine e f d at rest p q h =
       let code = expression_code names f (d + 1) (at + expression_size e) in
       append (expression_code names e d at) (code ++ rest) p (append code rest q h)
 
   mutual
     pub expression_fine : (e : Expression) (d at : ℕ) → expression_within before e ≡ true → lo ≤ at
-      → at + expression_size e ≤ hi → All (expression_code names e d at)
+        → at + expression_size e ≤ hi → All (expression_code names e d at)
     expression_fine (On node c) d at w a b = append (node_code names node d at)
-      (conversion_code c d) (node_fine node d at w a (omega arith)) (conversion_fine c d)
+        (conversion_code c d) (node_fine node d at w a (omega arith)) (conversion_fine c d)
 
     locate_fine : (p : Lvalue) (d at : ℕ) → lvalue_within before p ≡ true → lo ≤ at
-      → at + locate_size p ≤ hi → All (locate_code names p d at)
+        → at + locate_size p ≤ hi → All (locate_code names p d at)
     locate_fine (nodes.Local x) d at w a b = tt
     locate_fine (Global access v) d at w a b = ((tt, tt), tt)
     locate_fine (Indirection access e) d at w a b = expression_fine e d at w a b
     locate_fine (Element access e i) d at w a b =
         operands_fine e i d at (_ ∷ []) (expression_fine e d at (both_left _ _ w) a (omega arith))
-          (expression_fine i (d + 1) (at + expression_size e) (both_right _ _ w) (omega arith)
-          (omega arith)) (((tt, tt), tt), tt)
+        (expression_fine i (d + 1) (at + expression_size e) (both_right _ _ w) (omega arith)
+        (omega arith)) (((tt, tt), tt), tt)
 
     arguments_fine : (es : Arguments) (d at : ℕ) → arguments_within before es ≡ true → lo ≤ at
-      → at + arguments_size es ≤ hi → All (arguments_code names es d at)
+        → at + arguments_size es ≤ hi → All (arguments_code names es d at)
     arguments_fine Done d at w a b = tt
     arguments_fine (Next e es) d at w a b =
         append (expression_code names e d at)
-          (arguments_code names es (d + 1) (at + expression_size e))
-          (expression_fine e d at (both_left _ _ w) a (omega arith))
+        (arguments_code names es (d + 1) (at + expression_size e))
+        (expression_fine e d at (both_left _ _ w) a (omega arith))
         (arguments_fine es (d + 1) (at + expression_size e) (both_right _ _ w) (omega arith)
-          (omega arith))
+        (omega arith))
 
     node_fine : (node : Node) (d at : ℕ) → node_within before node ≡ true → lo ≤ at
-      → at + node_size node ≤ hi → All (node_code names node d at)
+        → at + node_size node ≤ hi → All (node_code names node d at)
     node_fine (nodes.Constant z v) d at w a b = ((tt, tt), tt)
     node_fine (nodes.Read p) d at w a b = append (locate_code names p d at) (read_code p d d)
-      (locate_fine p d at w a (omega arith)) (read_fine p d d w)
+        (locate_fine p d at w a (omega arith)) (read_fine p d d w)
     node_fine (nodes.AddressOf (nodes.Local x)) d at w a b = ((tt, tt), tt)
     node_fine (nodes.AddressOf (Global access v)) d at w a b = locate_fine (Global access v) d at w
-      a b
+        a b
     node_fine (nodes.AddressOf (Indirection access e)) d at w a b = locate_fine
-      (Indirection access e) d at w a b
+        (Indirection access e) d at w a b
     node_fine (nodes.AddressOf (Element access e i)) d at w a b = locate_fine (Element access e i) d
-      at w a b
+        at w a b
     node_fine (nodes.Assign p e) d at w a b =
         let from = d + address_count p in
         let code = expression_code names e from (at + locate_size p) in
         append (locate_code names p d at) (code ++ _ ∷ [])
-          (locate_fine p d at (both_left _ _ w) a (omega arith))
+        (locate_fine p d at (both_left _ _ w) a (omega arith))
         (append code (_ ∷ []) (expression_fine e from (at + locate_size p) (both_right _ _ w)
-          (omega arith) (omega arith)) (write_fine p d from d (both_left _ _ w), tt))
+        (omega arith) (omega arith)) (write_fine p d from d (both_left _ _ w), tt))
     node_fine (nodes.CompoundAssign p before' o e after) d at w a b =
         let old = d + address_count p in
         let place = at + (locate_size p + (read_size p + conversion_size before')) in
@@ -163,60 +165,66 @@ module _ (locals : ℕ) (names : Names) (before seen : SeenNames)
         (append (read_code p d old) _ (read_fine p d old (both_left _ _ w))
         (append (conversion_code before' old) _ (conversion_fine before' old)
         (append code _ (expression_fine e (old + 1) place (both_right _ _ w) (omega arith)
-          (omega arith))
-        (combined o old, append (conversion_code after old) (_ ∷ []) (conversion_fine after old)
-          (write_fine p d old d (both_left _ _ w), tt)))))
+        (omega arith)) (
+          combined o old,
+          append (conversion_code after old) (_ ∷ []) (conversion_fine after old)
+              (write_fine p d old d (both_left _ _ w), tt),
+        ))))
     node_fine (nodes.Increment m p before' o v after) d at w a b =
         let old = d + address_count p in
         append (locate_code names p d at) _ (locate_fine p d at w a (omega arith))
         (append (read_code p d old) _ (read_fine p d old w) (
           ((tt, tt), tt),
-          append (conversion_code before' (old + 1)) _ (conversion_fine before' (old + 1))
-              ((tt, tt), (combined o (old + 1),
-                append (conversion_code after (old + 1)) _ (conversion_fine after (old + 1))
-                (write_fine p d (old + 1) (old + 1) w, (((tt, tt), tt), tt)))),
+          append (conversion_code before' (old + 1)) _ (conversion_fine before' (old + 1)) (
+            (tt, tt),
+            (
+              combined o (old + 1),
+              append (conversion_code after (old + 1)) _ (conversion_fine after (old + 1))
+                  (write_fine p d (old + 1) (old + 1) w, (((tt, tt), tt), tt)),
+            ),
+          ),
         ))
     node_fine (nodes.Unary o e) d at w a b = append (expression_code names e d at) (unary_code o d)
-      (expression_fine e d at w a (omega arith)) (unary_fine o d)
+        (expression_fine e d at w a (omega arith)) (unary_fine o d)
     node_fine (nodes.Binary o e g) d at w a b =
         operands_fine e g d at (_ ∷ []) (expression_fine e d at (both_left _ _ w) a (omega arith))
-          (expression_fine g (d + 1) (at + expression_size e) (both_right _ _ w) (omega arith)
-          (omega arith)) (combined o d, tt)
+        (expression_fine g (d + 1) (at + expression_size e) (both_right _ _ w) (omega arith)
+        (omega arith)) (combined o d, tt)
     node_fine (nodes.PointerDifference v e g) d at w a b =
         operands_fine e g d at (_ ∷ _ ∷ _ ∷ [])
-          (expression_fine e d at (both_left _ _ w) a (omega arith))
-          (expression_fine g (d + 1) (at + expression_size e) (both_right _ _ w) (omega arith)
-          (omega arith))
+        (expression_fine e d at (both_left _ _ w) a (omega arith))
+        (expression_fine g (d + 1) (at + expression_size e) (both_right _ _ w) (omega arith)
+        (omega arith))
         (((tt, tt), tt), ((tt, tt), (((tt, tt), tt), tt)))
     node_fine (nodes.Not e) d at w a b =
         append (expression_code names e d at) (choice_code d (at + expression_size e) 1 0)
-          (expression_fine e d at w a (omega arith))
-          (choice_fine d (at + expression_size e) 1 0 (omega arith) (omega arith))
+        (expression_fine e d at w a (omega arith))
+        (choice_fine d (at + expression_size e) 1 0 (omega arith) (omega arith))
     node_fine (nodes.And e g) d at w a b =
         let second = at + expression_size e + 1 in
         let code = expression_code names g d second in
         append (expression_code names e d at)
-          (_ ∷ (code ++ choice_code d (second + expression_size g) 0 1))
-          (expression_fine e d at (both_left _ _ w) a (omega arith)) (
+        (_ ∷ (code ++ choice_code d (second + expression_size g) 0 1))
+        (expression_fine e d at (both_left _ _ w) a (omega arith)) (
           (tt, (omega arith, omega arith)),
           append code (choice_code d (second + expression_size g) 0 1)
-            (expression_fine g d second (both_right _ _ w) (omega arith) (omega arith))
-            (choice_fine d (second + expression_size g) 0 1 (omega arith) (omega arith)),
+              (expression_fine g d second (both_right _ _ w) (omega arith) (omega arith))
+              (choice_fine d (second + expression_size g) 0 1 (omega arith) (omega arith)),
         )
     node_fine (nodes.Or e g) d at w a b =
         let second = at + expression_size e + 3 in
         let code = expression_code names g d second in
         append (expression_code names e d at)
-          (_ ∷ _ ∷ _ ∷ (code ++ choice_code d (second + expression_size g) 0 1))
-          (expression_fine e d at (both_left _ _ w) a (omega arith)) (
+        (_ ∷ _ ∷ _ ∷ (code ++ choice_code d (second + expression_size g) 0 1))
+        (expression_fine e d at (both_left _ _ w) a (omega arith)) (
           (tt, (omega arith, omega arith)),
           (
             (tt, tt),
             (
               (omega arith, omega arith),
               append code (choice_code d (second + expression_size g) 0 1)
-                (expression_fine g d second (both_right _ _ w) (omega arith) (omega arith))
-                (choice_fine d (second + expression_size g) 0 1 (omega arith) (omega arith)),
+                  (expression_fine g d second (both_right _ _ w) (omega arith) (omega arith))
+                  (choice_fine d (second + expression_size g) 0 1 (omega arith) (omega arith)),
             ),
           ),
         )
@@ -224,22 +232,24 @@ module _ (locals : ℕ) (names : Names) (before seen : SeenNames)
         let yes = at + expression_size t + 1 in
         let no = yes + expression_size e + 1 in
         append (expression_code names t d at)
-          (_ ∷ (expression_code names e d yes ++ _ ∷ expression_code names g d no))
-          (expression_fine t d at (both_left _ _ (both_left _ _ w)) a (omega arith)) (
+        (_ ∷ (expression_code names e d yes ++ _ ∷ expression_code names g d no))
+        (expression_fine t d at (both_left _ _ (both_left _ _ w)) a (omega arith)) (
           (tt, (omega arith, omega arith)),
           append (expression_code names e d yes) (_ ∷ expression_code names g d no)
-            (expression_fine e d yes (both_right _ _ (both_left _ _ w)) (omega arith) (omega arith))
-              ((omega arith, omega arith), expression_fine g d no (both_right _ _ w) (omega arith)
-                (omega arith)),
+              (expression_fine e d yes (both_right _ _ (both_left _ _ w)) (omega arith) (omega arith)) (
+                (omega arith, omega arith),
+                expression_fine g d no (both_right _ _ w) (omega arith)
+                    (omega arith),
+              ),
         )
     node_fine (nodes.Comma e g) d at w a b =
         operands_fine e g d at (_ ∷ []) (expression_fine e d at (both_left _ _ w) a (omega arith))
-          (expression_fine g (d + 1) (at + expression_size e) (both_right _ _ w) (omega arith)
-          (omega arith)) (((tt, tt), tt), tt)
+        (expression_fine g (d + 1) (at + expression_size e) (both_right _ _ w) (omega arith)
+        (omega arith)) (((tt, tt), tt), tt)
     node_fine (nodes.Call f es) d at w a b = append (arguments_code names es d at) (_ ∷ [])
-      (arguments_fine es d at w a (omega arith)) (tt, tt)
+        (arguments_fine es d at w a (omega arith)) (tt, tt)
     node_fine (nodes.CallBuiltIn k es) d at w a b = append (arguments_code names es d at) (_ ∷ [])
-      (arguments_fine es d at w a (omega arith)) (tt, tt)
+        (arguments_fine es d at w a (omega arith)) (tt, tt)
     node_fine nodes.ExceptionCode d at w a b = (code_fine names.exception d around.code, tt)
     node_fine (nodes.Information field) d at w a b = (tt, tt)
     node_fine nodes.AbnormalTermination d at w a b = (flag_fine names.abnormal d around.flag, tt)

@@ -24,7 +24,7 @@ passed {X = X} P test [] h = tt
 passed {X = X} P test (x ∷ xs) h = one (test x) refl (filter test xs) (passed P test xs h.1)
   where
     one : (b : Bool) → test x ≡ b → (ys : List X) → AllByRecursion P ys
-      → AllByRecursion P (cond b (x ∷ ys) ys)
+        → AllByRecursion P (cond b (x ∷ ys) ys)
     one true e ys k = (h.0 e, k)
     one false e ys k = k
 
@@ -36,10 +36,10 @@ module _ (program : LinearProgram) (sets : BodyName → ℕ → SeenNames)
   regions_here f = of (body_of program f.body) refl
     where
       of : (o : Option LinearBody) → body_of program f.body ≡ o
-        → AreRegions program sets f (filter (holds f.next) (regions_of o))
+          → AreRegions program sets f (filter (holds f.next) (regions_of o))
       of None e = tt
       of (Some b) e = passed (λ (r : Region). Guards program sets f.body f.next r.kind)
-        (holds f.next) b.regions ((recorded.bodies f.body b e).regions f.next)
+          (holds f.next) b.regions ((recorded.bodies f.body b e).regions f.next)
 
   abbrev pub Left : Option (List Region) → List Item → Type 0
   Left None items = Unit {0}
@@ -47,7 +47,7 @@ module _ (program : LinearProgram) (sets : BodyName → ℕ → SeenNames)
 
   pub left_are : (left : Option (List Region)) (f : Frame) (below : List Item)
       → Left left (Waits f ∷ below) → AreRegions program sets f
-        (regions_left left (regions_at program f.body f.next))
+      (regions_left left (regions_at program f.body f.next))
   left_are None f below h = regions_here f
   left_are (Some rest) f below h = h
 
@@ -55,16 +55,16 @@ module _ (program : LinearProgram) (sets : BodyName → ℕ → SeenNames)
 
   handlers_are_at : (f : Frame) (rs : List Region) (below : List Item)
       → AreRegions program sets f rs → AreHandlers program sets
-        (handlers_in rs f.activation (length below)) (Waits f ∷ below)
+      (handlers_in rs f.activation (length below)) (Waits f ∷ below)
   handlers_are_at f [] below h = tt
   handlers_are_at f (r ∷ rs) below h =
       all_append (λ (g : Handler). IsHandler program sets g (Waits f ∷ below))
-        (handlers_of r.kind f.activation (length below))
-        (handlers_in rs f.activation (length below)) (of r.kind h.0)
-        (handlers_are_at f rs below h.1)
+      (handlers_of r.kind f.activation (length below))
+      (handlers_in rs f.activation (length below)) (of r.kind h.0)
+      (handlers_are_at f rs below h.1)
     where
       of : (k : RegionKind) → Guards program sets f.body f.next k
-        → AreHandlers program sets (handlers_of k f.activation (length below)) (Waits f ∷ below)
+          → AreHandlers program sets (handlers_of k f.activation (length below)) (Waits f ∷ below)
       of (kinds.Finally k) g = tt
       of (kinds.Filter k t) g = (
         inl (record {
@@ -72,12 +72,19 @@ module _ (program : LinearProgram) (sets : BodyName → ℕ → SeenNames)
           activation = refl;
           target = g.1;
           filter = λ j e. subst (λ n. IsPart (sets (FuncletBody n) 0) (here program sets f))
-            (same_it k j e) g.0;
+              (same_it k j e) g.0;
         }),
         tt,
       )
-      of (kinds.Always t) g = (inl (record { depth = refl; activation = refl; target = g;
-        filter = λ j e. absurd (cc) }), tt)
+      of (kinds.Always t) g = (
+        inl (record {
+          depth = refl;
+          activation = refl;
+          target = g;
+          filter = λ j e. absurd (cc);
+        }),
+        tt,
+      )
 
   pub handlers_are : (items : List Item) (left : Option (List Region)) → Left left items
       → AreKept program sets items → AreHandlers program sets (handlers program items left) items
@@ -85,11 +92,11 @@ module _ (program : LinearProgram) (sets : BodyName → ℕ → SeenNames)
   handlers_are (Waits f ∷ below) left l w =
       let rs = regions_left left (regions_at program f.body f.next) in
       all_append (λ (h : Handler). IsHandler program sets h (Waits f ∷ below))
-        (handlers_in rs f.activation (length below)) (handlers program below None)
-        (handlers_are_at f rs below (left_are left f below l))
+      (handlers_in rs f.activation (length below)) (handlers program below None)
+      (handlers_are_at f rs below (left_are left f below l))
       (all_map (λ (h : Handler). IsHandler program sets h below)
-        (λ (h : Handler). IsHandler program sets h (Waits f ∷ below)) (handlers program below None)
-        (λ h p. inr p) (handlers_are below None tt w))
+      (λ (h : Handler). IsHandler program sets h (Waits f ∷ below)) (handlers program below None)
+      (λ h p. inr p) (handlers_are below None tt w))
   handlers_are (Searches exception resumption asked rest ∷ below) left l w = handlers_are below None
       tt w.1
   handlers_are (Unwinds rest target ∷ below) left l w = handlers_are below (Some rest) w.0 w.2
@@ -103,8 +110,8 @@ module _ (program : LinearProgram) (sets : BodyName → ℕ → SeenNames)
       (sym p.activation) (w.0 x (p.filter k e x s))
   filter_marked marks h k (Waits f ∷ below) e (inr p) w x s = filter_marked marks h k below e p w.1
       x s
-  filter_marked marks h k (Searches exception resumption asked rest ∷ below) e p w x
-      s = filter_marked marks h k below e p w x s
+  filter_marked marks h k (Searches exception resumption asked rest ∷ below) e p w x s =
+      filter_marked marks h k below e p w x s
   filter_marked marks h k (Unwinds rest target ∷ below) e p w x s = filter_marked marks h k below e
       p w x s
 

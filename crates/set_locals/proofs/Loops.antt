@@ -76,7 +76,7 @@ module _ (linear : LinearProgram) (lists : BodyName → List SeenNames) (name : 
       → optional_within (after_all_declared before ds) c ≡ true
       → optional_within (after_all_declared before ds) next ≡ true
       → At at (all_declared_sets seen ds) → Even (sets name) (after_all_declared seen ds) begin
-        start → Even (sets name) (after_all_declared seen ds) again (step + 1)
+      start → Even (sets name) (after_all_declared seen ds) again (step + 1)
       → IsRecordedAt (step + 1) (after_all_declared seen ds)
       → Lead start (statement_code (in_loop (step + 1) again scope) s start)
       → Lead at (all_declared_code scope.names ds at
@@ -97,48 +97,49 @@ module _ (linear : LinearProgram) (lists : BodyName → List SeenNames) (name : 
       let cs = statement_length (in_loop out again scope) s start in
       let cn = discarded_length names next (again + 1) in
       let even_first = even_part (sets name) inner begin start begin (begin + discarded_size first)
-        even (omega arith) (omega arith) (omega arith) in
+      even (omega arith) (omega arith) (omega arith) in
       let even_test = even_part (sets name) inner begin start iteration
-        (iteration + condition_size c) even (omega arith) (omega arith) (omega arith) in
+      (iteration + condition_size c) even (omega arith) (omega arith) (omega arith) in
       let recorded_begin = (even_part (sets name) inner begin start begin begin even (omega arith)
-        (omega arith) (omega arith)).end in
+      (omega arith) (omega arith)).end in
       let recorded_iteration = (even_part (sets name) inner begin start iteration iteration even
-        (omega arith) (omega arith) (omega arith)).end in
+      (omega arith) (omega arith) (omega arith)).end in
       let recorded_next = (even_part (sets name) inner again out (again + 1) (again + 1) last
-        (omega arith) (omega arith) (omega arith)).end in
+      (omega arith) (omega arith) (omega arith)).end in
       let even_next = even_part (sets name) inner again out (again + 1)
-        (again + 1 + discarded_size next) last (omega arith) (omega arith) (omega arith) in
+      (again + 1 + discarded_size next) last (omega arith) (omega arith) (omega arith) in
       both_lead linear sets name at begin (all_declared_code names ds at)
-        (discarded_code names first begin ++ (condition_code names c out iteration
-        ++ (statement_code (in_loop out again scope) s start
-        ++ (Separator ∷ (discarded_code names next (again + 1) ++ Jump iteration ∷ [])))))
-          (omega arith)
+      (discarded_code names first begin ++ (condition_code names c out iteration
+      ++ (statement_code (in_loop out again scope) s start
+      ++ (Separator ∷ (discarded_code names next (again + 1) ++ Jump iteration ∷ [])))))
+      (omega arith)
       (all_declared_leads linear lists name locals room names scope' fits ds before seen at begin
-        (sym e1) around ok w_ds d recorded_begin)
+      (sym e1) around ok w_ds d recorded_begin)
       (both_lead linear sets name begin iteration (discarded_code names first begin)
-        (condition_code names c out iteration
-        ++ (statement_code (in_loop out again scope) s start
-        ++ (Separator ∷ (discarded_code names next (again + 1) ++ Jump iteration ∷ []))))
-          (omega arith)
+      (condition_code names c out iteration
+      ++ (statement_code (in_loop out again scope) s start
+      ++ (Separator ∷ (discarded_code names next (again + 1) ++ Jump iteration ∷ []))))
+      (omega arith)
       (discarded_leads linear lists name locals room names outer inner a first begin w_first
-        even_first)
+      even_first)
       (both_lead linear sets name iteration start (condition_code names c out iteration)
-        (statement_code (in_loop out again scope) s start
-        ++ (Separator ∷ (discarded_code names next (again + 1) ++ Jump iteration ∷ [])))
-          (omega arith)
+      (statement_code (in_loop out again scope) s start
+      ++ (Separator ∷ (discarded_code names next (again + 1) ++ Jump iteration ∷ [])))
+      (omega arith)
       (condition_leads linear lists name locals room names outer inner a c out iteration w_c leaves
-        even_test)
+      even_test)
       (both_lead linear sets name start again (statement_code (in_loop out again scope) s start)
-        (Separator ∷ (discarded_code names next (again + 1) ++ Jump iteration ∷ [])) (omega arith) x
-        (
+      (Separator ∷ (discarded_code names next (again + 1) ++ Jump iteration ∷ [])) (omega arith) x (
         from_here linear lists name again (again + 1) inner
-          (last.inside again (omega arith) (omega arith)) recorded_next,
+            (last.inside again (omega arith) (omega arith)) recorded_next,
         both_lead linear sets name (again + 1) step (discarded_code names next (again + 1))
-          (Jump iteration ∷ []) (omega arith)
-          (discarded_leads linear lists name locals room names outer inner a next (again + 1) w_next
-          even_next)
-            (from_here linear lists name step iteration inner
-              (last.inside step (omega arith) (omega arith)) recorded_iteration, tt),
+            (Jump iteration ∷ []) (omega arith)
+            (discarded_leads linear lists name locals room names outer inner a next (again + 1) w_next
+            even_next) (
+              from_here linear lists name step iteration inner
+                  (last.inside step (omega arith) (omega arith)) recorded_iteration,
+              tt,
+            ),
       ))))
 
   pub for_parts : (scope' : sound.TypingContext) (ds : List Declared)
@@ -150,8 +151,8 @@ module _ (linear : LinearProgram) (lists : BodyName → List SeenNames) (name : 
       → At at (statement_sets free seen (For ds first c next s))
       → IsRecordedAt (at + statement_size (For ds first c next s)) seen
       → LoopParts (after_all_declared seen ds) s (for_start ds first c at)
-        (for_again ds first c s at) (for_out ds first c next s at)
-        (statement_code scope (For ds first c next s) at) at
+      (for_again ds first c s at) (for_out ds first c next s at)
+      (statement_code scope (For ds first c next s) at) at
   for_parts scope' ds first c next s at fits ok w_ds w_first w_c w_next h end =
       let names = scope.names in
       let inner = after_all_declared seen ds in
@@ -170,32 +171,32 @@ module _ (linear : LinearProgram) (lists : BodyName → List SeenNames) (name : 
       let lt = length-replicate (discarded_size first + condition_size c) inner in
       let ls = statement_long s free inner in
       let same : at + (all_declared_size ds +
-        (discarded_size first + (condition_size c
-        + (statement_size s + (1 + (discarded_size next + 1)))))) ≡ out = omega arith in
+      (discarded_size first + (condition_size c
+      + (statement_size s + (1 + (discarded_size next + 1)))))) ≡ out = omega arith in
       let leaves : IsRecordedAt out inner = within (sets name out) seen inner
-        (subst (λ k. IsRecordedAt k seen) same end) (all_grow ds seen) in
+      (subst (λ k. IsRecordedAt k seen) same end) (all_grow ds seen) in
       let h1 = back (lists name) at begin dl (tl ++ (bl ++ rl)) (omega arith) h in
       let h2 = back (lists name) begin start tl (bl ++ rl) (omega arith) h1 in
       let h3 = back (lists name) start again bl rl (omega arith) h2 in
       let body = front (lists name) start bl rl h2 in
       let last = even_list (lists name) inner (suc (discarded_size next + 1)) again out
-        (omega arith) h3 leaves in
+      (omega arith) h3 leaves in
       let recorded_again = is_same (sets name again) inner
-        (last.inside again (omega arith) (omega arith)) in
+      (last.inside again (omega arith) (omega arith)) in
       let end' = within (sets name again) inner (after_statement inner s) recorded_again
-        (grows s inner) in
+      (grows s inner) in
       let recorded_start = begins (lists name) start again bl inner (after_statement inner s) body
-        (statement_first s free inner) (omega arith) end' in
+      (statement_first s free inner) (omega arith) end' in
       let even = even_list (lists name) inner (discarded_size first + condition_size c) begin start
-        (omega arith) (front (lists name) begin tl (bl ++ rl) h1) recorded_start in
+      (omega arith) (front (lists name) begin tl (bl ++ rl) h1) recorded_start in
       record {
         is_there = body;
         end = end';
         next = recorded_again;
         leaves = leaves;
         leads = for_leads scope' ds first c next s at begin iteration start again step refl refl
-          refl refl refl fits ok w_ds w_first w_c w_next
-          (front (lists name) at dl (tl ++ (bl ++ rl)) h) even last leaves;
+            refl refl refl fits ok w_ds w_first w_c w_next
+            (front (lists name) at dl (tl ++ (bl ++ rl)) h) even last leaves;
       }
 
   -- a `do`
@@ -209,7 +210,7 @@ module _ (linear : LinearProgram) (lists : BodyName → List SeenNames) (name : 
       → At at (statement_sets free seen (DoWhile s c))
       → IsRecordedAt (at + statement_size (DoWhile s c)) seen
       → LoopParts seen s at (do_again s at) (do_out s c at) (statement_code scope (DoWhile s c) at)
-        at
+      at
   do_parts s c at w h end =
       let n = expression_size c in
       let again = at + statement_size s in
@@ -224,36 +225,39 @@ module _ (linear : LinearProgram) (lists : BodyName → List SeenNames) (name : 
       let leaves : IsRecordedAt out seen = subst (λ k. IsRecordedAt k seen) same end in
       let body = front (lists name) at bl rl h in
       let last = even_list (lists name) seen (suc (n + 2)) again out (omega arith)
-        (back (lists name) at again bl rl (omega arith) h) leaves in
+      (back (lists name) at again bl rl (omega arith) h) leaves in
       let here_again = last.inside again (omega arith) (omega arith) in
       let recorded_again = is_same (sets name again) seen here_again in
       let end' = within (sets name again) seen (after_statement seen s) recorded_again
-        (grows s seen) in
+      (grows s seen) in
       let start = begins (lists name) at again bl seen (after_statement seen s) body
-        (statement_first s free seen) (omega arith) end' in
+      (statement_first s free seen) (omega arith) end' in
       let recorded_at = λ (k : ℕ) (a : again ≤ k)
-        (b : k ≤ out). (even_part (sets name) seen again out k k last a (omega arith) b).end in
+      (b : k ≤ out). (even_part (sets name) seen again out k k last a (omega arith) b).end in
       let even_test = even_part (sets name) seen again out (again + 1) test last (omega arith)
-        (omega arith) (omega arith) in
+      (omega arith) (omega arith) in
       record {
         is_there = body;
         end = end';
         next = recorded_again;
         leaves = leaves;
         leads = λ x. both_lead linear sets name at again
-          (statement_code (in_loop out again scope) s at)
-          (Separator ∷ (expression_code scope.names c 0 (again + 1) ++ repeated out at))
-          (omega arith) x (
-          from_here linear lists name again (again + 1) seen here_again
-            (recorded_at (again + 1) (omega arith) (omega arith)),
-          both_lead linear sets name (again + 1) test (expression_code scope.names c 0 (again + 1))
-            (repeated out at) (omega arith) (value_leads linear lists name locals room scope.names
-            before seen around c (again + 1) w even_test) (
-            test_leads linear lists name locals room scope.names before seen around test out 0
-              (last.inside test (omega arith) (omega arith)) leaves
-              (recorded_at (test + 1) (omega arith) (omega arith)),
-            (from_here linear lists name (test + 1) at seen
-              (last.inside (test + 1) (omega arith) (omega arith)) start, tt),
-          ),
-        );
+            (statement_code (in_loop out again scope) s at)
+            (Separator ∷ (expression_code scope.names c 0 (again + 1) ++ repeated out at))
+            (omega arith) x (
+              from_here linear lists name again (again + 1) seen here_again
+                  (recorded_at (again + 1) (omega arith) (omega arith)),
+              both_lead linear sets name (again + 1) test (expression_code scope.names c 0 (again + 1))
+                  (repeated out at) (omega arith) (value_leads linear lists name locals room scope.names
+                  before seen around c (again + 1) w even_test) (
+                    test_leads linear lists name locals room scope.names before seen around test out 0
+                        (last.inside test (omega arith) (omega arith)) leaves
+                        (recorded_at (test + 1) (omega arith) (omega arith)),
+                    (
+                      from_here linear lists name (test + 1) at seen
+                          (last.inside (test + 1) (omega arith) (omega arith)) start,
+                      tt,
+                    ),
+                  ),
+            );
       }

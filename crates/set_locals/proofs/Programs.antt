@@ -58,9 +58,9 @@ module _ (program : Program) where
   -- the function of a number, and the funclet of one
   record IsGood (k : ℕ) : Type 0 where
     body : (b : LinearBody) → body_of linear (FunctionBody k) ≡ Some b
-      → IsSetBody linear sets (FunctionBody k) b
+        → IsSetBody linear sets (FunctionBody k) b
     begun : (f : LinearFunction) → slice_get linear.functions k ≡ Some f
-      → IsPart (sets (FunctionBody k) 0) (first_seen f.parameters)
+        → IsPart (sets (FunctionBody k) 0) (first_seen f.parameters)
 
   abbrev Fine : ℕ → Type 0
   Fine k = IsFine linear lists funclet_lists listed k
@@ -69,9 +69,19 @@ module _ (program : Program) where
   Has j fs ls ns = HasFunclets linear lists funclet_lists listed j fs ls ns
 
   abbrev inside : Function → Inside
-  inside fn = record { scope = record { functions = program.functions;
-      sizes = fn.parameters ++ fn.locals; code = false; information = false; abnormal = false };
-      returns = fn.returns; loop = false; body = false; function = true }
+  inside fn = record {
+    scope = record {
+      functions = program.functions;
+      sizes = fn.parameters ++ fn.locals;
+      code = false;
+      information = false;
+      abnormal = false;
+    };
+    returns = fn.returns;
+    loop = false;
+    body = false;
+    function = true;
+  }
 
   abbrev owner : ℕ → Function → Owner
   owner number fn = record { function = number; locals = all_locals fn; parent = None }
@@ -80,7 +90,7 @@ module _ (program : Program) where
       → function_within fn ≡ true → slice_get linear.functions number ≡ Some (lowered_function fn)
       → lists (FunctionBody number) ≡ function_sets fn
       → Has j (lowered_funclets number fn) (statements_funclet_sets (own_locals fn)
-        (parameters_seen fn) fn.body) (funclets fn.body)
+      (parameters_seen fn) fn.body) (funclets fn.body)
       → IsGood number × Range Fine j (j + length (funclets fn.body))
   function_is_at fn number j ok w there recorded f =
       let name = FunctionBody number in
@@ -96,43 +106,46 @@ module _ (program : Program) where
       let ls = length-append fn.parameters fn.locals in
       let same : size ≡ 0 + size = omega arith in
       let whole : IsSegmentAt (lists name) 0 list = subst
-        (λ (l : List SeenNames). IsSegmentAt l 0 list) (sym recorded) (whole_is_at list) in
+      (λ (l : List SeenNames). IsSegmentAt l 0 list) (sym recorded) (whole_is_at list) in
       let tail = back (lists name) 0 size ll (replicate 2 seen) (omega arith) whole in
       let here = head_recorded (lists name) size seen (seen ∷ []) tail in
       let here_exit = head_recorded (lists name) (size + 1) seen [] tail.1 in
       let front_part = front (lists name) 0 ll (replicate 2 seen) whole in
       let recorded_end = is_same (sets name size) seen here in
       let start = begins (lists name) 0 size ll seen seen front_part
-        (statements_first fn.body own seen seen (itself seen)) (omega arith) recorded_end in
+      (statements_first fn.body own seen seen (itself seen)) (omega arith) recorded_end in
       let few : length fn.parameters ≤ all_locals fn = omega arith in
       let place : IsPlace linear lists funclet_lists listed name (owner number fn) scope seen
-        seen = record {
+      seen = record {
         owned = refl;
         room = ap function_locals there;
-        around = record { part = itself seen;
+        around = record {
+          part = itself seen;
           below = λ x h. (let lt = is_parameter (length fn.parameters) x h in omega arith);
-          code = tt; flag = tt };
+          code = tt;
+          flag = tt;
+        };
         exit = is_same (sets name (size + 1)) seen here_exit;
         loop_end = tt;
         loop_next = tt;
         leave = tt;
       } in
       let x = statements_are_set linear lists funclet_lists listed fn.body name (owner number fn)
-        (inside fn) scope seen seen 0 j place (omega arith) (omega arith)
-        (both_left _ _ (both_left _ _ ok)) w front_part
+      (inside fn) scope seen seen 0 j place (omega arith) (omega arith)
+      (both_left _ _ (both_left _ _ ok)) w front_part
       (subst (λ n. IsPart (sets name n) seen) same recorded_end) f in
       let next = within (sets name (size + 1)) seen (sets name size)
-        (is_same (sets name (size + 1)) seen here_exit) (is_same_back (sets name size) seen here) in
+      (is_same (sets name (size + 1)) seen here_exit) (is_same_back (sets name size) seen here) in
       let leads = both_lead linear sets name 0 size (statements_code scope fn.body 0)
-        (constant 0 0 ∷ instructions.Return (Temporary 0) ∷ []) (omega arith) x.leads
-        ((tt, tt, next), (tt, tt)) in
+      (constant 0 0 ∷ instructions.Return (Temporary 0) ∷ []) (omega arith) x.leads
+      ((tt, tt, next), (tt, tt)) in
       let set : IsSetBody linear sets name body = whole_body linear lists funclet_lists listed name
-        body leads x.regions in (
+      body leads x.regions in (
         record {
           body = λ b e. subst (IsSetBody linear sets name)
-            (same_it body b (sym (ap function_body there) ∙ e)) set;
+              (same_it body b (sym (ap function_body there) ∙ e)) set;
           begun = λ g e. subst (λ (h : LinearFunction). IsPart (sets name 0)
-            (first_seen h.parameters)) (same_it (lowered_function fn) g (sym there ∙ e)) start;
+              (first_seen h.parameters)) (same_it (lowered_function fn) g (sym there ∙ e)) start;
         },
         x.funclets,
       )
@@ -143,8 +156,10 @@ module _ (program : Program) where
       → IsSegmentAt (map function_sets program.functions) number (map function_sets fs)
       → Has j (all_funclets number fs) (all_funclet_sets fs) (sound.all_funclets fs)
       → Range IsGood number (number + length fs) × Range Fine j (j + length (sound.all_funclets fs))
-  functions_are_at [] number j ok w g l f = (no_part IsGood number (number + 0) (omega arith),
-      no_part Fine j (j + 0) (omega arith))
+  functions_are_at [] number j ok w g l f = (
+    no_part IsGood number (number + 0) (omega arith),
+    no_part Fine j (j + 0) (omega arith),
+  )
   functions_are_at (fn ∷ fs) number j ok w g l f =
       let own = lowered_funclets number fn in
       let own_sets = statements_funclet_sets (own_locals fn) (parameters_seen fn) fn.body in
@@ -154,28 +169,28 @@ module _ (program : Program) where
       let count = statements_count (owner number fn) (scope_of fn).names fn.body in
       let many = statements_many fn.body (own_locals fn) (parameters_seen fn) in
       let first : Has j own own_sets numbers = has_front linear lists funclet_lists listed j own
-        rest own_sets (all_funclet_sets fs) numbers (sound.all_funclets fs) f in
+      rest own_sets (all_funclet_sets fs) numbers (sound.all_funclets fs) f in
       let after : Has mid rest (all_funclet_sets fs) (sound.all_funclets fs) = has_back linear lists
-        funclet_lists listed j mid own rest own_sets (all_funclet_sets fs) numbers
-        (sound.all_funclets fs) refl count many f in
+      funclet_lists listed j mid own rest own_sets (all_funclet_sets fs) numbers
+      (sound.all_funclets fs) refl count many f in
       let x = function_is_at fn number j (both_left _ _ ok) (both_left _ _ w) g.0
-        (get_is (map function_sets program.functions) number (function_sets fn) [] l.0) first in
+      (get_is (map function_sets program.functions) number (function_sets fn) [] l.0) first in
       let y = functions_are_at fs (number + 1) mid (both_right _ _ ok) (both_right _ _ w) g.1 l.1
-        after in
+      after in
       (good_parts number (length fs) x.0 y.0, fine_parts j numbers (sound.all_funclets fs) x.1 y.1)
     where
       good_parts : (number n : ℕ) → IsGood number → Range IsGood (number + 1) (number + 1 + n)
-        → Range IsGood number (number + suc n)
+          → Range IsGood number (number + suc n)
       good_parts number n x y = part_of IsGood number (number + 1 + n) number (number + suc n)
-        (omega arith) (omega arith) (both_parts IsGood number (number + 1) (number + 1 + n)
-        (one_part IsGood number x) y)
+          (omega arith) (omega arith) (both_parts IsGood number (number + 1) (number + 1 + n)
+          (one_part IsGood number x) y)
 
       fine_parts : (j : ℕ) (ns os : List ℕ) → Range Fine j (j + length ns)
-        → Range Fine (j + length ns) (j + length ns + length os)
-        → Range Fine j (j + length (ns ++ os))
+          → Range Fine (j + length ns) (j + length ns + length os)
+          → Range Fine j (j + length (ns ++ os))
       fine_parts j ns os x y = let l = length-append ns os in
-        part_of Fine j (j + length ns + length os) j (j + length (ns ++ os)) (omega arith)
-        (omega arith) (both_parts Fine j (j + length ns) (j + length ns + length os) x y)
+          part_of Fine j (j + length ns + length os) j (j + length (ns ++ os)) (omega arith)
+          (omega arith) (both_parts Fine j (j + length ns) (j + length ns + length os) x y)
 
   -- ---- all bodies
 
@@ -216,26 +231,30 @@ module _ (program : Program) where
         let counts = both_left _ _ (both_left _ _ (both_left _ _ ok)) in
         let starts = both_left _ _ counts in
         let x = functions_are_at program.functions 0 0 (both_left _ _ starts) w
-          (whole_is_at linear.functions) (whole_is_at (map function_sets program.functions))
-        (record { funclets = whole_is_at linear.funclets; recorded = whole_is_at funclet_lists;
-          numbers = both_right _ _ counts }) in
-        (subst (λ n. Range IsGood 0 n) functions_all x.0,
-          subst (λ n. Range Fine 0 n) funclets_all x.1)
+        (whole_is_at linear.functions) (whole_is_at (map function_sets program.functions))
+        (record {
+          funclets = whole_is_at linear.funclets;
+          recorded = whole_is_at funclet_lists;
+          numbers = both_right _ _ counts;
+        }) in (
+          subst (λ n. Range IsGood 0 n) functions_all x.0,
+          subst (λ n. Range Fine 0 n) funclets_all x.1,
+        )
 
     bodies_recorded : (name : BodyName) (b : LinearBody) → body_of linear name ≡ Some b
-      → IsSetBody linear sets name b
+        → IsSetBody linear sets name b
     bodies_recorded (FunctionBody k) b e = (all_are_at.0 k (omega arith)
-      (function_there k (slice_get linear.functions k) b refl e)).body b e
+        (function_there k (slice_get linear.functions k) b refl e)).body b e
     bodies_recorded (FuncletBody k) b e = (all_are_at.1 k (omega arith)
-      (funclet_there k (slice_get linear.funclets k) b refl e)).body b e
+        (funclet_there k (slice_get linear.funclets k) b refl e)).body b e
 
     pub has_set_map : IsSetMap linear sets
     has_set_map = record {
       begins = λ k f e. (all_are_at.0 k (omega arith)
-        (slice_get_within linear.functions k f e)).begun f e;
+          (slice_get_within linear.functions k f e)).begun f e;
       bodies = bodies_recorded;
       flags = λ k x e. (all_are_at.1 k (omega arith)
-        (flag_there k (slice_get linear.funclets k) x refl e)).flag x e;
+          (flag_there k (slice_get linear.funclets k) x refl e)).flag x e;
     }
 
 pub scoped_has_set_map : ScopedHasSetMap

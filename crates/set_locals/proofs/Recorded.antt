@@ -54,8 +54,12 @@ module _ (program : LinearProgram) where
   locals_there [] (a ∷ acts) i k h e = absurd h
   locals_there (j ∷ ks) [] i k h e = absurd h
   locals_there (j ∷ ks) (a ∷ acts) zero k h e =
-      record { locals = a; there = refl; count = h.0.count ∙ sym (ap function_locals h.0.there)
-        ∙ ap (λ n. function_locals (slice_get program.functions n)) (same_it j k e) }
+      record {
+        locals = a;
+        there = refl;
+        count = h.0.count ∙ sym (ap function_locals h.0.there)
+            ∙ ap (λ n. function_locals (slice_get program.functions n)) (same_it j k e);
+      }
   locals_there (j ∷ ks) (a ∷ acts) (suc i) k h e = let r = locals_there ks acts i k h.1 e in
       record { locals = r.locals; there = r.there; count = r.count }
 
@@ -71,8 +75,12 @@ module _ (program : LinearProgram) where
   own_function : (name : BodyName) (f : Frame) (owners : List ℕ) → WorksOn program f name owners
       → (k : ℕ) × (owner_of program name ≡ Some k)
       × (slice_get (with_own name owners) f.activation ≡ Some k)
-  own_function (FunctionBody k) f owners w = (k, refl, ap (slice_get (owners ++ k ∷ [])) w
-      ∙ get_last owners k)
+  own_function (FunctionBody k) f owners w = (
+    k,
+    refl,
+    ap (slice_get (owners ++ k ∷ [])) w
+        ∙ get_last owners k,
+  )
   own_function (FuncletBody k) f owners w = w
 
   -- as many marks as the body that runs has locals
@@ -83,16 +91,16 @@ module _ (program : LinearProgram) where
       let acts = d.store.activations in
       let o = own_function d.frame.body d.frame (owners_of d.below) h.working.0 in
       let l = locals_there (owners_of (Waits d.frame ∷ d.below)) acts d.frame.activation o.0
-        h.stored o.2 in
+      h.stored o.2 in
       own_long marks acts acts d.frame.activation l.locals m l.there ∙ l.count
-        ∙ sym (ap (owner_locals program) o.1)
+      ∙ sym (ap (owner_locals program) o.1)
 
   -- ---- marks after a step
 
   kept_by_call : (o : Option LinearFunction) (count : ℕ) (marks : Marks) (k x : ℕ)
       → Marked marks k x
       → Marked (elim o [ Some function ↦ marks ++ first_marks count function ∷ [] | None ↦ marks ])
-        k x
+      k x
   kept_by_call None count marks k x e = e
   kept_by_call (Some function) count marks k x e = more_keeps marks
       (first_marks count function ∷ []) k x e
@@ -140,13 +148,13 @@ module _ (program : LinearProgram) where
 
   module _ (sets : BodyName → ℕ → SeenNames) where
     given_marked : (marks : Marks) (i : Instruction) (c d : Configuration) (x : ℕ)
-      → d.frame.activation < length d.store.activations
-      → length (marks_of (next_marks program i c d marks) d.frame.activation)
-      ≡ locals_at program d.frame.body
+        → d.frame.activation < length d.store.activations
+        → length (marks_of (next_marks program i c d marks) d.frame.activation)
+        ≡ locals_at program d.frame.body
         → length marks ≡ length c.store.activations → IsGiven program sets marks i c d x
         → Marked (next_marks program i c d marks) d.frame.activation x
     given_marked marks i c d x lt long same (Before e) = next_keeps i c d marks d.frame.activation x
-      lt e
+        lt e
     given_marked marks i c d x lt long same (Written a e room) =
         let k = d.frame.activation in
         let writes = local_written program i c in
@@ -154,8 +162,8 @@ module _ (program : LinearProgram) where
         let p = with_long (flag_by c d) (before_flag i c d marks) k k in
         let q = with_long writes left c.frame.activation k in
         with_keeps (flag_by c d) (before_flag i c d marks) k k x
-          (subst (λ n. Marked (with_mark writes n left) k x) a
-          (written_marked writes left k x e (omega arith)))
+        (subst (λ n. Marked (with_mark writes n left) k x) a
+        (written_marked writes left k x e (omega arith)))
     given_marked marks i c d x lt long same (Flag e room) =
         let k = d.frame.activation in
         let p = with_long (flag_by c d) (before_flag i c d marks) k k in
@@ -164,36 +172,40 @@ module _ (program : LinearProgram) where
         let k = d.frame.activation in
         let place : k ≡ length marks = a ∙ sym same in
         let begun : marks_of (marks ++ first_marks count function ∷ []) k
-          ≡ first_marks count function = ap (marks_of (marks ++ first_marks count function ∷ []))
-            place ∙ last_marks marks (first_marks count function) in
+        ≡ first_marks count function = ap (marks_of (marks ++ first_marks count function ∷ []))
+        place ∙ last_marks marks (first_marks count function) in
         let set : Marked (marks ++ first_marks count function ∷ []) k x = ap
-          (λ (ms : List Bool). slice_get ms x) begun
-          ∙ first_set count (replicate (function.body.locals - function.parameters) false) x room in
+        (λ (ms : List Bool). slice_get ms x) begun
+        ∙ first_set count (replicate (function.body.locals - function.parameters) false) x room in
         let called : Marked (marks_left program (instructions.Call f first count) d marks) k x =
-        subst (λ o. Marked (elim o [ Some function ↦ marks ++ first_marks count function
-          ∷ [] | None ↦ marks ]) k x) (sym g) set in
+        subst (λ o. Marked (elim o [
+          | Some function ↦ marks ++ first_marks count function
+              ∷ []
+          | None ↦ marks
+        ]) k x) (sym g) set in
         with_keeps (flag_by c d) (before_flag i c d marks) k k x
-          (with_keeps (local_written program i c) (marks_left program i d marks) c.frame.activation
-          k x (subst (λ n. Marked (marks_left program n d marks) k x) (sym e) called))
+        (with_keeps (local_written program i c) (marks_left program i d marks) c.frame.activation
+        k x (subst (λ n. Marked (marks_left program n d marks) k x) (sym e) called))
 
     covered_next : (marks next : Marks) (items : List Item) (n : ℕ) → AreWorking program items
-      → length (owners_of items) ≤ n → ((k x : ℕ) → k < n → Marked marks k x → Marked next k x)
+        → length (owners_of items) ≤ n → ((k x : ℕ) → k < n → Marked marks k x → Marked next k x)
         → AreCovered program sets marks items → AreCovered program sets next items
     covered_next marks next [] n h le keeps w = tt
     covered_next marks next (Waits f ∷ below) n h le keeps w =
         let b = bound f.body f (owners_of below) h.0 in
-        let g = own_grows f.body (owners_of below) in
-        ((λ x q. keeps f.activation x (omega arith) (w.0 x q)),
-          covered_next marks next below n h.1 (omega arith) keeps w.1)
-    covered_next marks next (Searches exception resumption asked rest ∷ below) n h le keeps
-      w = covered_next marks next below n h le keeps w
+        let g = own_grows f.body (owners_of below) in (
+          (λ x q. keeps f.activation x (omega arith) (w.0 x q)),
+          covered_next marks next below n h.1 (omega arith) keeps w.1,
+        )
+    covered_next marks next (Searches exception resumption asked rest ∷ below) n h le keeps w =
+        covered_next marks next below n h le keeps w
     covered_next marks next (Unwinds rest target ∷ below) n h le keeps w = covered_next marks next
-      below n h le keeps w
+        below n h le keeps w
 
     next_recorded : (marks : Marks) (i : Instruction) (c d : Configuration)
-      → HasActivations program d → AreActivationsAlike marks c.store.activations c.store.activations
+        → HasActivations program d → AreActivationsAlike marks c.store.activations c.store.activations
         → AreActivationsAlike (next_marks program i c d marks) d.store.activations
-          d.store.activations → IsStep program sets marks i c d
+        d.store.activations → IsStep program sets marks i c d
         → IsRecorded program sets (next_marks program i c d marks) d
     next_recorded marks i c d h m n s =
         let all = owners_of (Waits d.frame ∷ d.below) in
@@ -206,8 +218,8 @@ module _ (program : LinearProgram) where
           marked = n;
           running = λ x q. given_marked marks i c d x (omega arith) l same (s.running x q);
           waiting = covered_next marks (next_marks program i c d marks) d.below
-            (length d.store.activations) h.working.1 (omega arith)
-            (λ k x lt e. next_keeps i c d marks k x lt e) s.waiting;
+              (length d.store.activations) h.working.1 (omega arith)
+              (λ k x lt e. next_keeps i c d marks k x lt e) s.waiting;
           kept = s.kept;
         }
 
@@ -228,17 +240,19 @@ module _ (program : LinearProgram) (whole : IsWhole program) (sets : BodyName �
       seen = sets c.frame.body c.frame.next
 
       both : (b : Bool) (first second : Slot) → OperandsIn b seen first second
-        → AreOperandsSet b marks c.frame.activation first second
+          → AreOperandsSet b marks c.frame.activation first second
       both true first second h = tt
-      both false first second h = (slot_set marks c.frame.activation seen first w.running h.0,
-        slot_set marks c.frame.activation seen second w.running h.1)
+      both false first second h = (
+        slot_set marks c.frame.activation seen first w.running h.0,
+        slot_set marks c.frame.activation seen second w.running h.1,
+      )
 
       of : (i : Instruction) → Leads program sets c.frame.body c.frame.next i → ReadsSet marks c i
       of (instructions.Compute to o first second) h = both (is_constant o) first second h.0
       of (instructions.Information to field) h = tt
       of (instructions.Jump to) h = tt
       of (instructions.JumpIfZero slot to) h = slot_set marks c.frame.activation seen slot w.running
-        h.0
+          h.0
       of (instructions.Call f first count) h = tt
       of (instructions.CallBuiltIn f first) h = tt
       of (instructions.CallFinally k) h = tt
@@ -261,15 +275,20 @@ module _ (program : LinearProgram) (whole : IsWhole program) (sets : BodyName �
       let m' = marked_continues program c e marks m turn in
       let before = reached_both program whole c (marked_is_reached program c marks m) in
       let after = reached_both program whole e (marked_is_reached program e next m') in
-      let itself : AreAlike marks c c = record { frame = refl; below = refl; memory = refl;
-        events = refl; activations = w.marked } in
+      let itself : AreAlike marks c c = record {
+        frame = refl;
+        below = refl;
+        memory = refl;
+        events = refl;
+        activations = w.marked;
+      } in
       let both = steps_are_alike program turn.instruction marks c c itself
-        (reads_set marks c turn.instruction w turn.at) in
+      (reads_set marks c turn.instruction w turn.at) in
       let other = both.forth e turn.goes in
       let alike = alike_itself next e.store.activations other.0.store.activations
-        other.1.alike.activations in
+      other.1.alike.activations in
       along n e next d ends m' (next_recorded program sets marks turn.instruction c e after.1
-        w.marked alike (step_of program whole sets recorded marks c e before.0 w turn)) h.2
+      w.marked alike (step_of program whole sets recorded marks c e before.0 w turn)) h.2
 
   begun_with : (arg : ℤ) (n : ℕ) → n ≤ 1 → length (main_arguments n arg) ≡ n
   begun_with arg zero h = refl
@@ -285,11 +304,11 @@ module _ (program : LinearProgram) (whole : IsWhole program) (sets : BodyName �
       let n = begun_with arg main.parameters (whole.few main e) in
       record {
         marked = alike_itself (start_marks program arg main) first.store.activations
-          (started_with program arg main (replicate rest 0)).store.activations a.activations;
+            (started_with program arg main (replicate rest 0)).store.activations a.activations;
         running = λ x q. let lt = is_parameter main.parameters x
-          (recorded.begins program.main main e x q) in
-          first_set (length (main_arguments main.parameters arg)) (replicate rest false) x
-          (omega arith);
+            (recorded.begins program.main main e x q) in
+            first_set (length (main_arguments main.parameters arg)) (replicate rest false) x
+            (omega arith);
         waiting = tt;
         kept = tt;
       }
@@ -297,12 +316,17 @@ module _ (program : LinearProgram) (whole : IsWhole program) (sets : BodyName �
   pub reads_no_unset : ReadsNoUnset program
   reads_no_unset c marks i m at =
       let first : IsMarked program (start program m.argument m.main)
-        (start_marks program m.argument m.main) =
-        record { argument = m.argument; main = m.main; is_main = m.is_main; turns = zero;
-        comes = (refl, refl) } in
+      (start_marks program m.argument m.main) =
+      record {
+        argument = m.argument;
+        main = m.main;
+        is_main = m.is_main;
+        turns = zero;
+        comes = (refl, refl);
+      } in
       reads_set marks c i (along m.turns (start program m.argument m.main)
-        (start_marks program m.argument m.main) c marks first (starts m.argument m.main m.is_main)
-        m.comes) at
+      (start_marks program m.argument m.main) c marks first (starts m.argument m.main m.is_main)
+      m.comes) at
 
 pub set_map_reads_no_unset : SetMapReadsNoUnset
 set_map_reads_no_unset program whole sets recorded = reads_no_unset program whole sets recorded

@@ -361,8 +361,8 @@ module _ (linear : LinearProgram) (lists : BodyName → List SeenNames) (funclet
         → HasFunclets j (statement_funclets owner scope.names s) (statement_funclet_sets scope.names.free seen s) (funclets_in s) → IsSetAt name at (statement_code scope s at) (statement_regions s at) j (j + length (funclets_in s))
     statement_is_set (Declare d) name owner i scope before seen at j p fits notes ok w h end f =
         plain name at _ j (declared_leads linear lists name owner.locals (locals_are name owner scope before seen p) scope.names i.scope fits d before seen at p.around ok w h end)
-    statement_is_set (Block ss) name owner i scope before seen at j p fits notes ok w h end
-      f = statements_are_set ss name owner i scope before seen at j p fits notes ok w h end f
+    statement_is_set (Block ss) name owner i scope before seen at j p fits notes ok w h end f =
+        statements_are_set ss name owner i scope before seen at j p fits notes ok w h end f
     statement_is_set (Evaluate e) name owner i scope before seen at j p fits notes ok w h end f =
         let n = discarded_size e in
         plain name at _ j (discarded_leads linear lists name owner.locals (locals_are name owner scope before seen p) scope.names before seen p.around e at w (even_list (lists name) seen n at (at + n) refl h end))
@@ -436,9 +436,9 @@ module _ (linear : LinearProgram) (lists : BodyName → List SeenNames) (funclet
         q.is_there (is_same (sets name skip) seen q.end) fs.of_body in
         let y = filter_is_set name owner scope before seen p filter (j + nb) at target (both_right _ _ (both_left _ _ w)) fs.of_filter (λ label a b. above_body linear lists name body free seen at label q.is_there q.end a b) q.target in
         let z = statements_are_set block name owner
-          (record i { scope = record i.scope { code = true } }) (in_except scope) before more
-          (target + 1) (j + nb + nf) (except_place name owner scope before seen room p) fits
-          notes_block (both_right _ _ ok) (both_right _ _ w)
+        (record i { scope = record i.scope { code = true } }) (in_except scope) before more
+        (target + 1) (j + nb + nf) (except_place name owner scope before seen room p) fits
+        notes_block (both_right _ _ ok) (both_right _ _ w)
         q.block_is_at (within (sets name out) seen more q.leaves (sees_before seen free)) fs.of_block in
         record {
           leads = q.leads x.leads z.leads;

@@ -35,7 +35,7 @@ pub all_declared_long : (ds : List Declared) (seen : SeenNames)
 all_declared_long [] seen = refl
 all_declared_long (d ∷ ds) seen =
     two (declared_sets seen d) (all_declared_sets (after_declared seen d) ds) (declared_size d)
-      (all_declared_size ds) (declared_long d seen) (all_declared_long ds (after_declared seen d))
+    (all_declared_size ds) (declared_long d seen) (all_declared_long ds (after_declared seen d))
 
 mutual
   pub statement_long : (s : Statement) (free : ℕ) (seen : SeenNames)
@@ -46,15 +46,15 @@ mutual
   statement_long (If c s) free seen =
       let l = length-replicate (suc (expression_size c)) seen in
       two (replicate (suc (expression_size c)) seen) (statement_sets free seen s)
-        (suc (expression_size c)) (statement_size s) l (statement_long s free seen) ∙ omega arith
+      (suc (expression_size c)) (statement_size s) l (statement_long s free seen) ∙ omega arith
   statement_long (IfElse c s t) free seen =
       let l = length-replicate (suc (expression_size c)) seen in
       let m = statement_long t free seen in
       let n = two (statement_sets free seen s) (seen ∷ statement_sets free seen t)
-        (statement_size s) (suc (statement_size t)) (statement_long s free seen) (ap suc m) in
+      (statement_size s) (suc (statement_size t)) (statement_long s free seen) (ap suc m) in
       two (replicate (suc (expression_size c)) seen)
-        (statement_sets free seen s ++ (seen ∷ statement_sets free seen t))
-        (suc (expression_size c)) (statement_size s + suc (statement_size t)) l n ∙ omega arith
+      (statement_sets free seen s ++ (seen ∷ statement_sets free seen t))
+      (suc (expression_size c)) (statement_size s + suc (statement_size t)) l n ∙ omega arith
   statement_long (For ds first c next s) free seen =
       let inner = after_all_declared seen ds in
       let tests = replicate (discarded_size first + condition_size c) inner in
@@ -71,8 +71,8 @@ mutual
   statement_long (DoWhile s c) free seen =
       let l = length-replicate (suc (expression_size c + 2)) seen in
       two (statement_sets free seen s) (replicate (suc (expression_size c + 2)) seen)
-        (statement_size s) (suc (expression_size c + 2)) (statement_long s free seen) l
-        ∙ omega arith
+      (statement_size s) (suc (expression_size c + 2)) (statement_long s free seen) l
+      ∙ omega arith
   statement_long (Return e) free seen = length-replicate (returned_size e + 2) seen
   statement_long Break free seen = refl
   statement_long Continue free seen = refl
@@ -92,8 +92,8 @@ mutual
   statements_long Empty free seen = refl
   statements_long (Then s ss) free seen =
       two (statement_sets free seen s) (statements_sets free (after_statement seen s) ss)
-        (statement_size s) (statements_size ss) (statement_long s free seen)
-        (statements_long ss free (after_statement seen s))
+      (statement_size s) (statements_size ss) (statement_long s free seen)
+      (statements_long ss free (after_statement seen s))
 
 -- ---- as many funclets as numbers
 
@@ -127,7 +127,7 @@ mutual
       let inner = filter_sets seen f in
       let own = statements_funclet_sets (free + 1) (with_local free seen) block in
       let rest = added inner own (filter_funclet f) (funclets block) (filter_many f seen)
-        (statements_many block (free + 1) (with_local free seen)) in
+      (statements_many block (free + 1) (with_local free seen)) in
       let a = length-append (funclets body) (filter_funclet f) in
       let b = length-append (funclets body ++ filter_funclet f) (funclets block) in
       let c = length-append (filter_funclet f) (funclets block) in
@@ -137,16 +137,16 @@ mutual
   statement_many (TryFinally body k last) free seen =
       let own = statements_funclet_sets (free + 1) (with_local free seen) last in
       added (statements_funclet_sets free seen body) (finally_sets free seen last ∷ own)
-        (funclets body) (k ∷ funclets last) (statements_many body free seen)
-        (ap suc (statements_many last (free + 1) (with_local free seen)))
+      (funclets body) (k ∷ funclets last) (statements_many body free seen)
+      (ap suc (statements_many last (free + 1) (with_local free seen)))
 
   pub statements_many : (ss : Statements) (free : ℕ) (seen : SeenNames)
       → length (statements_funclet_sets free seen ss) ≡ length (funclets ss)
   statements_many Empty free seen = refl
   statements_many (Then s ss) free seen =
       added (statement_funclet_sets free seen s)
-        (statements_funclet_sets free (after_statement seen s) ss) (funclets_in s) (funclets ss)
-        (statement_many s free seen) (statements_many ss free (after_statement seen s))
+      (statements_funclet_sets free (after_statement seen s) ss) (funclets_in s) (funclets ss)
+      (statement_many s free seen) (statements_many ss free (after_statement seen s))
 
 -- ---- what is declared is seen beside what was
 
@@ -211,11 +211,11 @@ mutual
       let body = statement_sets free inner s in
       let again = replicate (suc (discarded_size next + 1)) inner in
       first_join seen inner seen (all_declared_sets seen ds) (tests ++ (body ++ again))
-        (all_declared_first ds seen)
+      (all_declared_first ds seen)
       (first_join inner inner seen tests (body ++ again)
-        (replicate_first (discarded_size first + condition_size c) inner)
+      (replicate_first (discarded_size first + condition_size c) inner)
       (first_join inner (after_statement inner s) seen body again (statement_first s free inner)
-        (grows s inner)))
+      (grows s inner)))
   statement_first (DoWhile s c) free seen = first_join seen (after_statement seen s) seen
       (statement_sets free seen s) (replicate (suc (expression_size c + 2)) seen)
       (statement_first s free seen) (grows s seen)
@@ -225,8 +225,8 @@ mutual
   statement_first Leave free seen = itself seen
   statement_first (TryExcept body filter block) free seen =
       first_join seen seen seen (statements_sets free seen body)
-        (replicate 2 seen ++ statements_sets (free + 1) (with_local free seen) block)
-        (statements_first body free seen seen (itself seen)) (itself seen)
+      (replicate 2 seen ++ statements_sets (free + 1) (with_local free seen) block)
+      (statements_first body free seen seen (itself seen)) (itself seen)
   statement_first (TryFinally body k last) free seen = first_join seen seen seen
       (statements_sets free seen body) (replicate 3 seen)
       (statements_first body free seen seen (itself seen)) (itself seen)
@@ -237,8 +237,8 @@ mutual
   statements_first (Then s ss) free seen end h =
       let more = after_statement seen s in
       first_join seen more end (statement_sets free seen s) (statements_sets free more ss)
-        (statement_first s free seen) (statements_first ss free more end
-        (within end seen more h (grows s seen)))
+      (statement_first s free seen) (statements_first ss free more end
+      (within end seen more h (grows s seen)))
 
 pub begins : (list : List SeenNames) (at to : ℕ) (ys : List SeenNames) (seen end : SeenNames)
     → IsSegmentAt list at ys → IsFirst seen end ys → at + length ys ≡ to
@@ -263,16 +263,19 @@ replicate_above (suc n) base seen p = (p, replicate_above n base seen p)
 
 declared_above : (d : Declared) (base seen : SeenNames) → IsPart base seen
     → Above base (declared_sets seen d)
-declared_above d base seen p = (p, replicate_above (initialiser_size d.value) base
-    (after_declared seen d) (within base seen (after_declared seen d) p (sees_before seen d.local)))
+declared_above d base seen p = (
+  p,
+  replicate_above (initialiser_size d.value) base
+      (after_declared seen d) (within base seen (after_declared seen d) p (sees_before seen d.local)),
+)
 
 all_declared_above : (ds : List Declared) (base seen : SeenNames) → IsPart base seen
     → Above base (all_declared_sets seen ds)
 all_declared_above [] base seen p = tt
 all_declared_above (d ∷ ds) base seen p =
     joined base (declared_sets seen d) (all_declared_sets (after_declared seen d) ds)
-      (declared_above d base seen p) (all_declared_above ds base (after_declared seen d)
-      (within base seen (after_declared seen d) p (sees_before seen d.local)))
+    (declared_above d base seen p) (all_declared_above ds base (after_declared seen d)
+    (within base seen (after_declared seen d) p (sees_before seen d.local)))
 
 mutual
   pub statement_above : (s : Statement) (free : ℕ) (base seen : SeenNames) → IsPart base seen
@@ -285,10 +288,10 @@ mutual
       (statement_above s free base seen p)
   statement_above (IfElse c s t) free base seen p =
       joined base (replicate (suc (expression_size c)) seen)
-        (statement_sets free seen s ++ (seen ∷ statement_sets free seen t))
-        (replicate_above (suc (expression_size c)) base seen p)
+      (statement_sets free seen s ++ (seen ∷ statement_sets free seen t))
+      (replicate_above (suc (expression_size c)) base seen p)
       (joined base (statement_sets free seen s) (seen ∷ statement_sets free seen t)
-        (statement_above s free base seen p) (p, statement_above t free base seen p))
+      (statement_above s free base seen p) (p, statement_above t free base seen p))
   statement_above (For ds first c next s) free base seen p =
       let inner = after_all_declared seen ds in
       let tests = replicate (discarded_size first + condition_size c) inner in
@@ -296,11 +299,11 @@ mutual
       let again = replicate (suc (discarded_size next + 1)) inner in
       let q = within base seen inner p (all_grow ds seen) in
       joined base (all_declared_sets seen ds) (tests ++ (body ++ again))
-        (all_declared_above ds base seen p)
+      (all_declared_above ds base seen p)
       (joined base tests (body ++ again) (replicate_above (discarded_size first + condition_size c)
-        base inner q)
+      base inner q)
       (joined base body again (statement_above s free base inner q)
-        (replicate_above (suc (discarded_size next + 1)) base inner q)))
+      (replicate_above (suc (discarded_size next + 1)) base inner q)))
   statement_above (DoWhile s c) free base seen p = joined base (statement_sets free seen s)
       (replicate (suc (expression_size c + 2)) seen) (statement_above s free base seen p)
       (replicate_above (suc (expression_size c + 2)) base seen p)
@@ -311,10 +314,10 @@ mutual
   statement_above (TryExcept body filter block) free base seen p =
       let rest = statements_sets (free + 1) (with_local free seen) block in
       joined base (statements_sets free seen body) (replicate 2 seen ++ rest)
-        (statements_above body free base seen p)
+      (statements_above body free base seen p)
       (joined base (replicate 2 seen) rest (replicate_above 2 base seen p)
-        (statements_above block (free + 1) base (with_local free seen)
-        (within base seen (with_local free seen) p (sees_before seen free))))
+      (statements_above block (free + 1) base (with_local free seen)
+      (within base seen (with_local free seen) p (sees_before seen free))))
   statement_above (TryFinally body k last) free base seen p = joined base
       (statements_sets free seen body) (replicate 3 seen) (statements_above body free base seen p)
       (replicate_above 3 base seen p)
@@ -325,8 +328,8 @@ mutual
   statements_above (Then s ss) free base seen p =
       let more = after_statement seen s in
       joined base (statement_sets free seen s) (statements_sets free more ss)
-        (statement_above s free base seen p) (statements_above ss free base more
-        (within base seen more p (grows s seen)))
+      (statement_above s free base seen p) (statements_above ss free base more
+      (within base seen more p (grows s seen)))
 
 pub above_at : (list : List SeenNames) (at : ℕ) (ys : List SeenNames) (base : SeenNames)
     → IsSegmentAt list at ys → Above base ys → (label : ℕ) → at ≤ label → label < at + length ys
@@ -336,10 +339,10 @@ above_at list at (y ∷ ys) base h p label le lt = of (cases_lt at label)
     (λ more. above_at list (at + 1) ys base h.1 p.1 label (omega arith) (omega arith))
   where
     of : (at < label) ⊎ (label ≤ at) → (at < label → IsPart base (set_in list label))
-      → IsPart base (set_in list label)
+        → IsPart base (set_in list label)
     of (inl more) go = go more
     of (inr last) go =
         let same : at ≡ label = omega arith in
         subst (λ n. IsPart base (set_in list n)) same
-          (within base y (set_in list at) p.0
-          (is_same_back (set_in list at) y (head_recorded list at y ys h)))
+        (within base y (set_in list at) p.0
+        (is_same_back (set_in list at) y (head_recorded list at y ys h)))

@@ -49,8 +49,11 @@ pub record Even (own : ℕ → SeenNames) (seen : SeenNames) (lo hi : ℕ) : Typ
 
 pub even_part : (own : ℕ → SeenNames) (seen : SeenNames) (lo hi lo' hi' : ℕ) → Even own seen lo hi
     → lo ≤ lo' → lo' ≤ hi' → hi' ≤ hi → Even own seen lo' hi'
-even_part own seen lo hi lo' hi' e a m b = record { inside = λ label le lt. e.inside label
-    (omega arith) (omega arith); end = of (cases_lt hi' hi) }
+even_part own seen lo hi lo' hi' e a m b = record {
+  inside = λ label le lt. e.inside label
+      (omega arith) (omega arith);
+  end = of (cases_lt hi' hi);
+}
   where
     of : (hi' < hi) ⊎ (hi ≤ hi') → IsPart (own hi') seen
     of (inl lt) = is_same (own hi') seen (e.inside hi' (omega arith) lt)
@@ -64,16 +67,19 @@ evenly list seen (suc n) at h label le lt = of (cases_lt at label)
     (λ more. evenly list seen n (at + 1) h.1 label (omega arith) (omega arith))
   where
     of : (at < label) ⊎ (label ≤ at) → (at < label → set_in list label ≡ seen)
-      → set_in list label ≡ seen
+        → set_in list label ≡ seen
     of (inl more) go = go more
     of (inr last) go = let same : at ≡ label = omega arith in ap (set_in list) (sym same)
-      ∙ get_is list at seen h.0
+        ∙ get_is list at seen h.0
 
 pub even_list : (list : List SeenNames) (seen : SeenNames) (n at hi : ℕ) → at + n ≡ hi
     → IsSegmentAt list at (replicate n seen) → IsPart (set_in list hi) seen
     → Even (set_in list) seen at hi
-even_list list seen n at hi e h end = record { inside = λ label le lt. evenly list seen n at h label
-    le (omega arith); end = end }
+even_list list seen n at hi e h end = record {
+  inside = λ label le lt. evenly list seen n at h label
+      le (omega arith);
+  end = end;
+}
 
 -- ---- instructions of such code
 
@@ -122,7 +128,7 @@ module _ (program : LinearProgram) (sets : BodyName → ℕ → SeenNames) (name
       (subst (Leads program sets name at) (same_it j i e) h.0)
   lead_at at (j ∷ code) (suc label) i h e = let same : at + 1 + label
       ≡ at + suc label = omega arith in subst (λ n. Leads program sets name n i) same
-        (lead_at (at + 1) code label i h.1 e)
+      (lead_at (at + 1) code label i h.1 e)
 
   -- a read of what is seen
   pub reads_recorded : (own seen : SeenNames) (slot : Slot) → own ≡ seen → ReadsIn seen slot
@@ -140,7 +146,7 @@ module _ (program : LinearProgram) (sets : BodyName → ℕ → SeenNames) (name
     at_most label le lt = (even_part (sets name) seen lo hi lo label even (omega arith) le lt).end
 
     one : (at : ℕ) (i : Instruction) → lo ≤ at → at < hi → Fine locals lo hi seen i
-      → Leads program sets name at i
+        → Leads program sets name at i
     one at i le lt h = of i h
       where
         here : sets name at ≡ seen
@@ -156,14 +162,16 @@ module _ (program : LinearProgram) (sets : BodyName → ℕ → SeenNames) (name
         is_local to l = subst (λ n. IsLocalOf n to) (sym room) l
 
         of : (i : Instruction) → Fine locals lo hi seen i → Leads program sets name at i
-        of (instructions.Compute to o first second) h =
-            (subst (λ (s : SeenNames). OperandsIn (is_constant o) s first second) (sym here) h.0,
-              is_local to h.1, written_part (sets name (at + 1)) (sets name at) to next)
+        of (instructions.Compute to o first second) h = (
+          subst (λ (s : SeenNames). OperandsIn (is_constant o) s first second) (sym here) h.0,
+          is_local to h.1,
+          written_part (sets name (at + 1)) (sets name at) to next,
+        )
         of (instructions.Information to field)
-          h = (is_local to h, written_part (sets name (at + 1)) (sets name at) to next)
+            h = (is_local to h, written_part (sets name (at + 1)) (sets name at) to next)
         of (instructions.Jump label) h = from label h.0 h.1
         of (instructions.JumpIfZero slot label)
-          h = (reads_recorded (sets name at) seen slot here h.0, from label h.1.0 h.1.1, next)
+            h = (reads_recorded (sets name at) seen slot here h.0, from label h.1.0 h.1.1, next)
         of (instructions.Call f first count) h = next
         of (instructions.CallBuiltIn f first) h = next
         of (instructions.CallFinally k) h = absurd h
@@ -173,7 +181,9 @@ module _ (program : LinearProgram) (sets : BodyName → ℕ → SeenNames) (name
         of (instructions.Return slot) h = reads_recorded (sets name at) seen slot here h
 
     pub straight : (at : ℕ) (code : List Instruction) → lo ≤ at → at + length code ≤ hi
-      → AllFine locals lo hi seen code → AllLead at code
+        → AllFine locals lo hi seen code → AllLead at code
     straight at [] a b h = tt
-    straight at (i ∷ code) a b h = (one at i a (omega arith) h.0,
-      straight (at + 1) code (omega arith) (omega arith) h.1)
+    straight at (i ∷ code) a b h = (
+      one at i a (omega arith) h.0,
+      straight (at + 1) code (omega arith) (omega arith) h.1,
+    )

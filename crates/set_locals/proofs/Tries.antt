@@ -45,12 +45,12 @@ module _ (linear : LinearProgram) (lists : BodyName → List SeenNames) (name : 
     pub end : sets name (at + statements_size body) ≡ seen
     pub target : IsRecordedAt (at + statements_size body + 1) seen
     pub block_is_at : At (at + statements_size body + 1 + 1)
-      (statements_sets (free + 1) (with_local free seen) block)
+        (statements_sets (free + 1) (with_local free seen) block)
     pub leaves : IsRecordedAt (at + statements_size body + 1 + 1 + statements_size block) seen
     pub leads : Lead at (statements_code (in_try
-      (at + statements_size body + 1 + 1 + statements_size block) scope) body at)
+        (at + statements_size body + 1 + 1 + statements_size block) scope) body at)
         → Lead (at + statements_size body + 1 + 1)
-          (statements_code (in_except scope) block (at + statements_size body + 1 + 1))
+        (statements_code (in_except scope) block (at + statements_size body + 1 + 1))
         → Lead at (statement_code scope (TryExcept body filter block) at)
 
   pub except_parts : (body : Statements) (filter : Filter) (block : Statements) (at : ℕ)
@@ -73,8 +73,8 @@ module _ (linear : LinearProgram) (lists : BodyName → List SeenNames) (name : 
       let here_skip = head_recorded (lists name) skip seen (seen ∷ kl) h1 in
       let here_target = head_recorded (lists name) target seen kl h1.1 in
       let start = begins (lists name) (target + 1) out kl more more h1.1.1
-        (statements_first block (free + 1) more more (itself more)) (omega arith)
-        (within (sets name out) seen more leaves (sees_before seen free)) in
+      (statements_first block (free + 1) more more (itself more)) (omega arith)
+      (within (sets name out) seen more leaves (sees_before seen free)) in
       record {
         is_there = front (lists name) at bl (replicate 2 seen ++ kl) h;
         end = here_skip;
@@ -82,22 +82,26 @@ module _ (linear : LinearProgram) (lists : BodyName → List SeenNames) (name : 
         block_is_at = h1.1.1;
         leaves = leaves;
         leads = λ x z. both_lead linear sets name at skip
-          (statements_code (in_try out scope) body at)
-          (landed out free ++ statements_code (in_except scope) block (target + 1)) (omega arith) x
-          (
-          from_here linear lists name skip out seen here_skip leaves,
-          ((subst (λ n. free < n) (sym room) lt,
-            subst (λ (s : SeenNames). IsPart (sets name (target + 1)) (with_local free s))
-            (sym here_target) start), z),
-        );
+            (statements_code (in_try out scope) body at)
+            (landed out free ++ statements_code (in_except scope) block (target + 1)) (omega arith) x (
+              from_here linear lists name skip out seen here_skip leaves,
+              (
+                (
+                  subst (λ n. free < n) (sym room) lt,
+                  subst (λ (s : SeenNames). IsPart (sets name (target + 1)) (with_local free s))
+                      (sym here_target) start,
+                ),
+                z,
+              ),
+            );
       }
 
   pub record FinallyParts (body : Statements) (k : ℕ) (last : Statements) (at : ℕ) : Type 0 where
     pub is_there : At at (statements_sets free seen body)
     pub end : sets name (at + statements_size body) ≡ seen
     pub leads : ((s : SeenNames) → IsPart seen s → FinallyBegins linear sets (k - 1) s)
-      → Lead at (statements_code (in_guarded (at + statements_size body) scope) body at)
-      → Lead at (statement_code scope (TryFinally body k last) at)
+        → Lead at (statements_code (in_guarded (at + statements_size body) scope) body at)
+        → Lead at (statement_code scope (TryFinally body k last) at)
 
   pub finally_parts : (body : Statements) (k : ℕ) (last : Statements) (at : ℕ)
       → At at (statement_sets free seen (TryFinally body k last))
@@ -111,26 +115,34 @@ module _ (linear : LinearProgram) (lists : BodyName → List SeenNames) (name : 
       let same : at + (statements_size body + 3) ≡ ends + 3 = omega arith in
       let h1 = back (lists name) at ends bl (replicate 3 seen) (omega arith) h in
       let even = even_list (lists name) seen 3 ends (ends + 3) refl h1
-        (subst (λ n. IsRecordedAt n seen) same end) in
+      (subst (λ n. IsRecordedAt n seen) same end) in
       let here = λ (n : ℕ) (a : ends ≤ n) (b : n < ends + 3). even.inside n a b in
       let recorded_at = λ (n : ℕ) (a : ends ≤ n)
-        (b : n ≤ ends + 3). (even_part (sets name) seen ends (ends + 3) n n even a (omega arith)
-        b).end in
+      (b : n ≤ ends + 3). (even_part (sets name) seen ends (ends + 3) n n even a (omega arith)
+      b).end in
       let here_end = here ends (omega arith) (omega arith) in
       let here_call = here (ends + 1) (omega arith) (omega arith) in
       let here_last = here (ends + 1 + 1) (omega arith) (omega arith) in
       let first = from_here linear lists name ends (ends + 1) seen here_end
-        (recorded_at (ends + 1) (omega arith) (omega arith)) in
+      (recorded_at (ends + 1) (omega arith) (omega arith)) in
       let second = from_here linear lists name (ends + 1) (ends + 1 + 1) seen here_call
-        (recorded_at (ends + 1 + 1) (omega arith) (omega arith)) in
+      (recorded_at (ends + 1 + 1) (omega arith) (omega arith)) in
       let third = from_here linear lists name (ends + 1 + 1) (ends + 1 + 1 + 1) seen here_last
-        (recorded_at (ends + 1 + 1 + 1) (omega arith) (omega arith)) in
+      (recorded_at (ends + 1 + 1 + 1) (omega arith) (omega arith)) in
       record {
         is_there = front (lists name) at bl (replicate 3 seen) h;
         end = here_end;
         leads = λ begun x. both_lead linear sets name at ends
-          (statements_code (in_guarded ends scope) body at)
-          (Separator ∷ CallFinally (k - 1) ∷ Separator ∷ []) (omega arith) x
-            (first, ((begun (sets name (ends + 1))
-              (is_same_back (sets name (ends + 1)) seen here_call), second), (third, tt)));
+            (statements_code (in_guarded ends scope) body at)
+            (Separator ∷ CallFinally (k - 1) ∷ Separator ∷ []) (omega arith) x (
+              first,
+              (
+                (
+                  begun (sets name (ends + 1))
+                      (is_same_back (sets name (ends + 1)) seen here_call),
+                  second,
+                ),
+                (third, tt),
+              ),
+            );
       }

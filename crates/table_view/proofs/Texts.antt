@@ -38,7 +38,7 @@ end_next rs index (suc k) e = let h : k ≡ index = omega arith in
 pub entry_first : (t : Tables) (index : ℕ) → index < length t.ranges
     → all_lines t.image index (end_before t.ranges index) (drop index t.ranges)
     ≡ entry_lines index (entry_at t index) ++ all_lines t.image (index + 1)
-      (end_before t.ranges (index + 1)) (drop (index + 1) t.ranges)
+    (end_before t.ranges (index + 1)) (drop (index + 1) t.ranges)
 entry_first t index lt =
     let e : suc index ≡ index + 1 = omega arith in
     let r = get_or t.ranges index no_range in
@@ -47,7 +47,7 @@ entry_first t index lt =
     ++ all_lines t.image (index + 1) r.end (drop n t.ranges)) e
     ∙ ap (λ n. entry_lines index (entry_at t index)
     ++ all_lines t.image (index + 1) n (drop (index + 1) t.ranges))
-      (sym (end_next t.ranges index (index + 1) (omega arith)))
+    (sym (end_next t.ranges index (index + 1) (omega arith)))
 
 pub entries_over : (t : Tables) (index : ℕ) → length t.ranges ≤ index
     → all_lines t.image index (end_before t.ranges index) (drop index t.ranges) ≡ []
@@ -70,5 +70,9 @@ whole x z t p is = subst (λ (s : List ℕ). Grew x.taken s z.taken) (p.whole is
 
 pub part : (x z : Writer) (t : List ℕ) (n : ℕ) → Wrote x t z → x.count ≡ 0 → n ≡ z.count
     → TookPart x.taken t z.taken n
-part x z t n p fresh e = record { part = p.part; begins = p.begins; grew = p.grew;
-    counted = let counted = p.counted in omega arith }
+part x z t n p fresh e = record {
+  part = p.part;
+  begins = p.begins;
+  grew = p.grew;
+  counted = let counted = p.counted in omega arith;
+}

@@ -102,9 +102,13 @@ compute_length y to o first second =
     let c = before_length o in
     let d = work_length o in
     let e = keep_length y to in
-    omega (arith, length-append (operands_code y o first second) (finish_code y o to),
+    omega (
+      arith,
+      length-append (operands_code y o first second) (finish_code y o to),
       length-append (fetch y Rax first) (fetch y Rcx second ++ before o),
-      length-append (fetch y Rcx second) (before o), length-append (work o) (keep y to))
+      length-append (fetch y Rcx second) (before o),
+      length-append (work o) (keep y to),
+    )
 
 epilogue_length : (n : ℕ) → length (epilogue n) ≤ 2
 epilogue_length zero = omega arith
@@ -128,13 +132,19 @@ template_length k y at (instructions.Information to field) few = let l = keep_le
 template_length k y at (instructions.Landing to) few = let l = keep_length y to in omega arith
 template_length k y at (instructions.Jump label) few = omega arith
 template_length k y at (instructions.JumpIfZero slot label) few = let l = fetch_length y Rax slot in
-    omega (arith, length-append (fetch y Rax slot)
-    (compare_zero ∷ jump_equal (at + sizes (test_code y slot) + 6) (k.label label) ∷ []))
+    omega (
+      arith,
+      length-append (fetch y Rax slot)
+          (compare_zero ∷ jump_equal (at + sizes (test_code y slot) + 6) (k.label label) ∷ []),
+    )
 template_length k y at (instructions.Call function first count) few =
     let l = passing_length y first 4 (count - 4) in
-    omega (arith, length-append (passing_code y first 4 (count - 4))
-      (call_code y (Temporary first) first (at + sizes (passing_code y first 4 (count - 4)))
-      (k.function function)))
+    omega (
+      arith,
+      length-append (passing_code y first 4 (count - 4))
+          (call_code y (Temporary first) first (at + sizes (passing_code y first 4 (count - 4)))
+          (k.function function)),
+    )
 template_length k y at (instructions.CallBuiltIn function first) few = omega arith
 template_length k y at (instructions.CallFinally funclet) few = omega arith
 template_length k y at (instructions.LocalUnwind label) few = omega arith

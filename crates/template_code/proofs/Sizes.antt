@@ -37,18 +37,18 @@ arrives next to n = let a = n.0 in let b = n.1 in omega arith
 pub short : (next to : ℕ) → IsNear next to → is_signed W32 W64 (distance next to) ≡ true
 short next to n = elim (cases_lt (distance next to) (2 ^ 31)) [
   | inl lt ↦ let e : ltb (distance next to) (2 ^ 31)
-  ≡ true = lt-ltb (distance next to) (2 ^ 31) lt in
-    ap (λ (b : Bool). b || (leb (2 ^ 64 - 2 ^ 31) (distance next to)
-  && ltb (distance next to) (2 ^ 64))) e
+      ≡ true = lt-ltb (distance next to) (2 ^ 31) lt in
+      ap (λ (b : Bool). b || (leb (2 ^ 64 - 2 ^ 31) (distance next to)
+      && ltb (distance next to) (2 ^ 64))) e
   | inr ge ↦
       let a = n.0 in let b = n.1 in let c = n.2 in let d = n.3 in
       let e : ltb (distance next to) (2 ^ 31) ≡ false = le-ltb (distance next to) (2 ^ 31) ge in
       let f : leb (2 ^ 64 - 2 ^ 31) (distance next to)
-        ≡ true = le-leb (2 ^ 64 - 2 ^ 31) (distance next to) (omega arith) in
+      ≡ true = le-leb (2 ^ 64 - 2 ^ 31) (distance next to) (omega arith) in
       let g : ltb (distance next to) (2 ^ 64)
-        ≡ true = lt-ltb (distance next to) (2 ^ 64) (omega arith) in
+      ≡ true = lt-ltb (distance next to) (2 ^ 64) (omega arith) in
       ap (λ (x : Bool). x || (leb (2 ^ 64 - 2 ^ 31) (distance next to)
-        && ltb (distance next to) (2 ^ 64))) e
+      && ltb (distance next to) (2 ^ 64))) e
       ∙ ap (λ (x : Bool). x && ltb (distance next to) (2 ^ 64)) f
       ∙ g
 ]
@@ -65,8 +65,11 @@ jump_if_zero_size y slot at to =
     let first = fetch y Rax slot in
     let branch = jump_equal (at + sizes (test_code y slot) + 6) to in
     let e = jump_if_size (distance (at + sizes (test_code y slot) + 6) to) in
-    omega (arith, sizes_append first (compare_zero ∷ branch ∷ []),
-      sizes_append first (compare_zero ∷ []))
+    omega (
+      arith,
+      sizes_append first (compare_zero ∷ branch ∷ []),
+      sizes_append first (compare_zero ∷ []),
+    )
 
 pub call_size : (next to : ℕ) → size (call next to) ≡ 5
 unfolding size
@@ -96,8 +99,11 @@ pub passing_call_size : (y : Layout) (first count at target : ℕ)
 passing_call_size y first count at target =
     let passing = passing_code y first 4 (count - 4) in
     let c = call_code_size y (Temporary first) first (at + sizes passing) target in
-    omega (arith, sizes_append passing (call_code y (Temporary first) first (at + sizes passing)
-      target))
+    omega (
+      arith,
+      sizes_append passing (call_code y (Temporary first) first (at + sizes passing)
+          target),
+    )
 
 pub template_sizes : (k : Links) (y : Layout) (at : ℕ) (instruction : Instruction)
     → sizes (template k y at instruction) ≡ template_size y instruction
@@ -131,8 +137,11 @@ body_sizes k y at [] = refl
 body_sizes k y at (instruction ∷ more) =
     let r = body_sizes k y (at + template_size y instruction) more in
     let t = template_sizes k y at instruction in
-    omega (arith, sizes_append (template k y at instruction)
-      (code_from k y (at + template_size y instruction) more))
+    omega (
+      arith,
+      sizes_append (template k y at instruction)
+          (code_from k y (at + template_size y instruction) more),
+    )
 
 -- the next instruction is placed after it
 pub offset_next : (y : Layout) (body : List Instruction) (number : ℕ) (otherwise : Instruction)

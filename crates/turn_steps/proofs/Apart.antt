@@ -22,7 +22,7 @@ module _ {A : Type 0} (f g : A → Bool) where
   all_pass (x ∷ xs) = by (all_pass xs) (g x) refl
     where
       by : AllByRecursion (λ (x : A). g x ≡ true) (filter g xs) → (b : Bool) → g x ≡ b
-        → AllByRecursion (λ (x : A). g x ≡ true) (passed g x xs b)
+          → AllByRecursion (λ (x : A). g x ≡ true) (passed g x xs b)
       by rest true e = (e, rest)
       by rest false e = rest
 
@@ -36,24 +36,24 @@ module _ {A : Type 0} (f g : A → Bool) where
   same_filtered (x ∷ xs) e = by (same_filtered xs) (f x) refl (g x) refl e
     where
       by : (filter f xs ≡ filter g xs → AllByRecursion (λ (x : A). f x ≡ g x) xs) → (a : Bool)
-        → f x ≡ a → (b : Bool) → g x ≡ b → cond a (x ∷ filter f xs) (filter f xs)
-        ≡ cond b (x ∷ filter g xs) (filter g xs)
-        → (f x ≡ g x) × AllByRecursion (λ (x : A). f x ≡ g x) xs
+          → f x ≡ a → (b : Bool) → g x ≡ b → cond a (x ∷ filter f xs) (filter f xs)
+          ≡ cond b (x ∷ filter g xs) (filter g xs)
+          → (f x ≡ g x) × AllByRecursion (λ (x : A). f x ≡ g x) xs
       by rest true p true q e = (p ∙ sym q, rest (ap (drop 1) e))
       by rest false p false q e = (p ∙ sym q, rest e)
       by rest true p false q e = let z : true ≡ false = sym (none_passes f g x xs (filter f xs) e)
-        ∙ q in absurd cc
+          ∙ q in absurd cc
       by rest false p true q e = let z : true
-        ≡ false = sym (none_passes g f x xs (filter g xs) (sym e)) ∙ p in absurd cc
+          ≡ false = sym (none_passes g f x xs (filter g xs) (sym e)) ∙ p in absurd cc
 
 -- a call and the instruction after it are in the same regions
 pub apart_same : (t : Functions) (fs : List Funclet) (program : LinearProgram) (p : ImagePlan)
     → AllReturnsStayInRegions program → (name : BodyName) (b : LinearBody) (label : ℕ)
-      (i : Instruction)
+    (i : Instruction)
     → body_of program name ≡ Some b → slice_get b.code label ≡ Some i → is_call i ≡ true
     → SameRegions t fs program p (body_of program name) (label + 1) label
 apart_same t fs program p apart name b label i there at call =
     subst (λ (rs : List Region). AllByRecursion
-      (λ (r : Region). holds (label + 1) r ≡ holds label r) rs) (sym (ap regions_of there))
+    (λ (r : Region). holds (label + 1) r ≡ holds label r) rs) (sym (ap regions_of there))
     (same_filtered (holds (label + 1)) (holds label) b.regions
-      ((apart name b there).regions label i at call))
+    ((apart name b there).regions label i at call))

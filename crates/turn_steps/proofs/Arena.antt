@@ -36,15 +36,19 @@ in_range a l u = and_from (leb ARENA_START a) (ltb a ARENA_END) (le-leb ARENA_ST
 
 module _ (m : Memory) (at : ℕ) where
   nothing_set : KeepsRest m m
-  nothing_set = record { byte = refl; execute = λ a. refl; outside = λ a o. refl;
-      writes = λ a w. inl w }
+  nothing_set = record {
+    byte = refl;
+    execute = λ a. refl;
+    outside = λ a o. refl;
+    writes = λ a w. inl w;
+  }
 
   page_set : (r : Rights) → in_arena at ≡ true → KeepsRest m (with_rights m at (Some r))
   page_set r e = record {
     byte = refl;
     execute = λ a. same a (nat_eq (a / 4096) (at / 4096));
     outside = λ a o. ap (λ b. cond b (record (m.protection a) { rights = r }) (m.protection a))
-      (ne_eqb (a / 4096) (at / 4096) (λ h. past a o h));
+        (ne_eqb (a / 4096) (at / 4096) (λ h. past a o h));
     writes = λ a w. by a (nat_eq (a / 4096) (at / 4096)) refl w;
   }
     where
@@ -52,8 +56,8 @@ module _ (m : Memory) (at : ℕ) where
       range = arena_range at e
 
       same : (a : ℕ) (b : Bool) → (let x : Protection = cond b
-        (record (m.protection a) { rights = r }) (m.protection a) in x).execute
-        ≡ (m.protection a).execute
+          (record (m.protection a) { rights = r }) (m.protection a) in x).execute
+          ≡ (m.protection a).execute
       same a true = refl
       same a false = refl
 
@@ -63,7 +67,7 @@ module _ (m : Memory) (at : ℕ) where
       past a (inr g) h = let p = range.1 in absurd (omega arith)
 
       by : (a : ℕ) (b : Bool) → nat_eq (a / 4096) (at / 4096) ≡ b
-        → is_writable (let x : Protection = cond b (record (m.protection a) { rights = r })
+          → is_writable (let x : Protection = cond b (record (m.protection a) { rights = r })
           (m.protection a) in x).rights ≡ true → (may_write m a ≡ true) ⊎ (in_arena a ≡ true)
       by a false h w = inl w
       by a true h w =
@@ -80,7 +84,7 @@ module _ (m : Memory) (at : ℕ) where
       of_rights (Some r) e = page_set r e
 
       by : (b : Bool) → in_arena at ≡ b → KeepsRest m
-        (with_rights m at (cond b (rights_numbered n) None))
+          (with_rights m at (cond b (rights_numbered n) None))
       by true e = of_rights (rights_numbered n) e
       by false e = nothing_set
 
@@ -110,22 +114,27 @@ module _ (t : Functions) (fs : List Funclet) (program : LinearProgram) (p : Imag
   agrees : Agrees (is_reserved program.globals) after (protected source at n)
   agrees = record {
     byte = λ a r. same_byte a ∙ h.agrees.byte a r
-      ∙ sym (ap (λ (f : ℕ → ℕ). f a) (rights_set source at n).byte);
+        ∙ sym (ap (λ (f : ℕ → ℕ). f a) (rights_set source at n).byte);
     protection = λ a r. same_rights a (rights_asked at n) (h.agrees.protection a r);
     guard = h.agrees.guard;
   }
 
   pub arena_memory : IsMachineMemory t fs program p q after (protected source at n)
   arena_memory = record {
-    data_alone = record { bytes = λ a. (let e = same_byte a in let s = h.data_alone.bytes a in
-      omega arith); no_code = no_code };
+    data_alone = record {
+      bytes = λ a. (let e = same_byte a in let s = h.data_alone.bytes a in
+          omega arith);
+      no_code = no_code;
+    };
     agrees = agrees;
     stack = λ a l u. ap (λ (x : Protection). is_writable x.rights)
-      (kept.outside a (inr (omega arith))) ∙ h.stack a l u;
+        (kept.outside a (inr (omega arith))) ∙ h.stack a l u;
     arena = λ a e. kept.execute a ∙ h.arena a e;
     code = program_stays t fs program p q image m after
-      (record { byte = λ a l u own. same_byte a;
-      protection = λ a l u own. kept.outside a (inr (omega arith)) }) h.code;
+        (record {
+          byte = λ a l u own. same_byte a;
+          protection = λ a l u own. kept.outside a (inr (omega arith));
+        }) h.code;
   }
 
   -- what is code isn't in the arena

@@ -118,7 +118,7 @@ module _ (t : Functions) (fs : List Funclet) (program : LinearProgram) (p : Imag
 
     pub room : first + 4 ≤ body.temporaries
     room = has_slots t fs program p q image made.room s c b counted
-      (instructions.CallBuiltIn f first) here
+        (instructions.CallBuiltIn f first) here
 
     low : STACK_START + 196568 ≤ sp
     low = sp_low t fs program p q image s c b counted
@@ -140,9 +140,9 @@ module _ (t : Functions) (fs : List Funclet) (program : LinearProgram) (p : Imag
     pub back_inside : (place ≤ back) × (back < p.address c.frame.body (c.frame.next + 1))
     back_inside =
         let n = next_address t fs program p q image made.room s c b counted
-          (instructions.CallBuiltIn f first) here in
+        (instructions.CallBuiltIn f first) here in
         let z = template_sizes (links_of p q c.frame.body) y place
-          (instructions.CallBuiltIn f first) in
+        (instructions.CallBuiltIn f first) in
         let k = keep_some y first in
         let e = back_is in
         (omega arith, omega (arith, n, z, b.rip, k, sizes_append done (keep y (Temporary first))))
@@ -185,26 +185,26 @@ module _ (t : Functions) (fs : List Funclet) (program : LinearProgram) (p : Imag
 
     same : s ≡ machine view place s.cpu.flags
     same = same_state t fs program p q image made.room s c b counted
-      ∙ ap (λ a. machine view a s.cpu.flags) b.rip
+        ∙ ap (λ a. machine view a s.cpu.flags) b.rip
 
     code_here : HasCode s.memory place (template (links_of p q c.frame.body) y place
-      (instructions.CallBuiltIn f first))
+        (instructions.CallBuiltIn f first))
     code_here =
         subst (λ a. HasCode s.memory a (template (links_of p q c.frame.body) y a
-          (instructions.CallBuiltIn f first))) b.rip
+        (instructions.CallBuiltIn f first))) b.rip
         (template_here t fs program p q image made.room s c b counted
-          (instructions.CallBuiltIn f first) here)
+        (instructions.CallBuiltIn f first) here)
 
     pub run : ServiceReached (frame t fs program p q image made.room s c b counted) first view place
-      service s.cpu.flags numbers
+        service s.cpu.flags numbers
     run =
         service_reached (frame t fs program p q image made.room s c b counted) first view place
-          (q.thunk f) service s.cpu.flags numbers
+        (q.thunk f) service s.cpu.flags numbers
         (room_here t fs program p q image s c b counted) room
-          (sp_is t fs program p q image made.room s c b counted)
-          (holds_here t fs program p q image s c b counted)
+        (sp_is t fs program p q image made.room s c b counted)
+        (holds_here t fs program p q image s c b counted)
         (let l = low in let h = top in pushing.below view sp back (omega arith) (omega arith)
-          b.memory.data_alone b.memory.stack)
+        b.memory.data_alone b.memory.stack)
         near code_here (b.memory.code.thunks f).thunk
 
     -- with the arguments in their registers
@@ -219,16 +219,16 @@ module _ (t : Functions) (fs : List Funclet) (program : LinearProgram) (p : Imag
 
     pub comes : Comes t fs 7 s [] state
     comes = reaches_quietly t fs program p q image 7 s state reaches
-      (built_in_keeps t fs program p q image made.room s c b counted f first here state reaches refl
-      near) b.memory.code (host_quiet t fs program p q image s.memory service state.cpu
-      b.memory.code (service_low f).1)
+        (built_in_keeps t fs program p q image made.room s c b counted f first here state reaches refl
+        near) b.memory.code (host_quiet t fs program p q image s.memory service state.cpu
+        b.memory.code (service_low f).1)
 
     pub live : IsLive state
     live = service_live f
 
     pub sane : IsSane state
     sane = let l = (service_low f).1 in stays_sane s state (reaches_keeps 7 s state reaches)
-      (omega arith) b.sane
+        (omega arith) b.sane
 
     -- ---- the return
 
@@ -237,7 +237,7 @@ module _ (t : Functions) (fs : List Funclet) (program : LinearProgram) (p : Imag
         let x = numbers.slots (Temporary (first + 2)) in
         let z = numbers.slots (Temporary (first + 3)) in
         length-set (set view.rest 5 x) 6 z ∙ length-set view.rest 5 x
-          ∙ length-drop 3 s.cpu.registers ∙ (let k = b.sane.count in omega arith)
+        ∙ length-drop 3 s.cpu.registers ∙ (let k = b.sane.count in omega arith)
 
     pub low_enough : STACK_START + 8 ≤ sp
     low_enough = let l = low in omega arith
@@ -251,19 +251,19 @@ module _ (t : Functions) (fs : List Funclet) (program : LinearProgram) (p : Imag
     -- the state that the service continues from, and that it may save
     abbrev pub saved : Cpu
     saved = pushing.saved given sp back low_enough high_enough b.memory.data_alone b.memory.stack
-      service run.flags back_small many
+        service run.flags back_small many
 
     pub returns : loaded state.memory (register state.cpu Rsp) W64 ≡ Ok back
     returns = pushing.returns_there given sp back low_enough high_enough b.memory.data_alone
-      b.memory.stack service run.flags back_small many
+        b.memory.stack service run.flags back_small many
 
     pub sp_there : register state.cpu Rsp ≡ sp - 8
     sp_there = pushing.sp_there given sp back low_enough high_enough b.memory.data_alone
-      b.memory.stack service run.flags back_small many
+        b.memory.stack service run.flags back_small many
 
     pub sp_saved : register saved Rsp ≡ sp
     sp_saved = pushing.sp_saved given sp back low_enough high_enough b.memory.data_alone
-      b.memory.stack service run.flags back_small many
+        b.memory.stack service run.flags back_small many
 
     pub sane_saved : IsSane (record { cpu = saved; memory = state.memory })
     sane_saved =
@@ -280,28 +280,28 @@ module _ (t : Functions) (fs : List Funclet) (program : LinearProgram) (p : Imag
     memory =
         memory_untouched t fs program p q s.memory state.memory c.store.memory
         (pushing.pushed_untouched given sp back low_enough high_enough b.memory.data_alone
-          b.memory.stack) b.memory
+        b.memory.stack) b.memory
         (pushing.pushed_data given sp back low_enough high_enough b.memory.data_alone
-          b.memory.stack)
+        b.memory.stack)
 
     abbrev at_return : InBody t fs program p q (record { cpu = saved; memory = s.memory })
-      (waiting c first)
+        (waiting c first)
     at_return =
         in_body t fs program p q s c b saved c.frame.next (take first c.frame.temporaries) sp_saved
-          (record { low = back_inside.0; high = back_inside.1 })
+        (record { low = back_inside.0; high = back_inside.1 })
         (same_itself (regions_of (body_of program c.frame.body)) c.frame.next) back_small
-          (first_words s.memory c.frame.temporaries first)
+        (first_words s.memory c.frame.temporaries first)
 
     pub asks : Asks t fs program p q image state.cpu saved s.memory
-      (pushing.bytes given sp back low_enough high_enough b.memory.data_alone b.memory.stack)
-      (waiting c first) b.body.acts
+        (pushing.bytes given sp back low_enough high_enough b.memory.data_alone b.memory.stack)
+        (waiting c first) b.body.acts
     asks =
         asks_host t fs program p q image state.cpu saved s.memory
-          (pushing.bytes given sp back low_enough high_enough b.memory.data_alone b.memory.stack)
-          (waiting c first) c.frame.next c.store.memory
+        (pushing.bytes given sp back low_enough high_enough b.memory.data_alone b.memory.stack)
+        (waiting c first) c.frame.next c.store.memory
         at_return resumed b.memory.code
         (subst (KeepsAbove s.memory (pushing.bytes given sp back low_enough high_enough
-          b.memory.data_alone b.memory.stack)) (sym sp_saved)
-          (pushing.keeps_above given sp back low_enough high_enough b.memory.data_alone
-          b.memory.stack))
+        b.memory.data_alone b.memory.stack)) (sym sp_saved)
+        (pushing.keeps_above given sp back low_enough high_enough b.memory.data_alone
+        b.memory.stack))
         memory sane sane_saved

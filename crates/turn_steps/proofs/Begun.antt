@@ -51,19 +51,19 @@ module _ (t : Functions) (fs : List Funclet) (program : LinearProgram) (p : Imag
       (there : body_of program (FunctionBody f) ≡ Some o) (items : List Item)
       (acts : List Activation) (held : ℕ) (es : List Event) (values : List ℕ)
       (sane : IsSane z) (memory : IsMachineMemory t fs program p q z.memory source)
-        (rip : z.cpu.rip ≡ p.address (FunctionBody f) 0) (some : 0 < length o.code)
+      (rip : z.cpu.rip ≡ p.address (FunctionBody f) 0) (some : 0 < length o.code)
       (space : HasSpace (register z.cpu Rsp) below_end (suc (length acts) + held))
-        (function : FunctionIsAbove t fs program p items)
+      (function : FunctionIsAbove t fs program p items)
       (home : p.leaf (FunctionBody f) ≡ true → register z.cpu Rsp + home_end ≤ STACK_END)
       (back : ℕ) (returns_to : ReturnsTo t fs program p items back)
-        (returns : word z.memory (register z.cpu Rsp + (p.layout (FunctionBody f)).frame) ≡ Ok back)
+      (returns : word z.memory (register z.cpu Rsp + (p.layout (FunctionBody f)).frame) ≡ Ok back)
       (numbers : HoldsWords z.memory (register z.cpu Rsp + (p.layout (FunctionBody f)).locals)
-        (register z.cpu Rsp + slots_end (p.layout (FunctionBody f)) (p.leaf (FunctionBody f)))
-        values)
+      (register z.cpu Rsp + slots_end (p.layout (FunctionBody f)) (p.leaf (FunctionBody f)))
+      values)
       (is : List StackItem)
       (below : (others : List ℕ) → length others ≡ 8
-        → On t fs program p z.memory (context_below back
-          (register z.cpu Rsp + (p.layout (FunctionBody f)).frame + 8) others) is items acts) where
+      → On t fs program p z.memory (context_below back
+      (register z.cpu Rsp + (p.layout (FunctionBody f)).frame + 8) others) is items acts) where
     abbrev y : Layout
     y = p.layout (FunctionBody f)
 
@@ -85,10 +85,17 @@ module _ (t : Functions) (fs : List Funclet) (program : LinearProgram) (p : Imag
     room false l = let a = l.temporaries in omega arith
 
     slots : BodyWaits t fs program p z.memory (context_of z.cpu)
-      (slots_end y (p.leaf (FunctionBody f)))
-      (last_temporary y (FunctionBody f) (p.leaf (FunctionBody f)))
-        (record { body = FunctionBody f; next = 0; activation = length (locals_of acts);
-          exception = no_exception; held = held; temporaries = []; landed = None }) (own ∷ acts)
+        (slots_end y (p.leaf (FunctionBody f)))
+        (last_temporary y (FunctionBody f) (p.leaf (FunctionBody f)))
+        (record {
+          body = FunctionBody f;
+          next = 0;
+          activation = length (locals_of acts);
+          exception = no_exception;
+          held = held;
+          temporaries = [];
+          landed = None;
+        }) (own ∷ acts)
     slots =
         let laid = image.laid_out (FunctionBody f) o there in
         let rises = (image.addresses (FunctionBody f) o there).rises 0 some in
@@ -99,15 +106,17 @@ module _ (t : Functions) (fs : List Funclet) (program : LinearProgram) (p : Imag
           instruction = record { low = omega (arith, rip); high = omega (arith, rip, rises) };
           same = same_itself (regions_of (body_of program (FunctionBody f))) 0;
           small = sane.rip_small;
-          activation = record { none = no_base (p.leaf (FunctionBody f)) laid;
+          activation = record {
+            none = no_base (p.leaf (FunctionBody f)) laid;
             activation = record { number = count_of_locals acts; base = refl; distance = refl };
-            values = numbers };
+            values = numbers;
+          };
           temporaries = (let r = room (p.leaf (FunctionBody f)) laid in omega arith);
           space = space;
         }
 
     pub function_begins : Begins t fs program p q z
-      (begun f values held items source (locals_of acts) es)
+        (begun f values held items source (locals_of acts) es)
     function_begins = record {
       rip = rip;
       sane = sane;

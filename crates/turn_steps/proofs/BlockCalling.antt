@@ -73,10 +73,10 @@ module _ (t : Functions) (fs : List Funclet) (program : LinearProgram) (p : Imag
   module _ (s : State) (c : Configuration) (b : Begins t fs program p q s c)
       (counted : IsCounted t fs program p q image c) (k flag : ℕ)
       (at : slice_get b.body.slots.code.code c.frame.next ≡ Some (instructions.CallFinally k))
-        (separator : slice_get b.body.slots.code.code (c.frame.next + 1)
-        ≡ Some instructions.Separator) (framed : p.leaf c.frame.body ≡ false)
+      (separator : slice_get b.body.slots.code.code (c.frame.next + 1)
+      ≡ Some instructions.Separator) (framed : p.leaf c.frame.body ≡ false)
       (block : IsFuncletOf program c.frame.body IsFinallyKind k)
-        (kind : block.funclet.kind ≡ funclets.Finally flag) where
+      (kind : block.funclet.kind ≡ funclets.Finally flag) where
     abbrev name : BodyName
     name = c.frame.body
 
@@ -105,15 +105,15 @@ module _ (t : Functions) (fs : List Funclet) (program : LinearProgram) (p : Imag
 
     back_is : back ≡ p.address name (c.frame.next + 1)
     back_is = ap (λ r. r + sizes finally_arguments + 5) b.rip
-      ∙ after_call t fs program p q image roomy apart name code c.frame.next k b.body.slots.body at
+        ∙ after_call t fs program p q image roomy apart name code c.frame.next k b.body.slots.body at
 
     inside : c.frame.next + 1 < length code.code
     inside = (apart name code b.body.slots.body).within c.frame.next (instructions.CallFinally k) at
-      refl
+        refl
 
     back_code : InCode p name (c.frame.next + 1) back
     back_code = subst (InCode p name (c.frame.next + 1)) (sym back_is)
-      (first_in_code t fs program p q image name code (c.frame.next + 1) b.body.slots.body inside)
+        (first_in_code t fs program p q image name code (c.frame.next + 1) b.body.slots.body inside)
 
     target_there : body_of program (FuncletBody k) ≡ Some block.funclet.body
     target_there = ap funclet_body block.there
@@ -156,13 +156,13 @@ module _ (t : Functions) (fs : List Funclet) (program : LinearProgram) (p : Imag
 
     below_sp : HasBelow s.memory sp 8
     below_sp = pushing.below before sp back low_enough high_enough b.memory.data_alone
-      b.memory.stack
+        b.memory.stack
 
     pub run : FinallyCalled (v t fs program p q image roomy s c b counted) sp s.cpu.rip
-      (p.funclet k) s.cpu.flags
+        (p.funclet k) s.cpu.flags
     run =
         finally_begins (v t fs program p q image roomy s c b counted) sp s.cpu.rip (p.funclet k)
-          s.cpu.flags (sp_is t fs program p q image roomy s c b counted) below_sp back_near
+        s.cpu.flags (sp_is t fs program p q image roomy s c b counted) below_sp back_near
         (template_here t fs program p q image roomy s c b counted (instructions.CallFinally k) at)
 
     -- at the block's first byte
@@ -171,12 +171,12 @@ module _ (t : Functions) (fs : List Funclet) (program : LinearProgram) (p : Imag
 
     reaches : Reaches 3 s called
     reaches = subst (λ z. Reaches 3 z called)
-      (sym (same_state t fs program p q image roomy s c b counted)) run.comes
+        (sym (same_state t fs program p q image roomy s c b counted)) run.comes
 
     shown : arrivals called.cpu (distance t.base called.cpu.rip) 1 fs
-      ≡ events.Finally (k + 1) false ∷ []
+        ≡ events.Finally (k + 1) false ∷ []
     shown = image.funclets.named k block.funclet block.there called.cpu
-      ∙ ap (λ z. by_kind called.cpu (k + 1) (is_finally t fs program p q z) ∷ []) kind
+        ∙ ap (λ z. by_kind called.cpu (k + 1) (is_finally t fs program p q z) ∷ []) kind
 
     -- each turn keeps the shadow
     abbrev next : ℕ
@@ -195,20 +195,20 @@ module _ (t : Functions) (fs : List Funclet) (program : LinearProgram) (p : Imag
       left = [];
       parts = refl;
       here = sym back_next ∙ back_is ∙ (let z : p.address name (c.frame.next + 1)
-        ≡ p.address name (c.frame.next + 1) + 0 = omega arith in z);
+          ≡ p.address name (c.frame.next + 1) + 0 = omega arith in z);
     }
 
     keeps_shadow : AllKeep t fs 3 s
     keeps_shadow =
         calls_keep t fs program p q image name code b.body.slots.body c.frame.next
-          (instructions.CallFinally k) at (λ h. h) finally_arguments [] next (p.funclet k) refl refl
-          (subst (λ a. IsNear a (p.funclet k)) back_next back_near) (c.frame.next + 1) next_resumed
+        (instructions.CallFinally k) at (λ h. h) finally_arguments [] next (p.funclet k) refl refl
+        (subst (λ a. IsNear a (p.funclet k)) back_next back_near) (c.frame.next + 1) next_resumed
         (λ m. (image.callers (FuncletBody k) block.funclet.body target_there).entries m
-          (λ e. absurd (let z : true ≡ false = sym e ∙ block_framed in cc)))
+        (λ e. absurd (let z : true ≡ false = sym e ∙ block_framed in cc)))
         s called (top_of t fs program p q image s c b counted) b.body.back
-          (others_of s.cpu.registers) b.body.is b.rip
-          (begins_beneath t fs program p q image s c b counted) refl (let l = low in omega arith)
-          b.memory.code
+        (others_of s.cpu.registers) b.body.is b.rip
+        (begins_beneath t fs program p q image s c b counted) refl (let l = low in omega arith)
+        b.memory.code
         ((refl, inl refl), ((refl, inl refl), tt)) (reaches_steps 3 s called reaches)
       where
         block_framed : p.leaf (FuncletBody k) ≡ false
@@ -216,19 +216,19 @@ module _ (t : Functions) (fs : List Funclet) (program : LinearProgram) (p : Imag
 
     pub comes : Comes t fs 3 s (events.Finally (k + 1) false ∷ []) called
     comes = reaches_comes t fs program p q image 2 s called (events.Finally (k + 1) false ∷ [])
-      reaches keeps_shadow b.memory.code shown
+        reaches keeps_shadow b.memory.code shown
 
     pub memory : IsMachineMemory t fs program p q called.memory c.store.memory
     memory =
         memory_untouched t fs program p q s.memory called.memory c.store.memory
-          (pushing.pushed_untouched before sp back low_enough high_enough b.memory.data_alone
-          b.memory.stack) b.memory
+        (pushing.pushed_untouched before sp back low_enough high_enough b.memory.data_alone
+        b.memory.stack) b.memory
         (pushing.pushed_data before sp back low_enough high_enough b.memory.data_alone
-          b.memory.stack)
+        b.memory.stack)
 
     keeps_above : KeepsAbove s.memory bytes sp
     keeps_above = pushing.keeps_above before sp back low_enough high_enough b.memory.data_alone
-      b.memory.stack
+        b.memory.stack
 
     stack_there : register called.cpu Rsp ≡ sp - 8
     stack_there =
@@ -242,22 +242,24 @@ module _ (t : Functions) (fs : List Funclet) (program : LinearProgram) (p : Imag
         let h = top in
         subst (λ a. word called.memory a ≡ Ok back) (sym stack_there)
         (word_of called.memory (sp - 8) back (omega arith)
-          (λ x from to. may_read_written called.memory x
-          (b.memory.stack x (omega arith) (omega arith)))
-          (pushed_back before sp back below_sp back_small).number)
+        (λ x from to. may_read_written called.memory x
+        (b.memory.stack x (omega arith) (omega arith)))
+        (pushed_back before sp back below_sp back_small).number)
 
     returns_to : ReturnsTo t fs program p (Waits c.frame ∷ c.below) back
     returns_to =
         ap (λ o. return_of y (p.address name c.frame.next) (instruction_in o c.frame.next))
-          b.body.slots.body
+        b.body.slots.body
         ∙ ap (return_of y (p.address name c.frame.next)) at
         ∙ ap (λ r. Some (r + sizes finally_arguments + 5)) (sym b.rip)
 
     -- ---- the body waits, at the next instruction
 
     abbrev later : State
-    later = record { cpu = record { registers = s.cpu.registers; rip = back; flags = s.cpu.flags };
-      memory = s.memory }
+    later = record {
+      cpu = record { registers = s.cpu.registers; rip = back; flags = s.cpu.flags };
+      memory = s.memory;
+    }
 
     resumed : IsResumed t fs program p q name code (c.frame.next + 1) back
     resumed = record {
@@ -269,7 +271,7 @@ module _ (t : Functions) (fs : List Funclet) (program : LinearProgram) (p : Imag
       left = [];
       parts = refl;
       here = back_is ∙ (let z : p.address name (c.frame.next + 1)
-        ≡ p.address name (c.frame.next + 1) + 0 = omega arith in z);
+          ≡ p.address name (c.frame.next + 1) + 0 = omega arith in z);
     }
 
     abbrev in_body : InBody t fs program p q later c
@@ -282,7 +284,7 @@ module _ (t : Functions) (fs : List Funclet) (program : LinearProgram) (p : Imag
         label = c.frame.next + 1;
         instruction = back_code;
         same = apart_same t fs program p apart name code c.frame.next (instructions.CallFinally k)
-          b.body.slots.body at refl;
+            b.body.slots.body at refl;
         small = back_small;
         activation = b.body.slots.activation;
         temporaries = b.body.slots.temporaries;
@@ -300,46 +302,48 @@ module _ (t : Functions) (fs : List Funclet) (program : LinearProgram) (p : Imag
 
     on_top : OnTop t fs program p q later c b.body.acts
     on_top = body_on_top t fs program p q image later c (c.frame.next + 1) in_body resumed
-      b.memory.code
+        b.memory.code
 
     list : (others : List ℕ) → length others ≡ 8
-      → On t fs program p called.memory (context_below back sp others) on_top.is
+        → On t fs program p called.memory (context_below back sp others) on_top.is
         (Waits c.frame ∷ c.below) b.body.acts
     list others eight =
         on_moved t fs program p called.memory (context_of later.cpu) (context_below back sp others)
-          on_top.is (Waits c.frame ∷ c.below) b.body.acts refl (omega (arith, eight)) refl refl
+        on_top.is (Waits c.frame ∷ c.below) b.body.acts refl (omega (arith, eight)) refl refl
         (record {
           is_there = kept_by_stores_below t fs program p s.memory bytes (context_of later.cpu)
-            on_top.is (Waits c.frame ∷ c.below) b.body.acts keeps_above on_top.on.is_there;
+              on_top.is (Waits c.frame ∷ c.below) b.body.acts keeps_above on_top.on.is_there;
           data_alone = pushing.pushed_data before sp back low_enough high_enough b.memory.data_alone
-            b.memory.stack;
+              b.memory.stack;
         })
 
     -- ---- what the block finds
 
     held : HasActivation s.memory y sp y.frame c.frame.activation b.body.acts name
     held = subst (λ z. HasActivation s.memory y sp (slots_end y z) c.frame.activation b.body.acts
-      name) framed b.body.slots.activation
+        name) framed b.body.slots.activation
 
     activation : linked.Reaches t fs program p called.memory name (register called.cpu Rdx)
-      c.frame.activation b.body.acts
+        c.frame.activation b.body.acts
     activation =
         let h = top in
         reaches_above t fs program p s.memory bytes sp name sp c.frame.activation b.body.acts
-          keeps_above (omega arith)
+        keeps_above (omega arith)
         (body_reaches t fs program p s.memory name sp y.frame c.frame.activation b.body.acts
-          (omega arith) held)
+        (omega arith) held)
 
     is_funclet : IsFunclet t fs program p name k
-    is_funclet = record { parent = ap parent_body block.there
-      ∙ ap (λ n. Some n) (same_parents block.funclet.function block.funclet.parent ∙ block.parent);
-        small = target_small }
+    is_funclet = record {
+      parent = ap parent_body block.there
+          ∙ ap (λ n. Some n) (same_parents block.funclet.function block.funclet.parent ∙ block.parent);
+      small = target_small;
+    }
 
     sane : IsSane called
     sane = stays_sane s called (reaches_keeps 3 s called reaches) target_small b.sane
 
     pub arrives : ArrivesBelow t fs program p called k c.frame.activation (of_test false)
-      (Waits c.frame ∷ c.below) b.body.acts
+        (Waits c.frame ∷ c.below) b.body.acts
     arrives =
         let l = low in
         let h = top in

@@ -46,7 +46,7 @@ module _ (t : Functions) (fs : List Funclet) (program : LinearProgram) (p : Imag
   module _ (s : State) (c : Configuration) (k : ℕ) (b : Begins t fs program p q s c)
       (known : IsKnown program c) (at : instruction_at program c
       ≡ Some (instructions.CallFinally k)) (after : KnownNext program c
-        (instructions.CallFinally k)) where
+      (instructions.CallFinally k)) where
     abbrev i : Instruction
     i = instructions.CallFinally k
 
@@ -61,14 +61,14 @@ module _ (t : Functions) (fs : List Funclet) (program : LinearProgram) (p : Imag
 
     abbrev block : IsFuncletOf program c.frame.body IsFinallyKind k
     block = each (IsInstructionOf program c.frame.body) body.code c.frame.next i
-      (made.whole.bodies c.frame.body body b.body.slots.body).code here
+        (made.whole.bodies c.frame.body body b.body.slots.body).code here
 
     abbrev flagged : (flag : ℕ) × (block.funclet.kind ≡ funclets.Finally flag)
     flagged = flag_there block.funclet.kind block.fits
 
     flag_is : flag_of (slice_get program.funclets k) ≡ Some flagged.0
     flag_is = ap flag_of block.there ∙ ap (λ z. flag_of (Some (record block.funclet { kind = z })))
-      flagged.1
+        flagged.1
 
     framed : p.leaf c.frame.body ≡ false
     framed = by (p.leaf c.frame.body) refl
@@ -76,17 +76,17 @@ module _ (t : Functions) (fs : List Funclet) (program : LinearProgram) (p : Imag
         by : (leaf : Bool) → p.leaf c.frame.body ≡ leaf → p.leaf c.frame.body ≡ false
         by false e = e
         by true e = absurd (let no : true ≡ false = made.leaves c.frame.body body c.frame.next i
-          b.body.slots.body e here in cc)
+            b.body.slots.body e here in cc)
 
     abbrev next_one : Configuration
     next_one = begin_finally k flagged.0 false c.frame.held (Waits c.frame ∷ c.below) c
 
     acts_as : (next : Next) → act program i next c
-      ≡ deeper 2 c.frame.held c.store c.events (next next_one)
+        ≡ deeper 2 c.frame.held c.store c.events (next next_one)
     unfolding with_some
     acts_as next = ap (λ o. with_some c.events o
-      (λ flag. deeper 2 c.frame.held c.store c.events
-      (next (begin_finally k flag false c.frame.held (Waits c.frame ∷ c.below) c)))) flag_is
+        (λ flag. deeper 2 c.frame.held c.store c.events
+        (next (begin_finally k flag false c.frame.held (Waits c.frame ∷ c.below) c)))) flag_is
 
     abbrev Goal : Type 0
     Goal = IsMatched t fs program pace turns_left (Begins t fs program p q) s c i
@@ -97,30 +97,30 @@ module _ (t : Functions) (fs : List Funclet) (program : LinearProgram) (p : Imag
     too_deep : deep ≡ true → Goal
     unfolding pick
     too_deep e = inr (inr (inr (fails_at_once t fs program turns_left pace s c i (Deep 1001) refl
-      (λ next. acts_as next ∙ ap (λ x. pick x (Finished (Deep 1001) c.events) (next next_one)) e))))
+        (λ next. acts_as next ∙ ap (λ x. pick x (Finished (Deep 1001) c.events) (next next_one)) e))))
 
     moves : deep ≡ false → Goal
     unfolding pick
     moves e =
         let counted = counted_here t fs program p q image made c known in
         let goes = λ (next : Next). acts_as next
-          ∙ ap (λ x. pick x (Finished (Deep 1001) c.events) (next next_one)) e in
+        ∙ ap (λ x. pick x (Finished (Deep 1001) c.events) (next next_one)) e in
         let depth : length c.store.activations ≡ length b.body.acts = ap length b.body.store
-          ∙ locals_count b.body.acts in
+        ∙ locals_count b.body.acts in
         let few = shallow_is (length c.store.activations + c.frame.held + 2) e in
         let space = b.body.slots.space.space in
         let place = calling.arrives_at t fs program p q image made.room made.apart s c b counted k
-          flagged.0 here separator framed block flagged.1 in
+        flagged.0 here separator framed block flagged.1 in
         let u = calling.called t fs program p q image made.room made.apart s c b counted k flagged.0
-          here separator framed block flagged.1 in
+        here separator framed block flagged.1 in
         let leads : LeadsTo t fs entry_turns (Begins t fs program p q) u next_one =
         block_leads t fs program p q image u k flagged.0 c.frame.activation c.frame.held false
-          (Waits c.frame ∷ c.below) c.store (c.events ++ events.Finally (k + 1) false ∷ [])
-          b.body.acts
+        (Waits c.frame ∷ c.below) c.store (c.events ++ events.Finally (k + 1) false ∷ [])
+        b.body.acts
         (calling.arrives t fs program p q image made.room made.apart s c b counted k flagged.0 here
-          separator framed block flagged.1) c.frame.body block flag_is fits
+        separator framed block flagged.1) c.frame.body block flag_is fits
         (calling.memory t fs program p q image made.room made.apart s c b counted k flagged.0 here
-          separator framed block flagged.1) b.body.store (omega arith) (omega arith)
+        separator framed block flagged.1) b.body.store (omega arith) (omega arith)
         (λ m sp size. tt) (λ g kind. (flagged.0, kind)) (after next_one goes) in
         let most = leads.few in
         inl (record {
@@ -131,9 +131,9 @@ module _ (t : Functions) (fs : List Funclet) (program : LinearProgram) (p : Imag
           state = leads.state;
           events = events.Finally (k + 1) false ∷ [];
           comes = quietly_after t fs 3 leads.turns s u leads.state
-            (events.Finally (k + 1) false ∷ [])
+              (events.Finally (k + 1) false ∷ [])
               (calling.comes t fs program p q image made.room made.apart s c b counted k flagged.0
-                here separator framed block flagged.1) leads.comes;
+              here separator framed block flagged.1) leads.comes;
           acts = goes;
           shown = refl;
           is_there = leads.is_there;

@@ -127,9 +127,7 @@ module _ (t : Functions) (fs : List Funclet) (program : LinearProgram) (p : Imag
       (memory : IsMachineMemory t fs program p q s.memory store.memory) (stored : store.activations ≡ locals_of acts)
       (space : STACK_END ≤ a.at + (below_end + record_room) + LARGEST_FRAME * (length acts + held)) (few : length acts + held + 2 ≤ 1000)
       (pointers : (m : Memory) (sp size : ℕ) → HasPointers t fs program p m (p.layout (FuncletBody k)) sp size items)
-      (above : (g : LinearFunclet) → g.kind ≡ funclets.Finally flag
-        → FuncletIsAbove t fs program p k (first_frame t fs program p q image k activation
-          no_exception (held + 2)) (Some g) items)
+      (above : (g : LinearFunclet) → g.kind ≡ funclets.Finally flag → FuncletIsAbove t fs program p k (first_frame t fs program p q image k activation no_exception (held + 2)) (Some g) items)
       (typed : IsKnown program (block_begins k flag activation held abnormal items store events)) where
     abbrev f : LinearFunclet
     f = known.funclet
@@ -198,9 +196,7 @@ module _ (t : Functions) (fs : List Funclet) (program : LinearProgram) (p : Imag
         record { space = omega arith; shallow = omega arith }
 
     abbrev b1 : Begins t fs program p q s1 c1
-    b1 = begins t fs program p q image s s1 k (of_test abnormal) activation items acts l a frame_1
-      no_exception (held + 2) store events memory stored
-      (let h = e.top in let z = e.sp_is in let w = a.stack in omega arith) some
+    b1 = begins t fs program p q image s s1 k (of_test abnormal) activation items acts l a frame_1 no_exception (held + 2) store events memory stored (let h = e.top in let z = e.sp_is in let w = a.stack in omega arith) some
         (subst (λ r. HasSpace r below_end (length acts + (held + 2))) (sym stack_1) space_1)
         (above f kind_is)
         (pointers s1.memory (register s1.cpu Rsp) y.frame)
@@ -221,21 +217,13 @@ module _ (t : Functions) (fs : List Funclet) (program : LinearProgram) (p : Imag
         let h = has_locals in
         let lt = slice_get_within _ activation h.locals h.there in
         let n = set_count store.activations activation (slice_set (linear.locals_of store activation) flag (of_test abnormal)) in
-        let same : h.locals ≡ slice_set (linear.locals_of store activation) flag
-          (of_test abnormal) = same_list h.locals _
-          (sym h.there ∙ set_here store.activations activation
-          (slice_set (linear.locals_of store activation) flag (of_test abnormal)) (omega arith)) in
-        sym (set_length (linear.locals_of store activation) flag (of_test abnormal))
-          ∙ sym (ap length same) ∙ locals_counted t fs program p q image k f works.0 h.locals
-            known.there function_is h.of
+        let same : h.locals ≡ slice_set (linear.locals_of store activation) flag (of_test abnormal) = same_list h.locals _ (sym h.there ∙ set_here store.activations activation (slice_set (linear.locals_of store activation) flag (of_test abnormal)) (omega arith)) in
+        sym (set_length (linear.locals_of store activation) flag (of_test abnormal)) ∙ sym (ap length same) ∙ locals_counted t fs program p q image k f works.0 h.locals known.there function_is h.of
         ∙ ap (λ (z : LinearBody). z.locals) (same_body f.body b (sym (ap funclet_body known.there) ∙ is))
 
     framed_owner : OwnerHasFrame t fs program p activation items acts
     framed_owner = owner_framed t fs program p q image activation items acts
-        (sym (ap length stored ∙ locals_count acts)
-          ∙ sym (set_count store.activations activation
-            (slice_set (linear.locals_of store activation) flag (of_test abnormal)))
-          ∙ sym (as_many program (owners_of items) _ typed.activations.stored))
+        (sym (ap length stored ∙ locals_count acts) ∙ sym (set_count store.activations activation (slice_set (linear.locals_of store activation) flag (of_test abnormal))) ∙ sym (as_many program (owners_of items) _ typed.activations.stored))
         typed.activations.working.1
         (λ function z. subst (λ j. p.leaf (linear.FunctionBody j) ≡ false) (same_number works.0 function (sym works.2 ∙ z)) (no_leaf t fs program p q image k works.0 works.1).1)
 
@@ -256,12 +244,8 @@ module _ (t : Functions) (fs : List Funclet) (program : LinearProgram) (p : Imag
     code_here : HasCode e.after.memory e.rip last
     code_here = subst (λ z. HasCode e.after.memory e.rip (keep_argument y z)) kind_is e.code
 
-    abbrev r : ReachesBody fr (length last) (machine e.after e.rip e.flags) (e.rip + sizes last)
-      e.after.rest (record { slots = with_slot old.slots (Local flag) (low W32 e.after.rcx);
-      memory = old.memory })
-    r = flag_run fr (Local flag) e.after e.rip e.flags old
-      (room_here t fs program p q image s1 c1 b1 counted) flag_fits (e.at ∙ sym stack_1)
-      (holds_here t fs program p q image s1 c1 b1 counted) code_here
+    abbrev r : ReachesBody fr (length last) (machine e.after e.rip e.flags) (e.rip + sizes last) e.after.rest (record { slots = with_slot old.slots (Local flag) (low W32 e.after.rcx); memory = old.memory })
+    r = flag_run fr (Local flag) e.after e.rip e.flags old (room_here t fs program p q image s1 c1 b1 counted) flag_fits (e.at ∙ sym stack_1) (holds_here t fs program p q image s1 c1 b1 counted) code_here
 
     abbrev u : State
     u = machine r.after (e.rip + sizes last) r.flags
@@ -284,9 +268,7 @@ module _ (t : Functions) (fs : List Funclet) (program : LinearProgram) (p : Imag
         let w = slots_here t fs program p q image s1 c1 b1 counted in
         record {
           count = set_length here.values flag stored_flag ∙ n;
-          locals = λ i lt. local_after old.slots here.values (Local flag) stored_flag i
-            (omega arith) (w.locals i lt ∙ ap (λ xs. slice_index xs i)
-            (locals_here t fs program p q image s1 c1 b1 counted));
+          locals = λ i lt. local_after old.slots here.values (Local flag) stored_flag i (omega arith) (w.locals i lt ∙ ap (λ xs. slice_index xs i) (locals_here t fs program p q image s1 c1 b1 counted));
           few = omega arith;
           temporaries = λ i v z. cc;
         }
@@ -295,10 +277,7 @@ module _ (t : Functions) (fs : List Funclet) (program : LinearProgram) (p : Imag
     ran_here =
         let z = reaches_keeps (length last) (machine e.after e.rip e.flags) u r.comes in
         record {
-          changed = record { changes = record { protection = r.changes.protection;
-            byte = r.changes.byte; bytes = r.changes.bytes };
-            keeps = record { protection = z.protection; fixed = z.fixed; count = z.count;
-            small = z.small } };
+          changed = record { changes = record { protection = r.changes.protection; byte = r.changes.byte; bytes = r.changes.bytes }; keeps = record { protection = z.protection; fixed = z.fixed; count = z.count; small = z.small } };
           holds = r.holds;
           stack = ap (λ (xs : List ℕ). slice_index xs 1) r.rest;
           leaves = leaves;
@@ -355,16 +334,11 @@ module _ (t : Functions) (fs : List Funclet) (program : LinearProgram) (p : Imag
     arguments = arguments_code program p (FuncletBody k)
 
     parts : arguments ≡ base ++ keep_argument y f.kind
-    parts = arguments_are t fs program p q image s k activation (of_test abnormal) items acts l a
-      store.memory memory some low_enough high_enough (register s.cpu Rdx) a.reaches.base leads
+    parts = arguments_are t fs program p q image s k activation (of_test abnormal) items acts l a store.memory memory some low_enough high_enough (register s.cpu Rdx) a.reaches.base leads
 
-    kept_base : EntryRan t fs program p q image (FuncletBody k) f.body (ap funclet_body l.there)
-      some (register s.cpu Rsp) (register s.cpu Rsp + 8) a.back (others_of s.cpu.registers) a.is
-      e.turns s y1 base
+    kept_base : EntryRan t fs program p q image (FuncletBody k) f.body (ap funclet_body l.there) some (register s.cpu Rsp) (register s.cpu Rsp + 8) a.back (others_of s.cpu.registers) a.is e.turns s y1 base
     kept_base =
-        funclet_ran t fs program p q image s k activation (of_test abnormal) items acts l a
-          store.memory memory some low_enough high_enough (register s.cpu Rdx) a.reaches.base leads
-          e.turns y1 base (keep_argument y f.kind) parts
+        funclet_ran t fs program p q image s k activation (of_test abnormal) items acts l a store.memory memory some low_enough high_enough (register s.cpu Rdx) a.reaches.base leads e.turns y1 base (keep_argument y f.kind) parts
         (let n = e.exact in omega arith) (enters_steps e.turns s y1 e.comes)
         (base_is_plain t fs program p q image s k activation (of_test abnormal) items acts l a store.memory memory some low_enough high_enough (register s.cpu Rdx) a.reaches.base leads)
 
@@ -414,9 +388,7 @@ module _ (t : Functions) (fs : List Funclet) (program : LinearProgram) (p : Imag
     begin = begin_of p q (FuncletBody k) + making_size p q (FuncletBody k)
 
     codes : (m : Memory) → HasProgram t fs program p q m → HasCode m begin (base ++ mid) × HasCode m (begin + sizes (base ++ mid)) (storing ∷ [])
-    codes m h = code_split m begin (base ++ mid) (storing ∷ [])
-      (subst (HasCode m begin) all_parts (frame_there t fs program p q image (FuncletBody k) f.body
-      (ap funclet_body l.there) some m h).1)
+    codes m h = code_split m begin (base ++ mid) (storing ∷ []) (subst (HasCode m begin) all_parts (frame_there t fs program p q image (FuncletBody k) f.body (ap funclet_body l.there) some m h).1)
 
     finds : Finds t fs program p q top1 (top1 + 8) b1.body.back others1 list1 y1.cpu.rip mid y.frame
     finds done left split m h =
@@ -431,9 +403,7 @@ module _ (t : Functions) (fs : List Funclet) (program : LinearProgram) (p : Imag
     middle : MidRan t fs program p q top1 (top1 + 8) b1.body.back others1 list1 y1 x mid
     middle =
         let place : begin + sizes base ≡ y1.cpu.rip = sym kept_base.rip in
-        let code = (code_split y1.memory (begin + sizes base) mid []
-          (subst (HasCode y1.memory (begin + sizes base)) (sym (append-nil mid))
-          (code_split y1.memory begin base mid (codes y1.memory kept_base.has).0).1)).0 in
+        let code = (code_split y1.memory (begin + sizes base) mid [] (subst (HasCode y1.memory (begin + sizes base)) (sym (append-nil mid)) (code_split y1.memory begin base mid (codes y1.memory kept_base.has).0).1)).0 in
         let small = l.plan.layout.small in
         let kept = l.plan.layout.kept in
         let at = l.plan.layout.temporaries in
@@ -447,9 +417,7 @@ module _ (t : Functions) (fs : List Funclet) (program : LinearProgram) (p : Imag
     beneath_u : Beneath t u top1 (top1 + 8) b1.body.back others1 list1
     beneath_u =
         let h = frame_top t fs program p q image s1 c1 b1 counted in
-        let on = new_on t fs program p q image s1 c1 b1 counted u d values [] ran_here
-          (λ z. let w : true ≡ false = sym z ∙ l.plan.framed in absurd cc) (λ j z. framed_owner)
-          (others_of u.cpu.registers) refl in
+        let on = new_on t fs program p q image s1 c1 b1 counted u d values [] ran_here (λ z. let w : true ≡ false = sym z ∙ l.plan.framed in absurd cc) (λ j z. framed_owner) (others_of u.cpu.registers) refl in
         subst (λ o. Beneath t u top1 (top1 + 8) b1.body.back o list1) others_there
         (beneath_by t u top1 b1.body.back list1 sane_here.count (returns t fs program p q image s1 c1 b1 counted u d values [] ran_here) on.is_there.stack (omega arith) on.data_alone.no_code)
 
@@ -483,9 +451,7 @@ module _ (t : Functions) (fs : List Funclet) (program : LinearProgram) (p : Imag
     keeps_shadow : AllKeep t fs (e.turns + length last) s
     keeps_shadow =
         let three = keeps_split t fs 2 1 y1 x (run_3.0, run_3.1, (x, run_2.1, refl)) middle.keeps (keep_first t fs 0 x u last_step.steps storing_keeps tt) in
-        keeps_split t fs e.turns (length last) s y1 (enters_steps e.turns s y1 e.comes)
-          kept_base.keeps (subst (λ n. AllKeep t fs n y1)
-          (sym (ap (λ (xs : List Instr). length xs) last_is)) three)
+        keeps_split t fs e.turns (length last) s y1 (enters_steps e.turns s y1 e.comes) kept_base.keeps (subst (λ n. AllKeep t fs n y1) (sym (ap (λ (xs : List Instr). length xs) last_is)) three)
 
     pub block_leads : LeadsTo t fs entry_turns (Begins t fs program p q) s (block_begins k flag activation held abnormal items store events)
     block_leads = record {

@@ -56,8 +56,8 @@ module _ (t : Functions) (fs : List Funclet) (program : LinearProgram) (p : Imag
       (counted : IsCounted t fs program p q image c) (f : BuiltIn) (first : ℕ)
       (at : slice_get b.body.slots.code.code c.frame.next ≡ Some (instructions.CallBuiltIn f first))
       (w : State) (run : Reaches 7 s w) (there : w.cpu.rip ≡ address_of (service_of f))
-        (near : IsNear (return_at (p.layout c.frame.body) first
-        (p.address c.frame.body c.frame.next + 5)) (q.thunk f)) where
+      (near : IsNear (return_at (p.layout c.frame.body) first
+      (p.address c.frame.body c.frame.next + 5)) (q.thunk f)) where
     abbrev y : Layout
     y = p.layout c.frame.body
 
@@ -89,14 +89,14 @@ module _ (t : Functions) (fs : List Funclet) (program : LinearProgram) (p : Imag
       left = [];
       parts = refl;
       here = let n = clear_size in let k = call_size next (q.thunk f) in
-        omega (arith, sizes_append (arguments_code y first) (call_it ∷ []));
+          omega (arith, sizes_append (arguments_code y first) (call_it ∷ []));
     }
 
     plain : AllPlain y.frame 8 before
     plain =
         let room = (room_here t fs program p q image s c b counted).temporaries in
         let few = has_slots t fs program p q image roomy s c b counted
-          (instructions.CallBuiltIn f first) at in
+        (instructions.CallBuiltIn f first) at in
         ((refl, inl refl), arguments_plain y.frame 8 y first (omega arith))
 
     halves : (u : State) × StepsTo 6 s u × StepsTo 1 u w
@@ -106,36 +106,36 @@ module _ (t : Functions) (fs : List Funclet) (program : LinearProgram) (p : Imag
     sp = register s.cpu Rsp
 
     called : CalleeBegins t fs program p q image c.frame.body b.body.slots.code b.body.slots.body
-      c.frame.next (instructions.CallBuiltIn f first) at (λ h. h) before after next (q.thunk f) refl
-      next_is near c.frame.next resumed (λ m. image.callers_outside.thunks m f)
+        c.frame.next (instructions.CallBuiltIn f first) at (λ h. h) before after next (q.thunk f) refl
+        next_is near c.frame.next resumed (λ m. image.callers_outside.thunks m f)
         s halves.0 (top_of t fs program p q image s c b counted) b.body.back
-          (others_of s.cpu.registers) b.body.is b.rip
-          (begins_beneath t fs program p q image s c b counted) refl
-          (let l = sp_low t fs program p q image s c b counted in omega arith) b.memory.code plain
-          halves.1 sp
+        (others_of s.cpu.registers) b.body.is b.rip
+        (begins_beneath t fs program p q image s c b counted) refl
+        (let l = sp_low t fs program p q image s c b counted in omega arith) b.memory.code plain
+        halves.1 sp
     called =
         callee_begins t fs program p q image c.frame.body b.body.slots.code b.body.slots.body
-          c.frame.next (instructions.CallBuiltIn f first) at (λ h. h) before after next (q.thunk f)
-          refl next_is near c.frame.next resumed (λ m. image.callers_outside.thunks m f)
+        c.frame.next (instructions.CallBuiltIn f first) at (λ h. h) before after next (q.thunk f)
+        refl next_is near c.frame.next resumed (λ m. image.callers_outside.thunks m f)
         s halves.0 (top_of t fs program p q image s c b counted) b.body.back
-          (others_of s.cpu.registers) b.body.is b.rip
-          (begins_beneath t fs program p q image s c b counted) refl
-          (let l = sp_low t fs program p q image s c b counted in omega arith) b.memory.code plain
-          halves.1 sp
+        (others_of s.cpu.registers) b.body.is b.rip
+        (begins_beneath t fs program p q image s c b counted) refl
+        (let l = sp_low t fs program p q image s c b counted in omega arith) b.memory.code plain
+        halves.1 sp
         (omega arith) (omega arith)
 
     pub built_in_keeps : AllKeep t fs 7 s
     built_in_keeps =
         keeps_split t fs 6 1 s halves.0 halves.1
         (calls_keep t fs program p q image c.frame.body b.body.slots.code b.body.slots.body
-          c.frame.next (instructions.CallBuiltIn f first) at (λ h. h) before after next (q.thunk f)
-          refl next_is near c.frame.next resumed (λ m. image.callers_outside.thunks m f)
+        c.frame.next (instructions.CallBuiltIn f first) at (λ h. h) before after next (q.thunk f)
+        refl next_is near c.frame.next resumed (λ m. image.callers_outside.thunks m f)
         s halves.0 (top_of t fs program p q image s c b counted) b.body.back
-          (others_of s.cpu.registers) b.body.is b.rip
-          (begins_beneath t fs program p q image s c b counted) refl
-          (let l = sp_low t fs program p q image s c b counted in omega arith) b.memory.code plain
-          halves.1)
+        (others_of s.cpu.registers) b.body.is b.rip
+        (begins_beneath t fs program p q image s c b counted) refl
+        (let l = sp_low t fs program p q image s c b counted in omega arith) b.memory.code plain
+        halves.1)
         (thunk_keeps t fs program p q image halves.0 w (sp - 8) sp next (others_of s.cpu.registers)
-          _ called.beneath_it called.stack (q.thunk f) (address_of (service_of f)) called.rip
-          (called.program_there.thunks f).thunk halves.2 there
+        _ called.beneath_it called.stack (q.thunk f) (address_of (service_of f)) called.rip
+        (called.program_there.thunks f).thunk halves.2 there
         (λ m. image.callers_outside.thunks m f) (service_found f))

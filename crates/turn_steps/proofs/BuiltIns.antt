@@ -55,19 +55,19 @@ service_reached p first v rip to service f b room le at h below near code thunk 
     let there : rip + sizes (clear_result ∷ []) ≡ rip + 5 = omega arith in
     let rest = subst (λ a. HasCode v.memory a call) there parts.1 in
     let begin = code_split v.memory (rip + 5) (begin_call y first (rip + 5) to)
-      (keep y (Temporary first)) rest in
+    (keep y (Temporary first)) rest in
     let w = cleared v in
     let u = with_arguments_of v b first in
     let back = return_at y first (rip + 5) in
     let one : Reaches 1 (machine v rip f) (machine w (rip + 5) f) = one_reaches clear_result v w rip
-      (rip + 5) f f refl refl parts.0 (ap (λ (a : ℕ). effect (machine v a f) clear_result) next) in
+    (rip + 5) f f refl refl parts.0 (ap (λ (a : ℕ). effect (machine v a f) clear_result) next) in
     let five = call_begins p first w (rip + 5) to f b room le at h below near begin.0 in
     let last = thunk_reaches (pushed u p.sp back) to service five.flags
-      (pushed_thunk u p.sp back to service below thunk) in
+    (pushed_thunk u p.sp back to service below thunk) in
     record {
       flags = five.flags;
       comes = reaches_then 1 6 (machine v rip f) (machine w (rip + 5) f)
-        (machine (pushed u p.sp back) service five.flags) one
+          (machine (pushed u p.sp back) service five.flags) one
           (reaches_then 5 1 (machine w (rip + 5) f) (machine (pushed u p.sp back) to five.flags)
-            (machine (pushed u p.sp back) service five.flags) five.comes last);
+          (machine (pushed u p.sp back) service five.flags) five.comes last);
     }

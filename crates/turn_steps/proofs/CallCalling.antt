@@ -57,8 +57,8 @@ module _ (t : Functions) (fs : List Funclet) (program : LinearProgram) (p : Imag
   module _ (s : State) (c : Configuration) (b : Begins t fs program p q s c)
       (counted : IsCounted t fs program p q image c) (f first count : ℕ)
       (at : slice_get b.body.slots.code.code c.frame.next ≡ Some (instructions.Call f first count))
-        (few : count ≤ 8) (few_passed : count ≤ 4 + b.body.slots.code.passed)
-        (framed : p.leaf c.frame.body ≡ false) where
+      (few : count ≤ 8) (few_passed : count ≤ 4 + b.body.slots.code.passed)
+      (framed : p.leaf c.frame.body ≡ false) where
     abbrev pub layout : Layout
     layout = p.layout c.frame.body
 
@@ -91,7 +91,7 @@ module _ (t : Functions) (fs : List Funclet) (program : LinearProgram) (p : Imag
 
     is_base : (o : Option ℕ) → layout.base ≡ o → o ≡ None → at_base ≡ sp
     is_base None e n = subst (λ o. KeepsSlot s.memory layout o sp at_base) e
-      (placed t fs program p q image s c b counted).kept
+        (placed t fs program p q image s c b counted).kept
     is_base (Some k) e n = absurd (let z : ◌≡◌ {A = Option ℕ} (Some k) None = n in no z)
       where
         no : ◌≡◌ {A = Option ℕ} (Some k) None → ⊥
@@ -104,20 +104,25 @@ module _ (t : Functions) (fs : List Funclet) (program : LinearProgram) (p : Imag
         let m = g.layout.locals in
         let z = g.layout.small in
         let e = is_base None g.layout.none refl in
-        record { temporaries = a; locals = omega arith;
-          base = λ k i. absurd (no k (sym g.layout.none ∙ i)); size = omega arith; small = z }
+        record {
+          temporaries = a;
+          locals = omega arith;
+          base = λ k i. absurd (no k (sym g.layout.none ∙ i));
+          size = omega arith;
+          small = z;
+        }
       where
         no : (k : ℕ) → ◌≡◌ {A = Option ℕ} None (Some k) → ⊥
         no k e = cc
 
     funclet_base : (o : Option ℕ) (slot : ℕ) → layout.base ≡ o → o ≡ Some slot
-      → sp + layout.frame + 8 ≤ at_base
+        → sp + layout.frame + 8 ≤ at_base
     funclet_base None slot e n = absurd (no n)
       where
         no : ◌≡◌ {A = Option ℕ} None (Some slot) → ⊥
         no e = cc
     funclet_base (Some k) slot e n = (subst (λ o. KeepsSlot s.memory layout o sp at_base) e
-      (placed t fs program p q image s c b counted).kept).above_frame
+        (placed t fs program p q image s c b counted).kept).above_frame
 
     funclet_bottom : AsFunclet t fs program p q image s c b counted → Bottom
     funclet_bottom g =
@@ -126,9 +131,14 @@ module _ (t : Functions) (fs : List Funclet) (program : LinearProgram) (p : Imag
         let l = g.layout.temporaries in
         let z = g.layout.small in
         let up = funclet_base (Some g.layout.slot) g.layout.slot g.layout.base refl in
-        record { temporaries = omega arith; locals = omega arith;
+        record {
+          temporaries = omega arith;
+          locals = omega arith;
           base = λ i e. (let n = same_slot g.layout.slot i (sym g.layout.base ∙ e) in
-          (omega arith, omega arith)); size = omega arith; small = omega arith }
+              (omega arith, omega arith));
+          size = omega arith;
+          small = omega arith;
+        }
 
     pub bottom : Bottom
     bottom = elim (kind t fs program p q image s c b counted) [
@@ -146,7 +156,7 @@ module _ (t : Functions) (fs : List Funclet) (program : LinearProgram) (p : Imag
 
     pub room_small : room + 8 ≤ LARGEST_FRAME
     room_small = let g = bottom.temporaries in let h = bottom.size in let z = bottom.small in
-      omega arith
+        omega arith
 
     pub room_top : sp + room + 8 ≤ STACK_END
     room_top = let g = bottom.temporaries in let h = bottom.size in let z = top in omega arith
@@ -156,23 +166,23 @@ module _ (t : Functions) (fs : List Funclet) (program : LinearProgram) (p : Imag
       slots = above;
       base = λ k e. (bottom.base k e).0;
       writable = λ a l u. (let x = low in let z = room_top in
-        b.memory.stack a (omega arith) (omega arith));
+          b.memory.stack a (omega arith) (omega arith));
       own = λ a l u. (let x = low in let z = room_top in
-        stack_is_reserved program.globals a (omega arith) (omega arith));
+          stack_is_reserved program.globals a (omega arith) (omega arith));
       near = (let z = room_small in omega arith);
     }
       where
         above : (x : Slot) → IsSlot (counts_of b.body.slots.code) x
-          → sp + room ≤ slot_at layout sp at_base x
+            → sp + room ≤ slot_at layout sp at_base x
         above (Temporary i) is = let g = bottom.temporaries in omega arith
         above (Local i) is = let g = bottom.locals in omega arith
 
     -- ---- arguments from the fifth on
 
     pub has_room : (first + 4 ≤ b.body.slots.code.temporaries)
-      × (first + count ≤ b.body.slots.code.temporaries)
+        × (first + count ≤ b.body.slots.code.temporaries)
     has_room = let h = has_slots t fs program p q image roomy s c b counted
-      (instructions.Call f first count) at in (h.0, h.1)
+        (instructions.Call f first count) at in (h.0, h.1)
 
     enough : first + 4 + (count - 4) ≤ b.body.slots.code.temporaries
     enough = let a = has_room.0 in let z = has_room.1 in omega arith
@@ -181,13 +191,13 @@ module _ (t : Functions) (fs : List Funclet) (program : LinearProgram) (p : Imag
     within = omega arith
 
     pub handed : AllPassed here (room_here t fs program p q image s c b counted) room first 4
-      (count - 4) view numbers
+        (count - 4) view numbers
     handed =
         passes here (room_here t fs program p q image s c b counted) room first 4 (count - 4) view
-          numbers
+        numbers
         (λ k e. (let z = (bottom.base k e).1 in let t' = top in omega arith)) enough within outgoing
-          (sp_is t fs program p q image roomy s c b counted)
-          (holds_here t fs program p q image s c b counted)
+        (sp_is t fs program p q image roomy s c b counted)
+        (holds_here t fs program p q image s c b counted)
 
     abbrev pub passing : List Instr
     passing = passing_code layout first 4 (count - 4)
@@ -196,8 +206,13 @@ module _ (t : Functions) (fs : List Funclet) (program : LinearProgram) (p : Imag
     target = q.function f
 
     abbrev pub after_passing : MachineView
-    after_passing = record { rax = handed.rax; rcx = view.rcx; rdx = view.rdx; rest = view.rest;
-      memory = handed.memory }
+    after_passing = record {
+      rax = handed.rax;
+      rcx = view.rcx;
+      rdx = view.rdx;
+      rest = view.rest;
+      memory = handed.memory;
+    }
 
     abbrev there : ℕ
     there = s.cpu.rip + sizes passing
@@ -208,69 +223,71 @@ module _ (t : Functions) (fs : List Funclet) (program : LinearProgram) (p : Imag
     -- with the first four arguments in registers
     abbrev pub before : MachineView
     before = with_four after_passing (numbers.slots (Temporary first))
-      (numbers.slots (Temporary (first + 1))) (numbers.slots (Temporary (first + 2)))
-      (numbers.slots (Temporary (first + 3)))
+        (numbers.slots (Temporary (first + 1))) (numbers.slots (Temporary (first + 2)))
+        (numbers.slots (Temporary (first + 3)))
 
     -- the callee's view
     abbrev pub called : MachineView
     called = pushed (with_four after_passing (numbers.slots (Temporary first))
-      (numbers.slots (Temporary (first + 1))) (numbers.slots (Temporary (first + 2)))
-      (numbers.slots (Temporary (first + 3)))) sp back
+        (numbers.slots (Temporary (first + 1))) (numbers.slots (Temporary (first + 2)))
+        (numbers.slots (Temporary (first + 3)))) sp back
 
     pub below_sp : HasBelow handed.memory sp 8
     below_sp = record {
       enough = (let x = low in omega arith);
       high = (let x = top in omega arith);
       writable = λ a l u. ap (λ (g : ℕ → Protection). is_writable (g a).rights) handed.protection
-        ∙ (let x = low in let z = top in b.memory.stack a (omega arith) (omega arith));
+          ∙ (let x = low in let z = top in b.memory.stack a (omega arith) (omega arith));
     }
 
     codes : HasCode s.memory s.cpu.rip passing
-      × HasCode s.memory there (begin_call layout first there target)
+        × HasCode s.memory there (begin_call layout first there target)
     codes =
         let whole = template_here t fs program p q image roomy s c b counted
-          (instructions.Call f first count) at in
+        (instructions.Call f first count) at in
         let parts = code_split s.memory s.cpu.rip passing
-          (call_code layout (Temporary first) first there target) whole in
-        (parts.0, (code_split s.memory there (begin_call layout first there target)
-          (keep layout (Temporary first)) parts.1).0)
+        (call_code layout (Temporary first) first there target) whole in (
+          parts.0,
+          (code_split s.memory there (begin_call layout first there target)
+              (keep layout (Temporary first)) parts.1).0,
+        )
 
     -- the code of the call is while arguments are passed
     kept_code : HasCode handed.memory there (begin_call layout first there target)
     kept_code = record {
       is_there = bytes_kept s.memory handed.memory there
-        (spelled (begin_call layout first there target))
-        (λ a fixed. handed.same a (outside a fixed)) handed.protection codes.1.is_there;
+          (spelled (begin_call layout first there target))
+          (λ a fixed. handed.same a (outside a fixed)) handed.protection codes.1.is_there;
       placed = codes.1.placed;
     }
       where
         outside : (a : ℕ) → may_write s.memory a ≡ false
-          → (a < sp + 8 * 4) ⊎ (sp + 8 * (4 + (count - 4)) ≤ a)
+            → (a < sp + 8 * 4) ⊎ (sp + 8 * (4 + (count - 4)) ≤ a)
         outside a fixed = elim (cases_lt a (sp + 8 * 4)) [
           | inl l ↦ inl l
           | inr g ↦ elim (cases_lt a (sp + 8 * (4 + (count - 4)))) [
             | inl l ↦ absurd (let x = low in let z = room_top in let w = within in
-              let e : true ≡ false = sym (b.memory.stack a (omega arith) (omega arith)) ∙ fixed in
-              cc)
+                let e : true ≡ false = sym (b.memory.stack a (omega arith) (omega arith)) ∙ fixed in
+                cc)
             | inr u ↦ inr u
           ]
         ]
 
     module _ (near : IsNear back target) where
       first_part : Reached (length passing) view after_passing s.cpu.rip (s.cpu.rip + sizes passing)
-        s.cpu.flags
+          s.cpu.flags
       first_part =
           let z = room_small in
           let w = within in
           runs_view passing view after_passing s.cpu.rip s.cpu.flags
-            (passing_fine here (room_here t fs program p q image s c b counted) room first 4
-            (count - 4) enough (omega arith)) codes.0 handed.does
+          (passing_fine here (room_here t fs program p q image s c b counted) room first 4
+          (count - 4) enough (omega arith)) codes.0 handed.does
 
       call_run : CallBegun here first after_passing there target first_part.left numbers
       call_run =
           call_begins here first after_passing there target first_part.left numbers
-            (room_here t fs program p q image s c b counted) has_room.0
-            (sp_is t fs program p q image roomy s c b counted) handed.holds below_sp near kept_code
+          (room_here t fs program p q image s c b counted) has_room.0
+          (sp_is t fs program p q image roomy s c b counted) handed.holds below_sp near kept_code
 
       pub flags_called : Flags
       flags_called = call_run.flags
@@ -283,10 +300,10 @@ module _ (t : Functions) (fs : List Funclet) (program : LinearProgram) (p : Imag
       unfolding flags_called
       calls =
           subst (λ x. Reaches (length passing + 5) x (machine called target call_run.flags))
-            (sym (same_state t fs program p q image roomy s c b counted))
+          (sym (same_state t fs program p q image roomy s c b counted))
           (reaches_then (length passing) 5 (machine view s.cpu.rip s.cpu.flags)
-            (machine after_passing there first_part.left) (machine called target call_run.flags)
-            first_part.comes call_run.comes)
+          (machine after_passing there first_part.left) (machine called target call_run.flags)
+          first_part.comes call_run.comes)
 
     -- ---- what the callee finds
 
@@ -302,7 +319,7 @@ module _ (t : Functions) (fs : List Funclet) (program : LinearProgram) (p : Imag
         let x = numbers.slots (Temporary (first + 2)) in
         let z = numbers.slots (Temporary (first + 3)) in
         length-set (set (set view.rest 5 x) 6 z) 1 (sp - 8) ∙ length-set (set view.rest 5 x) 6 z
-          ∙ length-set view.rest 5 x ∙ registers
+        ∙ length-set view.rest 5 x ∙ registers
 
     pub called_sp : sp_of called ≡ sp - 8
     called_sp =
@@ -320,39 +337,39 @@ module _ (t : Functions) (fs : List Funclet) (program : LinearProgram) (p : Imag
 
     -- memory above RSP, but for the home space and the places of further arguments
     pub same_above : (a : ℕ) → sp ≤ a → (a < sp + 32) ⊎ (sp + room ≤ a)
-      → called.memory.byte a ≡ s.memory.byte a
+        → called.memory.byte a ≡ s.memory.byte a
     same_above a l o =
         let x = low in
         let z = top in
         let w = within in
         beside handed.memory sp back a below_sp.enough below_sp.high (inr l)
-          ∙ handed.same a (elim o [ inl h ↦ inl (omega arith) | inr h ↦ inr (omega arith) ])
+        ∙ handed.same a (elim o [ inl h ↦ inl (omega arith) | inr h ↦ inr (omega arith) ])
 
     pub on_stack : (i : ℕ) → 4 ≤ i → i < count
-      → number_at called.memory.byte 8 (sp + 8 * i) ≡ arguments i
+        → number_at called.memory.byte 8 (sp + 8 * i) ≡ arguments i
     on_stack i l u =
         let z = top in
         let w = within in
         let y = room_top in
         same_number called.memory.byte handed.memory.byte 8 (sp + 8 * i) (omega arith)
-          (λ a g h. beside handed.memory sp back a below_sp.enough below_sp.high
-          (inr (omega arith)))
+        (λ a g h. beside handed.memory sp back a below_sp.enough below_sp.high
+        (inr (omega arith)))
         ∙ handed.number i l (omega arith)
 
     pub called_bytes : IsBytes called.memory
     called_bytes = pushed_bytes (with_four after_passing (numbers.slots (Temporary first))
-      (numbers.slots (Temporary (first + 1))) (numbers.slots (Temporary (first + 2)))
-      (numbers.slots (Temporary (first + 3)))) sp back (handed.bytes b.memory.data_alone.bytes)
+        (numbers.slots (Temporary (first + 1))) (numbers.slots (Temporary (first + 2)))
+        (numbers.slots (Temporary (first + 3)))) sp back (handed.bytes b.memory.data_alone.bytes)
 
     pub called_agrees : Agrees here.reserved called.memory c.store.memory
     called_agrees =
         let x = low in
         let z = top in
         pushed_agrees here.reserved (with_four after_passing (numbers.slots (Temporary first))
-          (numbers.slots (Temporary (first + 1))) (numbers.slots (Temporary (first + 2)))
-          (numbers.slots (Temporary (first + 3)))) c.store.memory sp back below_sp
+        (numbers.slots (Temporary (first + 1))) (numbers.slots (Temporary (first + 2)))
+        (numbers.slots (Temporary (first + 3)))) c.store.memory sp back below_sp
         (λ a l u. stack_is_reserved program.globals a (omega arith) (omega arith))
-          handed.holds.source
+        handed.holds.source
 
     pub called_protection : called.memory.protection ≡ s.memory.protection
     called_protection = handed.protection

@@ -48,36 +48,38 @@ module _ (t : Functions) (fs : List Funclet) (program : LinearProgram) (p : Imag
       → IsSurrounded t fs program p q image made.room d.frame.body d.frame.activation d.below depth
   surrounded d known o there depth same = record {
     caller = λ leaf. leaf_or_funclet t fs program p q image made d o d.frame.body there leaf
-      known.stacked.above;
+        known.stacked.above;
     owner = owner;
   }
     where
       owner : (k : ℕ) → d.frame.body ≡ FuncletBody k → (acts : List Activation)
-        → length acts ≡ depth → OwnerHasFrame t fs program p d.frame.activation d.below acts
+          → length acts ≡ depth → OwnerHasFrame t fs program p d.frame.activation d.below acts
       owner k name acts n =
           let plan : IsFuncletPlan program p k o = image.laid_out (FuncletBody k) o
-            (subst (λ x. body_of program x ≡ Some o) name there) in
+          (subst (λ x. body_of program x ≡ Some o) name there) in
           let works : WorksOn program d.frame (FuncletBody k) (owners_of d.below) = subst
-            (λ x. WorksOn program d.frame x (owners_of d.below)) name known.activations.working.0 in
+          (λ x. WorksOn program d.frame x (owners_of d.below)) name known.activations.working.0 in
           let function : plan.funclet.function
-            ≡ works.0 = some_is plan.funclet.function works.0
-              (sym (ap function_of plan.there) ∙ works.1) in
+          ≡ works.0 = some_is plan.funclet.function works.0
+          (sym (ap function_of plan.there) ∙ works.1) in
           let m = owned_count program (owners_of (Waits d.frame ∷ d.below)) d.store.activations
-            known.activations.stored in
+          known.activations.stored in
           let names : length (with_own d.frame.body (owners_of d.below))
-            ≡ length (owners_of d.below) = ap (λ x. length (with_own x (owners_of d.below))) name in
+          ≡ length (owners_of d.below) = ap (λ x. length (with_own x (owners_of d.below))) name in
           owner_waits t fs program p q image made d.frame.activation d.below acts
-            known.stacked.below (n ∙ same ∙ sym m ∙ names)
+          known.stacked.below (n ∙ same ∙ sym m ∙ names)
           (λ f e. ap (λ x. p.leaf (FunctionBody x))
-            (sym (some_is works.0 f (sym works.2 ∙ e)) ∙ sym function) ∙ plan.function_framed)
+          (sym (some_is works.0 f (sym works.2 ∙ e)) ∙ sym function) ∙ plan.function_framed)
 
   -- ---- returns
 
   reads : (c : Configuration) (slot : Slot) → IsHeld (length c.frame.temporaries) slot
       → (x : ℕ) × (read c slot ≡ Some x)
   reads c (Local i) h = (local_of c.store c.frame.activation i, refl)
-  reads c (Temporary i) h = (get_or c.frame.temporaries i 0,
-      slice_get-get_or c.frame.temporaries i 0 h)
+  reads c (Temporary i) h = (
+    get_or c.frame.temporaries i 0,
+    slice_get-get_or c.frame.temporaries i 0 h,
+  )
 
   module _ (s : State) (c : Configuration) (f : ℕ) (from : Slot) (b : Begins t fs program p q s c)
       (known : IsKnown program c) (function : c.frame.body ≡ FunctionBody f)
@@ -85,57 +87,57 @@ module _ (t : Functions) (fs : List Funclet) (program : LinearProgram) (p : Imag
       (after : KnownNext program c (instructions.Return from)) where
     abbrev Goal : Type 0
     Goal = IsMatched t fs program pace turns_left (Begins t fs program p q) s c
-      (instructions.Return from)
+        (instructions.Return from)
 
     abbrev here : slice_get b.body.slots.code.code c.frame.next ≡ Some (instructions.Return from)
     here = code_at t fs program p q image made s c b known (instructions.Return from) at
 
     value : (x : ℕ) × (read c from ≡ Some x)
     value = reads c from (ready_here t fs program p q image made s c b known
-      (instructions.Return from) at)
+        (instructions.Return from) at)
 
     called_by : IsCalledBy program f c.below
     called_by = subst (λ name. IsAbove program c.frame.exception c.frame.activation name c.below)
-      function known.stacked.above
+        function known.stacked.above
 
     to_body : (w : Frame) (items : List Item) → c.below ≡ Waits w ∷ items → Goal
     to_body w items e =
         let by : IsCalledBy program f (Waits w ∷ items) = subst (IsCalledBy program f) e
-          called_by in
+        called_by in
         let waits : AreWaiting program (Waits w ∷ items) = subst (AreWaiting program) e
-          known.stacked.below in
+        known.stacked.below in
         let body = body_there (body_of program w.body) w.next (instructions.Call f by.0 by.1)
-          by.2 in
+        by.2 in
         let calls = label_in (body_of program w.body) body.0 w.next (instructions.Call f by.0 by.1)
-          body.1 by.2 in
+        body.1 by.2 in
         let within = (made.apart w.body body.0 body.1).within w.next (instructions.Call f by.0 by.1)
-          calls refl in
+        calls refl in
         let same : waits.0.instruction ≡ instructions.Call f by.0 by.1 = some_is waits.0.instruction
-          (instructions.Call f by.0 by.1) (sym waits.0.at ∙ by.2) in
+        (instructions.Call f by.0 by.1) (sym waits.0.at ∙ by.2) in
         let held : length w.temporaries ≡ by.0 = subst
-          (λ i. MayWait program i (length w.temporaries)) same waits.0.may in
+        (λ i. MayWait program i (length w.temporaries)) same waits.0.may in
         let counted = counted_here t fs program p q image made c known in
         let next_one = returning.next_one t fs program p q image made.room s c b counted f function
-          from here value.0 value.1 w items e body.0 body.1 f by.0 by.1 calls within held
-          waits.0.landed in
+        from here value.0 value.1 w items e body.0 body.1 f by.0 by.1 calls within held
+        waits.0.landed in
         let goes = returning.goes t fs program p q image made.room s c b counted f function from
-          here value.0 value.1 w items e body.0 body.1 f by.0 by.1 calls within held
-          waits.0.landed in
+        here value.0 value.1 w items e body.0 body.1 f by.0 by.1 calls within held
+        waits.0.landed in
         let known_next = after next_one goes in
         let acts = returning.outer t fs program p q image made.room s c b counted f function from
-          here value.0 value.1 w items e body.0 body.1 f by.0 by.1 calls within held
-          waits.0.landed in
+        here value.0 value.1 w items e body.0 body.1 f by.0 by.1 calls within held
+        waits.0.landed in
         inl (returning.moves t fs program p q image made.room s c b counted f function from here
-          value.0 value.1 w items e body.0 body.1 f by.0 by.1 calls within held waits.0.landed
+        value.0 value.1 w items e body.0 body.1 f by.0 by.1 calls within held waits.0.landed
         (counted_here t fs program p q image made next_one known_next)
-          (surrounded next_one known_next body.0 body.1 (length acts) (sym (locals_count acts))))
+        (surrounded next_one known_next body.0 body.1 (length acts) (sym (locals_count acts))))
 
     returned : (items : List Item) → c.below ≡ items → Goal
     returned [] e = inr (inl (returning.exits t fs program p q image made.room s c b
-      (counted_here t fs program p q image made c known) f function from here value.0 value.1 e))
+        (counted_here t fs program p q image made c known) f function from here value.0 value.1 e))
     returned (Waits w ∷ items) e = to_body w items e
     returned (Searches exception resumption asked rest ∷ items) e = absurd
-      (subst (IsCalledBy program f) e called_by)
+        (subst (IsCalledBy program f) e called_by)
     returned (Unwinds rest target ∷ items) e = absurd (subst (IsCalledBy program f) e called_by)
 
     pub matched : Goal
@@ -157,11 +159,11 @@ module _ (t : Functions) (fs : List Funclet) (program : LinearProgram) (p : Imag
 
     abbrev callee : IsCallee program f count
     callee = each (IsInstructionOf program c.frame.body) body.code c.frame.next i
-      (made.whole.bodies c.frame.body body b.body.slots.body).code call_here
+        (made.whole.bodies c.frame.body body b.body.slots.body).code call_here
 
     passes : PassesWell body.passed i
     passes = each (PassesWell body.passed) body.code c.frame.next i
-      (made.room c.frame.body body b.body.slots.body).calls call_here
+        (made.room c.frame.body body b.body.slots.body).calls call_here
 
     framed : p.leaf c.frame.body ≡ false
     framed = by (p.leaf c.frame.body) refl
@@ -169,14 +171,14 @@ module _ (t : Functions) (fs : List Funclet) (program : LinearProgram) (p : Imag
         by : (leaf : Bool) → p.leaf c.frame.body ≡ leaf → p.leaf c.frame.body ≡ false
         by false e = e
         by true e = absurd (let no : true ≡ false = made.leaves c.frame.body body c.frame.next i
-          b.body.slots.body e call_here in cc)
+            b.body.slots.body e call_here in cc)
 
     held : length c.frame.temporaries ≡ first + count
     held = (ready_here t fs program p q image made s c b known i at).0
 
     fits : count ≤ callee.function.body.locals
     fits = let a = made.whole.parameters f callee.function callee.there in let e = callee.takes in
-      omega arith
+        omega arith
 
     function_there : f < length program.functions
     function_there = slice_get_within program.functions f callee.function callee.there
@@ -187,25 +189,25 @@ module _ (t : Functions) (fs : List Funclet) (program : LinearProgram) (p : Imag
     too_deep : deep ≡ true → Fails t fs program pace turns_left s c i
     unfolding pick
     too_deep e = fails_at_once t fs program turns_left pace s c i (Deep 1001) refl
-      (λ next. call_acts program c f first count callee.function callee.there held next
+        (λ next. call_acts program c f first count callee.function callee.there held next
         ∙ ap (λ (x : Bool). pick x (Finished (Deep 1001) c.events)
-          (next (begin_function f callee.function (drop first c.frame.temporaries) c.frame.held
-          (Waits (waiting c first).frame ∷ c.below) c.store c.events))) e)
+        (next (begin_function f callee.function (drop first c.frame.temporaries) c.frame.held
+        (Waits (waiting c first).frame ∷ c.below) c.store c.events))) e)
 
     begins : deep ≡ false → CallBegins t fs program p q s c f first count
     unfolding pick
     begins e =
         let goes = λ (next : Next). call_acts program c f first count callee.function callee.there
-          held next
+        held next
         ∙ ap (λ (x : Bool). pick x (Finished (Deep 1001) c.events)
-          (next (begin_function f callee.function (drop first c.frame.temporaries) c.frame.held
-          (Waits (waiting c first).frame ∷ c.below) c.store c.events))) e in
+        (next (begin_function f callee.function (drop first c.frame.temporaries) c.frame.held
+        (Waits (waiting c first).frame ∷ c.below) c.store c.events))) e in
         let first_one = known.next i (begin_function f callee.function
-          (drop first c.frame.temporaries) c.frame.held (Waits (waiting c first).frame ∷ c.below)
-          c.store c.events) at goes in
+        (drop first c.frame.temporaries) c.frame.held (Waits (waiting c first).frame ∷ c.below)
+        c.store c.events) at goes in
         let some = slice_get_within callee.function.body.code 0 first_one.instruction
-          (label_in (body_of program (FunctionBody f)) callee.function.body 0 first_one.instruction
-          (ap function_body callee.there) first_one.at) in
+        (label_in (body_of program (FunctionBody f)) callee.function.body 0 first_one.instruction
+        (ap function_body callee.there) first_one.at) in
         let counted = counted_here t fs program p q image made c known in
         let lt = function_there in
         record {
@@ -213,45 +215,45 @@ module _ (t : Functions) (fs : List Funclet) (program : LinearProgram) (p : Imag
           there = callee.there;
           arguments = drop first c.frame.temporaries;
           given = called.counted_arguments t fs program p q image made.room s c b counted f first
-            count call_here passes.0 passes.1 framed callee.function callee.there (sym callee.takes)
-            fits some held (λ k inside. apart f k lt inside) ∙ callee.takes;
+              count call_here passes.0 passes.1 framed callee.function callee.there (sym callee.takes)
+              fits some held (λ k inside. apart f k lt inside) ∙ callee.takes;
           others = called.others t fs program p q image made.room s c b counted f first count
-            call_here passes.0 passes.1 framed callee.function callee.there (sym callee.takes) fits
-            some held (λ k inside. apart f k lt inside);
+              call_here passes.0 passes.1 framed callee.function callee.there (sym callee.takes) fits
+              some held (λ k inside. apart f k lt inside);
           as_many = called.counted_others t fs program p q image made.room s c b counted f first
-            count call_here passes.0 passes.1 framed callee.function callee.there (sym callee.takes)
-            fits some held (λ k inside. apart f k lt inside)
-            ∙ ap (λ n. callee.function.body.locals - n) callee.takes;
+              count call_here passes.0 passes.1 framed callee.function callee.there (sym callee.takes)
+              fits some held (λ k inside. apart f k lt inside)
+              ∙ ap (λ n. callee.function.body.locals - n) callee.takes;
           small = called.small_others t fs program p q image made.room s c b counted f first count
-            call_here passes.0 passes.1 framed callee.function callee.there (sym callee.takes) fits
-            some held (λ k inside. apart f k lt inside);
+              call_here passes.0 passes.1 framed callee.function callee.there (sym callee.takes) fits
+              some held (λ k inside. apart f k lt inside);
           turns = called.turns t fs program p q image made.room s c b counted f first count
-            call_here passes.0 passes.1 framed callee.function callee.there (sym callee.takes) fits
-            some held (λ k inside. apart f k lt inside);
+              call_here passes.0 passes.1 framed callee.function callee.there (sym callee.takes) fits
+              some held (λ k inside. apart f k lt inside);
           some = called.some_turns t fs program p q image made.room s c b counted f first count
-            call_here passes.0 passes.1 framed callee.function callee.there (sym callee.takes) fits
-            some held (λ k inside. apart f k lt inside);
+              call_here passes.0 passes.1 framed callee.function callee.there (sym callee.takes) fits
+              some held (λ k inside. apart f k lt inside);
           few = called.soon t fs program p q image made.room s c b counted f first count call_here
-            passes.0 passes.1 framed callee.function callee.there (sym callee.takes) fits some held
-            (λ k inside. apart f k lt inside);
+              passes.0 passes.1 framed callee.function callee.there (sym callee.takes) fits some held
+              (λ k inside. apart f k lt inside);
           state = called.after t fs program p q image made.room s c b counted f first count
-            call_here passes.0 passes.1 framed callee.function callee.there (sym callee.takes) fits
-            some held (λ k inside. apart f k lt inside);
+              call_here passes.0 passes.1 framed callee.function callee.there (sym callee.takes) fits
+              some held (λ k inside. apart f k lt inside);
           comes = called.comes t fs program p q image made.room s c b counted f first count
-            call_here passes.0 passes.1 framed callee.function callee.there (sym callee.takes) fits
-            some held (λ k inside. apart f k lt inside);
+              call_here passes.0 passes.1 framed callee.function callee.there (sym callee.takes) fits
+              some held (λ k inside. apart f k lt inside);
           acts = goes;
           begins = called.begins t fs program p q image made.room s c b counted f first count
-            call_here passes.0 passes.1 framed callee.function callee.there (sym callee.takes) fits
-            some held (λ k inside. apart f k lt inside) e;
+              call_here passes.0 passes.1 framed callee.function callee.there (sym callee.takes) fits
+              some held (λ k inside. apart f k lt inside) e;
         }
 
     pub call_begins : CallBegins t fs program p q s c f first count
-      ⊎ Fails t fs program pace turns_left s c i
+        ⊎ Fails t fs program pace turns_left s c i
     call_begins = by deep refl
       where
         by : (x : Bool) → deep ≡ x → CallBegins t fs program p q s c f first count
-          ⊎ Fails t fs program pace turns_left s c i
+            ⊎ Fails t fs program pace turns_left s c i
         by true e = inr (too_deep e)
         by false e = inl (begins e)
 

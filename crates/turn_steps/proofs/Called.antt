@@ -83,8 +83,8 @@ pub call_acts : (program : LinearProgram) (c : Configuration) (f first count : �
     → length c.frame.temporaries ≡ first + count
     → (next : Next) → act program (instructions.Call f first count) next c
     ≡ deeper 1 c.frame.held c.store c.events (next
-      (begin_function f fn (drop first c.frame.temporaries) c.frame.held
-      (Waits (waiting c first).frame ∷ c.below) c.store c.events))
+    (begin_function f fn (drop first c.frame.temporaries) c.frame.held
+    (Waits (waiting c first).frame ∷ c.below) c.store c.events))
 unfolding with_some
 call_acts program c f first count fn callee held next =
     let arguments = drop first c.frame.temporaries in
@@ -102,11 +102,11 @@ module _ (t : Functions) (fs : List Funclet) (program : LinearProgram) (p : Imag
     (image : IsProgramImage t fs program p q) (roomy : HaveRoom program) where
   module _ (s : State) (c : Configuration) (b : Begins t fs program p q s c) (counted : IsCounted t fs program p q image c) (f first count : ℕ)
       (at : slice_get b.body.slots.code.code c.frame.next ≡ Some (instructions.Call f first count))
-        (few : count ≤ 8) (few_passed : count ≤ 4 + b.body.slots.code.passed)
-        (framed : p.leaf c.frame.body ≡ false)
+      (few : count ≤ 8) (few_passed : count ≤ 4 + b.body.slots.code.passed)
+      (framed : p.leaf c.frame.body ≡ false)
       (fn : LinearFunction) (callee : slice_get program.functions f ≡ Some fn) (parameters : fn.parameters ≡ count) (fits : count ≤ fn.body.locals)
       (some : 0 < length fn.body.code) (held : length c.frame.temporaries ≡ first + count)
-        (apart : (k : ℕ) → k < length program.funclets → q.function f ≢ p.funclet k) where
+      (apart : (k : ℕ) → k < length program.funclets → q.function f ≢ p.funclet k) where
     abbrev caller : ℕ
     caller = register s.cpu Rsp
 
@@ -139,8 +139,8 @@ module _ (t : Functions) (fs : List Funclet) (program : LinearProgram) (p : Imag
 
     keeps : Keeps s after
     keeps = keeps_then s at_callee after (entering.keeps t fs program p q image roomy s c b counted
-      f first count at few few_passed framed fn callee parameters fits)
-      (enters_keeps inside.turns at_callee after inside.comes)
+        f first count at few few_passed framed fn callee parameters fits)
+        (enters_keeps inside.turns at_callee after inside.comes)
 
     -- ---- turns
 
@@ -152,12 +152,12 @@ module _ (t : Functions) (fs : List Funclet) (program : LinearProgram) (p : Imag
 
     quiet_called : arrivals at_callee.cpu (distance t.base at_callee.cpu.rip) 1 fs ≡ []
     quiet_called = let a = image.addresses (FunctionBody f) o there in let h = a.inside.high in
-      let r = a.first in image.funclets.none (q.function f) (omega arith) apart at_callee.cpu
+        let r = a.first in image.funclets.none (q.function f) (omega arith) apart at_callee.cpu
 
     quiet_after : arrivals after.cpu (distance t.base after.cpu.rip) 1 fs ≡ []
     quiet_after = image.funclets.none after.cpu.rip rip_small
-      (λ k lt e. (image.addresses (FunctionBody f) o there).not_first 0 k some lt
-      (sym inside.rip ∙ e)) after.cpu
+        (λ k lt e. (image.addresses (FunctionBody f) o there).not_first 0 k some lt
+        (sym inside.rip ∙ e)) after.cpu
 
     -- each of them keeps the shadow: those up to the call
     abbrev y : Layout
@@ -186,8 +186,8 @@ module _ (t : Functions) (fs : List Funclet) (program : LinearProgram) (p : Imag
 
     parts : whole ≡ before ++ (call_it ∷ rest)
     parts = ap (λ (xs : List Instr). passing ++ xs)
-      (append_assoc (arguments_code y first) (call_it ∷ []) rest)
-      ∙ sym (append_assoc passing (arguments_code y first) (call_it ∷ rest))
+        (append_assoc (arguments_code y first) (call_it ∷ []) rest)
+        ∙ sym (append_assoc passing (arguments_code y first) (call_it ∷ rest))
 
     next_is : place + sizes before + 5 ≡ next
     next_is = omega (arith, sizes_append passing (arguments_code y first))
@@ -206,8 +206,8 @@ module _ (t : Functions) (fs : List Funclet) (program : LinearProgram) (p : Imag
 
     near_next : IsNear next (q.function f)
     near_next = subst (λ r. IsNear (return_at y first (r + sizes passing)) (q.function f)) b.rip
-      (entering.near t fs program p q image roomy s c b counted f first count at few few_passed
-      framed fn callee parameters fits)
+        (entering.near t fs program p q image roomy s c b counted f first count at few few_passed
+        framed fn callee parameters fits)
 
     plain : AllPlain y.frame 8 before
     plain =
@@ -220,8 +220,8 @@ module _ (t : Functions) (fs : List Funclet) (program : LinearProgram) (p : Imag
         let s0 = slots.0 in
         let s1 = slots.1 in
         plain_both y.frame 8 passing (arguments_code y first)
-          (passing_plain y.frame 8 y first 4 (count - 4) (omega arith) (omega arith) (omega arith))
-          (arguments_plain y.frame 8 y first (omega arith))
+        (passing_plain y.frame 8 y first 4 (count - 4) (omega arith) (omega arith) (omega arith))
+        (arguments_plain y.frame 8 y first (omega arith))
 
     abbrev callee_found : (m : Memory) → FindsReturn t m (q.function f) 0
     callee_found m = (image.callers (FunctionBody f) o there).entries m (λ e. some)
@@ -231,47 +231,47 @@ module _ (t : Functions) (fs : List Funclet) (program : LinearProgram) (p : Imag
 
     steps_there : StepsTo (length before + 1) s at_callee
     steps_there = subst (λ n. StepsTo n s at_callee) count_call
-      (reaches_steps called_in s at_callee (entering.calls t fs program p q image roomy s c b
-      counted f first count at few few_passed framed fn callee parameters fits))
+        (reaches_steps called_in s at_callee (entering.calls t fs program p q image roomy s c b
+        counted f first count at few few_passed framed fn callee parameters fits))
 
     call_keeps : AllKeep t fs called_in s
     call_keeps =
         subst (λ n. AllKeep t fs n s) (sym count_call)
         (calls_keep t fs program p q image c.frame.body b.body.slots.code b.body.slots.body
-          c.frame.next (instructions.Call f first count) at (λ h. h) before rest next (q.function f)
-          parts next_is near_next c.frame.next resumed callee_found
+        c.frame.next (instructions.Call f first count) at (λ h. h) before rest next (q.function f)
+        parts next_is near_next c.frame.next resumed callee_found
         s at_callee (top_of t fs program p q image s c b counted) b.body.back
-          (others_of s.cpu.registers) b.body.is b.rip
-          (begins_beneath t fs program p q image s c b counted) refl (let l = low in omega arith)
-          b.memory.code plain steps_there)
+        (others_of s.cpu.registers) b.body.is b.rip
+        (begins_beneath t fs program p q image s c b counted) refl (let l = low in omega arith)
+        b.memory.code plain steps_there)
 
     -- and those of the callee's entry, which may store its arguments in the caller's home space
     callee_there : CalleeBegins t fs program p q image c.frame.body b.body.slots.code
-      b.body.slots.body c.frame.next (instructions.Call f first count) at (λ h. h) before rest next
-      (q.function f) parts next_is near_next c.frame.next resumed callee_found
+        b.body.slots.body c.frame.next (instructions.Call f first count) at (λ h. h) before rest next
+        (q.function f) parts next_is near_next c.frame.next resumed callee_found
         s at_callee (top_of t fs program p q image s c b counted) b.body.back
-          (others_of s.cpu.registers) b.body.is b.rip
-          (begins_beneath t fs program p q image s c b counted) refl (let l = low in omega arith)
-          b.memory.code plain steps_there (caller + 32)
+        (others_of s.cpu.registers) b.body.is b.rip
+        (begins_beneath t fs program p q image s c b counted) refl (let l = low in omega arith)
+        b.memory.code plain steps_there (caller + 32)
     callee_there =
         let z = calling.bottom t fs program p q image roomy s c b counted f first count at few few_passed framed in
         let z0 = z.temporaries in
         let z1 = z.size in
         callee_entered t fs program p q image c.frame.body b.body.slots.code b.body.slots.body
-          c.frame.next (instructions.Call f first count) at (λ h. h) before rest next (q.function f)
-          parts next_is near_next c.frame.next resumed callee_found
+        c.frame.next (instructions.Call f first count) at (λ h. h) before rest next (q.function f)
+        parts next_is near_next c.frame.next resumed callee_found
         s at_callee (top_of t fs program p q image s c b counted) b.body.back
-          (others_of s.cpu.registers) b.body.is b.rip
-          (begins_beneath t fs program p q image s c b counted) refl (let l = low in omega arith)
-          b.memory.code plain steps_there (caller + 32)
+        (others_of s.cpu.registers) b.body.is b.rip
+        (begins_beneath t fs program p q image s c b counted) refl (let l = low in omega arith)
+        b.memory.code plain steps_there (caller + 32)
         (omega arith) (omega arith)
 
     arguments_are : sites.arguments_code program p (FunctionBody f) ≡ parameters_code layout 0 count
     arguments_are = ap (λ x. function_arguments layout x) callee ∙ ap (λ n. parameters_code layout 0 n) parameters
 
     arguments_stored : (leaf : Bool) → IsLayoutIf program p layout o leaf
-      → AllPlain layout.frame 40 (parameters_code layout 0 count)
-      × (layout.frame + 8 ≤ LARGEST_FRAME)
+        → AllPlain layout.frame 40 (parameters_code layout 0 count)
+        × (layout.frame + 8 ≤ LARGEST_FRAME)
     arguments_stored true l =
         let e = l.frame in
         let a = l.locals in
@@ -288,11 +288,11 @@ module _ (t : Functions) (fs : List Funclet) (program : LinearProgram) (p : Imag
         let stored = arguments_stored (p.leaf (FunctionBody f)) (image.laid_out (FunctionBody f) o there) in
         let lo = low in
         (entry_ran t fs program p q image (FunctionBody f) o there some (caller - 8) (caller + 32)
-          next (others_of s.cpu.registers) (k.item ∷ b.body.is) inside.turns at_callee after
-          (sites.arguments_code program p (FunctionBody f)) [] 40
+        next (others_of s.cpu.registers) (k.item ∷ b.body.is) inside.turns at_callee after
+        (sites.arguments_code program p (FunctionBody f)) [] 40
         (sym (append-nil (sites.arguments_code program p (FunctionBody f)))) inside.exact
-          (enters_steps inside.turns at_callee after inside.comes) k.rip k.stack k.beneath_it
-          k.program_there stored.1 (omega arith) (omega arith)
+        (enters_steps inside.turns at_callee after inside.comes) k.rip k.stack k.beneath_it
+        k.program_there stored.1 (omega arith) (omega arith)
         (subst (λ (xs : List Instr). AllPlain layout.frame 40 xs) (sym arguments_are) stored.0)).keeps
 
     pub comes : Comes t fs turns s [] after
@@ -300,12 +300,12 @@ module _ (t : Functions) (fs : List Funclet) (program : LinearProgram) (p : Imag
     comes =
         comes_then t fs called_in inside.turns s at_callee after [] []
         (reaches_quietly t fs program p q image called_in s at_callee
-          (entering.calls t fs program p q image roomy s c b counted f first count at few few_passed
-          framed fn callee parameters fits) call_keeps b.memory.code quiet_called)
+        (entering.calls t fs program p q image roomy s c b counted f first count at few few_passed
+        framed fn callee parameters fits) call_keeps b.memory.code quiet_called)
         (enters_quietly t fs program p q image inside.turns at_callee after inside.comes entry_keeps
-          (program_reaches t fs program p q called_in s at_callee
-          (entering.calls t fs program p q image roomy s c b counted f first count at few few_passed
-          framed fn callee parameters fits) b.memory.code) quiet_after)
+        (program_reaches t fs program p q called_in s at_callee
+        (entering.calls t fs program p q image roomy s c b counted f first count at few few_passed
+        framed fn callee parameters fits) b.memory.code) quiet_after)
 
     pub some_turns : 1 ≤ turns
     unfolding turns
@@ -355,9 +355,9 @@ module _ (t : Functions) (fs : List Funclet) (program : LinearProgram) (p : Imag
       bytes = λ a l u out. elim out [
         | inl x ↦ absurd (omega arith)
         | inr x ↦ (let z = low in inside.same a
-          (stack_is_reserved program.globals a (omega arith) u) (inr (inr (inr (omega arith))))
-        ∙ calling.same_above t fs program p q image roomy s c b counted f first count at few
-          few_passed framed a l (inr x))
+            (stack_is_reserved program.globals a (omega arith) u) (inr (inr (inr (omega arith))))
+            ∙ calling.same_above t fs program p q image roomy s c b counted f first count at few
+            few_passed framed a l (inr x))
       ];
       protection = λ a l u. protection_same a;
       code = λ a e. (keeps.fixed a (fixed a e (may_write s.memory a) refl), protection_same a);
@@ -371,16 +371,16 @@ module _ (t : Functions) (fs : List Funclet) (program : LinearProgram) (p : Imag
     image_kept : KeepsImage program.globals s.memory after.memory
     image_kept = record {
       byte = λ a l u own. (let z = top in let w = calling.room_top t fs program p q image roomy s c
-        b counted f first count at few few_passed framed in
-        inside.same a own (inr (inl (omega arith)))
-        ∙ calling.same_above t fs program p q image roomy s c b counted f first count at few
+          b counted f first count at few few_passed framed in
+          inside.same a own (inr (inl (omega arith)))
+          ∙ calling.same_above t fs program p q image roomy s c b counted f first count at few
           few_passed framed a (omega arith) (inr (omega arith)));
       protection = λ a l u own. protection_same a;
     }
 
     memory : IsMachineMemory t fs program p q after.memory c.store.memory
     memory = memory_stays t fs program p q image s.memory after.memory c.store.memory c.store.memory
-      image_kept inside.bytes protection_same inside.agrees b.memory
+        image_kept inside.bytes protection_same inside.agrees b.memory
 
     -- ---- the frame
 
@@ -411,8 +411,8 @@ module _ (t : Functions) (fs : List Funclet) (program : LinearProgram) (p : Imag
         let n = counted_arguments in
         let z : inside.sp + layout.locals + 8 * i ≡ inside.sp + (layout.locals + 8 * i) = omega arith in
         ap (number_at after.memory.byte 8) z ∙ inside.locals i (omega arith)
-          ∙ (slots_here t fs program p q image s c b counted).temporaries (first + i) v
-            (sym (got_past c.frame.temporaries first i) ∙ e)
+        ∙ (slots_here t fs program p q image s c b counted).temporaries (first + i) v
+        (sym (got_past c.frame.temporaries first i) ∙ e)
 
     numbers : HoldsWords after.memory (inside.sp + layout.locals) (inside.sp + slots_end layout (p.leaf (FunctionBody f))) (arguments ++ others)
     numbers =
@@ -423,8 +423,8 @@ module _ (t : Functions) (fs : List Funclet) (program : LinearProgram) (p : Imag
         let z = top in
         let lo = sp_low in
         arguments_then_words after.memory (inside.sp + layout.locals)
-          (inside.sp + slots_end layout (p.leaf (FunctionBody f))) arguments (o.locals - count)
-          (omega arith) argument_there
+        (inside.sp + slots_end layout (p.leaf (FunctionBody f))) arguments (o.locals - count)
+        (omega arith) argument_there
         (λ a v l u e. word_of after.memory a v (omega arith) (λ x g h. may_read_written after.memory x (memory.stack x (omega arith) (omega arith))) e)
 
     -- ---- the return address
@@ -450,18 +450,18 @@ module _ (t : Functions) (fs : List Funclet) (program : LinearProgram) (p : Imag
         let w : inside.sp + layout.frame ≡ caller - 8 = omega arith in
         let same = back_same in
         let pushed = (pushed_back (calling.before t fs program p q image roomy s c b counted f first
-          count at few few_passed framed) caller
-          (calling.back t fs program p q image roomy s c b counted f first count at few few_passed
-          framed) (calling.below_sp t fs program p q image roomy s c b counted f first count at few
-          few_passed framed) (omega arith)).number in
+        count at few few_passed framed) caller
+        (calling.back t fs program p q image roomy s c b counted f first count at few few_passed
+        framed) (calling.below_sp t fs program p q image roomy s c b counted f first count at few
+        few_passed framed) (omega arith)).number in
         word_of after.memory (inside.sp + layout.frame) back (omega arith)
-          (λ x g h. may_read_written after.memory x (memory.stack x (omega arith) (omega arith)))
+        (λ x g h. may_read_written after.memory x (memory.stack x (omega arith) (omega arith)))
         (ap (number_at after.memory.byte 8) w
         ∙ same_number after.memory.byte (entering.called t fs program p q image roomy s c b counted
-          f first count at few few_passed framed fn callee parameters fits).memory.byte 8
-          (caller - 8) (omega arith) (λ a g h. inside.same a
-          (stack_is_reserved program.globals a (omega arith) (omega arith))
-          (inr (inr (inl (omega arith, omega arith)))))
+        f first count at few few_passed framed fn callee parameters fits).memory.byte 8
+        (caller - 8) (omega arith) (λ a g h. inside.same a
+        (stack_is_reserved program.globals a (omega arith) (omega arith))
+        (inr (inr (inl (omega arith, omega arith)))))
         ∙ pushed ∙ same)
 
     -- ---- all of it
@@ -469,7 +469,7 @@ module _ (t : Functions) (fs : List Funclet) (program : LinearProgram) (p : Imag
     pub begins : nat_lt 1000 (length c.store.activations + c.frame.held + 1) ≡ false → Begins t fs program p q after callee_begins
     begins shallow =
         let waits = awaiting.awaits t fs program p q image roomy s c b counted f first count at
-          after.memory room (omega arith) framed stack_kept memory.data_alone in
+        after.memory room (omega arith) framed stack_kept memory.data_alone in
         let small = frame_small (p.leaf (FunctionBody f)) laid in
         let e = inside.place in
         let stack = inside.stack in
@@ -479,19 +479,19 @@ module _ (t : Functions) (fs : List Funclet) (program : LinearProgram) (p : Imag
         let limit = not_less 1000 (length c.store.activations + c.frame.held + 1) shallow in
         let up : register after.cpu Rsp + layout.frame + 8 ≡ caller = omega arith in
         let begins = function_begins t fs program p q image after c.store.memory f o there
-          (Waits (waiting c first).frame ∷ c.below) b.body.acts c.frame.held c.events
-          (arguments ++ others)
+        (Waits (waiting c first).frame ∷ c.below) b.body.acts c.frame.held c.events
+        (arguments ++ others)
         (stays_sane s after keeps rip_small b.sane) memory inside.rip some
         (record { space = omega arith; shallow = omega arith }) tt
         (λ leaf. subst (λ x. x + home_end ≤ STACK_END) (sym stack) (at_home (p.leaf (FunctionBody f)) laid leaf))
         back returns_to (subst (λ x. word after.memory (x + layout.frame) ≡ Ok back) (sym stack) returns)
         (subst (λ x. HoldsWords after.memory (x + layout.locals) (x + slots_end layout (p.leaf (FunctionBody f))) (arguments ++ others)) (sym stack) numbers)
         waits.0 (λ more n. subst (λ x. On t fs program p after.memory (context_below back x more)
-          waits.0 (Waits (waiting c first).frame ∷ c.below) b.body.acts) (sym up)
-          (waits.1 more n)) in
+        waits.0 (Waits (waiting c first).frame ∷ c.below) b.body.acts) (sym up)
+        (waits.1 more n)) in
         subst (λ (xs : List (List ℕ)). Begins t fs program p q after
-          (begun f (arguments ++ others) c.frame.held (Waits (waiting c first).frame ∷ c.below)
-          c.store.memory xs c.events)) (sym b.body.store) begins
+        (begun f (arguments ++ others) c.frame.held (Waits (waiting c first).frame ∷ c.below)
+        c.store.memory xs c.events)) (sym b.body.store) begins
       where
         not_less : (n m : ℕ) → nat_lt n m ≡ false → m ≤ n
         not_less n m e = elim (cases_lt n m) [ inl l ↦ absurd (let z : true ≡ false = sym (lt-ltb n m l) ∙ e in cc) | inr g ↦ g ]

@@ -45,20 +45,26 @@ module _ (program : LinearProgram) (n : ℕ) where
   arrive_short target None c le = counted n (record c
       { frame = record c.frame { next = target.label } }) le
   arrive_short target (Some code) c le = counted n
-      (record c { frame = record c.frame { next = target.label; temporaries = [];
-      landed = Some code }; events = c.events ++ events.Except (record { 0 = code }) ∷ [] })
+      (record c {
+        frame = record c.frame {
+          next = target.label;
+          temporaries = [];
+          landed = Some code;
+        };
+        events = c.events ++ events.Except (record { 0 = code }) ∷ [];
+      })
       (omega arith)
 
   finally_short : (k : ℕ) (abnormal : Bool) (held : ℕ) (below : List Item) (c : Configuration)
       (o : Option ℕ) → 3 * held_below below ≤ n
       → IsShort n (with_some c.events o (λ flag. deeper 2 held c.store c.events
-        (counting (begin_finally k flag abnormal held below c))))
+      (counting (begin_finally k flag abnormal held below c))))
   unfolding with_some
   finally_short k abnormal held below c None le = tt
   finally_short k abnormal held below c (Some flag) le =
       either_short n (nat_lt 1000 (length c.store.activations + held + 2))
-        (Finished (Deep 1001) c.events) (counting (begin_finally k flag abnormal held below c)) tt
-        (counted n (begin_finally k flag abnormal held below c) (omega arith))
+      (Finished (Deep 1001) c.events) (counting (begin_finally k flag abnormal held below c)) tt
+      (counted n (begin_finally k flag abnormal held below c) (omega arith))
 
   region_short : (target : Target) (kind : RegionKind) (rest : List Region) (further : Seen)
       (c : Configuration) → turns_left c ≤ n → IsShort n further
@@ -77,11 +83,11 @@ module _ (program : LinearProgram) (n : ℕ) where
       (h (left_store c.frame.body c.frame.activation c.store))
   body_short target out (r ∷ regions) c le h =
       either_short n (stops target r (length c.below)) (arrive target target.code counting c)
-        (leave_region program counting target r.kind regions
-        (unwind_body program counting target out regions c) c)
-        (arrive_short target target.code c le)
+      (leave_region program counting target r.kind regions
+      (unwind_body program counting target out regions c) c)
+      (arrive_short target target.code c le)
       (region_short target r.kind regions (unwind_body program counting target out regions c) c le
-        (body_short target out regions c le h))
+      (body_short target out regions c le h))
 
   pub unwind_short : (target : Target) (items : List Item) (left : Option (List Region))
       (es : List Event) (store : Store) → 3 * held_below items ≤ n
@@ -89,10 +95,10 @@ module _ (program : LinearProgram) (n : ℕ) where
   unwind_short target [] left es store le = tt
   unwind_short target (Waits f ∷ below) left es store le =
       body_short target (λ store. unwind program counting (target_past f.body target) below None es
-        store) (regions_left left (regions_at program f.body f.next))
-        (record { frame = f; below = below; store = store; events = es }) (omega arith)
+      store) (regions_left left (regions_at program f.body f.next))
+      (record { frame = f; below = below; store = store; events = es }) (omega arith)
       (λ store. unwind_short (target_past f.body target) below None es store (omega arith))
-  unwind_short target (Searches exception resumption asked rest ∷ below) left es store
-      le = unwind_short target below None es store le
+  unwind_short target (Searches exception resumption asked rest ∷ below) left es store le =
+      unwind_short target below None es store le
   unwind_short target (Unwinds rest older ∷ below) left es store le = unwind_short target below
       (Some rest) es store le

@@ -84,13 +84,13 @@ module _ (t : Functions) (fs : List Funclet) (program : LinearProgram) (p : Imag
   funclet_finds m k name f = by (slice_get program.funclets k) refl f.parent
     where
       by : (o : Option LinearFunclet) → slice_get program.funclets k ≡ o → parent_body o ≡ Some name
-        → FindsReturn t m (p.funclet k) 0
+          → FindsReturn t m (p.funclet k) 0
       by None e h = absurd cc
       by (Some g) e h =
           let is = ap funclet_body e in
           let framed = (image.laid_out (FuncletBody k) g.body is).framed in
           (image.callers (FuncletBody k) g.body is).entries m
-            (λ leaf. absurd (let no : true ≡ false = sym leaf ∙ framed in cc))
+          (λ leaf. absurd (let no : true ≡ false = sym leaf ∙ framed in cc))
 
   funclet_gives : (u : State) (k activation first : ℕ) (items : List Item) (acts : List Activation)
       (a : Arrives t fs program p u k activation first items acts) (cs : List Context)
@@ -104,22 +104,22 @@ module _ (t : Functions) (fs : List Funclet) (program : LinearProgram) (p : Imag
       let here : sp + 0 ≡ sp = omega arith in
       let up : a.at ≡ sp + 0 + 8 = omega arith in
       let found = funclet_finds u.memory k a.name a.funclet (context_of u.cpu) a.back a.rip refl
-        (omega arith) (ap (word u.memory) here ∙ a.returns) in
+      (omega arith) (ap (word u.memory) here ∙ a.returns) in
       let below : GivesCallers t u.memory (state (context_below a.back a.at others) 0) cs = subst
-        (GivesCallers t u.memory (state (context_below a.back a.at others) 0)) (same others)
-        (on_stack t u.memory (context_below a.back a.at others) 0 a.is
-        (a.on others).is_there.stack) in
+      (GivesCallers t u.memory (state (context_below a.back a.at others) 0)) (same others)
+      (on_stack t u.memory (context_below a.back a.at others) 0 a.is
+      (a.on others).is_there.stack) in
       let above : GivesCallers t u.memory (state (context_below a.back (sp + 0 + 8) others) 0)
-        cs = subst (λ n. GivesCallers t u.memory (state (context_below a.back n others) 0) cs) up
-        below in
+      cs = subst (λ n. GivesCallers t u.memory (state (context_below a.back n others) 0) cs) up
+      below in
       let flat : sp + 0 + 8 ≡ sp + 8 = omega arith in
       let number = word_is u.memory sp a.back a.returns in
       let caller : context_below a.back (sp + 0 + 8) others
-        ≡ caller_at u = ap (λ n. context_below a.back n others) flat
-        ∙ ap (λ v. context_below v (sp + 8) others) (sym number) in
+      ≡ caller_at u = ap (λ n. context_below a.back n others) flat
+      ∙ ap (λ v. context_below v (sp + 8) others) (sym number) in
       subst (λ (c : Context). WalkGives t u (c ∷ cs)) caller
-        (gives_caller t u.memory (context_of u.cpu) (caller_above (context_of u.cpu) 0 a.back) cs
-        found above)
+      (gives_caller t u.memory (context_of u.cpu) (caller_above (context_of u.cpu) 0 a.back) cs
+      found above)
 
   -- a filter, on all that is live
   pub filter_walk : (s : State) (at : ℕ) (r : DispatchRecord) (turn : Turn) (found : List Handler)
@@ -127,79 +127,79 @@ module _ (t : Functions) (fs : List Funclet) (program : LinearProgram) (p : Imag
       (acts : List Activation) (c : Configuration)
       → (f : FilterBegins t fs program p s at r turn found exception resumption is acts c)
       → WalkContinues t fs program p q (callers (context_of r.saved) is) f.state
-        (events.Filter (f.filter + 1) ∷ [])
+      (events.Filter (f.filter + 1) ∷ [])
   filter_walk s at r turn found exception resumption is acts c f =
       let cs = callers (context_of r.saved) is in
       let a = f.arrives in
       let same = λ (others : List ℕ). ap (callers (context_below a.back a.at others)) f.list
-        ∙ ap (λ (x : Cpu). callers (context_of x) is) f.same_saved in
+      ∙ ap (λ (x : Cpu). callers (context_of x) is) f.same_saved in
       subst (WalkGives t f.state) (sym (none_below (register f.state.cpu Rsp)
-        (caller_at f.state ∷ cs) (omega arith)))
+      (caller_at f.state ∷ cs) (omega arith)))
       (funclet_gives f.state f.filter _ _ _ acts a cs same)
 
   module _ (s : State) (at : ℕ) (r : DispatchRecord) (is : List StackItem) (turn : Turn)
       (w : Unwound) (u : IsUnwinding t fs program p s at r is w) where
     short : length is < steps
     short = let small = u.room.small in let few = few_items t s.memory r.walk is u.on.is_there.stack
-      small in omega arith
+        small in omega arith
 
     -- a `__finally` block, on those from its frame up
     pub block_walk : (b : BlockBegins t fs program p s r turn w)
-      → WalkContinues t fs program p q (callers r.walk is) b.state
+        → WalkContinues t fs program p q (callers r.walk is) b.state
         (events.Finally (b.block + 1) true ∷ [])
     block_walk b =
         let a = b.arrives in
         let cs = callers b.to b.inner in
         let same = λ (others : List ℕ). ap (callers (context_below a.back a.at others)) b.list
-          ∙ ap (λ (x : Context). callers x b.inner) b.same_walk in
+        ∙ ap (λ (x : Context). callers x b.inner) b.same_walk in
         let left : drop_below (register b.state.cpu Rdx) (callers r.walk is) ≡ cs =
         ap (λ n. drop_below n (callers r.walk is)) b.frame
-          ∙ block_callers t s.memory r.target_frame r.target r.walk r.row is steps
-            u.on.is_there.stack short (p.funclet b.block) (rsp b.to) b.row b.to b.inner b.answer
-            b.stack in
+        ∙ block_callers t s.memory r.target_frame r.target r.walk r.row is steps
+        u.on.is_there.stack short (p.funclet b.block) (rsp b.to) b.row b.to b.inner b.answer
+        b.stack in
         subst (WalkGives t b.state)
         (sym (ap (λ (xs : List Context). drop_below (register b.state.cpu Rsp)
-          (caller_at b.state ∷ xs)) left ∙ none_below (register b.state.cpu Rsp)
-          (caller_at b.state ∷ cs) (omega arith)))
+        (caller_at b.state ∷ xs)) left ∙ none_below (register b.state.cpu Rsp)
+        (caller_at b.state ∷ cs) (omega arith)))
         (funclet_gives b.state b.block _ _ _ b.outer a cs same)
 
     -- ---- where an unwinding lands
 
     pub landing_walk : (l : LandsThere t fs program p s r turn w) (rax : ℕ)
-      → IsMachineMemory t fs program p q s.memory w.source
-      → WalkContinues t fs program p q (callers r.walk is) (at_landing s l.to rax r.target) []
+        → IsMachineMemory t fs program p q s.memory w.source
+        → WalkContinues t fs program p q (callers r.walk is) (at_landing s l.to rax r.target) []
     landing_walk l rax memory =
         let f = l.framed in
         let is_there = l.on.is_there.stack.0 in
         let waits = l.on.is_there.linked.0 in
         let y = p.layout l.body.body in
         let size : f.size ≡ y.frame = frame_size t fs program p q image s.memory l.to f l.body.body
-          waits.waits.code waits.waits.body waits.framed waits.entry is_there in
+        waits.waits.code waits.waits.body waits.framed waits.entry is_there in
         let room = is_there.room in
         let d : Context = record { rip = r.target; kept = l.to.kept } in
         let cs = callers (after_frame l.to f) l.is in
         let found =
         begin_finds t fs program p q image s.memory l.body.body waits.waits.code w.target.label
-          waits.waits.body memory.code (image.landings l.body.body waits.waits.code w.target.label
-          waits.waits.body l.lands)
+        waits.waits.body memory.code (image.landings l.body.body waits.waits.code w.target.label
+        waits.waits.body l.lands)
         d f.return_address l.at_address is_there.kept (omega arith)
-          (ap (λ n. word s.memory (rsp l.to + n)) (sym size) ∙ is_there.returns) in
+        (ap (λ n. word s.memory (rsp l.to + n)) (sym size) ∙ is_there.returns) in
         let caller : caller_above d y.frame f.return_address
-          ≡ after_frame l.to f = ap (λ n. let x : Context =
-            record { rip = f.return_address; kept = slice_set l.to.kept 0 (rsp l.to + n + 8) } in x)
-            (sym size) in
+        ≡ after_frame l.to f = ap (λ n. let x : Context =
+        record { rip = f.return_address; kept = slice_set l.to.kept 0 (rsp l.to + n + 8) } in x)
+        (sym size) in
         let rest : GivesCallers t s.memory (state (caller_above d y.frame f.return_address) 0)
-          cs = subst (λ (x : Context). GivesCallers t s.memory (state x 0) cs) (sym caller)
-          (on_stack t s.memory (after_frame l.to f) 0 l.is l.on.is_there.stack.1) in
+        cs = subst (λ (x : Context). GivesCallers t s.memory (state x 0) cs) (sym caller)
+        (on_stack t s.memory (after_frame l.to f) 0 l.is l.on.is_there.stack.1) in
         let here : GivesCallers t s.memory (state d 0) (after_frame l.to f ∷ cs) = subst
-          (λ (x : Context). GivesCallers t s.memory (state d 0) (x ∷ cs)) caller
-          (gives_caller t s.memory d (caller_above d y.frame f.return_address) cs found rest) in
+        (λ (x : Context). GivesCallers t s.memory (state d 0) (x ∷ cs)) caller
+        (gives_caller t s.memory d (caller_above d y.frame f.return_address) cs found rest) in
         let landed : WalkGives t (at_landing s l.to rax r.target) (after_frame l.to f ∷ cs) = subst
-          (λ (ks : List ℕ). GivesCallers t s.memory (state (record { rip = r.target; kept = ks }) 0)
-          (after_frame l.to f ∷ cs)) (sym (nine l.to.kept is_there.kept)) here in
+        (λ (ks : List ℕ). GivesCallers t s.memory (state (record { rip = r.target; kept = ks }) 0)
+        (after_frame l.to f ∷ cs)) (sym (nine l.to.kept is_there.kept)) here in
         subst (WalkGives t (at_landing s l.to rax r.target))
         (sym (landing_callers t s.memory r.target_frame r.target r.walk r.row is steps
-          u.on.is_there.stack short l.to (Framed f ∷ l.is) l.answer l.on.is_there.stack)) landed
+        u.on.is_there.stack short l.to (Framed f ∷ l.is) l.answer l.on.is_there.stack)) landed
 
   -- ---- at a service of the host
 
@@ -218,13 +218,17 @@ module _ (t : Functions) (fs : List Funclet) (program : LinearProgram) (p : Imag
       let cs = callers after is in
       let same : after ≡ c =
       ap (λ (ks : List ℕ). let x : Context = record { rip = ret; kept = ks } in x)
-        (kept_with s.cpu.registers ((sp + 8) % 2 ^ 64 % 2 ^ 64) count)
-        ∙ ap (λ n. let x : Context = record { rip = ret;
-          kept = slice_set (kept_of s.cpu.registers) 0 n } in x) up in
+      (kept_with s.cpu.registers ((sp + 8) % 2 ^ 64 % 2 ^ 64) count)
+      ∙ ap (λ n. let x : Context = record {
+        rip = ret;
+        kept = slice_set (kept_of s.cpu.registers) 0 n;
+      } in x) up in
       let returns : word s.memory (sp + 0) ≡ Ok ret = ap (word s.memory) flat
-        ∙ ap (λ (x : Result ℕ RefusedAccess). readable sp x) w in
+      ∙ ap (λ (x : Result ℕ RefusedAccess). readable sp x) w in
       let found = image.callers_outside.services s.memory a low high other another
-        (context_of s.cpu) ret here refl (omega arith) returns in
-      (c, gives_caller t s.memory (context_of s.cpu) c cs found
-        (subst (λ (x : Context). GivesCallers t s.memory (state x 0) cs) same
-        (on_stack t s.memory after 0 is stack)))
+      (context_of s.cpu) ret here refl (omega arith) returns in (
+        c,
+        gives_caller t s.memory (context_of s.cpu) c cs found
+            (subst (λ (x : Context). GivesCallers t s.memory (state x 0) cs) same
+            (on_stack t s.memory after 0 is stack)),
+      )

@@ -25,15 +25,19 @@ use Rattle.body_steps.proofs.Around.{some_is}
 -- the stack from further up
 pub higher_stack : (m m' : Memory) (low high : ℕ) → low ≤ high → KeepsStack m m' low
     → KeepsStack m m' high
-higher_stack m m' low high le k = record { bytes = λ x from to. k.bytes x (omega arith) to;
-    protection = k.protection; code = k.code; no_more_code = k.no_more_code }
+higher_stack m m' low high le k = record {
+  bytes = λ x from to. k.bytes x (omega arith) to;
+  protection = k.protection;
+  code = k.code;
+  no_more_code = k.no_more_code;
+}
 
 module _ (t : Functions) (fs : List Funclet) (program : LinearProgram) (p : ImagePlan) (q : Sites)
     (image : IsProgramImage t fs program p q) (s : State) (c : Configuration)
     (b : Begins t fs program p q s c) (counted : IsCounted t fs program p q image c)
     (framed : p.leaf c.frame.body ≡ false)
     (m source : Memory) (keeps : KeepsStack s.memory m (register s.cpu Rsp))
-      (memory : IsMachineMemory t fs program p q m source) where
+    (memory : IsMachineMemory t fs program p q m source) where
   abbrev pub elsewhere : State
   elsewhere = record { cpu = s.cpu; memory = m }
 
@@ -54,18 +58,22 @@ module _ (t : Functions) (fs : List Funclet) (program : LinearProgram) (p : Imag
 
   reads : ReadsSame s.memory m sp 0x70800000
   reads = reads_other s.memory m sp 0x70800000
-      (record { bytes = keeps.bytes; protection = keeps.protection; code = keeps.code;
-      no_more_code = keeps.no_more_code }) low (omega arith)
+      (record {
+        bytes = keeps.bytes;
+        protection = keeps.protection;
+        code = keeps.code;
+        no_more_code = keeps.no_more_code;
+      }) low (omega arith)
 
   size_is : slots_end (p.layout c.frame.body) (p.leaf c.frame.body) ≡ frame
   size_is = ap (slots_end (p.layout c.frame.body)) framed
 
   end_is : last_temporary (p.layout c.frame.body) c.frame.body (p.leaf c.frame.body)
       ≡ temporaries_end (p.layout c.frame.body) c.frame.body
-        (slots_end (p.layout c.frame.body) (p.leaf c.frame.body))
+      (slots_end (p.layout c.frame.body) (p.leaf c.frame.body))
   end_is = ap (λ l. last_temporary (p.layout c.frame.body) c.frame.body l) framed
       ∙ ap (λ l. temporaries_end (p.layout c.frame.body) c.frame.body
-        (slots_end (p.layout c.frame.body) l)) (sym framed)
+      (slots_end (p.layout c.frame.body) l)) (sym framed)
 
   slots : BodyWaits t fs program p m (context_of s.cpu)
       (slots_end (p.layout c.frame.body) (p.leaf c.frame.body))
@@ -76,12 +84,12 @@ module _ (t : Functions) (fs : List Funclet) (program : LinearProgram) (p : Imag
       let e = size_is in
       let f = end_is in
       let w = end_within s.memory (p.layout c.frame.body) sp
-        (slots_end (p.layout c.frame.body) (p.leaf c.frame.body)) c.frame.activation b.body.acts
-        c.frame.body b.body.slots.activation in
+      (slots_end (p.layout c.frame.body) (p.leaf c.frame.body)) c.frame.activation b.body.acts
+      c.frame.body b.body.slots.activation in
       body_kept s.memory m 0x70800000 t fs program p (context_of s.cpu)
-        (slots_end (p.layout c.frame.body) (p.leaf c.frame.body))
-        (last_temporary (p.layout c.frame.body) c.frame.body (p.leaf c.frame.body)) c.frame
-        b.body.acts reads (omega arith) (omega arith) b.body.slots
+      (slots_end (p.layout c.frame.body) (p.leaf c.frame.body))
+      (last_temporary (p.layout c.frame.body) c.frame.body (p.leaf c.frame.body)) c.frame
+      b.body.acts reads (omega arith) (omega arith) b.body.slots
 
   pub begins_elsewhere : Begins t fs program p q elsewhere source_elsewhere
   begins_elsewhere =
@@ -96,7 +104,7 @@ module _ (t : Functions) (fs : List Funclet) (program : LinearProgram) (p : Imag
           store = b.body.store;
           slots = slots;
           pointers = pointers_kept s.memory m 0x70800000 t fs program p (p.layout c.frame.body) sp
-            frame c.below reads (omega arith) b.body.pointers;
+              frame c.below reads (omega arith) b.body.pointers;
           above = b.body.above;
           home = b.body.home;
           back = b.body.back;
@@ -105,10 +113,10 @@ module _ (t : Functions) (fs : List Funclet) (program : LinearProgram) (p : Imag
           is = b.body.is;
           below = λ others eight. record {
             is_there = kept_by_other_memories t fs program p s.memory m
-              (context_below b.body.back (sp + frame + 8) others) b.body.is c.below
-              (activations_below c.frame.body b.body.acts)
-              (higher_stack s.memory m sp (sp + frame + 8) (omega arith) keeps) (omega arith)
-              (b.body.below others eight).is_there;
+                (context_below b.body.back (sp + frame + 8) others) b.body.is c.below
+                (activations_below c.frame.body b.body.acts)
+                (higher_stack s.memory m sp (sp + frame + 8) (omega arith) keeps) (omega arith)
+                (b.body.below others eight).is_there;
             data_alone = memory.data_alone;
           };
         };

@@ -56,10 +56,10 @@ module _ (t : Functions) (fs : List Funclet) (program : LinearProgram) (p : Imag
       (counted : IsCounted t fs program p q image c) (k : ℕ) (is : c.frame.body ≡ FuncletBody k)
       (from : Slot)
       (at : slice_get b.body.slots.code.code c.frame.next ≡ Some (instructions.Return from)) (x : ℕ)
-        (reads : read c from ≡ Some x)
+      (reads : read c from ≡ Some x)
       (g : LinearFunclet) (funclet : slice_get program.funclets k ≡ Some g)
-        (rule : HasRule (act program (instructions.Return from) (exec program zero) c))
-        (known : KnownNext program c (instructions.Return from)) where
+      (rule : HasRule (act program (instructions.Return from) (exec program zero) c))
+      (known : KnownNext program c (instructions.Return from)) where
     abbrev after : State
     after = leaving.after t fs program p q image roomy s c b counted from at
 
@@ -80,27 +80,27 @@ module _ (t : Functions) (fs : List Funclet) (program : LinearProgram) (p : Imag
 
     -- the list as it stood, below what the funclet has given back
     laid : On t fs program p s.memory (context_below back top rest_of_context) b.body.is c.below
-      b.body.acts
+        b.body.acts
     laid = subst (λ acts. On t fs program p s.memory (context_below back top rest_of_context)
-      b.body.is c.below acts) same_acts (b.body.below rest_of_context refl)
+        b.body.is c.below acts) same_acts (b.body.below rest_of_context refl)
 
     here : (js : List StackItem) (items : List Item) → b.body.is ≡ js → c.below ≡ items
-      → On t fs program p after.memory (context_of after.cpu) js items b.body.acts
+        → On t fs program p after.memory (context_of after.cpu) js items b.body.acts
     here js items e below =
         let on = subst (λ xs. On t fs program p s.memory (context_below back top rest_of_context) xs
-          items b.body.acts) e
+        items b.body.acts) e
         (subst (λ ys. On t fs program p s.memory (context_below back top rest_of_context) b.body.is
-          ys b.body.acts) below laid) in
+        ys b.body.acts) below laid) in
         on_moved t fs program p s.memory (context_below back top rest_of_context)
-          (context_of after.cpu) js items b.body.acts refl refl refl
-          (leaving.sp_after t fs program p q image roomy s c b counted from at) on
+        (context_of after.cpu) js items b.body.acts refl refl refl
+        (leaving.sp_after t fs program p q image roomy s c b counted from at) on
 
     -- in the host's page no funclet begins
     quiet : back < 0x100000000 → Comes t fs n s [] after
     quiet low =
         reaches_quietly t fs program p q image n s after
-          (leaving.reaches t fs program p q image roomy s c b counted from at)
-          (leaving.keeps t fs program p q image roomy s c b counted from at) b.memory.code
+        (leaving.reaches t fs program p q image roomy s c b counted from at)
+        (leaving.keeps t fs program p q image roomy s c b counted from at) b.memory.code
         (host_quiet t fs program p q image s.memory back after.cpu b.memory.code low)
 
     few : n ≤ 6
@@ -110,7 +110,7 @@ module _ (t : Functions) (fs : List Funclet) (program : LinearProgram) (p : Imag
     memory_after = b.memory
 
     ends : (next : Next) → act program (instructions.Return from) next c
-      ≡ end_funclet program next g.kind x c
+        ≡ end_funclet program next g.kind x c
     unfolding with_some
     ends next =
         ap (λ r. with_some c.events r (λ z. end_body program next c.frame.body z c)) reads
@@ -120,25 +120,25 @@ module _ (t : Functions) (fs : List Funclet) (program : LinearProgram) (p : Imag
     -- ---- a filter
 
     module _ (fits : FlagsFit program) (continues : Continuations t fs program p q)
-      (kind : g.kind ≡ funclets.Filter)
+        (kind : g.kind ≡ funclets.Filter)
         (exception : Exception) (resumption : Resumption) (asked : Handler) (rest : List Handler)
-          (w : Frame) (below : List Item) (under : c.below
-          ≡ Searches exception resumption asked rest ∷ Waits w ∷ below)
-            (waits : AreWaiting program c.below) where
+        (w : Frame) (below : List Item) (under : c.below
+        ≡ Searches exception resumption asked rest ∷ Waits w ∷ below)
+        (waits : AreWaiting program c.below) where
       abbrev waiting : List Item
       waiting = Searches exception resumption asked rest ∷ Waits w ∷ below
 
       on_top : IsSearchOnTop (context_below back top rest_of_context) b.body.is
       on_top =
           let is_there = (subst (λ ys. On t fs program p s.memory
-            (context_below back top rest_of_context) b.body.is ys b.body.acts) under
-            laid).is_there in
+          (context_below back top rest_of_context) b.body.is ys b.body.acts) under
+          laid).is_there in
           search_on_top t fs program p s.memory (context_below back top rest_of_context) b.body.is
-            exception resumption asked rest (Waits w ∷ below) b.body.acts is_there.stack
-            is_there.linked
+          exception resumption asked rest (Waits w ∷ below) b.body.acts is_there.stack
+          is_there.linked
 
       is_answered : SearchIsAnswered t fs program p after on_top.dispatch on_top.others b.body.acts
-        exception resumption asked rest (waiting_below c w below)
+          exception resumption asked rest (waiting_below c w below)
       is_answered = record {
         gives = image.gives;
         sane = leaving.sane_after t fs program p q image roomy s c b counted from at;
@@ -146,46 +146,46 @@ module _ (t : Functions) (fs : List Funclet) (program : LinearProgram) (p : Imag
       }
 
       answers : (next : Next) → act program (instructions.Return from) next c
-        ≡ linear_answer program after exception resumption asked rest (waiting_below c w below) next
+          ≡ linear_answer program after exception resumption asked rest (waiting_below c w below) next
       answers next =
           ends next
           ∙ ap (λ z. end_funclet program next z x c) kind
           ∙ ap (λ ws. answer program next x ws c.events c.store) under
           ∙ answer_low program next x exception resumption asked rest w below c.events c.store
           ∙ ap (λ v. answer program next (low W32 v) waiting c.events c.store)
-            (sym (leaving.result_is t fs program p q image roomy s c b counted from at x reads))
+          (sym (leaving.result_is t fs program p q image roomy s c b counted from at x reads))
 
       pub filter_returns : IsMatched t fs program 16 turns_left (Represents t fs program p q) s c
-        (instructions.Return from)
+          (instructions.Return from)
       filter_returns =
           let at_host = on_top.at_host in
           filter_step t fs program p q image fits continues n s after c (instructions.Return from)
-            on_top.dispatch on_top.others b.body.acts exception resumption asked rest w below
+          on_top.dispatch on_top.others b.body.acts exception resumption asked rest w below
           (quiet (omega arith)) few at_host under (are_clear program c.below waits) is_answered
-            memory_after b.body.store answers rule known
+          memory_after b.body.store answers rule known
 
     -- ---- a `__finally` block that an unwinding runs
 
     module _ (fits : FlagsFit program) (flag : ℕ) (kind : g.kind ≡ funclets.Finally flag)
-      (rest : List Region) (target : Target) (f : Frame) (below : List Item)
-      (under : c.below ≡ Unwinds rest target ∷ Waits f ∷ below) (waits : AreWaiting program c.below)
+        (rest : List Region) (target : Target) (f : Frame) (below : List Item)
+        (under : c.below ≡ Unwinds rest target ∷ Waits f ∷ below) (waits : AreWaiting program c.below)
       where
-      unwinding : IsUnwindingOnTop (context_below back top rest_of_context) b.body.is
-      unwinding =
-          let is_there = (subst (λ ys. On t fs program p s.memory
+        unwinding : IsUnwindingOnTop (context_below back top rest_of_context) b.body.is
+        unwinding =
+            let is_there = (subst (λ ys. On t fs program p s.memory
             (context_below back top rest_of_context) b.body.is ys b.body.acts) under
             laid).is_there in
-          unwinding_on_top t fs program p s.memory (context_below back top rest_of_context)
+            unwinding_on_top t fs program p s.memory (context_below back top rest_of_context)
             b.body.is rest target (Waits f ∷ below) b.body.acts is_there.stack is_there.linked
 
-      pub block_returns : IsMatched t fs program 16 turns_left (Represents t fs program p q) s c
-        (instructions.Return from)
-      block_returns =
-          let at_host = unwinding.at_host in
-          finally_step t fs program p q image fits n s after c (instructions.Return from)
+        pub block_returns : IsMatched t fs program 16 turns_left (Represents t fs program p q) s c
+            (instructions.Return from)
+        block_returns =
+            let at_host = unwinding.at_host in
+            finally_step t fs program p q image fits n s after c (instructions.Return from)
             unwinding.dispatch unwinding.others b.body.acts rest target f below
-          (quiet (omega arith)) few at_host under (are_clear program c.below waits)
+            (quiet (omega arith)) few at_host under (are_clear program c.below waits)
             (leaving.sane_after t fs program p q image roomy s c b counted from at)
-          (here (Unwinding unwinding.dispatch ∷ unwinding.others)
+            (here (Unwinding unwinding.dispatch ∷ unwinding.others)
             (Unwinds rest target ∷ Waits f ∷ below) unwinding.items under) memory_after b.body.store
-          (λ next. ends next ∙ ap (λ z. end_funclet program next z x c) kind) rule known
+            (λ next. ends next ∙ ap (λ z. end_funclet program next z x c) kind) rule known

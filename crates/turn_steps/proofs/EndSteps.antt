@@ -34,57 +34,76 @@ module _ (t : Functions) (fs : List Funclet) (program : LinearProgram) (p : Imag
       (known : IsKnown program c) (name : c.frame.body ≡ FuncletBody k)
       (at : instruction_at program c ≡ Some (instructions.Return from))
       (rule : HasRule (act program (instructions.Return from) (exec program zero) c))
-        (after : KnownNext program c (instructions.Return from)) where
+      (after : KnownNext program c (instructions.Return from)) where
     abbrev Goal : Type 0
     Goal = IsMatched t fs program pace turns_left (Represents t fs program p q) s c
-      (instructions.Return from)
+        (instructions.Return from)
 
     value : (x : ℕ) × (read c from ≡ Some x)
     value = reads_some c from (ready_here t fs program p q image made s c b known
-      (instructions.Return from) at)
+        (instructions.Return from) at)
 
     moves_on : Moves t fs program pace turns_left (Begins t fs program p q) s c
-      (instructions.Return from) → Goal
-    moves_on m = inl (record { turns = m.turns; some = m.some; configuration = m.configuration;
-      few = m.few; state = m.state; events = m.events; comes = m.comes; acts = m.acts;
-      shown = m.shown; is_there = inl m.is_there })
+        (instructions.Return from) → Goal
+    moves_on m = inl (record {
+      turns = m.turns;
+      some = m.some;
+      configuration = m.configuration;
+      few = m.few;
+      state = m.state;
+      events = m.events;
+      comes = m.comes;
+      acts = m.acts;
+      shown = m.shown;
+      is_there = inl m.is_there;
+    })
 
     module _ (g : LinearFunclet) (there : slice_get program.funclets k ≡ Some g) where
       by_list : (items : List Item) → c.below ≡ items
-        → FuncletIsAbove t fs program p k c.frame (Some g) items → Goal
+          → FuncletIsAbove t fs program p k c.frame (Some g) items → Goal
       by_list [] e h = absurd h
       by_list (Searches exception resumption asked rest ∷ []) e h = absurd h
       by_list (Searches exception resumption asked rest ∷ Searches x y z w ∷ below) e h = absurd h
       by_list (Searches exception resumption asked rest ∷ Unwinds x y ∷ below) e h = absurd h
       by_list (Searches exception resumption asked rest ∷ Waits w ∷ below) e h =
           filter_returns t fs program p q image made.room s c b
-            (counted_here t fs program p q image made c known) k name from
-            (code_at t fs program p q image made s c b known (instructions.Return from) at)
+          (counted_here t fs program p q image made c known) k name from
+          (code_at t fs program p q image made s c b known (instructions.Return from) at)
           value.0 value.1 g there rule after fits continues h.0 exception resumption asked rest w
-            below e known.stacked.below
+          below e known.stacked.below
       by_list (Unwinds rest target ∷ []) e h = absurd h
       by_list (Unwinds rest target ∷ Searches x y z w ∷ below) e h = absurd h
       by_list (Unwinds rest target ∷ Unwinds x y ∷ below) e h = absurd h
       by_list (Unwinds rest target ∷ Waits f ∷ below) e h =
           block_returns t fs program p q image made.room s c b
-            (counted_here t fs program p q image made c known) k name from
-            (code_at t fs program p q image made s c b known (instructions.Return from) at)
+          (counted_here t fs program p q image made c known) k name from
+          (code_at t fs program p q image made s c b known (instructions.Return from) at)
           value.0 value.1 g there rule after fits h.0 h.1 rest target f below e known.stacked.below
       by_list (Waits w ∷ below) e h =
           moves_on (returns_of_blocks_are_matched t fs program p q image made s c from b known at
-          (record { number = k; name = name; funclet = g; there = there; flag = h.0; kind = h.1;
-            body = w; items = below; below = e }))
+          (record {
+            number = k;
+            name = name;
+            funclet = g;
+            there = there;
+            flag = h.0;
+            kind = h.1;
+            body = w;
+            items = below;
+            below = e;
+          }))
 
     by_funclet : (o : Option LinearFunclet) → slice_get program.funclets k ≡ o
-      → FuncletIsAbove t fs program p k c.frame o c.below → Goal
+        → FuncletIsAbove t fs program p k c.frame o c.below → Goal
     by_funclet None there h = absurd h
     by_funclet (Some g) there h = by_list g there c.below refl h
 
     pub returned : Goal
     returned = by_funclet (slice_get program.funclets k) refl
-      (subst (λ x. IsAbove t fs program p c.frame x c.below) name b.body.above)
+        (subst (λ x. IsAbove t fs program p c.frame x c.below) name b.body.above)
 
 pub funclet_returns_are_matched : FuncletReturnsAreMatched
 funclet_returns_are_matched t fs program p q image made fits continues s c k from b known name at
-    rule after = returned t fs program p q image made fits continues s c k from b known name at rule
+    rule after =
+    returned t fs program p q image made fits continues s c k from b known name at rule
     after

@@ -71,25 +71,34 @@ module _ (t : Functions) (fs : List Funclet) (program : LinearProgram) (p : Imag
       let g = get_or_is o.code label (instructions.CallFinally k) instructions.Separator at in
       let n = offset_next y o.code label instructions.Separator g.1 in
       let z : template_size y (get_or o.code label instructions.Separator)
-        ≡ template_size y (instructions.CallFinally k) = ap (template_size y) g.0 in
+      ≡ template_size y (instructions.CallFinally k) = ap (template_size y) g.0 in
       let e : offset_of y o.code (label + 1) ≡ offset_of y o.code
-        (suc label) = (let j : label + 1 ≡ suc label = omega arith in ap (offset_of y o.code) j) in
+      (suc label) = (let j : label + 1 ≡ suc label = omega arith in ap (offset_of y o.code) j) in
       let w = template_sizes links y place (instructions.CallFinally k) in
       let five = call_size (place + sizes finally_arguments + 5) (p.funclet k) in
-      omega (arith, a.labels (label + 1), a.labels label, n, z, e, w, five,
+      omega (
+        arith,
+        a.labels (label + 1),
+        a.labels label,
+        n,
+        z,
+        e,
+        w,
+        five,
         sizes_append finally_arguments (call (place + sizes finally_arguments + 5) (p.funclet k)
-        ∷ []))
+            ∷ []),
+      )
 
   module _ (s : State) (c : Configuration) (b : Begins t fs program p q s c)
       (counted : IsCounted t fs program p q image c) (k : ℕ) (is : c.frame.body ≡ FuncletBody k)
       (from : Slot)
       (at : slice_get b.body.slots.code.code c.frame.next ≡ Some (instructions.Return from)) (x : ℕ)
-        (reads : read c from ≡ Some x)
+      (reads : read c from ≡ Some x)
       (g : LinearFunclet) (funclet : slice_get program.funclets k ≡ Some g) (flag : ℕ)
-        (kind : g.kind ≡ funclets.Finally flag)
+      (kind : g.kind ≡ funclets.Finally flag)
       (w : Frame) (items : List Item) (below : c.below ≡ Waits w ∷ items) (o : LinearBody)
-        (there : body_of program w.body ≡ Some o) (j : ℕ)
-        (calls : slice_get o.code w.next ≡ Some (instructions.CallFinally j))
+      (there : body_of program w.body ≡ Some o) (j : ℕ)
+      (calls : slice_get o.code w.next ≡ Some (instructions.CallFinally j))
       (free : w.landed ≡ None) where
     abbrev layout : Layout
     layout = p.layout c.frame.body
@@ -123,12 +132,12 @@ module _ (t : Functions) (fs : List Funclet) (program : LinearProgram) (p : Imag
     returns : back ≡ p.address w.body w.next + sizes finally_arguments + 5
     returns =
         let to : ReturnsTo t fs program p (Waits w ∷ items) back = subst
-          (λ ws. ReturnsTo t fs program p ws back) below b.body.returns_to in
+        (λ ws. ReturnsTo t fs program p ws back) below b.body.returns_to in
         let r : return_of (p.layout w.body) (p.address w.body w.next)
-          (instruction_in (body_of program w.body) w.next)
-          ≡ Some (p.address w.body w.next + sizes finally_arguments + 5) =
+        (instruction_in (body_of program w.body) w.next)
+        ≡ Some (p.address w.body w.next + sizes finally_arguments + 5) =
         ap (λ z. return_of (p.layout w.body) (p.address w.body w.next) (instruction_in z w.next))
-          there ∙ ap (return_of (p.layout w.body) (p.address w.body w.next)) calls in
+        there ∙ ap (return_of (p.layout w.body) (p.address w.body w.next)) calls in
         same_number back (p.address w.body w.next + sizes finally_arguments + 5) (sym to ∙ r)
 
     back_is : back ≡ p.address w.body (w.next + 1)
@@ -146,7 +155,7 @@ module _ (t : Functions) (fs : List Funclet) (program : LinearProgram) (p : Imag
     quiet =
         let a = image.addresses w.body o there in
         image.funclets.none back has_back.small
-          (λ i lt e. a.not_first (w.next + 1) i inside lt (sym back_is ∙ e)) after.cpu
+        (λ i lt e. a.not_first (w.next + 1) i inside lt (sym back_is ∙ e)) after.cpu
 
     abbrev outer : List Activation
     outer = activations_below c.frame.body b.body.acts
@@ -162,27 +171,36 @@ module _ (t : Functions) (fs : List Funclet) (program : LinearProgram) (p : Imag
 
     on : On t fs program p s.memory above b.body.is (Waits w ∷ items) outer
     on = subst (λ ws. On t fs program p s.memory above b.body.is ws outer) below
-      (b.body.below rest refl)
+        (b.body.below rest refl)
 
     abbrev pub next_one : Configuration
     next_one = forth (record { frame = w; below = items; store = c.store; events = c.events })
 
     in_body : InBody t fs program p q after next_one
     in_body = subst (λ (xs : List (List ℕ)). let d : Configuration =
-      record { frame = again w (w.next + 1) w.temporaries w.landed; below = items;
-      store = record { memory = c.store.memory; activations = xs }; events = c.events } in
-      InBody t fs program p q after d)
+        record {
+          frame = again w (w.next + 1) w.temporaries w.landed;
+          below = items;
+          store = record { memory = c.store.memory; activations = xs };
+          events = c.events;
+        } in
+        InBody t fs program p q after d)
         (ap locals_of outer_is ∙ sym b.body.store)
         (waits_in_body t fs program p q image after above b.body.is w items outer (w.next + 1)
-          w.temporaries w.landed c.store.memory c.events on sp_after back_code has_back.small
-          (all_front s.memory w.temporaries))
+        w.temporaries w.landed c.store.memory c.events on sp_after back_code has_back.small
+        (all_front s.memory w.temporaries))
 
     begins : Begins t fs program p q after next_one
     begins = record {
       rip = back_is;
       sane = sane_after;
-      memory = record { data_alone = b.memory.data_alone; agrees = b.memory.agrees;
-        stack = b.memory.stack; arena = b.memory.arena; code = b.memory.code };
+      memory = record {
+        data_alone = b.memory.data_alone;
+        agrees = b.memory.agrees;
+        stack = b.memory.stack;
+        arena = b.memory.arena;
+        code = b.memory.code;
+      };
       body = in_body;
       landed = λ value e. absurd (not_landed w.landed value free e);
     }
@@ -197,12 +215,12 @@ module _ (t : Functions) (fs : List Funclet) (program : LinearProgram) (p : Imag
         ∙ ap (λ ws. end_finally program next ws c.events c.store) below
 
     pub return_of_block : Moves t fs program 16 turns_left (Begins t fs program p q) s c
-      (instructions.Return from)
+        (instructions.Return from)
     return_of_block =
         let few = (returns_soon layout from).1 in
         let some = (returns_soon layout from).0 in
         let credit : held_below c.below ≡ length w.temporaries
-          + held_below items = ap held_below below in
+        + held_below items = ap held_below below in
         record {
           turns = n;
           some = some;
@@ -211,7 +229,7 @@ module _ (t : Functions) (fs : List Funclet) (program : LinearProgram) (p : Imag
           state = after;
           events = [];
           comes = reaches_quietly t fs program p q image n s after reaches
-            (leaving.keeps t fs program p q image roomy s c b counted from at) b.memory.code quiet;
+              (leaving.keeps t fs program p q image roomy s c b counted from at) b.memory.code quiet;
           acts = acts_as;
           shown = sym (append-nil c.events);
           is_there = begins;

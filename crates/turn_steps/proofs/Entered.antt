@@ -24,7 +24,7 @@ arguments_before slots arguments i zero j lt = refl
 arguments_before slots arguments i (suc n) j lt =
     arguments_before (with_slot slots (Local i) (arguments i)) arguments (i + 1) n j (omega arith)
     ∙ ap (λ (c : Bool). cond c (arguments i) (slots (Local j)))
-      (ne_eqb j i (λ e. absurd (omega arith)))
+    (ne_eqb j i (λ e. absurd (omega arith)))
 
 pub argument_is : (slots : Slot → ℕ) (arguments : ℕ → ℕ) (i n j : ℕ) → i ≤ j → j < i + n
     → with_arguments slots arguments i n (Local j) ≡ arguments j
@@ -32,12 +32,12 @@ argument_is slots arguments i zero j le lt = absurd (omega arith)
 argument_is slots arguments i (suc n) j le lt = elim (cases_eq j i) [
   | inl e ↦
       (subst (λ k. with_arguments (with_slot slots (Local i) (arguments i)) arguments (i + 1) n
-        (Local k) ≡ arguments k) (sym e)
+      (Local k) ≡ arguments k) (sym e)
       (arguments_before (with_slot slots (Local i) (arguments i)) arguments (i + 1) n i
-        (omega arith) ∙ ap (λ (c : Bool). cond c (arguments i) (slots (Local i)))
-        (eq-eqb i i refl)))
+      (omega arith) ∙ ap (λ (c : Bool). cond c (arguments i) (slots (Local i)))
+      (eq-eqb i i refl)))
   | inr ne ↦ argument_is (with_slot slots (Local i) (arguments i)) arguments (i + 1) n j
-    (omega arith) (omega arith)
+      (omega arith) (omega arith)
 ]
 
 -- ---- lists of what memory has
@@ -55,8 +55,10 @@ words_count m at (suc n) = let r = words_count m (at + 8) n in omega arith
 pub words_small : (m : Memory) (at n : ℕ) → IsBytes m → AreSmall (words_at m at n)
 unfolding words_at
 words_small m at zero h = tt
-words_small m at (suc n) h = ((let z = number_small m 8 at h in omega arith),
-    words_small m (at + 8) n h)
+words_small m at (suc n) h = (
+  (let z = number_small m 8 at h in omega arith),
+  words_small m (at + 8) n h,
+)
 
 word_at : (m : Memory) (at n i v : ℕ) → slice_get (words_at m at n) i ≡ Some v
     → number_at m.byte 8 (at + 8 * i) ≡ v
@@ -74,13 +76,16 @@ word_at m at (suc n) (suc i) v e = let z : at + 8 * suc i ≡ at + 8 + 8 * i = o
 in_either : (xs ys : List ℕ) (i v : ℕ) → slice_get (xs ++ ys) i ≡ Some v
     → ((i < length xs) × (slice_get xs i ≡ Some v))
     ⊎ ((length xs ≤ i) × (slice_get ys (i - length xs) ≡ Some v))
-in_either [] ys i v e = inr (omega arith, let z : i - 0 ≡ i = omega arith in ap (slice_get ys) z
-    ∙ e)
+in_either [] ys i v e = inr (
+  omega arith,
+  let z : i - 0 ≡ i = omega arith in ap (slice_get ys) z
+      ∙ e,
+)
 in_either (x ∷ xs) ys zero v e = inl (omega arith, e)
 in_either (x ∷ xs) ys (suc i) v e = elim (in_either xs ys i v e) [
   | inl w ↦ (let lt = w.0 in inl (omega arith, w.1))
   | inr w ↦ (let le = w.0 in let z : suc i - length (x ∷ xs) ≡ i - length xs = omega arith in
-    inr (omega arith, ap (slice_get ys) z ∙ w.1))
+      inr (omega arith, ap (slice_get ys) z ∙ w.1))
 ]
 
 -- arguments, and after them what memory has
@@ -94,14 +99,14 @@ arguments_then_words m at end arguments n le is readable =
     let count = words_count m (at + 8 * length arguments) n in
     let both = length-append arguments more in
     words_are m at end (arguments ++ more) (omega arith)
-      (λ i v e. elim (in_either arguments more i v e) [
+    (λ i v e. elim (in_either arguments more i v e) [
       | inl w ↦ (let lt = w.0 in readable (at + 8 * i) v (omega arith) (omega arith) (is i v w.1))
       | inr w ↦
           (let past = w.0 in
           let inside = slice_get_within more (i - length arguments) v w.1 in
           let z : at + 8 * length arguments + 8 * (i - length arguments)
-            ≡ at + 8 * i = omega arith in
+          ≡ at + 8 * i = omega arith in
           readable (at + 8 * i) v (omega arith) (omega arith)
-            (ap (number_at m.byte 8) (sym z) ∙ word_at m (at + 8 * length arguments) n
-            (i - length arguments) v w.1))
+          (ap (number_at m.byte 8) (sym z) ∙ word_at m (at + 8 * length arguments) n
+          (i - length arguments) v w.1))
     ])

@@ -67,19 +67,19 @@ module _ (t : Functions) (fs : List Funclet) (program : LinearProgram) (p : Imag
     entry_is : entry_code program p q (FuncletBody k) ≡ front ++ last
     entry_is =
         ap (λ f. frame_code y.frame (p.funclet k) q.check_stack f
-          ++ arguments_code program p (FuncletBody k)) l.plan.framed
+        ++ arguments_code program p (FuncletBody k)) l.plan.framed
         ∙ ap (λ b. making y.frame (p.funclet k) q.check_stack b
         ++ arguments_code program p (FuncletBody k)) (le-leb y.frame 4096 frame_small)
         ∙ ap (λ o. enter_code y.frame ++ funclet_arguments p y o) l.there
         ∙ ap (λ o. enter_code y.frame ++ (sites.keep_base (parent_base p l.funclet.parent)
-          (elim o [ Some b ↦ b | None ↦ 0 ]) ++ last)) l.plan.layout.base
+        (elim o [ Some b ↦ b | None ↦ 0 ]) ++ last)) l.plan.layout.base
 
     pub entry_codes : (m : Memory) → HasProgram t fs program p q m
-      → HasCode m (p.funclet k) front × HasCode m (p.funclet k + sizes front) last
+        → HasCode m (p.funclet k) front × HasCode m (p.funclet k + sizes front) last
     entry_codes m has =
         let h = code_split m (p.funclet k) (entry_code program p q (FuncletBody k))
-          (code_from (links_of p q (FuncletBody k)) y (p.address (FuncletBody k) 0)
-          l.funclet.body.code) (has.code (FuncletBody k) l.funclet.body is) in
+        (code_from (links_of p q (FuncletBody k)) y (p.address (FuncletBody k) 0)
+        l.funclet.body.code) (has.code (FuncletBody k) l.funclet.body is) in
         code_split m (p.funclet k) front last (subst (HasCode m (p.funclet k)) entry_is h.0)
 
     pub first_is : p.address (FuncletBody k) 0 ≡ p.funclet k + sizes front + sizes last
@@ -89,16 +89,16 @@ module _ (t : Functions) (fs : List Funclet) (program : LinearProgram) (p : Imag
 
     pub first_small : p.address (FuncletBody k) 0 < 2 ^ 64
     first_small = let h = (image.addresses (FuncletBody k) l.funclet.body is).inside.high in
-      omega arith
+        omega arith
 
     -- no funclet begins at the first instruction
     pub quiet_there : (u : State) → u.cpu.rip ≡ p.address (FuncletBody k) 0
-      → 0 < length l.funclet.body.code → arrivals u.cpu (distance t.base u.cpu.rip) 1 fs ≡ []
+        → 0 < length l.funclet.body.code → arrivals u.cpu (distance t.base u.cpu.rip) 1 fs ≡ []
     quiet_there u here some =
         let a = image.addresses (FuncletBody k) l.funclet.body is in
         subst (λ r. arrivals u.cpu (distance t.base r) 1 fs ≡ []) (sym here)
-          (image.funclets.none (p.address (FuncletBody k) 0) first_small
-          (λ j inside e. a.not_first 0 j some inside e) u.cpu)
+        (image.funclets.none (p.address (FuncletBody k) 0) first_small
+        (λ j inside e. a.not_first 0 j some inside e) u.cpu)
 
   -- the state after these turns: RSP is at the frame, which keeps the base, and the rest of the
   -- entry follows
@@ -128,8 +128,8 @@ module _ (t : Functions) (fs : List Funclet) (program : LinearProgram) (p : Imag
       (l : IsLaid t fs program p q image k) (a : ArrivesBelow t fs program p s k activation first
       items acts) (source : Memory) (memory : IsMachineMemory t fs program p q s.memory source)
       (depth : ℕ) (space : STACK_END ≤ a.at + (below_end + record_room) + LARGEST_FRAME * depth)
-        (shallow : depth + 2 ≤ 1000) (leads : LeadsBy s.memory (parent_base p l.funclet.parent)
-        (register s.cpu Rdx) a.reaches.base) where
+      (shallow : depth + 2 ≤ 1000) (leads : LeadsBy s.memory (parent_base p l.funclet.parent)
+      (register s.cpu Rdx) a.reaches.base) where
     abbrev frame : ℕ
     frame = (p.layout (FuncletBody k)).frame
 
@@ -141,7 +141,7 @@ module _ (t : Functions) (fs : List Funclet) (program : LinearProgram) (p : Imag
 
     pub top : a.at ≤ STACK_END
     top = in_stack t fs program p s.memory _ a.is items acts
-      (a.on (replicate 8 0) refl).is_there.stack (a.on (replicate 8 0) refl).is_there.linked
+        (a.on (replicate 8 0) refl).is_there.stack (a.on (replicate 8 0) refl).is_there.linked
 
     pub low : STACK_START + LARGEST_FRAME ≤ register s.cpu Rsp
     low = let e = a.stack in omega (arith, space, shallow)
@@ -151,8 +151,8 @@ module _ (t : Functions) (fs : List Funclet) (program : LinearProgram) (p : Imag
 
     pub base_small : a.reaches.base < 2 ^ 64
     base_small = let r = activations_are_at t fs program p s.memory _ a.is items acts activation
-      a.reaches.base _ (a.on (replicate 8 0) refl).is_there a.reaches.activation in
-      let h = r.high_end in omega arith
+        a.reaches.base _ (a.on (replicate 8 0) refl).is_there a.reaches.activation in
+        let h = r.high_end in omega arith
 
     pub room : HasRoom v sp frame (l.plan.layout.slot)
     room =
@@ -173,17 +173,17 @@ module _ (t : Functions) (fs : List Funclet) (program : LinearProgram) (p : Imag
         }
 
     abbrev pub run : Made (parent_base p l.funclet.parent) v sp frame (l.plan.layout.slot)
-      a.reaches.base s.cpu.rip (s.cpu.rip + sizes (front k l)) s.cpu.flags
+        a.reaches.base s.cpu.rip (s.cpu.rip + sizes (front k l)) s.cpu.flags
     run = made (parent_base p l.funclet.parent) v sp frame (l.plan.layout.slot) a.reaches.base
-      s.cpu.rip s.cpu.flags room base_small leads
-      (subst (λ r. HasCode s.memory r (front k l)) (sym a.rip)
-      (entry_codes k l s.memory memory.code).0)
+        s.cpu.rip s.cpu.flags room base_small leads
+        (subst (λ r. HasCode s.memory r (front k l)) (sym a.rip)
+        (entry_codes k l s.memory memory.code).0)
 
     pub rest_code : HasCode run.after.memory (s.cpu.rip + sizes (front k l)) (last k l)
     rest_code = within_keeps_code sp (sp + frame) s.memory run.after.memory
-      (s.cpu.rip + sizes (front k l)) (last k l) room.writable run.within
-      (subst (λ r. HasCode s.memory (r + sizes (front k l)) (last k l)) (sym a.rip)
-      (entry_codes k l s.memory memory.code).1)
+        (s.cpu.rip + sizes (front k l)) (last k l) room.writable run.within
+        (subst (λ r. HasCode s.memory (r + sizes (front k l)) (last k l)) (sym a.rip)
+        (entry_codes k l s.memory memory.code).1)
 
     pub place : s.cpu.rip + sizes (front k l) + sizes (last k l) ≡ p.address (FuncletBody k) 0
     place = let e = first_is k l in let f = a.rip in omega arith
@@ -201,7 +201,7 @@ module _ (t : Functions) (fs : List Funclet) (program : LinearProgram) (p : Imag
       rip = s.cpu.rip + sizes (front k l);
       flags = run.flags;
       comes = subst (λ x. Enters run.turns x (machine run.after (s.cpu.rip + sizes (front k l))
-        run.flags)) (sym (is_machine s a.sane.count)) run.comes;
+          run.flags)) (sym (is_machine s a.sane.count)) run.comes;
       at = run.lowered;
       stack = sym (index_of run.after.rest 1) ∙ run.lowered;
       rcx = run.rcx;

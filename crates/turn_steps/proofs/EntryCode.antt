@@ -61,10 +61,10 @@ module _ (t : Functions) (fs : List Funclet) (program : LinearProgram) (p : Imag
       × HasCode m (target + sizes (making_frame p q f leaf)) (parameters_code layout 0 count)
   codes m has leaf e =
       let whole = code_split m target (entry_code program p q (FunctionBody f))
-        (code_from (links_of p q (FunctionBody f)) layout (p.address (FunctionBody f) 0)
-        fn.body.code) (has.code (FunctionBody f) fn.body there) in
+      (code_from (links_of p q (FunctionBody f)) layout (p.address (FunctionBody f) 0)
+      fn.body.code) (has.code (FunctionBody f) fn.body there) in
       code_split m target (making_frame p q f leaf) (parameters_code layout 0 count)
-        (subst (HasCode m target) (entry_is leaf e) whole.0)
+      (subst (HasCode m target) (entry_is leaf e) whole.0)
 
   -- a function's code begins so where the program is
   pub has_entry : (m : Memory) → HasProgram t fs program p q m → (leaf : Bool)
@@ -75,12 +75,17 @@ module _ (t : Functions) (fs : List Funclet) (program : LinearProgram) (p : Imag
     ends =
         let a = (image.addresses (FunctionBody f) fn.body there).first in
         let z = ap sizes (entry_is leaf e) in
-        omega (arith, a, z, sizes_append (making_frame p q f leaf)
-          (parameters_code layout 0 count));
+        omega (
+          arith,
+          a,
+          z,
+          sizes_append (making_frame p q f leaf)
+              (parameters_code layout 0 count),
+        );
     turns = λ n same.
         let arguments : arguments_code program p (FunctionBody f)
-          ≡ parameters_code layout 0 count = ap (λ x. function_arguments layout x) callee
-          ∙ ap (λ k. parameters_code layout 0 k) parameters in
+        ≡ parameters_code layout 0 count = ap (λ x. function_arguments layout x) callee
+        ∙ ap (λ k. parameters_code layout 0 k) parameters in
         λ i. (sym same ∙ ap (λ l. making_steps l layout.frame) (sym e)) i
-          + length (sym arguments i);
+        + length (sym arguments i);
   }

@@ -33,10 +33,10 @@ module _ (t : Functions) (fs : List Funclet) (program : LinearProgram) (p : Imag
     (image : IsProgramImage t fs program p q) (made : IsWellMade program p)
     (s : State) (saved : Cpu) (is : List StackItem) (acts : List Activation) (c : Configuration)
     (on : On t fs program p s.memory (context_of saved) is (Waits c.frame ∷ c.below) acts)
-      (sane : IsSane (record { cpu = saved; memory = s.memory }))
-      (resumes : p.resumes SameOperation c.frame saved ≡ true)
+    (sane : IsSane (record { cpu = saved; memory = s.memory }))
+    (resumes : p.resumes SameOperation c.frame saved ≡ true)
     (memory : IsMachineMemory t fs program p q s.memory c.store.memory)
-      (store : c.store.activations ≡ locals_of acts) where
+    (store : c.store.activations ≡ locals_of acts) where
   again : WorksAgain t fs program p q c.frame saved
   again = (image.resumptions SameOperation c.frame saved).said resumes
 
@@ -53,8 +53,8 @@ module _ (t : Functions) (fs : List Funclet) (program : LinearProgram) (p : Imag
   quiet_there =
       subst (λ a. arrivals saved (distance t.base a) 1 fs ≡ []) (sym again.here)
       (quiet_in_midst t fs program p q image made.room s.memory c.frame.body there.0 c.frame.next
-        again.to again.operation (Temporary again.first) (Temporary again.second) memory.code
-        there.1 at saved)
+      again.to again.operation (Temporary again.first) (Temporary again.second) memory.code
+      there.1 at saved)
 
   inside : InCode p c.frame.body c.frame.next saved.rip
   inside =
@@ -63,7 +63,7 @@ module _ (t : Functions) (fs : List Funclet) (program : LinearProgram) (p : Imag
       let n = address_next t fs program p q image c.frame.body there.0 c.frame.next there.1 g.1 in
       let z = ap (template_size y) g.0 in
       let w = whole_size y again.to again.operation (Temporary again.first)
-        (Temporary again.second) in
+      (Temporary again.second) in
       let f = some_finish y again.operation again.to in
       let h = again.here in
       record { low = omega arith; high = omega arith }
@@ -74,10 +74,10 @@ module _ (t : Functions) (fs : List Funclet) (program : LinearProgram) (p : Imag
   in_body : InBody t fs program p q u c
   in_body =
       subst (λ (xs : List (List ℕ)). InBody t fs program p q u
-        (record c { store = record { memory = c.store.memory; activations = xs } })) (sym store)
+      (record c { store = record { memory = c.store.memory; activations = xs } })) (sym store)
       (waits_in_body t fs program p q image u (context_of saved) is c.frame c.below acts
-        c.frame.next c.frame.temporaries c.frame.landed c.store.memory c.events on refl inside
-        sane.rip_small (all_front s.memory c.frame.temporaries))
+      c.frame.next c.frame.temporaries c.frame.landed c.store.memory c.events on refl inside
+      sane.rip_small (all_front s.memory c.frame.temporaries))
 
   pub works_on : WorksOn t fs program p q u c
   works_on = record { again = again; sane = sane; memory = memory; body = in_body }

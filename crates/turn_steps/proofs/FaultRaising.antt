@@ -81,108 +81,114 @@ exception_of code access = record { code = code.0; flag = false; access = access
 
 is_exception : (code : Code) (access : Option (Bool × ℕ)) → IsSmallOutcome (Raises code access)
     → IsException code 0 access (exception_of code access)
-is_exception code access h = record { same_code = refl; same_flag = refl; same_access = refl;
-    code_small = h.0; one_flag = omega arith; access_small = parameters_small access h.1 }
+is_exception code access h = record {
+  same_code = refl;
+  same_flag = refl;
+  same_access = refl;
+  code_small = h.0;
+  one_flag = omega arith;
+  access_small = parameters_small access h.1;
+}
 
 module _ (t : Functions) (fs : List Funclet) (program : LinearProgram) (p : ImagePlan) (q : Sites)
     (image : IsProgramImage t fs program p q) (made : IsWellMade program p)
     (fits : FlagsFit program)
     (s : State) (c : Configuration) (w : WorksOn t fs program p q s c) (known : IsKnown program c)
-      where
-  abbrev to : Slot
-  to = w.again.to
+  where
+    abbrev to : Slot
+    to = w.again.to
 
-  abbrev o : Operation
-  o = w.again.operation
+    abbrev o : Operation
+    o = w.again.operation
 
-  abbrev first : Slot
-  first = Temporary w.again.first
+    abbrev first : Slot
+    first = Temporary w.again.first
 
-  abbrev second : Slot
-  second = Temporary w.again.second
+    abbrev second : Slot
+    second = Temporary w.again.second
 
-  abbrev i : Instruction
-  i = instructions.Compute to o first second
+    abbrev i : Instruction
+    i = instructions.Compute to o first second
 
-  abbrev y : Layout
-  y = p.layout c.frame.body
+    abbrev y : Layout
+    y = p.layout c.frame.body
 
-  abbrev ops : List Instr
-  ops = operands_code y o first second
+    abbrev ops : List Instr
+    ops = operands_code y o first second
 
-  abbrev finish : List Instr
-  finish = finish_code y o to
+    abbrev finish : List Instr
+    finish = finish_code y o to
 
-  -- RIP is at a machine instruction of the body's instruction
-  resumed : IsResumed t fs program p q c.frame.body w.body.slots.code c.frame.next s.cpu.rip
-  resumed =
-      let x = is_some finish (some_finish y o to) in
-      record {
-        instruction = i;
-        there = there t fs program p q image made s c w known;
-        continues = λ h. h;
-        done = ops;
-        item = x.item;
-        left = x.left;
-        parts = ap (λ rest. ops ++ rest) x.parts;
-        here = w.again.here;
-      }
+    -- RIP is at a machine instruction of the body's instruction
+    resumed : IsResumed t fs program p q c.frame.body w.body.slots.code c.frame.next s.cpu.rip
+    resumed =
+        let x = is_some finish (some_finish y o to) in
+        record {
+          instruction = i;
+          there = there t fs program p q image made s c w known;
+          continues = λ h. h;
+          done = ops;
+          item = x.item;
+          left = x.left;
+          parts = ap (λ rest. ops ++ rest) x.parts;
+          here = w.again.here;
+        }
 
-  untouched : KeepsAbove s.memory s.memory.byte (rsp (context_of s.cpu))
-  untouched = record { above = λ x le. refl; code = λ x e. refl }
+    untouched : KeepsAbove s.memory s.memory.byte (rsp (context_of s.cpu))
+    untouched = record { above = λ x le. refl; code = λ x e. refl }
 
-  asks : Asks t fs program p q image s.cpu s.cpu s.memory s.memory.byte c w.body.acts
-  asks = asks_host t fs program p q image s.cpu s.cpu s.memory s.memory.byte c c.frame.next
-      c.store.memory w.body resumed w.memory.code untouched w.memory w.sane w.sane
+    asks : Asks t fs program p q image s.cpu s.cpu s.memory s.memory.byte c w.body.acts
+    asks = asks_host t fs program p q image s.cpu s.cpu s.memory s.memory.byte c c.frame.next
+        c.store.memory w.body resumed w.memory.code untouched w.memory w.sane w.sane
 
-  live : IsLive s
-  live = let l = (code_here t fs program p q image made s c w known).placed.low in
-      ne_eqb s.cpu.rip 0 (λ e. absurd (omega arith))
+    live : IsLive s
+    live = let l = (code_here t fs program p q image made s c w known).placed.low in
+        ne_eqb s.cpu.rip 0 (λ e. absurd (omega arith))
 
-  module _ (code : Code) (access : Option (Bool × ℕ))
-      (raises : ComesTo program c o first second (Raises code access)) where
-    is_raised : outcome t fs program p q image made s c w known ≡ Raises code access
-    is_raised = same_outcome t fs program p q image made s c w known (Raises code access) raises
+    module _ (code : Code) (access : Option (Bool × ℕ))
+        (raises : ComesTo program c o first second (Raises code access)) where
+      is_raised : outcome t fs program p q image made s c w known ≡ Raises code access
+      is_raised = same_outcome t fs program p q image made s c w known (Raises code access) raises
 
-    faults : step s ≡ Err (stops.Fault code access)
-    faults =
-        ap step (is_machine s w.sane.count)
-        ∙ subst (λ x. Finished (frame_here t fs program p q image made s c w known) o to
+      faults : step s ≡ Err (stops.Fault code access)
+      faults =
+          ap step (is_machine s w.sane.count)
+          ∙ subst (λ x. Finished (frame_here t fs program p q image made s c w known) o to
           (seen_by_templates s) s.cpu.rip s.cpu.flags
           (slots_now t fs program p q image made s c w known) x) is_raised
-        (made_here t fs program p q image made s c w known)
+          (made_here t fs program p q image made s c w known)
 
-    small : IsSmallOutcome (Raises code access)
-    small =
-        subst IsSmallOutcome is_raised
-        (outcome_small (is_reserved program.globals) o _ _ c.store.memory
+      small : IsSmallOutcome (Raises code access)
+      small =
+          subst IsSmallOutcome is_raised
+          (outcome_small (is_reserved program.globals) o _ _ c.store.memory
           (first_small t fs program p q image made s c w known)
           (second_small t fs program p q image made s c w known))
 
-    acts : (next : Next) → act program i next c
-      ≡ raise program next (exception_of code access) SameOperation c
-    acts = acts_as program c to o first second (Raises code access) raises
+      acts : (next : Next) → act program i next c
+          ≡ raise program next (exception_of code access) SameOperation c
+      acts = acts_as program c to o first second (Raises code access) raises
 
-    shows : HasRule (act program i (exec program zero) c)
-        → Shows t fs program p q (arrived t fs (raised t s code 0 access s.cpu))
+      shows : HasRule (act program i (exec program zero) c)
+          → Shows t fs program p q (arrived t fs (raised t s code 0 access s.cpu))
           (raise_event (exception_of code access) ∷ [])
-        (λ next. raise program next (exception_of code access) SameOperation c) c.events
+          (λ next. raise program next (exception_of code access) SameOperation c) c.events
           (turns_left c) (callers (context_of s.cpu) asks.is)
-    shows rule =
-        raised_as t fs program p q image fits s s.cpu asks.is w.body.acts c asks.asks w.memory
+      shows rule =
+          raised_as t fs program p q image fits s s.cpu asks.is w.body.acts c asks.asks w.memory
           w.body.store code 0 access (exception_of code access) SameOperation
-        (is_exception code access small) ((image.resumptions SameOperation c.frame s.cpu).says
+          (is_exception code access small) ((image.resumptions SameOperation c.frame s.cpu).says
           w.again) (subst HasRule (acts (exec program zero)) rule)
 
-    pub raised_at_once : HasRule (act program i (exec program zero) c) → KnownNext program c i
-      → IsMatched t fs program 7 turns_left (Represents t fs program p q) s c i
-    raised_at_once rule next =
-        matched_when_shown t fs program p q 7 0 (turns_left c) s s c i
+      pub raised_at_once : HasRule (act program i (exec program zero) c) → KnownNext program c i
+          → IsMatched t fs program 7 turns_left (Represents t fs program p q) s c i
+      raised_at_once rule next =
+          matched_when_shown t fs program p q 7 0 (turns_left c) s s c i
           (arrived t fs (raised t s code 0 access s.cpu))
           (raise_event (exception_of code access) ∷ [])
-        (λ next. raise program next (exception_of code access) SameOperation c)
+          (λ next. raise program next (exception_of code access) SameOperation c)
           (callers (context_of s.cpu) asks.is) (comes_nowhere t fs s) live
           (fault_turns t fs s code access faults)
-        (raised_keeps t fs program p q s code access (callers (context_of s.cpu) asks.is) faults
+          (raised_keeps t fs program p q s code access (callers (context_of s.cpu) asks.is) faults
           (on_stack t s.memory (context_of s.cpu) 0 asks.is asks.asks.on.is_there.stack))
           (shows rule) acts (omega arith) next

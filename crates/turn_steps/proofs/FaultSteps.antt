@@ -81,7 +81,7 @@ module _ (t : Functions) (fs : List Funclet) (program : LinearProgram) (p : Imag
   pub in_midst : (s : State) (c : Configuration) (w : WorksOn t fs program p q s c)
       (known : IsKnown program c)
       → (x : OperationResult) → ComesTo program c w.again.operation (Temporary w.again.first)
-        (Temporary w.again.second) x
+      (Temporary w.again.second) x
       → HasRule (act program (again s c w) (exec program zero) c)
       → KnownNext program c (again s c w)
       → IsMatched t fs program pace turns_left (Represents t fs program p q) s c (again s c w)
@@ -89,11 +89,11 @@ module _ (t : Functions) (fs : List Funclet) (program : LinearProgram) (p : Imag
       (again s c w) (completed t fs program p q image made s c w known value m h rule)
   in_midst s c w known (Raises code access) h rule next =
       matched_slower t fs program turns_left 7 pace (Represents t fs program p q) s c (again s c w)
-        (omega arith)
+      (omega arith)
       (raised_at_once t fs program p q image made fits s c w known code access h rule next)
   in_midst s c w known (Undefined at) h rule next =
       inr (inr (inr (undefined t fs program s c w.again.to w.again.operation
-        (Temporary w.again.first) (Temporary w.again.second) at h)))
+      (Temporary w.again.first) (Temporary w.again.second) at h)))
 
   pub retried : (s : State) (c : Configuration) (i : Instruction) → WorksOn t fs program p q s c
       → IsKnown program c → instruction_at program c ≡ Some i
@@ -101,10 +101,10 @@ module _ (t : Functions) (fs : List Funclet) (program : LinearProgram) (p : Imag
       → IsMatched t fs program pace turns_left (Represents t fs program p q) s c i
   retried s c i w known e = subst (λ j. HasRule (act program j (exec program zero) c)
       → KnownNext program c j → IsMatched t fs program pace turns_left (Represents t fs program p q)
-        s c j) same
+      s c j) same
       (λ rule next. let x = comes_to_something program c w.again.to w.again.operation
-        (Temporary w.again.first) (Temporary w.again.second)
-        (ready_at program c (again s c w) known w.again.works) in
+      (Temporary w.again.first) (Temporary w.again.second)
+      (ready_at program c (again s c w) known w.again.works) in
       in_midst s c w known x.0 x.1 rule next)
     where
       same : again s c w ≡ i
@@ -116,14 +116,14 @@ module _ (t : Functions) (fs : List Funclet) (program : LinearProgram) (p : Imag
       → instruction_at program c ≡ Some i
       → Meets program c (Raises code access) i → HasRule (act program i (exec program zero) c)
       → KnownNext program c i → IsMatched t fs program 7 turns_left (Represents t fs program p q) s
-        c i
+      c i
   faults_in_midst s c i code access w known e =
       subst (λ j. Meets program c (Raises code access) j
-        → HasRule (act program j (exec program zero) c) → KnownNext program c j
-        → IsMatched t fs program 7 turns_left (Represents t fs program p q) s c j)
+      → HasRule (act program j (exec program zero) c) → KnownNext program c j
+      → IsMatched t fs program 7 turns_left (Represents t fs program p q) s c j)
       (some_is (again s c w) i (sym w.again.works ∙ e))
       (λ h rule next. raised_at_once t fs program p q image made fits s c w known code access h rule
-        next)
+      next)
 
   -- ---- where an operation begins
 
@@ -131,59 +131,66 @@ module _ (t : Functions) (fs : List Funclet) (program : LinearProgram) (p : Imag
       (b : Begins t fs program p q s c) (known : IsKnown program c) where
     -- one that faults: its operands are fetched first
     faults : (first second : Slot) (code : Code) (access : Option (Bool × ℕ))
-      → IsTemporary first × IsTemporary second
-      → (h : ComesTo program c o first second (Raises code access))
+        → IsTemporary first × IsTemporary second
+        → (h : ComesTo program c o first second (Raises code access))
         → instruction_at program c ≡ Some (instructions.Compute to o first second)
         → HasRule (act program (instructions.Compute to o first second) (exec program zero) c)
         → KnownNext program c (instructions.Compute to o first second)
         → IsMatched t fs program pace turns_left (Represents t fs program p q) s c
-          (instructions.Compute to o first second)
+        (instructions.Compute to o first second)
     faults (Local x) second code access temporaries h e rule next = absurd temporaries.0
     faults (Temporary x) (Local y) code access temporaries h e rule next = absurd temporaries.1
     faults (Temporary x) (Temporary y) code access temporaries h e rule next =
         let i = instructions.Compute to o (Temporary x) (Temporary y) in
         let l = fetched t fs program p q image made s c to o x y b known
-          (not_constant (is_reserved program.globals) o h.a h.b c.store.memory code access h.comes)
-          e in
+        (not_constant (is_reserved program.globals) o h.a h.b c.store.memory code access h.comes)
+        e in
         let few = l.few in
         matched_slower t fs program turns_left (l.turns + 7) pace (Represents t fs program p q) s c
-          i (omega arith)
+        i (omega arith)
         (matched_after t fs program turns_left l.turns 7 (Represents t fs program p q) s l.state c i
-          l.comes (faults_in_midst l.state c i code access l.is_there known e h rule next))
+        l.comes (faults_in_midst l.state c i code access l.is_there known e h rule next))
 
     from_beginning : (first second : Slot) (x : OperationResult)
-      → ComesTo program c o first second x → instruction_at program c
-      ≡ Some (instructions.Compute to o first second)
+        → ComesTo program c o first second x → instruction_at program c
+        ≡ Some (instructions.Compute to o first second)
         → HasRule (act program (instructions.Compute to o first second) (exec program zero) c)
         → KnownNext program c (instructions.Compute to o first second)
         → IsMatched t fs program pace turns_left (Represents t fs program p q) s c
-          (instructions.Compute to o first second)
+        (instructions.Compute to o first second)
     from_beginning first second (Gives value m) h e rule next =
         begins_represents t fs program p q pace s c (instructions.Compute to o first second)
         (within_body t fs program p q image made s c (instructions.Compute to o first second) b
-          known e (record { a = h.a; b = h.b; reads_first = h.reads_first;
-          reads_second = h.reads_second; value = value; memory = m; gives = h.comes }) rule)
+        known e (record {
+          a = h.a;
+          b = h.b;
+          reads_first = h.reads_first;
+          reads_second = h.reads_second;
+          value = value;
+          memory = m;
+          gives = h.comes;
+        }) rule)
     from_beginning first second (Raises code access) h e rule next =
         let i = instructions.Compute to o first second in
         let there = body_there (body_of program c.frame.body) c.frame.next i e in
         let well : ReadsWell o first second =
         each (IsInstructionOf program c.frame.body) there.0.code c.frame.next i
-          (made.whole.bodies c.frame.body there.0 there.1).code
-          (label_in (body_of program c.frame.body) there.0 c.frame.next i there.1 e) in
+        (made.whole.bodies c.frame.body there.0 there.1).code
+        (label_in (body_of program c.frame.body) there.0 c.frame.next i there.1 e) in
         faults first second code access (fault_reads (is_reserved program.globals) o first second
-          h.a h.b c.store.memory code access h.comes well) h e rule next
+        h.a h.b c.store.memory code access h.comes well) h e rule next
     from_beginning first second (Undefined at) h e rule next = inr
-      (inr (inr (undefined t fs program s c to o first second at h)))
+        (inr (inr (undefined t fs program s c to o first second at h)))
 
 pub operations : OperationsAreMatched
 operations t fs program p q image made fits s c to o first second (inl b) known e rule next =
     let i = instructions.Compute to o first second in
     let x = comes_to_something program c to o first second (ready_at program c i known e) in
     from_beginning t fs program p q image made fits s c to o b known first second x.0 x.1 e rule
-      next
+    next
 operations t fs program p q image made fits s c to o first second (inr w) known e rule next =
     retried t fs program p q image made fits s c (instructions.Compute to o first second) w known e
-      rule next
+    rule next
 
 pub retries : RetriesAreMatched
 retries t fs program p q image made fits s c i w known e rule next = retried t fs program p q image
@@ -192,8 +199,12 @@ retries t fs program p q image made fits s c i w known e rule next = retried t f
 pub continuations : ContinuationsAtOperations
 continuations t fs program p q image made s saved is acts c on sane resumes memory store = (
   quiet_there t fs program p q image made s saved is acts c on sane resumes memory store,
-  record { turns = 0; few = omega arith; state = record { cpu = saved; memory = s.memory };
-      comes = comes_nowhere t fs (record { cpu = saved; memory = s.memory });
-      is_there = inr (works_on t fs program p q image made s saved is acts c on sane resumes memory
-      store) },
+  record {
+    turns = 0;
+    few = omega arith;
+    state = record { cpu = saved; memory = s.memory };
+    comes = comes_nowhere t fs (record { cpu = saved; memory = s.memory });
+    is_there = inr (works_on t fs program p q image made s saved is acts c on sane resumes memory
+        store);
+  },
 )

@@ -54,16 +54,19 @@ few_operands : (y : Layout) (o : Operation) (first second : ℕ)
     → length (operands_code y o (Temporary first) (Temporary second)) ≤ 3
 few_operands y o first second =
     let b = before_length o in
-    omega (arith, length-append (fetch y Rax (Temporary first))
-      (fetch y Rcx (Temporary second) ++ before o),
-      length-append (fetch y Rcx (Temporary second)) (before o))
+    omega (
+      arith,
+      length-append (fetch y Rax (Temporary first))
+          (fetch y Rcx (Temporary second) ++ before o),
+      length-append (fetch y Rcx (Temporary second)) (before o),
+    )
 
 module _ (t : Functions) (fs : List Funclet) (program : LinearProgram) (p : ImagePlan) (q : Sites)
     (image : IsProgramImage t fs program p q) (made : IsWellMade program p)
     (s : State) (c : Configuration) (to : Slot) (o : Operation) (first second : ℕ)
-      (b : Begins t fs program p q s c) (known : IsKnown program c) (reads : is_constant o ≡ false)
+    (b : Begins t fs program p q s c) (known : IsKnown program c) (reads : is_constant o ≡ false)
     (e : instruction_at program c ≡ Some (instructions.Compute to o (Temporary first)
-      (Temporary second))) where
+    (Temporary second))) where
   abbrev here : Instruction
   here = instructions.Compute to o (Temporary first) (Temporary second)
 
@@ -93,26 +96,36 @@ module _ (t : Functions) (fs : List Funclet) (program : LinearProgram) (p : Imag
       (slots t fs program p q image made.room s c b counted)
   begun =
       operands_run (frame t fs program p q image made.room s c b counted) o (Temporary first)
-        (Temporary second) (v t fs program p q image made.room s c b counted) s.cpu.rip s.cpu.flags
+      (Temporary second) (v t fs program p q image made.room s c b counted) s.cpu.rip s.cpu.flags
       (slots t fs program p q image made.room s c b counted)
-        (room_here t fs program p q image s c b counted) there.1 there.2
-        (sp_is t fs program p q image made.room s c b counted)
-        (holds_here t fs program p q image s c b counted)
+      (room_here t fs program p q image s c b counted) there.1 there.2
+      (sp_is t fs program p q image made.room s c b counted)
+      (holds_here t fs program p q image s c b counted)
       (code_split s.memory s.cpu.rip ops (finish_code (p.layout c.frame.body) o to)
-        (template_here t fs program p q image made.room s c b counted here at_here)).0
+      (template_here t fs program p q image made.room s c b counted here at_here)).0
 
   -- the state that is reached, in the same memory
   abbrev u : State
-  u = machine (record { rax = begun.stopped.rax; rcx = begun.stopped.rcx; rdx = begun.stopped.rdx;
-      rest = begun.stopped.rest; memory = s.memory }) (s.cpu.rip + sizes ops) begun.left
+  u = machine (record {
+    rax = begun.stopped.rax;
+    rcx = begun.stopped.rcx;
+    rdx = begun.stopped.rdx;
+    rest = begun.stopped.rest;
+    memory = s.memory;
+  }) (s.cpu.rip + sizes ops) begun.left
 
   comes : Reaches n s u
   comes =
       subst (λ (m : Memory). Reaches n s (machine
-        (record { rax = begun.stopped.rax; rcx = begun.stopped.rcx; rdx = begun.stopped.rdx;
-        rest = begun.stopped.rest; memory = m }) (s.cpu.rip + sizes ops) begun.left)) begun.memory
+      (record {
+        rax = begun.stopped.rax;
+        rcx = begun.stopped.rcx;
+        rdx = begun.stopped.rdx;
+        rest = begun.stopped.rest;
+        memory = m;
+      }) (s.cpu.rip + sizes ops) begun.left)) begun.memory
       (subst (λ (x : State). Reaches n x (machine begun.stopped (s.cpu.rip + sizes ops) begun.left))
-        (sym (same_state t fs program p q image made.room s c b counted)) begun.comes)
+      (sym (same_state t fs program p q image made.room s c b counted)) begun.comes)
 
   at_end : u.cpu.rip ≡ p.address c.frame.body c.frame.next + sizes ops
   at_end = ap (λ a. a + sizes ops) b.rip
@@ -121,7 +134,7 @@ module _ (t : Functions) (fs : List Funclet) (program : LinearProgram) (p : Imag
       ≡ s.cpu.rip + (sizes ops + sizes (finish_code (p.layout c.frame.body) o to))
   next_at = next_address t fs program p q image made.room s c b counted here at_here
       ∙ ap (λ x. s.cpu.rip + x) (whole_size (p.layout c.frame.body) to o (Temporary first)
-        (Temporary second))
+      (Temporary second))
 
   inside : InCode p c.frame.body c.frame.next u.cpu.rip
   inside =
@@ -133,8 +146,8 @@ module _ (t : Functions) (fs : List Funclet) (program : LinearProgram) (p : Imag
   small : u.cpu.rip < 2 ^ 64
   small =
       let code = finish_is_at t fs program p q image s.memory c.frame.body b.body.slots.code
-        c.frame.next to o (Temporary first) (Temporary second) b.memory.code b.body.slots.body
-        at_here in
+      c.frame.next to o (Temporary first) (Temporary second) b.memory.code b.body.slots.body
+      at_here in
       let high = code.placed.high in
       let a = at_end in
       omega arith
@@ -151,8 +164,8 @@ module _ (t : Functions) (fs : List Funclet) (program : LinearProgram) (p : Imag
       → (h : i < body.temporaries) → slice_get c.frame.temporaries i ≡ Some x
   has_temporary i x is held h =
       let r = is_read t fs program p q image made.room s c b counted around (Temporary i) h
-        (subst (λ (constant : Bool). ready.IsRead constant (length c.frame.temporaries)
-        (Temporary i)) reads held) in
+      (subst (λ (constant : Bool). ready.IsRead constant (length c.frame.temporaries)
+      (Temporary i)) reads held) in
       r.reads ∙ ap (λ z. Some z) (sym r.same ∙ is)
 
   again : WorksAgain t fs program p q c.frame u.cpu
@@ -171,28 +184,41 @@ module _ (t : Functions) (fs : List Funclet) (program : LinearProgram) (p : Imag
       }
 
   works : WorksOn t fs program p q u c
-  works = record { again = again; sane = sane; memory = b.memory;
-      body = in_body_at t fs program p q s c u.cpu b.body sp inside small }
+  works = record {
+    again = again;
+    sane = sane;
+    memory = b.memory;
+    body = in_body_at t fs program p q s c u.cpu b.body sp inside small;
+  }
 
   -- each turn keeps the shadow
   keeps_shadow : AllKeep t fs n s
   keeps_shadow =
       operands_keep t fs program p q image made.room s c b counted around to o (Temporary first)
-        (Temporary second) at_here u comes
-      (record { rip = at_end; registers = kept_by_rest begun.stopped.rest s.cpu.registers
-        begun.rest; is_there = is_here t fs program p q image s c b counted })
+      (Temporary second) at_here u comes
+      (record {
+        rip = at_end;
+        registers = kept_by_rest begun.stopped.rest s.cpu.registers
+            begun.rest;
+        is_there = is_here t fs program p q image s c b counted;
+      })
 
   quietly : Comes t fs n s [] u
   quietly =
       reaches_quietly t fs program p q image n s u comes keeps_shadow b.memory.code
       (subst (λ a. arrivals u.cpu (distance t.base a) 1 fs ≡ []) (sym at_end)
       (quiet_in_midst t fs program p q image made.room s.memory c.frame.body b.body.slots.code
-        c.frame.next to o (Temporary first) (Temporary second) b.memory.code b.body.slots.body
-        at_here u.cpu))
+      c.frame.next to o (Temporary first) (Temporary second) b.memory.code b.body.slots.body
+      at_here u.cpu))
 
   pub fetched : LeadsTo t fs fetch_turns (WorksOn t fs program p q) s c
-  fetched = record { turns = n; few = few_operands (p.layout c.frame.body) o first second;
-      state = u; comes = quietly; is_there = works }
+  fetched = record {
+    turns = n;
+    few = few_operands (p.layout c.frame.body) o first second;
+    state = u;
+    comes = quietly;
+    is_there = works;
+  }
 
 pub operands_are_fetched : OperandsAreFetched
 operands_are_fetched t fs program p q image made s c to o first second b known reads e = fetched t

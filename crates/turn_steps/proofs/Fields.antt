@@ -60,8 +60,8 @@ pub field_is_at : (m : Memory) (at : ℕ) (r : DispatchRecord) (field : Field) �
 field_is_at m at r field top is e = let f = fetched_is m at r e in by field is f.kind f.same
   where
     by : (field : Field) → IsField field → (k : Kind) → r ≡ recorded m at k
-      → number_at m.byte (bytes_of (field_width field)) (at + 96 + field_at field)
-      ≡ recorded_field field r
+        → number_at m.byte (bytes_of (field_width field)) (at + 96 + field_at field)
+        ≡ recorded_field field r
     by ExceptionCode is k e =
         let z : at + 96 + 0 ≡ (at + 96) % 2 ^ 64 = omega arith in
         ap (number_at m.byte 4) z ∙ sym (ap (λ (x : DispatchRecord). x.code.0) e)
@@ -76,7 +76,7 @@ field_is_at m at r field top is e = let f = fetched_is m at r e in by field is f
         let w : at + 128 ≡ (at + 128) % 2 ^ 64 = omega arith in
         ap (number_at m.byte 8) z ∙ ap (λ x. number_at m.byte 8 (x + 8 * i)) w
         ∙ word_in m.byte r.parameters 15 ((at + 128) % 2 ^ 64) i
-          (sym (ap (λ (x : DispatchRecord). x.parameters) e)) is (omega arith)
+        (sym (ap (λ (x : DispatchRecord). x.parameters) e)) is (omega arith)
 
 -- ---- the exception's own numbers
 
@@ -114,11 +114,11 @@ parameters_are (Some x) zero = tests_are x.0
 parameters_are (Some x) (suc zero) = refl
 parameters_are (Some x) (suc (suc k)) =
     let first : nat_eq (suc (suc k)) 0 ≡ false = ne_eqb (suc (suc k)) 0
-      (λ e. absurd (omega arith)) in
+    (λ e. absurd (omega arith)) in
     let second : nat_eq (suc (suc k)) 1 ≡ false = ne_eqb (suc (suc k)) 1
-      (λ e. absurd (omega arith)) in
+    (λ e. absurd (omega arith)) in
     zero_among 13 k ∙ sym (ap (λ b. cond b (of_test x.0) (cond (nat_eq (suc (suc k)) 1) x.1 0))
-      first ∙ ap (λ b. cond b x.1 0) second)
+    first ∙ ap (λ b. cond b x.1 0) second)
 
 module _ (t : Functions) (fs : List Funclet) (program : LinearProgram) (p : ImagePlan) where
   pub field_is : (r : DispatchRecord) (exception : Exception) (field : Field)

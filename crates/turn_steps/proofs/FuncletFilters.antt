@@ -88,10 +88,10 @@ module _ (t : Functions) (fs : List Funclet) (program : LinearProgram) (p : Imag
   module _ (s : State) (k argument : ℕ) (handler : Handler) (rest : List Handler)
       (exception : Exception) (resumption : Resumption) (c : Configuration) (acts : List Activation)
       (a : Arrives t fs program p s k handler.activation argument
-        (Searches exception resumption handler rest ∷ Waits c.frame ∷ c.below) acts)
+      (Searches exception resumption handler rest ∷ Waits c.frame ∷ c.below) acts)
       (points : register s.cpu Rcx ≡ register s.cpu Rsp + 88) (asked : handler.filter ≡ Some k)
       (memory : IsMachineMemory t fs program p q s.memory c.store.memory)
-        (stored : c.store.activations ≡ locals_of acts)
+      (stored : c.store.activations ≡ locals_of acts)
       (shallow : nat_lt 1000 (length c.store.activations + c.frame.held + 2) ≡ false)
       (typed : IsKnown program (begin_filter k handler rest exception resumption c)) where
     abbrev items : List Item
@@ -120,30 +120,30 @@ module _ (t : Functions) (fs : List Funclet) (program : LinearProgram) (p : Imag
 
     owner : owner_of program (parent_of f.function f.parent) ≡ Some f.function
     owner = subst (λ n. owner_of program n ≡ Some f.function) (sym known.funclet.parent)
-      known.funclet.owner
+        known.funclet.owner
 
     leads : LeadsBy s.memory (parent_base p f.parent) (register s.cpu Rdx) a.reaches.base
     leads = leads_by t fs program p q image s.memory f f.parent a.name (register s.cpu Rdx)
-      a.reaches.base parent owner a.reaches.leads
+        a.reaches.base parent owner a.reaches.leads
 
     depth_is : length c.store.activations ≡ length acts
     depth_is = ap length stored ∙ locals_count acts
 
     some : 0 < length f.body.code
     some = has_first program (FuncletBody k) f.body typed.continues.instruction
-      (ap funclet_body known.funclet.there) typed.continues.at
+        (ap funclet_body known.funclet.there) typed.continues.at
 
     few : length acts + c.frame.held + 2 ≤ 1000
     few = let n = shallow_is (length c.store.activations + c.frame.held + 2) shallow in
-      let e = depth_is in omega arith
+        let e = depth_is in omega arith
 
     record_space : HasRecordSpace t fs program p a.at (length acts + c.frame.held)
     record_space = search_space t fs program p s.memory (context_below a.back a.at []) a.is
-      exception resumption handler rest c.frame c.below acts (a.on []).is_there.linked
+        exception resumption handler rest c.frame c.below acts (a.on []).is_there.linked
 
     abbrev e : HasEntered t fs program p q image s k l a.reaches.base
     e = entered t fs program p q image s k argument handler.activation items acts l w c.store.memory
-      memory (length acts + c.frame.held) record_space.space few leads
+        memory (length acts + c.frame.held) record_space.space few leads
 
     -- the address of the EXCEPTION_POINTERS
     abbrev x : ℕ
@@ -154,16 +154,19 @@ module _ (t : Functions) (fs : List Funclet) (program : LinearProgram) (p : Imag
 
     fits : y.pointers + 8 ≤ y.frame
     fits = let g = l.plan.layout.pointers in let z = l.plan.layout.kept in
-      let r = l.plan.layout.temporaries in omega arith
+        let r = l.plan.layout.temporaries in omega arith
 
     cell : HasCell e.after.memory (e.sp + y.pointers)
     cell =
         let h = e.top in
         let lo = e.low in
         let g = fits in
-        record { high = omega arith; writable = λ b r z. stack_writable t fs program p q image
-          s.memory e.after.memory c.store.memory e.sp (e.sp + y.frame) e.within e.low (omega arith)
-          memory b (omega arith) (omega arith) }
+        record {
+          high = omega arith;
+          writable = λ b r z. stack_writable t fs program p q image
+              s.memory e.after.memory c.store.memory e.sp (e.sp + y.frame) e.within e.low (omega arith)
+              memory b (omega arith) (omega arith);
+        }
 
     abbrev last : List Instr
     last = keep_register Rcx y.pointers ∷ []
@@ -172,9 +175,9 @@ module _ (t : Functions) (fs : List Funclet) (program : LinearProgram) (p : Imag
     code_here = subst (λ z. HasCode e.after.memory e.rip (keep_argument y z)) kind_is e.code
 
     abbrev keeps : Reached 1 e.after (kept_at e.after (e.sp + y.pointers) x) e.rip
-      (e.rip + sizes last) e.flags
+        (e.rip + sizes last) e.flags
     keeps = pointers_kept e.after e.sp y.pointers x e.rip e.flags e.at e.rcx x_small
-      (let g = fits in let z = l.plan.layout.small in omega arith) cell code_here
+        (let g = fits in let z = l.plan.layout.small in omega arith) cell code_here
 
     abbrev u : State
     u = machine (kept_at e.after (e.sp + y.pointers) x) (e.rip + sizes last) keeps.left
@@ -187,23 +190,23 @@ module _ (t : Functions) (fs : List Funclet) (program : LinearProgram) (p : Imag
 
     rip_here : u.cpu.rip ≡ p.address (FuncletBody k) 0
     rip_here = subst (λ z. e.rip + sizes (keep_argument y z) ≡ p.address (FuncletBody k) 0) kind_is
-      e.place
+        e.place
 
     sane_here : IsSane u
     sane_here = stays_sane s u (enters_keeps (e.turns + 1) s u run)
-      (let z = rip_here in let r = first_small t fs program p q image k l in omega arith) a.sane
+        (let z = rip_here in let r = first_small t fs program p q image k l in omega arith) a.sane
 
     beside : Within (e.sp + y.pointers) (e.sp + y.pointers + 8) e.after.memory u.memory
     beside = let h = cell.high in within_cell e.after (e.sp + y.pointers) (e.sp + y.pointers + 8)
-      (e.sp + y.pointers) x (omega arith) (omega arith) (omega arith)
+        (e.sp + y.pointers) x (omega arith) (omega arith) (omega arith)
 
     within_here : Within e.sp (e.sp + y.frame) s.memory u.memory
     within_here =
         let h = cell.high in
         let g = fits in
         within_then e.sp (e.sp + y.frame) s.memory e.after.memory u.memory e.within
-          (within_cell e.after e.sp (e.sp + y.frame) (e.sp + y.pointers) x (omega arith)
-          (omega arith) (omega arith))
+        (within_cell e.after e.sp (e.sp + y.frame) (e.sp + y.pointers) x (omega arith)
+        (omega arith) (omega arith))
 
     base_here : number_at u.memory.byte 8 (e.sp + l.plan.layout.slot) ≡ a.reaches.base
     base_here =
@@ -211,7 +214,7 @@ module _ (t : Functions) (fs : List Funclet) (program : LinearProgram) (p : Imag
         let g = l.plan.layout.pointers in
         let z = fits in
         same_number u.memory.byte e.after.memory.byte 8 (e.sp + l.plan.layout.slot) (omega arith)
-          (λ b lo hi. beside.byte b (inl (omega arith))) ∙ e.number
+        (λ b lo hi. beside.byte b (inl (omega arith))) ∙ e.number
 
     pointers_here : word u.memory (e.sp + y.pointers) ≡ Ok (e.sp + y.frame + 88)
     pointers_here =
@@ -220,9 +223,9 @@ module _ (t : Functions) (fs : List Funclet) (program : LinearProgram) (p : Imag
         let z = cell.high in
         let same : x ≡ e.sp + y.frame + 88 = points ∙ ap (λ n. n + 88) e.sp_is in
         word_within t fs program p q image s.memory u.memory c.store.memory e.sp (e.sp + y.frame)
-          within_here e.low (omega arith) memory (e.sp + y.pointers) (e.sp + y.frame + 88)
-          (omega arith) (omega arith) (cell_number e.after (e.sp + y.pointers) x (omega arith)
-          x_small ∙ same)
+        within_here e.low (omega arith) memory (e.sp + y.pointers) (e.sp + y.frame + 88)
+        (omega arith) (omega arith) (cell_number e.after (e.sp + y.pointers) x (omega arith)
+        x_small ∙ same)
 
     frame_here : HasFrame t fs program p q image s u k argument handler.activation items acts l w
     frame_here = record {
@@ -230,10 +233,10 @@ module _ (t : Functions) (fs : List Funclet) (program : LinearProgram) (p : Imag
       low = subst (λ r. STACK_START ≤ r) (sym stack_here) e.low;
       within = subst (λ r. Within r (r + y.frame) s.memory u.memory) (sym stack_here) within_here;
       number = subst (λ r. number_at u.memory.byte 8 (r + l.plan.layout.slot) ≡ a.reaches.base)
-        (sym stack_here) base_here;
+          (sym stack_here) base_here;
       distance = subst (λ d. IsActivation acts handler.activation a.reaches.base d)
-        (parent_locals t fs program p q image k f f.parent a.name known.funclet.there parent owner)
-        a.reaches.activation;
+          (parent_locals t fs program p q image k f f.parent a.name known.funclet.there parent owner)
+          a.reaches.activation;
       rip = rip_here;
       sane = sane_here;
     }
@@ -253,14 +256,14 @@ module _ (t : Functions) (fs : List Funclet) (program : LinearProgram) (p : Imag
         let z = e.sp_is in
         let n = a.stack in
         begins t fs program p q image s u k argument handler.activation items acts l w frame_here
-          exception (c.frame.held + 2) c.store
-          (begin_filter k handler rest exception resumption c).events memory stored (omega arith)
-          some
+        exception (c.frame.held + 2) c.store
+        (begin_filter k handler rest exception resumption c).events memory stored (omega arith)
+        some
         (subst (λ r. HasSpace r below_end (length acts + (c.frame.held + 2))) (sym stack_here)
-          space_here)
+        space_here)
         (kind_is, (asked, refl))
         (subst (λ r. KeepsPointers t fs program p u.memory y r y.frame) (sym stack_here)
-          (record { room = fits; kept = pointers_here }))
+        (record { room = fits; kept = pointers_here }))
 
     -- all of it keeps the shadow
     keeps_shadow : AllKeep t fs (e.turns + 1) s
@@ -273,29 +276,29 @@ module _ (t : Functions) (fs : List Funclet) (program : LinearProgram) (p : Imag
         let low' : STACK_START ≤ register s.cpu Rsp = omega arith in
         let high' : w.at ≤ STACK_END = omega arith in
         let base = base_code t fs program p q image s k handler.activation argument items acts l w
-          c.store.memory memory some low' high' (register s.cpu Rdx) a.reaches.base leads in
+        c.store.memory memory some low' high' (register s.cpu Rdx) a.reaches.base leads in
         let whole = arguments_are t fs program p q image s k handler.activation argument items acts
-          l w c.store.memory memory some low' high' (register s.cpu Rdx) a.reaches.base leads in
+        l w c.store.memory memory some low' high' (register s.cpu Rdx) a.reaches.base leads in
         let plain = base_is_plain t fs program p q image s k handler.activation argument items acts
-          l w c.store.memory memory some low' high' (register s.cpu Rdx) a.reaches.base leads in
+        l w c.store.memory memory some low' high' (register s.cpu Rdx) a.reaches.base leads in
         let count : e.turns + 1 ≡ 1 + length (base ++ last) = omega
-          (arith, e.exact, length-append base last) in
+        (arith, e.exact, length-append base last) in
         let parts = whole ∙ ap (λ x. base ++ keep_argument y x) kind_is
-          ∙ sym (append-nil (base ++ last)) in
+        ∙ sym (append-nil (base ++ last)) in
         (funclet_ran t fs program p q image s k handler.activation argument items acts l w
-          c.store.memory memory some low' high' (register s.cpu Rdx) a.reaches.base leads
-          (e.turns + 1) u (base ++ last) [] parts count (enters_steps (e.turns + 1) s u run)
+        c.store.memory memory some low' high' (register s.cpu Rdx) a.reaches.base leads
+        (e.turns + 1) u (base ++ last) [] parts count (enters_steps (e.turns + 1) s u run)
         (plain_both y.frame 8 base last plain
-          (kept_plain y.frame 8 Rcx y.pointers (let g = fits in omega arith) (inl fits), tt))).keeps
+        (kept_plain y.frame 8 Rcx y.pointers (let g = fits in omega arith) (inl fits), tt))).keeps
 
     pub filter_leads : LeadsTo t fs entry_turns (Begins t fs program p q) s
-      (begin_filter k handler rest exception resumption c)
+        (begin_filter k handler rest exception resumption c)
     filter_leads = record {
       turns = e.turns + 1;
       few = (let z = e.few in omega arith);
       state = u;
       comes = enters_quietly t fs program p q image (e.turns + 1) s u run keeps_shadow memory.code
-        (quiet_there t fs program p q image k l u rip_here some);
+          (quiet_there t fs program p q image k l u rip_here some);
       is_there = begins_here;
     }
 
@@ -304,4 +307,4 @@ pub filters_begin : (t : Functions) (fs : List Funclet) (program : LinearProgram
 filters_begin t fs program p q image s k argument handler rest exception resumption c acts a points
     asked memory stored shallow typed =
     filter_leads t fs program p q image s k argument handler rest exception resumption c acts a
-      points asked memory stored shallow typed
+    points asked memory stored shallow typed

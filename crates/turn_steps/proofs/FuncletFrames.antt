@@ -64,7 +64,7 @@ module _ (t : Functions) (fs : List Funclet) (program : LinearProgram) (p : Imag
     | inl lt ↦ inl lt
     | inr le ↦ elim (cases_lt a hi) [
       | inl lt ↦ let x : true ≡ false = sym (stack_is_reserved program.globals a (omega arith)
-        (omega arith)) ∙ r in absurd cc
+          (omega arith)) ∙ r in absurd cc
       | inr ge ↦ inr ge
     ]
   ]
@@ -74,7 +74,7 @@ module _ (t : Functions) (fs : List Funclet) (program : LinearProgram) (p : Imag
     | inl lt ↦ inl lt
     | inr le ↦ elim (cases_lt a hi) [
       | inl lt ↦ let x : true ≡ false = sym e
-      ∙ memory.data_alone.no_code a (memory.stack a (omega arith) (omega arith)) in absurd cc
+          ∙ memory.data_alone.no_code a (memory.stack a (omega arith) (omega arith)) in absurd cc
       | inr ge ↦ inr ge
     ]
   ]
@@ -88,17 +88,23 @@ module _ (t : Functions) (fs : List Funclet) (program : LinearProgram) (p : Imag
 
   pub memory_stays : IsMachineMemory t fs program p q m' source
   memory_stays = record {
-    data_alone = record { bytes = w.bytes memory.data_alone.bytes;
+    data_alone = record {
+      bytes = w.bytes memory.data_alone.bytes;
       no_code = λ a e. no_more a (memory.data_alone.no_code a
-      (ap (λ (x : Protection). is_writable x.rights) (sym (same_protection a)) ∙ e)) };
-    agrees = record { byte = λ a r. w.byte a (outside a r) ∙ memory.agrees.byte a r;
+          (ap (λ (x : Protection). is_writable x.rights) (sym (same_protection a)) ∙ e));
+    };
+    agrees = record {
+      byte = λ a r. w.byte a (outside a r) ∙ memory.agrees.byte a r;
       protection = λ a r. same_protection a ∙ memory.agrees.protection a r;
-      guard = memory.agrees.guard };
+      guard = memory.agrees.guard;
+    };
     stack = stack_writable;
     arena = λ a e. no_more a (memory.arena a e);
     code = program_stays t fs program p q image m m'
-      (record { byte = λ a l h own. w.byte a (inr (omega arith));
-      protection = λ a l h own. same_protection a }) memory.code;
+        (record {
+          byte = λ a l h own. w.byte a (inr (omega arith));
+          protection = λ a l h own. same_protection a;
+        }) memory.code;
   }
 
   pub stack_stays : KeepsStack m m' hi
@@ -115,7 +121,7 @@ module _ (t : Functions) (fs : List Funclet) (program : LinearProgram) (p : Imag
   word_stays at v b l h e = word_of m' at v (omega arith)
       (λ a x z. may_read_written m' a (stack_writable a (omega arith) (omega arith)))
       (same_number m'.byte m.byte 8 at (omega arith) (λ a x z. w.byte a (inr (omega arith)))
-        ∙ word_is m at v e)
+      ∙ word_is m at v e)
 
   -- and one within
   pub word_within : (at v : ℕ) → lo ≤ at → at + 8 ≤ hi → number_at m'.byte 8 at ≡ v
@@ -147,7 +153,7 @@ abbrev pub arrives_below : (t : Functions) (fs : List Funclet) (program : Linear
     (p : ImagePlan) (s : State) (k activation first : ℕ) (items : List Item)
     (acts : List Activation) → (a : Arrives t fs program p s k activation first items acts)
     → ReturnsTo t fs program p items a.back → ArrivesBelow t fs program p s k activation first items
-      acts
+    acts
 arrives_below t fs program p s k activation first items acts a to = record {
   rip = a.rip;
   name = a.name;
@@ -176,8 +182,11 @@ module _ (t : Functions) (fs : List Funclet) (program : LinearProgram) (p : Imag
 
   abbrev pub funclet_laid : (k : ℕ) (f : LinearFunclet) → slice_get program.funclets k ≡ Some f
       → IsLaid k
-  funclet_laid k f there = record { funclet = f; there = there;
-      plan = image.laid_out (FuncletBody k) f.body (ap funclet_body there) }
+  funclet_laid k f there = record {
+    funclet = f;
+    there = there;
+    plan = image.laid_out (FuncletBody k) f.body (ap funclet_body there);
+  }
 
   -- the state after its frame is made, with the base in its place; RIP is at the first instruction
   pub record HasFrame (s u : State) (k first activation : ℕ) (items : List Item)
@@ -186,33 +195,44 @@ module _ (t : Functions) (fs : List Funclet) (program : LinearProgram) (p : Imag
     pub stack : register s.cpu Rsp ≡ register u.cpu Rsp + (p.layout (FuncletBody k)).frame
     pub low : STACK_START ≤ register u.cpu Rsp
     pub within : Within (register u.cpu Rsp) (register u.cpu Rsp + (p.layout (FuncletBody k)).frame)
-      s.memory u.memory
+        s.memory u.memory
     pub number : number_at u.memory.byte 8 (register u.cpu Rsp + l.plan.layout.slot)
-      ≡ a.reaches.base
+        ≡ a.reaches.base
     pub distance : IsActivation acts activation a.reaches.base (p.layout (FuncletBody k)).locals
     pub rip : u.cpu.rip ≡ p.address (FuncletBody k) 0
     pub sane : IsSane u
 
   abbrev pub first_frame : ℕ → ℕ → Exception → ℕ → Frame
-  first_frame k activation exception held = record { body = FuncletBody k; next = 0;
-      activation = activation; exception = exception; held = held; temporaries = []; landed = None }
+  first_frame k activation exception held = record {
+    body = FuncletBody k;
+    next = 0;
+    activation = activation;
+    exception = exception;
+    held = held;
+    temporaries = [];
+    landed = None;
+  }
 
   abbrev pub beginning : Frame → List Item → Store → List Event → Configuration
-  beginning f items store events = record { frame = f; below = items; store = store;
-      events = events }
+  beginning f items store events = record {
+    frame = f;
+    below = items;
+    store = store;
+    events = events;
+  }
 
   module _ (s u : State) (k first activation : ℕ) (items : List Item) (acts : List Activation)
       (l : IsLaid k) (a : ArrivesBelow t fs program p s k activation first items acts)
       (h : HasFrame s u k first activation items acts l a)
       (exception : Exception) (held : ℕ) (store : Store) (events : List Event)
-        (memory : IsMachineMemory t fs program p q s.memory store.memory)
-        (stored : store.activations ≡ locals_of acts) (top : a.at ≤ STACK_END)
+      (memory : IsMachineMemory t fs program p q s.memory store.memory)
+      (stored : store.activations ≡ locals_of acts) (top : a.at ≤ STACK_END)
       (some : 0 < length l.funclet.body.code)
-        (space : HasSpace (register u.cpu Rsp) below_end (length acts + held))
+      (space : HasSpace (register u.cpu Rsp) below_end (length acts + held))
       (above : FuncletIsAbove t fs program p k (first_frame k activation exception held)
-        (Some l.funclet) items)
+      (Some l.funclet) items)
       (pointers : HasPointers t fs program p u.memory (p.layout (FuncletBody k))
-        (register u.cpu Rsp) (p.layout (FuncletBody k)).frame items) where
+      (register u.cpu Rsp) (p.layout (FuncletBody k)).frame items) where
     abbrev pub y : Layout
     y = p.layout (FuncletBody k)
 
@@ -229,31 +249,35 @@ module _ (t : Functions) (fs : List Funclet) (program : LinearProgram) (p : Imag
     keeps =
         let e = high in
         let z = stack_stays t fs program p q image s.memory u.memory store.memory sp (sp + y.frame)
-          h.within h.low (omega arith) memory in
-        record { bytes = λ x from to. z.bytes x (omega arith) to; protection = z.protection;
-          code = z.code; no_more_code = z.no_more_code }
+        h.within h.low (omega arith) memory in
+        record {
+          bytes = λ x from to. z.bytes x (omega arith) to;
+          protection = z.protection;
+          code = z.code;
+          no_more_code = z.no_more_code;
+        }
 
     at_is : a.at ≡ sp + y.frame + 8
     at_is = let e = h.stack in let f = a.stack in omega arith
 
     pub list : (others : List ℕ) → length others ≡ 8
-      → On t fs program p u.memory (context_below a.back (sp + y.frame + 8) others) a.is items acts
+        → On t fs program p u.memory (context_below a.back (sp + y.frame + 8) others) a.is items acts
     list others eight =
         let e = high in
         let lo = h.low in
         let on = subst (λ x. On t fs program p s.memory (context_below a.back x others) a.is items
-          acts) at_is (a.on others eight) in
+        acts) at_is (a.on others eight) in
         record {
           is_there = kept_by_other_memories t fs program p s.memory u.memory
-            (context_below a.back (sp + y.frame + 8) others) a.is items acts keeps (omega arith)
-            on.is_there;
+              (context_below a.back (sp + y.frame + 8) others) a.is items acts keeps (omega arith)
+              on.is_there;
           data_alone = (memory_stays t fs program p q image s.memory u.memory store.memory sp
-            (sp + y.frame) h.within h.low (omega arith) memory).data_alone;
+              (sp + y.frame) h.within h.low (omega arith) memory).data_alone;
         }
 
     pub in_code : InCode p (FuncletBody k) 0 u.cpu.rip
     in_code = let g = (image.addresses (FuncletBody k) l.funclet.body is).rises 0 some in
-      let r = h.rip in record { low = omega arith; high = omega arith }
+        let r = h.rip in record { low = omega arith; high = omega arith }
 
     pub kept_base : HasActivation u.memory y sp y.frame activation acts (FuncletBody k)
     kept_base =
@@ -266,8 +290,8 @@ module _ (t : Functions) (fs : List Funclet) (program : LinearProgram) (p : Imag
           some = l.plan.layout.base;
           room = omega arith;
           kept = word_within t fs program p q image s.memory u.memory store.memory sp (sp + y.frame)
-            h.within h.low (omega arith) memory (sp + l.plan.layout.slot) a.reaches.base
-            (omega arith) (omega arith) h.number;
+              h.within h.low (omega arith) memory (sp + l.plan.layout.slot) a.reaches.base
+              (omega arith) (omega arith) h.number;
           activation = h.distance;
         }
 
@@ -275,8 +299,8 @@ module _ (t : Functions) (fs : List Funclet) (program : LinearProgram) (p : Imag
     no_temporaries = let w = l.plan.layout.temporaries in omega arith
 
     abbrev pub slots : BodyWaits t fs program p u.memory (context_of u.cpu)
-      (slots_end y (p.leaf (FuncletBody k))) (last_temporary y (FuncletBody k)
-      (p.leaf (FuncletBody k))) (first_frame k activation exception held) acts
+        (slots_end y (p.leaf (FuncletBody k))) (last_temporary y (FuncletBody k)
+        (p.leaf (FuncletBody k))) (first_frame k activation exception held) acts
     slots = record {
       code = l.funclet.body;
       body = is;
@@ -285,39 +309,39 @@ module _ (t : Functions) (fs : List Funclet) (program : LinearProgram) (p : Imag
       same = same_regions (regions_of (body_of program (FuncletBody k))) 0;
       small = h.sane.rip_small;
       activation = subst (λ z. HasActivation u.memory y sp (slots_end y z) activation acts
-        (FuncletBody k)) (sym l.plan.framed) kept_base;
+          (FuncletBody k)) (sym l.plan.framed) kept_base;
       temporaries = subst (λ z. HoldsWords u.memory (sp + y.temporaries)
-        (sp + last_temporary y (FuncletBody k) z) []) (sym l.plan.framed) no_temporaries;
+          (sp + last_temporary y (FuncletBody k) z) []) (sym l.plan.framed) no_temporaries;
       space = space;
     }
 
     abbrev pub in_body : InBody t fs program p q u
-      (beginning (first_frame k activation exception held) items store events)
+        (beginning (first_frame k activation exception held) items store events)
     in_body = record {
       acts = acts;
       store = stored;
       slots = slots;
       pointers = pointers;
       above = subst (λ o. FuncletIsAbove t fs program p k (first_frame k activation exception held)
-        o items) (sym l.there) above;
+          o items) (sym l.there) above;
       home = λ e. absurd (apart (sym e ∙ l.plan.framed));
       back = a.back;
       returns_to = a.returns_to;
       returns = (let e = high in word_stays t fs program p q image s.memory u.memory store.memory sp
-        (sp + y.frame) h.within h.low (omega arith) memory (sp + y.frame) a.back
-        (let z = h.low in omega arith) (omega arith) (omega arith)
-        (subst (λ x. word s.memory x ≡ Ok a.back) h.stack a.returns));
+          (sp + y.frame) h.within h.low (omega arith) memory (sp + y.frame) a.back
+          (let z = h.low in omega arith) (omega arith) (omega arith)
+          (subst (λ x. word s.memory x ≡ Ok a.back) h.stack a.returns));
       is = a.is;
       below = list;
     }
 
     abbrev pub begins : Begins t fs program p q u
-      (beginning (first_frame k activation exception held) items store events)
+        (beginning (first_frame k activation exception held) items store events)
     begins = record {
       rip = h.rip;
       sane = h.sane;
       memory = (let e = high in memory_stays t fs program p q image s.memory u.memory store.memory
-        sp (sp + y.frame) h.within h.low (omega arith) memory);
+          sp (sp + y.frame) h.within h.low (omega arith) memory);
       body = in_body;
       landed = λ code e. absurd (nothing_landed code e);
     }

@@ -36,13 +36,13 @@ module _ (t : Functions) (fs : List Funclet) (program : LinearProgram) (p : Imag
       (l : IsLaid t fs program p q image k) (a : ArrivesBelow t fs program p s k activation argument
       items acts) (source : Memory) (memory : IsMachineMemory t fs program p q s.memory source)
       (some : 0 < length l.funclet.body.code) (low : STACK_START ≤ register s.cpu Rsp)
-        (high : a.at ≤ STACK_END) (frame base : ℕ)
-        (leads : LeadsBy s.memory (parent_base p l.funclet.parent) frame base) where
+      (high : a.at ≤ STACK_END) (frame base : ℕ)
+      (leads : LeadsBy s.memory (parent_base p l.funclet.parent) frame base) where
     abbrev pub base_code : List Instr
     base_code = keep_base (parent_base p l.funclet.parent) l.plan.layout.slot
 
     pub arguments_are : arguments_code program p (FuncletBody k)
-      ≡ base_code ++ keep_argument (p.layout (FuncletBody k)) l.funclet.kind
+        ≡ base_code ++ keep_argument (p.layout (FuncletBody k)) l.funclet.kind
     arguments_are =
         ap (λ o. funclet_arguments p (p.layout (FuncletBody k)) o) l.there
         ∙ ap (λ o. keep_base (parent_base p l.funclet.parent) (elim o [ Some b ↦ b | None ↦ 0 ])
@@ -54,23 +54,23 @@ module _ (t : Functions) (fs : List Funclet) (program : LinearProgram) (p : Imag
         let z = l.plan.layout.kept in
         let w = l.plan.layout.temporaries in
         base_plain (p.layout (FuncletBody k)).frame 8 (parent_base p l.funclet.parent)
-          l.plan.layout.slot (near_parent s.memory (parent_base p l.funclet.parent) frame base
-          leads) (omega arith) (omega arith)
+        l.plan.layout.slot (near_parent s.memory (parent_base p l.funclet.parent) frame base
+        leads) (omega arith) (omega arith)
 
     pub funclet_ran : (n : ℕ) (w : State) (stored left : List Instr)
-      → arguments_code program p (FuncletBody k) ≡ stored ++ left → n ≡ 1 + length stored
-      → StepsTo n s w → AllPlain (p.layout (FuncletBody k)).frame 8 stored
+        → arguments_code program p (FuncletBody k) ≡ stored ++ left → n ≡ 1 + length stored
+        → StepsTo n s w → AllPlain (p.layout (FuncletBody k)).frame 8 stored
         → EntryRan t fs program p q image (FuncletBody k) l.funclet.body (ap funclet_body l.there)
-          some (register s.cpu Rsp) (register s.cpu Rsp + 8) a.back (others_of s.cpu.registers) a.is
-          n s w stored
+        some (register s.cpu Rsp) (register s.cpu Rsp + 8) a.back (others_of s.cpu.registers) a.is
+        n s w stored
     funclet_ran n w stored left parts count run plain =
         let small = l.plan.layout.small in
         let one : making_steps (p.leaf (FuncletBody k)) (p.layout (FuncletBody k)).frame ≡ 1 =
         ap (λ leaf. making_steps leaf (p.layout (FuncletBody k)).frame) l.plan.framed
-          ∙ ap (λ x. if x then 1 else 8) (le-leb (p.layout (FuncletBody k)).frame 4096 small) in
+        ∙ ap (λ x. if x then 1 else 8) (le-leb (p.layout (FuncletBody k)).frame 4096 small) in
         entry_ran t fs program p q image (FuncletBody k) l.funclet.body (ap funclet_body l.there)
-          some (register s.cpu Rsp) (register s.cpu Rsp + 8) a.back (others_of s.cpu.registers) a.is
-          n s w stored left 8 parts
+        some (register s.cpu Rsp) (register s.cpu Rsp + 8) a.back (others_of s.cpu.registers) a.is
+        n s w stored left 8 parts
         (count ∙ ap (λ x. x + length stored) (sym one)) run a.rip refl
-          (arrives_beneath t fs program p q image s k activation argument items acts a high)
-          memory.code (omega arith) (omega arith) refl plain
+        (arrives_beneath t fs program p q image s k activation argument items acts a high)
+        memory.code (omega arith) (omega arith) refl plain

@@ -25,8 +25,10 @@ got_within (x ∷ vs) (suc i) lt = got_within vs i (omega arith)
 pub reads_some : (c : Configuration) (from : Slot) → IsHeld (length c.frame.temporaries) from
     → (x : ℕ) × (read c from ≡ Some x)
 reads_some c (Local i) h = (local_of c.store c.frame.activation i, refl)
-reads_some c (Temporary i) h = (slice_index c.frame.temporaries i,
-    got_within c.frame.temporaries i h)
+reads_some c (Temporary i) h = (
+  slice_index c.frame.temporaries i,
+  got_within c.frame.temporaries i h,
+)
 
 -- a body that is at an instruction has it
 pub record HasInstruction (program : LinearProgram) (w : Frame) (i : Instruction) : Type 0 where
@@ -39,7 +41,7 @@ has_instruction : (program : LinearProgram) (w : Frame) (i : Instruction) → Is
 has_instruction program w i h = by (body_of program w.body) refl h
   where
     by : (o : Option LinearBody) → body_of program w.body ≡ o → instruction_in o w.next ≡ Some i
-      → HasInstruction program w i
+        → HasInstruction program w i
     by None e h = cc
     by (Some b) e h = record { body = b; there = e; at = h }
 
@@ -56,16 +58,16 @@ returns_of_blocks_are_matched t fs program p q image made s c from b known at ca
     let held = ready_here t fs program p q image made s c b known (instructions.Return from) at in
     let x = reads_some c from held in
     let above : IsBlockOf program called.number c.frame.activation called.body
-      × IsAt program called.body (instructions.CallFinally called.number) =
+    × IsAt program called.body (instructions.CallFinally called.number) =
     subst (λ ws. IsAbove program c.frame.exception c.frame.activation (FuncletBody called.number)
-      ws) called.below
+    ws) called.below
     (subst (λ name. IsAbove program c.frame.exception c.frame.activation name c.below) called.name
-      known.stacked.above) in
+    known.stacked.above) in
     let waits : AreWaiting program (Waits called.body ∷ called.items) = subst (AreWaiting program)
-      called.below known.stacked.below in
+    called.below known.stacked.below in
     let calls = has_instruction program called.body (instructions.CallFinally called.number)
-      above.1 in
+    above.1 in
     return_of_block t fs program p q image made.room made.apart s c b counted called.number
-      called.name from here x.0 x.1 called.funclet called.there called.flag called.kind
+    called.name from here x.0 x.1 called.funclet called.there called.flag called.kind
     called.body called.items called.below calls.body calls.there called.number calls.at
-      waits.0.landed
+    waits.0.landed

@@ -49,11 +49,11 @@ module _ (t : Functions) (fs : List Funclet) (program : LinearProgram) (p : Imag
       (c : Configuration) (i : Instruction) (r : DispatchRecord) (is : List StackItem)
       (acts : List Activation)
       → (exception : Exception) (resumption : Resumption) (asked : Handler) (rest : List Handler)
-        (w : Frame) (below : List Item)
+      (w : Frame) (below : List Item)
       → Comes t fs k s [] u → k ≤ 6 → u.cpu.rip ≡ filter_return
       → c.below ≡ Searches exception resumption asked rest ∷ Waits w ∷ below → AreClear c.below
       → SearchIsAnswered t fs program p u r is acts exception resumption asked rest
-        (waiting_below c w below)
+      (waiting_below c w below)
       → IsMachineMemory t fs program p q u.memory c.store.memory
       → c.store.activations ≡ locals_of acts
       → ((next : Next) → act program i next c
@@ -66,16 +66,16 @@ module _ (t : Functions) (fs : List Funclet) (program : LinearProgram) (p : Imag
       let d = waiting_below c w below in
       let live : IsLive u = ap (λ a. a == 0) at in
       let a = filter_answered t fs program p q image fits continues u r is acts exception resumption
-        asked rest d answers memory store (subst AreClear under clear).0
-        (subst HasRule (goes (exec program zero)) rule) in
+      asked rest d answers memory store (subst AreClear under clear).0
+      (subst HasRule (goes (exec program zero)) rule) in
       let less : turns_left d ≤ turns_left c = (let z = ap held_below under in omega arith) in
       matched_when_shown t fs program p q 16 k (turns_left d + 3) s u c i
-        (arrived t fs (filter_turn t u)) a.before
-        (λ next. linear_answer program u exception resumption asked rest d next)
-        (callers (context_of r.saved) is) quiet live (filter_turns t fs u at)
+      (arrived t fs (filter_turn t u)) a.before
+      (λ next. linear_answer program u exception resumption asked rest d next)
+      (callers (context_of r.saved) is) quiet live (filter_turns t fs u at)
       (filter_return_keeps t fs program p q u (callers (context_of r.saved) is) at
-        (on_stack t u.memory (context_of u.cpu) 0 (Searching r ∷ is) answers.on.is_there.stack))
-        a.shown goes (omega arith) known
+      (on_stack t u.memory (context_of u.cpu) 0 (Searching r ∷ is) answers.on.is_there.stack))
+      a.shown goes (omega arith) known
 
   -- and to that of `__finally` blocks
   pub finally_step : (k : ℕ) (s u : State) (c : Configuration) (i : Instruction)
@@ -84,7 +84,7 @@ module _ (t : Functions) (fs : List Funclet) (program : LinearProgram) (p : Imag
       → Comes t fs k s [] u → k ≤ 6 → u.cpu.rip ≡ finally_return
       → c.below ≡ Unwinds rest target ∷ Waits f ∷ below → AreClear c.below
       → IsSane u → On t fs program p u.memory (context_of u.cpu) (Unwinding r ∷ is)
-        (Unwinds rest target ∷ Waits f ∷ below) acts
+      (Unwinds rest target ∷ Waits f ∷ below) acts
       → IsMachineMemory t fs program p q u.memory c.store.memory
       → c.store.activations ≡ locals_of acts
       → ((next : Next) → act program i next c ≡ end_finally program next c.below c.events c.store)
@@ -95,12 +95,12 @@ module _ (t : Functions) (fs : List Funclet) (program : LinearProgram) (p : Imag
       goes rule known =
       let live : IsLive u = ap (λ a. a == 0) at in
       let a = finally_ended t fs program p q image fits u r is acts rest target f below c sane on
-        memory store under clear (subst HasRule (goes (exec program zero)) rule) in
+      memory store under clear (subst HasRule (goes (exec program zero)) rule) in
       matched_when_shown t fs program p q 16 k (turns_left c) s u c i
-        (arrived t fs (finally_returned t u (register u.cpu Rsp)
-        (fetched u.memory (register u.cpu Rsp)))) []
-        (λ next. end_finally program next c.below c.events c.store) (callers r.walk is) quiet live
-        (finally_turns t fs u at)
+      (arrived t fs (finally_returned t u (register u.cpu Rsp)
+      (fetched u.memory (register u.cpu Rsp)))) []
+      (λ next. end_finally program next c.below c.events c.store) (callers r.walk is) quiet live
+      (finally_turns t fs u at)
       (finally_return_keeps t fs program p q u (callers r.walk is) at
-        (on_stack t u.memory (context_of u.cpu) 0 (Unwinding r ∷ is) on.is_there.stack)) a goes
-        (omega arith) known
+      (on_stack t u.memory (context_of u.cpu) 0 (Unwinding r ∷ is) on.is_there.stack)) a goes
+      (omega arith) known

@@ -29,22 +29,22 @@ module _ (t : Functions) (fs : List Funclet) (program : LinearProgram) (p : Imag
     top_of = register s.cpu Rsp + (p.layout c.frame.body).frame
 
     pub begins_beneath : Beneath t s top_of (top_of + 8) b.body.back (others_of s.cpu.registers)
-      b.body.is
+        b.body.is
     begins_beneath =
         let h = frame_top t fs program p q image s c b counted in
         beneath_by t s top_of b.body.back b.body.is b.sane.count b.body.returns
-          (b.body.below (others_of s.cpu.registers) refl).is_there.stack (omega arith)
-          b.memory.data_alone.no_code
+        (b.body.below (others_of s.cpu.registers) refl).is_there.stack (omega arith)
+        b.memory.data_alone.no_code
 
   -- that of a funclet
   pub arrives_beneath : (s : State) (k activation first : ℕ) (items : List Item)
       (acts : List Activation) (a : ArrivesBelow t fs program p s k activation first items acts)
       → a.at ≤ STACK_END
       → Beneath t s (register s.cpu Rsp) (register s.cpu Rsp + 8) a.back (others_of s.cpu.registers)
-        a.is
+      a.is
   arrives_beneath s k activation first items acts a high =
       let e = a.stack in
       let on = a.on (others_of s.cpu.registers) refl in
       beneath_by t s (register s.cpu Rsp) a.back a.is a.sane.count a.returns
-        (subst (λ n. IsStack t s.memory (context_below a.back n (others_of s.cpu.registers)) a.is)
-        (sym e) on.is_there.stack) (omega arith) on.data_alone.no_code
+      (subst (λ n. IsStack t s.memory (context_below a.back n (others_of s.cpu.registers)) a.is)
+      (sym e) on.is_there.stack) (omega arith) on.data_alone.no_code

@@ -38,16 +38,16 @@ record_fits m sp low high may =
     let near : sp ≤ at + 1583 = omega arith in
     let from : return_address_at at + 8 ≡ at = omega arith in
     let first : nat_lt (2 ^ 64) (return_address_at at + 1576)
-      ≡ false = le-ltb (2 ^ 64) (return_address_at at + 1576) (omega arith) in
+    ≡ false = le-ltb (2 ^ 64) (return_address_at at + 1576) (omega arith) in
     let second : nat_lt (return_address_at at) STACK_START
-      ≡ false = le-ltb (return_address_at at) STACK_START (omega arith) in
+    ≡ false = le-ltb (return_address_at at) STACK_START (omega arith) in
     let third = all_may (may_write m) 1576 (return_address_at at) (omega arith)
-      (λ a p q. may a (omega arith) (omega arith)) in
+    (λ a p q. may a (omega arith) (omega arith)) in
     ap (λ (b : Bool). cond b (Some 0) (cond (nat_lt (return_address_at at) STACK_START)
-      (Some (return_address_at at)) (first_refused (may_write m) 1576 (return_address_at at))))
-      first
+    (Some (return_address_at at)) (first_refused (may_write m) 1576 (return_address_at at))))
+    first
     ∙ ap (λ (b : Bool). cond b (Some (return_address_at at))
-      (first_refused (may_write m) 1576 (return_address_at at))) second
+    (first_refused (may_write m) 1576 (return_address_at at))) second
     ∙ third
 
 module _ (t : Functions) (fs : List Funclet) (program : LinearProgram) (p : ImagePlan) (q : Sites)
@@ -57,7 +57,7 @@ module _ (t : Functions) (fs : List Funclet) (program : LinearProgram) (p : Imag
       (acts : List Activation) : Type 0 where
     pub is : List StackItem
     pub asks : AsksHost t fs program p (record { cpu = cpu; memory = with_bytes m byte }) saved is
-      (Waits c.frame ∷ c.below) acts
+        (Waits c.frame ∷ c.below) acts
 
   -- where the saved state is at a machine instruction of an instruction of the body
   pub asks_host : (cpu saved : Cpu) (m : Memory) (byte : ℕ → ℕ) (c : Configuration) (label : ℕ)
@@ -72,7 +72,7 @@ module _ (t : Functions) (fs : List Funclet) (program : LinearProgram) (p : Imag
       let u : State = record { cpu = saved; memory = m } in
       let top = body_on_top t fs program p q image u c label at resumed has in
       let high = in_stack t fs program p m (context_of saved) top.is (Waits c.frame ∷ c.below)
-        at.acts top.on.is_there.stack top.on.is_there.linked in
+      at.acts top.on.is_there.stack top.on.is_there.linked in
       let space = at.slots.space.space in
       let shallow = at.slots.space.shallow in
       let low : STACK_START + 1592 ≤ rsp (context_of saved) = omega arith in
@@ -82,9 +82,11 @@ module _ (t : Functions) (fs : List Funclet) (program : LinearProgram) (p : Imag
           gives = image.gives;
           sane = sane;
           sane_saved = sane_saved;
-          on = record { is_there = kept_by_stores_below t fs program p m byte (context_of saved)
-            top.is (Waits c.frame ∷ c.below) at.acts keeps top.on.is_there;
-            data_alone = memory.data_alone };
+          on = record {
+            is_there = kept_by_stores_below t fs program p m byte (context_of saved)
+                top.is (Waits c.frame ∷ c.below) at.acts keeps top.on.is_there;
+            data_alone = memory.data_alone;
+          };
           low = omega arith;
           room = record_fits (with_bytes m byte) (rsp (context_of saved)) low high memory.stack;
         };

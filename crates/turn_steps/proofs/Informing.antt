@@ -65,13 +65,13 @@ module _ (t : Functions) (fs : List Funclet) (program : LinearProgram) (p : Imag
   pointers_near : IsFilterBody program c.frame.body → (p.layout c.frame.body).pointers < 4096
   pointers_near f =
       let plan : IsFuncletPlan program p f.number body = subst
-        (λ name. IsFuncletPlan program p f.number body) f.is
-        (image.laid_out (FuncletBody f.number) body
-        (subst (λ name. linear.body_of program name ≡ Some body) f.is b.body.slots.body)) in
+      (λ name. IsFuncletPlan program p f.number body) f.is
+      (image.laid_out (FuncletBody f.number) body
+      (subst (λ name. linear.body_of program name ≡ Some body) f.is b.body.slots.body)) in
       let small = plan.layout.small in
       let room = (pointers_here t fs program p q s c b f).room in
       let same : (p.layout c.frame.body).frame
-        ≡ (p.layout (FuncletBody f.number)).frame = ap (λ name. (p.layout name).frame) f.is in
+      ≡ (p.layout (FuncletBody f.number)).frame = ap (λ name. (p.layout name).frame) f.is in
       omega arith
 
   pub information_step : (to : Slot) (field : Field) → c.frame.landed ≡ None
@@ -79,51 +79,51 @@ module _ (t : Functions) (fs : List Funclet) (program : LinearProgram) (p : Imag
       → length c.frame.temporaries ≤ body.temporaries → IsNextSlot (length c.frame.temporaries) to
       → IsFilterBody program c.frame.body → IsField field
       → GoesInside t fs program p q image roomy s c b counted around
-        (instructions.Information to field) → Moves t fs program 16 turns_left
-        (Begins t fs program p q) s c (instructions.Information to field)
+      (instructions.Information to field) → Moves t fs program 16 turns_left
+      (Begins t fs program p q) s c (instructions.Information to field)
   information_step to field free e held next filter is inside =
       let y = p.layout c.frame.body in
       let value = field_of field c.frame.exception in
       let there = has_slots t fs program p q image roomy s c b counted
-        (instructions.Information to field) e in
+      (instructions.Information to field) e in
       let fits = fits_next to next in
       let acts : (next : Next) → act program (instructions.Information to field) next c
-        ≡ next (stored t fs program p q image roomy s c b counted around to value c.store.memory) =
+      ≡ next (stored t fs program p q image roomy s c b counted around to value c.store.memory) =
       writes t fs program p q image roomy s c b counted around to value c.store.memory fits in
       let lt = inside (stored t fs program p q image roomy s c b counted around to value
-        c.store.memory) acts body b.body.slots.body in
+      c.store.memory) acts body b.body.slots.body in
       let at = next_address t fs program p q image roomy s c b counted
-        (instructions.Information to field) e in
+      (instructions.Information to field) e in
       let small = label_small t fs program p q image roomy s c b counted around (c.frame.next + 1)
-        lt in
+      lt in
       let reads = reads_exception t fs program p q s c b field filter is in
       let near = pointers_near filter in
       let run = information_run (frame t fs program p q image roomy s c b counted) to field
-        (v t fs program p q image roomy s c b counted) s.cpu.rip s.cpu.flags now value
-        (room_here t fs program p q image s c b counted) there is (omega arith)
-        (sp_is t fs program p q image roomy s c b counted)
-        (holds_here t fs program p q image s c b counted)
+      (v t fs program p q image roomy s c b counted) s.cpu.rip s.cpu.flags now value
+      (room_here t fs program p q image s c b counted) there is (omega arith)
+      (sp_is t fs program p q image roomy s c b counted)
+      (holds_here t fs program p q image s c b counted)
       reads.small reads.has (template_here t fs program p q image roomy s c b counted
-        (instructions.Information to field) e) in
+      (instructions.Information to field) e) in
       let len = keep_length y to in
       let more = one_more c.frame.temporaries to value fits in
       let size = information_size y to field in
       moves_to t fs program p q image roomy s c b counted around (instructions.Information to field)
-        (length (information_code y to field)) (c.frame.next + 1)
-        (s.cpu.rip + sizes (information_code y to field))
-        (record { slots = with_slot now.slots to value; memory = c.store.memory })
+      (length (information_code y to field)) (c.frame.next + 1)
+      (s.cpu.rip + sizes (information_code y to field))
+      (record { slots = with_slot now.slots to value; memory = c.store.memory })
       (locals_after (linear.locals_of c.store c.frame.activation) to value)
-        (temporaries_after c.frame.temporaries to value) c.frame.landed
+      (temporaries_after c.frame.temporaries to value) c.frame.landed
       (from_here t fs program p q image roomy s c b counted around
-        (length (information_code y to field)) (s.cpu.rip + sizes (information_code y to field))
-        (record { slots = with_slot now.slots to value; memory = c.store.memory })
+      (length (information_code y to field)) (s.cpu.rip + sizes (information_code y to field))
+      (record { slots = with_slot now.slots to value; memory = c.store.memory })
       (subst (λ x. ReachesBody (frame t fs program p q image roomy s c b counted)
-        (length (information_code y to field))
-        (machine (v t fs program p q image roomy s c b counted) s.cpu.rip s.cpu.flags)
-        (s.cpu.rip + sizes (information_code y to field))
-        (v t fs program p q image roomy s c b counted).rest
-        (record { slots = with_slot now.slots to x; memory = c.store.memory })) reads.fits run))
+      (length (information_code y to field))
+      (machine (v t fs program p q image roomy s c b counted) s.cpu.rip s.cpu.flags)
+      (s.cpu.rip + sizes (information_code y to field))
+      (v t fs program p q image roomy s c b counted).rest
+      (record { slots = with_slot now.slots to x; memory = c.store.memory })) reads.fits run))
       (omega arith) lt (omega arith) (leaves_stored t fs program p q image roomy s c b counted
-        around to value c.store.memory held fits there) free
-        (information_keeps t fs program p q image roomy s c b counted to field e is (omega arith))
-        acts (omega arith) (omega arith)
+      around to value c.store.memory held fits there) free
+      (information_keeps t fs program p q image roomy s c b counted to field e is (omega arith))
+      acts (omega arith) (omega arith)

@@ -20,13 +20,18 @@ begun_represents : (t : Functions) (fs : List Funclet) (program : LinearProgram)
     → LeadsTo t fs most (Begins t fs program p q) s c
     → LeadsTo t fs most (Represents t fs program p q) s c
 begun_represents t fs program p q most s c l =
-    record { turns = l.turns; few = l.few; state = l.state; comes = l.comes;
-    is_there = inl l.is_there }
+    record {
+      turns = l.turns;
+      few = l.few;
+      state = l.state;
+      comes = l.comes;
+      is_there = inl l.is_there;
+    }
 
 pub bodies_continue : BodiesContinue
 bodies_continue t fs program p q image made s saved is acts AfterCall c on sane says memory store =
     let x = continuations_after_calls t fs program p q image made s saved is acts c on sane says
-      memory store in
+    memory store in
     (x.0, λ known free. begun_represents t fs program p q _ _ _ (x.1 known free))
 bodies_continue t fs program p q image made s saved is acts SameOperation c on sane says memory
     store =

@@ -85,15 +85,15 @@ got_more (z ∷ xs) x (suc i) v e = elim (got_more xs x i v e) [
 -- after a write of the temporary past the last, the slots are those of a list that is longer by one
 longer_leaves : (b : LinearBody) (d : BodyState) (values ts : List ℕ) (v : ℕ) → Leaves b d values ts
     → length ts < b.temporaries → Leaves b (record
-      { slots = with_slot d.slots (Temporary (length ts)) v; memory = d.memory }) values
-      (ts ++ v ∷ [])
+    { slots = with_slot d.slots (Temporary (length ts)) v; memory = d.memory }) values
+    (ts ++ v ∷ [])
 longer_leaves b d values ts v l lt = record {
   count = l.count;
   locals = l.locals;
   few = omega (arith, length-append ts (v ∷ []));
   temporaries = λ i x e. elim (got_more ts v i x e) [
     | inl w ↦ (let small = w.0 in ap (λ (c : Bool). cond c v (d.slots (Temporary i)))
-      (ne_eqb i (length ts) (λ n. absurd (omega arith))) ∙ l.temporaries i x w.1)
+        (ne_eqb i (length ts) (λ n. absurd (omega arith))) ∙ l.temporaries i x w.1)
     | inr w ↦ ap (λ (c : Bool). cond c v (d.slots (Temporary i))) (eq-eqb i (length ts) w.0) ∙ w.1
   ];
 }
@@ -115,7 +115,7 @@ module _ (t : Functions) (fs : List Funclet) (program : LinearProgram) (p : Imag
       0 where
     pub caller : p.leaf name ≡ true → CallerHasFrame p items
     pub owner : (k : ℕ) → name ≡ FuncletBody k → (acts : List Activation) → length acts ≡ depth
-      → OwnerHasFrame t fs program p activation items acts
+        → OwnerHasFrame t fs program p activation items acts
 
   -- linear code where the body that waited has the result
   abbrev pub answered : Frame → List Item → Memory → List Activation → List Event → ℕ
@@ -128,19 +128,25 @@ module _ (t : Functions) (fs : List Funclet) (program : LinearProgram) (p : Imag
   module _ (u : State) (w : Frame) (items : List Item) (acts : List Activation) (source : Memory)
       (es : List Event) (above : Context) (is : List StackItem)
       (on : On t fs program p u.memory above is (Waits w ∷ items) acts)
-        (sp : register u.cpu Rsp ≡ rsp above) (sane : IsSane u)
-        (memory : IsMachineMemory t fs program p q u.memory source)
+      (sp : register u.cpu Rsp ≡ rsp above) (sane : IsSane u)
+      (memory : IsMachineMemory t fs program p q u.memory source)
       (o : LinearBody) (there : body_of program w.body ≡ Some o) (i : Instruction) (first : ℕ)
-        (done : List Instr) (calls : slice_get o.code w.next ≡ Some i) (goes : IsReturn i → ⊥)
+      (done : List Instr) (calls : slice_get o.code w.next ≡ Some i) (goes : IsReturn i → ⊥)
       (parts : template (links_of p q w.body) (p.layout w.body) (p.address w.body w.next) i
-        ≡ done ++ keep (p.layout w.body) (Temporary first))
+      ≡ done ++ keep (p.layout w.body) (Temporary first))
       (fits : first < o.temporaries) (within : w.next + 1 < length o.code)
-        (held : length w.temporaries ≡ first) (free : w.landed ≡ None)
-        (back : u.cpu.rip ≡ p.address w.body w.next + sizes done) where
+      (held : length w.temporaries ≡ first) (free : w.landed ≡ None)
+      (back : u.cpu.rip ≡ p.address w.body w.next + sizes done) where
     -- the same state, but that the instruction of the call begins
     abbrev pub earlier : State
-    earlier = record { cpu = record { registers = u.cpu.registers; rip = p.address w.body w.next;
-      flags = u.cpu.flags }; memory = u.memory }
+    earlier = record {
+      cpu = record {
+        registers = u.cpu.registers;
+        rip = p.address w.body w.next;
+        flags = u.cpu.flags;
+      };
+      memory = u.memory;
+    }
 
     abbrev pub caller : Configuration
     caller = on_top w items source acts es
@@ -156,20 +162,24 @@ module _ (t : Functions) (fs : List Funclet) (program : LinearProgram) (p : Imag
           sane = record { rip_small = small_address; count = sane.count; small = sane.small };
           memory = memory;
           body = waits_in_body t fs program p q image earlier above is w items acts w.next
-            w.temporaries w.landed source es on sp
-            (first_in_code t fs program p q image w.body o w.next there lt) small_address
-            (λ at end h. h);
+              w.temporaries w.landed source es on sp
+              (first_in_code t fs program p q image w.body o w.next there lt) small_address
+              (λ at end h. h);
           landed = λ code e. absurd (nothing w.landed code free e);
         }
 
     module _ (counted : IsCounted t fs program p q image caller)
-      (surrounded : IsSurrounded w.body w.activation items (length acts)) where
+        (surrounded : IsSurrounded w.body w.activation items (length acts)) where
       around : Surroundings t fs program p q image roomy earlier caller waits counted
       around = record {
         caller = surrounded.caller;
         owner = λ k e. surrounded.owner k e waits.body.acts
-          (omega (arith, locals_count waits.body.acts, locals_count acts,
-          ap length waits.body.store));
+            (omega (
+              arith,
+              locals_count waits.body.acts,
+              locals_count acts,
+              ap length waits.body.store,
+            ));
       }
 
       same_code : (a b : LinearBody) → Some a ≡ Some b → a ≡ b
@@ -194,9 +204,9 @@ module _ (t : Functions) (fs : List Funclet) (program : LinearProgram) (p : Imag
       keeps_code : HasCode u.memory u.cpu.rip (keep layout (Temporary first))
       keeps_code =
           let whole = template_here t fs program p q image roomy earlier caller waits counted i
-            calls_here in
+          calls_here in
           let after = code_split u.memory place done (keep layout (Temporary first))
-            (subst (HasCode u.memory place) parts whole) in
+          (subst (HasCode u.memory place) parts whole) in
           subst (λ x. HasCode u.memory x (keep layout (Temporary first))) (sym back) after.1
 
       abbrev result : ℕ
@@ -210,28 +220,31 @@ module _ (t : Functions) (fs : List Funclet) (program : LinearProgram) (p : Imag
 
       -- RAX goes to its temporary
       kept : ReachesBody (frame t fs program p q image roomy earlier caller waits counted) 1
-        (machine (seen_by_templates u) u.cpu.rip u.cpu.flags)
-        (u.cpu.rip + sizes (keep layout (Temporary first))) (seen_by_templates u).rest
-          (record { slots = with_slot (slots t fs program p q image roomy earlier caller waits
-            counted).slots (Temporary first) result; memory = source })
+          (machine (seen_by_templates u) u.cpu.rip u.cpu.flags)
+          (u.cpu.rip + sizes (keep layout (Temporary first))) (seen_by_templates u).rest
+          (record {
+            slots = with_slot (slots t fs program p q image roomy earlier caller waits
+                counted).slots (Temporary first) result;
+            memory = source;
+          })
       kept =
           let r = room_slots in
           call_ends (frame t fs program p q image roomy earlier caller waits counted)
-            (Temporary first) (seen_by_templates u) u.cpu.rip u.cpu.flags
-            (slots t fs program p q image roomy earlier caller waits counted)
+          (Temporary first) (seen_by_templates u) u.cpu.rip u.cpu.flags
+          (slots t fs program p q image roomy earlier caller waits counted)
           (room_here t fs program p q image earlier caller waits counted) (omega arith)
-            (result_small u.cpu.registers sane.count sane.small)
-            (sp_is t fs program p q image roomy earlier caller waits counted)
+          (result_small u.cpu.registers sane.count sane.small)
+          (sp_is t fs program p q image roomy earlier caller waits counted)
           (holds_here t fs program p q image earlier caller waits counted) keeps_code
         where
           result_small : (rs : List ℕ) → length rs ≡ 16
-            → ((i : ℕ) → i < length rs → slice_index rs i < 2 ^ 64) → slice_index rs 0 < 2 ^ 64
+              → ((i : ℕ) → i < length rs → slice_index rs i < 2 ^ 64) → slice_index rs 0 < 2 ^ 64
           result_small rs n small = small 0 (omega arith)
 
       next_place : u.cpu.rip + sizes (keep layout (Temporary first)) ≡ p.address w.body (w.next + 1)
       next_place =
           let n = next_address t fs program p q image roomy earlier caller waits counted i
-            calls_here in
+          calls_here in
           let z = template_sizes (links_of p q w.body) layout place i in
           let e = ap sizes parts in
           omega (arith, back, n, z, e, sizes_append done (keep layout (Temporary first)))
@@ -249,92 +262,118 @@ module _ (t : Functions) (fs : List Funclet) (program : LinearProgram) (p : Imag
       values_here = (placed t fs program p q image earlier caller waits counted).values
 
       as_they_were : Leaves body (slots t fs program p q image roomy earlier caller waits counted)
-        values_here w.temporaries
+          values_here w.temporaries
       as_they_were =
           let s = slots_here t fs program p q image earlier caller waits counted in
           let r = room_slots in
           record {
             count = count t fs program p q image earlier caller waits counted;
             locals = λ i lt. s.locals i lt ∙ ap (λ xs. slice_index xs i)
-              (locals_here t fs program p q image earlier caller waits counted);
+                (locals_here t fs program p q image earlier caller waits counted);
             few = omega (arith, held);
             temporaries = s.temporaries;
           }
 
-      leaves : Leaves body (record { slots = with_slot
-        (slots t fs program p q image roomy earlier caller waits counted).slots (Temporary first)
-        result; memory = source }) values_here (w.temporaries ++ result ∷ [])
+      leaves : Leaves body (record {
+        slots = with_slot
+            (slots t fs program p q image roomy earlier caller waits counted).slots (Temporary first)
+            result;
+        memory = source;
+      }) values_here (w.temporaries ++ result ∷ [])
       leaves =
           let r = room_slots in
-          subst (λ n. Leaves body (record { slots = with_slot
-            (slots t fs program p q image roomy earlier caller waits counted).slots (Temporary n)
-            result; memory = source }) values_here (w.temporaries ++ result ∷ [])) held
+          subst (λ n. Leaves body (record {
+            slots = with_slot
+                (slots t fs program p q image roomy earlier caller waits counted).slots (Temporary n)
+                result;
+            memory = source;
+          }) values_here (w.temporaries ++ result ∷ [])) held
           (longer_leaves body (slots t fs program p q image roomy earlier caller waits counted)
-            values_here w.temporaries result as_they_were (omega (arith, held)))
+          values_here w.temporaries result as_they_were (omega (arith, held)))
 
       same_locals : locals_of (with_values waits.body.acts w.activation values_here)
-        ≡ locals_of acts
+          ≡ locals_of acts
       same_locals =
           let n = slice_get_within (locals_of waits.body.acts) w.activation values_here
-            (placed t fs program p q image earlier caller waits counted).number in
+          (placed t fs program p q image earlier caller waits counted).number in
           let k = locals_count waits.body.acts in
           same_activations waits.body.acts w.activation values_here (omega arith)
-            (placed t fs program p q image earlier caller waits counted).number
-            ∙ sym waits.body.store
+          (placed t fs program p q image earlier caller waits counted).number
+          ∙ sym waits.body.store
 
       -- the code that keeps the result keeps the shadow
       keeps_shadow : RunsKeep t fs program p q image earlier caller waits counted 1 u
       keeps_shadow =
           let room = room_here t fs program p q image earlier caller waits counted in
           one_piece t fs program p q image earlier caller waits counted i calls_here goes done
-            (keep layout (Temporary first)) u parts
+          (keep layout (Temporary first)) u parts
           (keep_flow layout (counts_of body) (register u.cpu Rsp)
-            (placed t fs program p q image earlier caller waits counted).base room (Temporary first)
-            room_slots)
-          (record { rip = back; registers = refl;
-            is_there = is_here t fs program p q image earlier caller waits counted })
+          (placed t fs program p q image earlier caller waits counted).base room (Temporary first)
+          room_slots)
+          (record {
+            rip = back;
+            registers = refl;
+            is_there = is_here t fs program p q image earlier caller waits counted;
+          })
 
       -- in one turn, which keeps the shadow, the next instruction begins
       pub resumes : Resumes t fs program p q u (answered w items source acts es result)
       resumes =
           let r = subst (λ x. ReachesBody (frame t fs program p q image roomy earlier caller waits
-            counted) 1 x (u.cpu.rip + sizes (keep layout (Temporary first)))
-            (seen_by_templates u).rest (record
-            { slots = with_slot (slots t fs program p q image roomy earlier caller waits
-            counted).slots (Temporary first) result; memory = source })) (sym same_state) kept in
+          counted) 1 x (u.cpu.rip + sizes (keep layout (Temporary first)))
+          (seen_by_templates u).rest (record {
+            slots = with_slot (slots t fs program p q image roomy earlier caller waits
+                counted).slots (Temporary first) result;
+            memory = source;
+          })) (sym same_state) kept in
           let rip = u.cpu.rip + sizes (keep layout (Temporary first)) in
           let z : State = machine r.after rip r.flags in
           let k = reaches_keeps 1 u z r.comes in
-          let keeps : Keeps earlier z = record { protection = k.protection; fixed = k.fixed;
-            count = k.count; small = k.small } in
+          let keeps : Keeps earlier z = record {
+            protection = k.protection;
+            fixed = k.fixed;
+            count = k.count;
+            small = k.small;
+          } in
           let stack : register z.cpu Rsp ≡ register u.cpu Rsp = ap
-            (λ (xs : List ℕ). slice_index xs 1) r.rest ∙ dropped u.cpu.registers in
-          let d : BodyState = record { slots = with_slot
-            (slots t fs program p q image roomy earlier caller waits counted).slots
-            (Temporary first) result; memory = source } in
+          (λ (xs : List ℕ). slice_index xs 1) r.rest ∙ dropped u.cpu.registers in
+          let d : BodyState = record {
+            slots = with_slot
+                (slots t fs program p q image roomy earlier caller waits counted).slots
+                (Temporary first) result;
+            memory = source;
+          } in
           let ts = w.temporaries ++ result ∷ [] in
           let ran : Ran t fs program p q image earlier caller waits counted z d values_here
-            ts = record { changed = record { changes = r.changes; keeps = keeps }; holds = r.holds;
-            stack = stack; leaves = leaves } in
+          ts = record {
+            changed = record { changes = r.changes; keeps = keeps };
+            holds = r.holds;
+            stack = stack;
+            leaves = leaves;
+          } in
           let inside : w.next + 1 < length body.code = subst
-            (λ (b : LinearBody). w.next + 1 < length b.code) is_body within in
+          (λ (b : LinearBody). w.next + 1 < length b.code) is_body within in
           let small : rip < 2 ^ 64 = let n = next_small in omega (arith, next_place) in
           let begins = begins_next t fs program p q image earlier caller waits counted z d
-            values_here ts ran (w.next + 1) w.landed es next_place inside
-            (stays_sane earlier z keeps small waits.sane)
-            (λ code e. absurd (nothing w.landed code free e)) around.caller around.owner in
+          values_here ts ran (w.next + 1) w.landed es next_place inside
+          (stays_sane earlier z keeps small waits.sane)
+          (λ code e. absurd (nothing w.landed code free e)) around.caller around.owner in
           let ends = ends_at t fs program p q image earlier caller waits counted z (w.next + 1)
-            next_place inside (kept_by_rest r.after.rest u.cpu.registers r.rest)
+          next_place inside (kept_by_rest r.after.rest u.cpu.registers r.rest)
           (is_after t fs program p q image earlier caller waits counted z d values_here ts ran
-            around.caller around.owner) in
+          around.caller around.owner) in
           record {
             state = z;
             reaches = r.comes;
             quiet = quiet_at t fs program p q image roomy earlier caller waits counted (w.next + 1)
-              rip next_place inside small z refl;
+                rip next_place inside small z refl;
             begins = subst (λ (xs : List (List ℕ)).
-              let c : Configuration = record { frame = again w (w.next + 1) ts w.landed;
-              below = items; store = record { memory = source; activations = xs }; events = es } in
-              Begins t fs program p q z c) same_locals begins;
+                let c : Configuration = record {
+                  frame = again w (w.next + 1) ts w.landed;
+                  below = items;
+                  store = record { memory = source; activations = xs };
+                  events = es;
+                } in
+                Begins t fs program p q z c) same_locals begins;
             keeps = keeps_shadow z r.comes ends;
           }

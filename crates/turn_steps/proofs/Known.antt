@@ -42,9 +42,12 @@ module _ (program : LinearProgram) where
       → IsKindOf program name end kind → Handles program kind filter target → filter ≡ Some k
       → IsFilterOfSome k
   by_kind name end (kinds.Finally j) filter target k is h e = absurd h
-  by_kind name end (kinds.Filter j label) filter target k is h
-      e = record { parent = name; funclet = subst (IsFuncletOf program name IsFilterKind)
-      (same_number j k (sym h.0 ∙ e)) is.0 }
+  by_kind name end (kinds.Filter j label) filter target k is h e =
+      record {
+        parent = name;
+        funclet = subst (IsFuncletOf program name IsFilterKind)
+            (same_number j k (sym h.0 ∙ e)) is.0;
+      }
   by_kind name end (kinds.Always label) filter target k is h e = let f : ◌≡◌ {A = Option ℕ} None
       (Some k) = sym h.0 ∙ e in absurd cc
 
@@ -74,8 +77,12 @@ module _ (program : LinearProgram) where
   activation_at [] xs i function h e = cc
   activation_at (k ∷ ks) [] i function h e = absurd h
   activation_at (k ∷ ks) (x ∷ xs) zero function h
-      e = record { locals = x; there = refl; of = subst (λ j. IsActivationOf program j x)
-      (same_number k function e) h.0 }
+      e = record {
+        locals = x;
+        there = refl;
+        of = subst (λ j. IsActivationOf program j x)
+            (same_number k function e) h.0;
+      }
   activation_at (k ∷ ks) (x ∷ xs) (suc i) function h e = let r = activation_at ks xs i function h.1
       e in record { locals = r.locals; there = r.there; of = r.of }
 
@@ -95,9 +102,9 @@ module _ (t : Functions) (fs : List Funclet) (program : LinearProgram) (p : Imag
       → (p.layout (FuncletBody k)).locals ≡ (p.layout (FunctionBody f.function)).locals
   own_locals k f there =
       let plan : IsFuncletPlan program p k f.body = image.laid_out (FuncletBody k) f.body
-        (ap funclet_body there) in
+      (ap funclet_body there) in
       plan.layout.locals ∙ ap (λ (g : LinearFunclet). (p.layout (FunctionBody g.function)).locals)
-        (same_funclet plan.funclet f (sym plan.there ∙ there))
+      (same_funclet plan.funclet f (sym plan.there ∙ there))
 
   -- a funclet with a function is there
   pub record IsThere (k function : ℕ) : Type 0 where
@@ -110,19 +117,22 @@ module _ (t : Functions) (fs : List Funclet) (program : LinearProgram) (p : Imag
   is_there k function e = by (slice_get program.funclets k) refl e
     where
       by : (o : Option LinearFunclet) → slice_get program.funclets k ≡ o
-        → function_of o ≡ Some function → IsThere k function
+          → function_of o ≡ Some function → IsThere k function
       by None is e = cc
-      by (Some f) is e = record { funclet = f; there = is;
-        function_is = same_number f.function function e }
+      by (Some f) is e = record {
+        funclet = f;
+        there = is;
+        function_is = same_number f.function function e;
+      }
 
   pub no_leaf : (k function : ℕ) → owner_of program (FuncletBody k) ≡ Some function
       → (p.leaf (FuncletBody k) ≡ false) × (p.leaf (FunctionBody function) ≡ false)
   no_leaf k function e =
       let i = is_there k function e in
       let plan : IsFuncletPlan program p k i.funclet.body = image.laid_out (FuncletBody k)
-        i.funclet.body (ap funclet_body i.there) in
+      i.funclet.body (ap funclet_body i.there) in
       let same : plan.funclet.function ≡ function = ap (λ (g : LinearFunclet). g.function)
-        (same_funclet plan.funclet i.funclet (sym plan.there ∙ i.there)) ∙ i.function_is in
+      (same_funclet plan.funclet i.funclet (sym plan.there ∙ i.there)) ∙ i.function_is in
       (plan.framed, subst (λ j. p.leaf (FunctionBody j) ≡ false) same plan.function_framed)
 
   -- a funclet's parent has the same function, whose locals are as far from its base
@@ -135,7 +145,7 @@ module _ (t : Functions) (fs : List Funclet) (program : LinearProgram) (p : Imag
   parent_locals k f (Some j) name there e owner =
       let i = is_there j f.function owner in
       ap (λ n. (p.layout n).locals) (sym e) ∙ own_locals j i.funclet i.there
-        ∙ ap (λ g. (p.layout (FunctionBody g)).locals) i.function_is ∙ sym (own_locals k f there)
+      ∙ ap (λ g. (p.layout (FunctionBody g)).locals) i.function_is ∙ sym (own_locals k f there)
 
   -- what RDX leads to, by the parent
   pub leads_by : (m : Memory) (f : LinearFunclet) (o : Option ℕ) (name : BodyName) (frame base : ℕ)
@@ -145,17 +155,17 @@ module _ (t : Functions) (fs : List Funclet) (program : LinearProgram) (p : Imag
       (sym e) h
   leads_by m f (Some j) name frame base e owner h =
       let l : Leads m (p.layout (FuncletBody j)) (FuncletBody j) frame base = subst
-        (λ n. Leads m (p.layout n) n frame base) (sym e) h in
+      (λ n. Leads m (p.layout n) n frame base) (sym e) h in
       let i = is_there j f.function owner in
       let plan : IsFuncletPlan program p j i.funclet.body = image.laid_out (FuncletBody j)
-        i.funclet.body (ap funclet_body i.there) in
+      i.funclet.body (ap funclet_body i.there) in
       let slot : l.slot ≡ plan.layout.slot = same_number l.slot plan.layout.slot
-        (sym l.some ∙ plan.layout.base) in
+      (sym l.some ∙ plan.layout.base) in
       let a = plan.layout.kept in
       let b = plan.layout.temporaries in
       let c = plan.layout.small in
       subst (λ o. LeadsBy m o frame base) (sym l.some)
-        (record { near = omega arith; room = l.room; kept = l.kept })
+      (record { near = omega arith; room = l.room; kept = l.kept })
 
   -- as many locals as it names
   pub locals_counted : (k : ℕ) (f : LinearFunclet) (function : ℕ) (locals : List ℕ)
@@ -163,13 +173,13 @@ module _ (t : Functions) (fs : List Funclet) (program : LinearProgram) (p : Imag
       → IsActivationOf program function locals → length locals ≡ f.body.locals
   locals_counted k f function locals there same of =
       let plan : IsFuncletPlan program p k f.body = image.laid_out (FuncletBody k) f.body
-        (ap funclet_body there) in
+      (ap funclet_body there) in
       let g : plan.funclet.function ≡ function = ap (λ (g : LinearFunclet). g.function)
-        (same_funclet plan.funclet f (sym plan.there ∙ there)) ∙ same in
+      (same_funclet plan.funclet f (sym plan.there ∙ there)) ∙ same in
       let b : body_of program (FunctionBody function)
-        ≡ Some of.function.body = ap function_body of.there in
+      ≡ Some of.function.body = ap function_body of.there in
       let e : plan.function ≡ of.function.body = same_body plan.function of.function.body
-        (sym plan.function_there ∙ ap (λ j. body_of program (FunctionBody j)) g ∙ b) in
+      (sym plan.function_there ∙ ap (λ j. body_of program (FunctionBody j)) g ∙ b) in
       of.count ∙ ap (λ (x : LinearBody). x.locals) (sym e) ∙ sym plan.same_locals
 
   -- ---- wherever the function of an activation waits, it has a frame
@@ -190,9 +200,9 @@ module _ (t : Functions) (fs : List Funclet) (program : LinearProgram) (p : Imag
       (omega (arith, length-append (owners_of below) (g ∷ [])))
   body_framed n b below (x ∷ outer) (FunctionBody g) is e h go =
       let m : length outer ≡ length (owners_of below) = omega
-        (arith, length-append (owners_of below) (g ∷ [])) in (
+      (arith, length-append (owners_of below) (g ∷ [])) in (
         λ i. h g (subst (λ j. slice_get (owners_of below ++ g ∷ []) j ≡ Some g) (sym (i ∙ m))
-          (got_last (owners_of below) g)),
+            (got_last (owners_of below) g)),
         go outer m (λ function z. h function (got_before (owners_of below) (g ∷ []) n function z)),
       )
   body_framed n b below acts (FuncletBody k) is e h go = (λ i. (no_leaf k is.0 is.1).0, go acts e h)

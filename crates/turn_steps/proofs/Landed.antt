@@ -67,25 +67,25 @@ module _ (t : Functions) (fs : List Funclet) (program : LinearProgram) (p : Imag
       → IsMachineMemory t fs program p q s.memory source → rax ≡ landing_value code
       → (code ≡ None → body.landed ≡ None)
       → Begins t fs program p q (at_landing s to rax address)
-        (arrival body below label code source outer shown)
+      (arrival body below label code source outer shown)
   lands_in_body s to framed is body below outer rax address label code source shown on at lands sane
       memory is_code clear =
       let w = on.is_there.linked.0.waits in
       let inside = subst (InCode p body.body label) (sym at)
-        (first_in_code t fs program p q image body.body w.code label w.body
-        (image.landings body.body w.code label w.body lands)) in
+      (first_in_code t fs program p q image body.body w.code label w.body
+      (image.landings body.body w.code label w.body lands)) in
       by_code code inside is_code clear
     where
       by_code : (code : Option ℕ) → InCode p body.body label address → rax ≡ landing_value code
-        → (code ≡ None → body.landed ≡ None) → Begins t fs program p q (at_landing s to rax address)
+          → (code ≡ None → body.landed ≡ None) → Begins t fs program p q (at_landing s to rax address)
           (arrival body below label code source outer shown)
       by_code None inside is_code clear = record {
         rip = at;
         sane = sane;
         memory = memory;
         body = waits_in_body t fs program p q image (at_landing s to rax address) to
-          (Framed framed ∷ is) body below outer label body.temporaries body.landed source
-          (shown ++ []) on refl inside sane.rip_small (all_front s.memory body.temporaries);
+            (Framed framed ∷ is) body below outer label body.temporaries body.landed source
+            (shown ++ []) on refl inside sane.rip_small (all_front s.memory body.temporaries);
         landed = λ x e. let z = sym (clear refl) ∙ e in absurd cc;
       }
       by_code (Some code) inside is_code clear = record {
@@ -93,9 +93,9 @@ module _ (t : Functions) (fs : List Funclet) (program : LinearProgram) (p : Imag
         sane = sane;
         memory = memory;
         body = waits_in_body t fs program p q image (at_landing s to rax address) to
-          (Framed framed ∷ is) body below outer label [] (Some code) source
-          (shown ++ landing_events (Some code)) on refl inside sane.rip_small
-          (no_front s.memory body.temporaries);
+            (Framed framed ∷ is) body below outer label [] (Some code) source
+            (shown ++ landing_events (Some code)) on refl inside sane.rip_small
+            (no_front s.memory body.temporaries);
         landed = λ x e. let z : code ≡ x = same_code code x e in is_code ∙ z;
       }
 
@@ -106,7 +106,7 @@ module _ (t : Functions) (fs : List Funclet) (program : LinearProgram) (p : Imag
       → turns_left (arrival l.body l.below w.target.label w.target.code w.source l.outer w.shown)
       ≤ left → (w.target.code ≡ None → l.body.landed ≡ None)
       → ContinuesAs t fs program p q turn (λ next. linear.unwind program next w.target w.items
-        w.left w.shown (store_of w.source w.acts)) w.shown left (callers r.walk is)
+      w.left w.shown (store_of w.source w.acts)) w.shown left (callers r.walk is)
   lands_as s at r is turn w left u l memory few clear = record {
     state = at_landing s l.to (landing_value w.target.code) r.target;
     events = landing_events w.target.code;
@@ -114,17 +114,22 @@ module _ (t : Functions) (fs : List Funclet) (program : LinearProgram) (p : Imag
     configuration = arrival l.body l.below w.target.label w.target.code w.source l.outer w.shown;
     few = few;
     acts = λ next. l.goes next ∙ arrives_there l.body l.below (record w.target { held = l.held })
-      w.target.code w.source l.outer w.shown next;
+        w.target.code w.source l.outer w.shown next;
     shown = refl;
     quiet = l.quiet (at_landing s l.to (landing_value w.target.code) r.target).cpu;
     walk = landing_walk t fs program p q image s at r is turn w u l (landing_value w.target.code)
-      memory;
+        memory;
     leads = λ known. at_once (lands_in_body s l.to l.framed l.is l.body l.below l.outer
-      (landing_value w.target.code) r.target w.target.label w.target.code w.source w.shown l.on
-      l.at_address l.lands l.sane memory refl clear);
+        (landing_value w.target.code) r.target w.target.label w.target.code w.source w.shown l.on
+        l.at_address l.lands l.sane memory refl clear);
   }
     where
       at_once : {u : State} {d : Configuration} → Begins t fs program p q u d
-        → LeadsTo t fs entry_turns (Represents t fs program p q) u d
-      at_once {u} {d} h = record { turns = 0; few = omega arith; state = u; comes = (refl, refl);
-        is_there = inl h }
+          → LeadsTo t fs entry_turns (Represents t fs program p q) u d
+      at_once {u} {d} h = record {
+        turns = 0;
+        few = omega arith;
+        state = u;
+        comes = (refl, refl);
+        is_there = inl h;
+      }

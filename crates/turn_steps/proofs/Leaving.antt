@@ -91,7 +91,7 @@ module _ (t : Functions) (fs : List Funclet) (program : LinearProgram) (p : Imag
         record {
           number = r;
           readable = λ a l u. may_read_written s.memory a
-            (b.memory.stack a (omega arith) (omega arith));
+              (b.memory.stack a (omega arith) (omega arith));
           small = omega (arith, r, small);
         }
 
@@ -109,9 +109,9 @@ module _ (t : Functions) (fs : List Funclet) (program : LinearProgram) (p : Imag
         the_same a b e = cc
 
         by : (slot : Slot) → IsSlot (counts_of b.body.slots.code) slot → read c slot ≡ Some x
-          → (slots t fs program p q image roomy s c b counted).slots slot ≡ x
+            → (slots t fs program p q image roomy s c b counted).slots slot ≡ x
         by (Local i) lt e = (slots_here t fs program p q image s c b counted).locals i lt
-          ∙ the_same _ x e
+            ∙ the_same _ x e
         by (Temporary i) lt e = (slots_here t fs program p q image s c b counted).temporaries i x e
 
     -- the state after it
@@ -120,27 +120,32 @@ module _ (t : Functions) (fs : List Funclet) (program : LinearProgram) (p : Imag
         let top = frame_top t fs program p q image s c b counted in
         let low = sp_low t fs program p q image s c b counted in
         return_run (frame t fs program p q image roomy s c b counted) from view back s.cpu.rip
-          s.cpu.flags (slots t fs program p q image roomy s c b counted)
-          (room_here t fs program p q image s c b counted)
+        s.cpu.flags (slots t fs program p q image roomy s c b counted)
+        (room_here t fs program p q image s c b counted)
         is_there (length-drop 3 s.cpu.registers ∙ (let z = b.sane.count in omega arith))
-          (sp_is t fs program p q image roomy s c b counted) (omega arith)
-          (holds_here t fs program p q image s c b counted) has_back
+        (sp_is t fs program p q image roomy s c b counted) (omega arith)
+        (holds_here t fs program p q image s c b counted) has_back
         (template_here t fs program p q image roomy s c b counted (instructions.Return from) at)
 
     abbrev after_view : MachineView
-    after_view = record { rax = result; rcx = view.rcx; rdx = view.rdx; rest = view.rest;
-      memory = view.memory }
+    after_view = record {
+      rax = result;
+      rcx = view.rcx;
+      rdx = view.rdx;
+      rest = view.rest;
+      memory = view.memory;
+    }
 
     abbrev pub after : State
     after = machine (moved after_view (sp + layout.frame + 8)) back run.flags
 
     pub reaches : Reaches n s after
     reaches = subst (λ z. Reaches n z after) (sym
-      (same_state t fs program p q image roomy s c b counted)) run.comes
+        (same_state t fs program p q image roomy s c b counted)) run.comes
 
     pub sp_after : register after.cpu Rsp ≡ sp + layout.frame + 8
     sp_after = sym (index_of (with_sp view.rest (sp + layout.frame + 8)) 1)
-      ∙ sp_moved view (sp + layout.frame + 8)
+        ∙ sp_moved view (sp + layout.frame + 8)
         (length-drop 3 s.cpu.registers ∙ (let z = b.sane.count in omega arith))
 
     pub sane_after : IsSane after
@@ -153,10 +158,10 @@ module _ (t : Functions) (fs : List Funclet) (program : LinearProgram) (p : Imag
         let low = sp_low t fs program p q image s c b counted in
         let f = frame t fs program p q image roomy s c b counted in
         returns_keep t fs program p q image c.frame.body b.body.slots.code b.body.slots.body
-          c.frame.next from at s after (top_of t fs program p q image s c b counted) b.body.back
-          (others_of s.cpu.registers) b.body.is b.rip
+        c.frame.next from at s after (top_of t fs program p q image s c b counted) b.body.back
+        (others_of s.cpu.registers) b.body.is b.rip
         (begins_beneath t fs program p q image s c b counted) refl b.memory.code (omega arith)
         (fetch_plain layout.frame 8 layout from
-          (fetch_fine f.layout f.counts f.sp f.base true from
-          (room_here t fs program p q image s c b counted) is_there))
-          (reaches_steps n s after reaches)
+        (fetch_fine f.layout f.counts f.sp f.base true from
+        (room_here t fs program p q image s c b counted) is_there))
+        (reaches_steps n s after reaches)

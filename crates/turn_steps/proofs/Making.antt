@@ -36,8 +36,8 @@ pub word_readable : (m : Memory) (at v : ℕ) → word m at ≡ Ok v
 word_readable m at v e = by (first_refused (may_read m) 8 at) refl e
   where
     by : (o : Option ℕ) → first_refused (may_read m) 8 at ≡ o
-      → readable at (access false o (number_at m.byte 8 at)) ≡ Ok v
-      → (first_refused (may_read m) 8 at ≡ None) × (number_at m.byte 8 at ≡ v)
+        → readable at (access false o (number_at m.byte 8 at)) ≡ Ok v
+        → (first_refused (may_read m) 8 at ≡ None) × (number_at m.byte 8 at ≡ v)
     by None is e = (is, let n : number_at m.byte 8 at ≡ v = cc in n)
     by (Some a) is e = cc
 
@@ -64,18 +64,18 @@ parents_base v sp b base frame parent at is keeps lt c =
     let e : (v.rdx + 0 + parent) % 2 ^ 64 ≡ from = omega arith in
     let r = word_readable v.memory from base keeps.kept in
     executes_then (fetched Rax Rdx parent ∷ []) (keep_register Rax b ∷ []) v w
-      (kept_at w (sp + b) base)
+    (kept_at w (sp + b) base)
     (executes_one (fetched Rax Rdx parent) v w (λ rip f. (
       f,
       ap (λ (a : ℕ). load v.memory a W64 >>= λ x. Ok (machine (put true v (low W64 x)) rip f)) e
           ∙ ap (λ (o : Answer ℕ). o >>= λ x. Ok (machine (put true v (low W64 x)) rip f))
-            (load_at v.memory from r.0)
+          (load_at v.memory from r.0)
           ∙ ap (λ (x : ℕ). Ok (machine (put true v x) rip f))
-            (word_is (number_at v.memory.byte 8 from) base r.1 lt),
+          (word_is (number_at v.memory.byte 8 from) base r.1 lt),
     )))
     (keeps_register Rax w b (sp + b) base refl
-      (let q : (sp_of v + 0 + b) % 2 ^ 64 ≡ sp + b = omega arith in q)
-      (all_may (may_write v.memory) 8 (sp + b) (omega arith) (λ a p q. c.writable a p q)) lt)
+    (let q : (sp_of v + 0 + b) % 2 ^ 64 ≡ sp + b = omega arith in q)
+    (all_may (may_write v.memory) 8 (sp + b) (omega arith) (λ a p q. c.writable a p q)) lt)
 
 -- ---- a frame is made, and keeps the base
 
@@ -83,18 +83,18 @@ abbrev pub first_code : ℕ → Option ℕ → ℕ → List Instr
 first_code frame o b = enter_code frame ++ keep_base o b
 
 pub record Made (o : Option ℕ) (v : MachineView) (sp frame b base rip to : ℕ) (f : Flags) : Type 0
-    where
-  pub turns : ℕ
-  pub exact : turns ≡ length (first_code frame o b)
-  pub few : turns ≤ 3
-  pub after : MachineView
-  pub flags : Flags
-  pub comes : Enters turns (machine v rip f) (machine after to flags)
-  pub lowered : sp_of after ≡ sp
-  pub rest : after.rest ≡ with_sp v.rest sp
-  pub rcx : after.rcx ≡ v.rcx
-  pub number : number_at after.memory.byte 8 (sp + b) ≡ base
-  pub within : Within sp (sp + frame) v.memory after.memory
+  where
+    pub turns : ℕ
+    pub exact : turns ≡ length (first_code frame o b)
+    pub few : turns ≤ 3
+    pub after : MachineView
+    pub flags : Flags
+    pub comes : Enters turns (machine v rip f) (machine after to flags)
+    pub lowered : sp_of after ≡ sp
+    pub rest : after.rest ≡ with_sp v.rest sp
+    pub rcx : after.rcx ≡ v.rcx
+    pub number : number_at after.memory.byte 8 (sp + b) ≡ base
+    pub within : Within sp (sp + frame) v.memory after.memory
 
 -- there is room for the frame, in which the base has its place
 pub record HasRoom (v : MachineView) (sp frame b : ℕ) : Type 0 where
@@ -114,10 +114,12 @@ made None v sp frame b base rip f r lt leads code =
     let small = r.small in
     let inside = r.inside in
     let u = moved v sp in
-    let cell : HasCell v.memory (sp + b) = record { high = omega arith;
-      writable = λ a x z. r.writable a (omega arith) (omega arith) } in
+    let cell : HasCell v.memory (sp + b) = record {
+      high = omega arith;
+      writable = λ a x z. r.writable a (omega arith) (omega arith);
+    } in
     let e = funclet_enters v sp frame b base rip f r.count r.at (omega arith) (omega arith)
-      (omega arith) leads lt cell code in
+    (omega arith) leads lt cell code in
     let w = within_cell u sp (sp + frame) (sp + b) base (omega arith) (omega arith) (omega arith) in
     record {
       turns = 2;
@@ -130,7 +132,7 @@ made None v sp frame b base rip f r lt leads code =
       rest = refl;
       rcx = refl;
       number = (keeps_of_cell u sp b base (record { high = cell.high; writable = cell.writable })
-        lt).0;
+          lt).0;
       within = record { byte = w.byte; protection = w.protection; bytes = w.bytes };
     }
 made (Some parent) v sp frame b base rip f r lt leads code =
@@ -142,24 +144,30 @@ made (Some parent) v sp frame b base rip f r lt leads code =
     let rest = keep_parents_base parent b in
     let parts = code_split v.memory rip enter rest code in
     let e = enter_run v (sp + frame) frame rip f r.at (omega arith) (omega arith) (omega arith)
-      parts.0 in
+    parts.0 in
     let back : sp + frame - frame ≡ sp = omega arith in
     let w = moved v sp in
     let there = rip + sizes enter in
     let first = subst (λ s. Enters 1 (machine v rip f) (machine (moved v s) there e.flags)) back
-      e.comes in
+    e.comes in
     let u = kept_at (put true w base) (sp + b) base in
-    let cell : HasCell v.memory (sp + b) = record { high = omega arith;
-      writable = λ a x z. r.writable a (omega arith) (omega arith) } in
-    let z = runs_view rest w u there e.flags (near parent near_parent, refl, refl,
-      (near b (omega arith), refl, refl, tt)) parts.1
-      (parents_base w sp b base v.rdx parent (sp_moved v sp r.count) refl
-      (record { near = leads.near; room = leads.room; kept = leads.kept }) lt
-      (record { high = cell.high; writable = cell.writable })) in
+    let cell : HasCell v.memory (sp + b) = record {
+      high = omega arith;
+      writable = λ a x z. r.writable a (omega arith) (omega arith);
+    } in
+    let z = runs_view rest w u there e.flags (
+      near parent near_parent,
+      refl,
+      refl,
+      (near b (omega arith), refl, refl, tt),
+    ) parts.1
+    (parents_base w sp b base v.rdx parent (sp_moved v sp r.count) refl
+    (record { near = leads.near; room = leads.room; kept = leads.kept }) lt
+    (record { high = cell.high; writable = cell.writable })) in
     let place : there + sizes rest ≡ rip + sizes (first_code frame (Some parent) b) = omega
-      (arith, sizes_append enter rest) in
+    (arith, sizes_append enter rest) in
     let k = within_cell (put true w base) sp (sp + frame) (sp + b) base (omega arith) (omega arith)
-      (omega arith) in
+    (omega arith) in
     record {
       turns = 3;
       exact = refl;
@@ -167,12 +175,12 @@ made (Some parent) v sp frame b base rip f r lt leads code =
       after = u;
       flags = z.left;
       comes = subst (λ a. Enters 3 (machine v rip f) (machine u a z.left)) place
-        (enters_then 1 2 (machine v rip f) (machine w there e.flags)
-        (machine u (there + sizes rest) z.left) first z.comes);
+          (enters_then 1 2 (machine v rip f) (machine w there e.flags)
+          (machine u (there + sizes rest) z.left) first z.comes);
       lowered = sp_moved v sp r.count;
       rest = refl;
       rcx = refl;
       number = (keeps_of_cell (put true w base) sp b base
-        (record { high = cell.high; writable = cell.writable }) lt).0;
+          (record { high = cell.high; writable = cell.writable }) lt).0;
       within = record { byte = k.byte; protection = k.protection; bytes = k.bytes };
     }

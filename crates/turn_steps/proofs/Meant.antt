@@ -65,16 +65,16 @@ pub acts_as : (program : LinearProgram) (c : Configuration) (to : Slot) (o : Ope
 unfolding with_some
 acts_as program c to o first second x h next =
     ap (λ z. with_some c.events z (λ a. with_some c.events (operand (is_constant o) c second)
-      (λ b. computed program next to c (performed (is_reserved program.globals) o a b
-      c.store.memory)))) h.reads_first
+    (λ b. computed program next to c (performed (is_reserved program.globals) o a b
+    c.store.memory)))) h.reads_first
     ∙ ap (λ z. with_some c.events z (λ b. computed program next to c
-      (performed (is_reserved program.globals) o h.a b c.store.memory))) h.reads_second
+    (performed (is_reserved program.globals) o h.a b c.store.memory))) h.reads_second
     ∙ ap (computed program next to c) h.comes
 
 pub undefined : UndefinedAccessesAreMatched
 undefined t fs program s c to o first second at h =
     fails_at_once t fs program turns_left pace s c (instructions.Compute to o first second)
-      (source.Undefined at) refl (acts_as program c to o first second (Undefined at) h)
+    (source.Undefined at) refl (acts_as program c to o first second (Undefined at) h)
 
 -- ---- operations that fault
 
@@ -101,5 +101,5 @@ pub nothing_landed : (program : LinearProgram) (c : Configuration) (to : Slot) (
 nothing_landed program c to o first second None h e = refl
 nothing_landed program c to o first second (Some v) h e =
     let z : ◌≡◌ {A = Option Instruction} (Some (instructions.Landing (Local h.0)))
-      (Some (instructions.Compute to o first second)) = sym h.1 ∙ e in
+    (Some (instructions.Compute to o first second)) = sym h.1 ∙ e in
     absurd cc

@@ -36,7 +36,7 @@ module _ (t : Functions) (fs : List Funclet) (program : LinearProgram) (p : Imag
   outside_stays a out = by (cases_lt a STACK_START) (cases_lt a STACK_END)
     where
       by : (a < STACK_START) ⊎ (STACK_START ≤ a) → (a < STACK_END) ⊎ (STACK_END ≤ a)
-        → m'.byte a ≡ m.byte a
+          → m'.byte a ≡ m.byte a
       by (inl l) e = untouched.outside a (inl l)
       by (inr g) (inr h) = untouched.outside a (inr h)
       by (inr g) (inl l) = absurd (out g l)
@@ -46,16 +46,18 @@ module _ (t : Functions) (fs : List Funclet) (program : LinearProgram) (p : Imag
 
   module _ (h : IsMachineMemory t fs program p q m source) where
     pub keeps_code : KeepsCode m m'
-    keeps_code = record { protection = untouched.protection;
+    keeps_code = record {
+      protection = untouched.protection;
       fixed = λ a fix. outside_stays a (λ l u. let w = h.stack a l u in let z : true ≡ false = sym w
-      ∙ fix in absurd cc) }
+          ∙ fix in absurd cc);
+    }
 
     agrees : Agrees (is_reserved program.globals) m' source
     agrees = record {
       byte = λ a own. outside_stays a (λ l u. let r = stack_is_reserved program.globals a l u in
-        let z : true ≡ false = sym r ∙ own in absurd cc) ∙ h.agrees.byte a own;
+          let z : true ≡ false = sym r ∙ own in absurd cc) ∙ h.agrees.byte a own;
       protection = λ a own. ap (λ (f : ℕ → Protection). f a) untouched.protection
-        ∙ h.agrees.protection a own;
+          ∙ h.agrees.protection a own;
       guard = h.agrees.guard;
     }
 
@@ -91,8 +93,8 @@ placing m at r above data_alone room le =
     }
   where
     by : (x : ℕ) → (x < STACK_START) ⊎ (STACK_END ≤ x) → 0x70000008 ≤ at
-      → (placed m at r).byte x ≡ m.byte x
+        → (placed m at r).byte x ≡ m.byte x
     by x (inl q) l = let below = room.below in
-      placing_leaves_others m at r x (omega arith) room.fits (inl (omega arith))
+        placing_leaves_others m at r x (omega arith) room.fits (inl (omega arith))
     by x (inr q) l = let below = room.below in
-      placing_leaves_others m at r x (omega arith) room.fits (inr (omega arith))
+        placing_leaves_others m at r x (omega arith) room.fits (inr (omega arith))

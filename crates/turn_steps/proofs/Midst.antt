@@ -77,12 +77,12 @@ in_body_at t fs program p q s c cpu b sp inside small =
         same = all_same c.frame.next (regions_of (body_of program c.frame.body));
         small = small;
         activation = subst (λ x. HasActivation m y x (slots_end y leaf) c.frame.activation b.acts
-          c.frame.body) (sym sp) b.slots.activation;
+            c.frame.body) (sym sp) b.slots.activation;
         temporaries = subst (λ x. HoldsWords m (x + y.temporaries)
-          (x + last_temporary y c.frame.body leaf) c.frame.temporaries) (sym sp)
-          b.slots.temporaries;
+            (x + last_temporary y c.frame.body leaf) c.frame.temporaries) (sym sp)
+            b.slots.temporaries;
         space = subst (λ x. HasSpace x below_end (length b.acts + c.frame.held)) (sym sp)
-          b.slots.space;
+            b.slots.space;
       };
       pointers = subst (λ x. HasPointers t fs program p m y x y.frame c.below) (sym sp) b.pointers;
       above = b.above;
@@ -92,8 +92,8 @@ in_body_at t fs program p q s c cpu b sp inside small =
       returns = subst (λ x. word m (x + y.frame) ≡ Ok b.back) (sym sp) b.returns;
       is = b.is;
       below = λ others n. subst (λ x. On t fs program p m
-        (context_below b.back (x + y.frame + 8) others) b.is c.below
-        (activations_below c.frame.body b.acts)) (sym sp) (b.below others n);
+          (context_below b.back (x + y.frame + 8) others) b.is c.below
+          (activations_below c.frame.body b.acts)) (sym sp) (b.below others n);
     }
 
 -- what an operation needs beside its operands is in RAX and RDX
@@ -108,119 +108,128 @@ ready_same (operations.Store z) v w a d h = tt
 module _ (t : Functions) (fs : List Funclet) (program : LinearProgram) (p : ImagePlan) (q : Sites)
     (image : IsProgramImage t fs program p q) (made : IsWellMade program p)
     (s : State) (c : Configuration) (w : WorksOn t fs program p q s c) (known : IsKnown program c)
-      where
-  abbrev to : Slot
-  to = w.again.to
+  where
+    abbrev to : Slot
+    to = w.again.to
 
-  abbrev o : Operation
-  o = w.again.operation
+    abbrev o : Operation
+    o = w.again.operation
 
-  abbrev first : Slot
-  first = Temporary w.again.first
+    abbrev first : Slot
+    first = Temporary w.again.first
 
-  abbrev second : Slot
-  second = Temporary w.again.second
+    abbrev second : Slot
+    second = Temporary w.again.second
 
-  abbrev y : Layout
-  y = p.layout c.frame.body
+    abbrev y : Layout
+    y = p.layout c.frame.body
 
-  abbrev here : Instruction
-  here = instructions.Compute to o first second
+    abbrev here : Instruction
+    here = instructions.Compute to o first second
 
-  pub free : c.frame.landed ≡ None
-  free = nothing_landed program c to o first second c.frame.landed known.stacked.landed
-      w.again.works
+    pub free : c.frame.landed ≡ None
+    free = nothing_landed program c to o first second c.frame.landed known.stacked.landed
+        w.again.works
 
-  pub there : slice_get w.body.slots.code.code c.frame.next ≡ Some here
-  there = label_in (body_of program c.frame.body) w.body.slots.code c.frame.next here
-      w.body.slots.body w.again.works
+    pub there : slice_get w.body.slots.code.code c.frame.next ≡ Some here
+    there = label_in (body_of program c.frame.body) w.body.slots.code c.frame.next here
+        w.body.slots.body w.again.works
 
-  -- ---- the state in which the instruction had begun, but for the registers that it has taken
+    -- ---- the state in which the instruction had begun, but for the registers that it has taken
 
-  abbrev pub before : State
-  before = record { cpu = record { registers = s.cpu.registers;
-      rip = p.address c.frame.body c.frame.next; flags = s.cpu.flags }; memory = s.memory }
+    abbrev pub before : State
+    before = record {
+      cpu = record {
+        registers = s.cpu.registers;
+        rip = p.address c.frame.body c.frame.next;
+        flags = s.cpu.flags;
+      };
+      memory = s.memory;
+    }
 
-  begin_small : p.address c.frame.body c.frame.next < 2 ^ 64
-  begin_small = let h = w.again.here in let l = w.sane.rip_small in omega arith
+    begin_small : p.address c.frame.body c.frame.next < 2 ^ 64
+    begin_small = let h = w.again.here in let l = w.sane.rip_small in omega arith
 
-  pub begins_before : Begins t fs program p q before c
-  begins_before = record {
-    rip = refl;
-    sane = record { rip_small = begin_small; count = w.sane.count; small = w.sane.small };
-    memory = w.memory;
-    body = in_body_at t fs program p q s c before.cpu w.body refl
-        (first_in_code t fs program p q image c.frame.body w.body.slots.code c.frame.next
+    pub begins_before : Begins t fs program p q before c
+    begins_before = record {
+      rip = refl;
+      sane = record { rip_small = begin_small; count = w.sane.count; small = w.sane.small };
+      memory = w.memory;
+      body = in_body_at t fs program p q s c before.cpu w.body refl
+          (first_in_code t fs program p q image c.frame.body w.body.slots.code c.frame.next
           w.body.slots.body (slice_get_within w.body.slots.code.code c.frame.next here there))
           begin_small;
-    landed = λ code e. let z : ◌≡◌ {A = Option ℕ} None (Some code) = sym free ∙ e in absurd cc;
-  }
+      landed = λ code e. let z : ◌≡◌ {A = Option ℕ} None (Some code) = sym free ∙ e in absurd cc;
+    }
 
-  abbrev pub counted : IsCounted t fs program p q image c
-  counted = counted_here t fs program p q image made c known
+    abbrev pub counted : IsCounted t fs program p q image c
+    counted = counted_here t fs program p q image made c known
 
-  pub around : Surroundings t fs program p q image made.room before c begins_before counted
-  around = around_here t fs program p q image made before c begins_before known
+    pub around : Surroundings t fs program p q image made.room before c begins_before counted
+    around = around_here t fs program p q image made before c begins_before known
 
-  abbrev pub body : LinearBody
-  body = code t fs program p q image made.room before c begins_before counted
+    abbrev pub body : LinearBody
+    body = code t fs program p q image made.room before c begins_before counted
 
-  pub at_here : slice_get body.code c.frame.next ≡ Some here
-  at_here = code_at t fs program p q image made before c begins_before known here w.again.works
+    pub at_here : slice_get body.code c.frame.next ≡ Some here
+    at_here = code_at t fs program p q image made before c begins_before known here w.again.works
 
-  -- its frame, and what its slots hold
-  abbrev pub frame_here : FramePlace
-  frame_here = frame t fs program p q image made.room before c begins_before counted
+    -- its frame, and what its slots hold
+    abbrev pub frame_here : FramePlace
+    frame_here = frame t fs program p q image made.room before c begins_before counted
 
-  abbrev pub slots_now : BodyState
-  slots_now = slots t fs program p q image made.room before c begins_before counted
+    abbrev pub slots_now : BodyState
+    slots_now = slots t fs program p q image made.room before c begins_before counted
 
-  -- ---- the operation is made
+    -- ---- the operation is made
 
-  pub first_small : register s.cpu Rax < 2 ^ 64
-  first_small = let n = w.sane.count in w.sane.small 0 (omega arith)
+    pub first_small : register s.cpu Rax < 2 ^ 64
+    first_small = let n = w.sane.count in w.sane.small 0 (omega arith)
 
-  pub second_small : register s.cpu Rcx < 2 ^ 64
-  second_small = let n = w.sane.count in w.sane.small 1 (omega arith)
+    pub second_small : register s.cpu Rcx < 2 ^ 64
+    second_small = let n = w.sane.count in w.sane.small 1 (omega arith)
 
-  pub operands_wait : HasOperands o (register s.cpu Rax) (register s.cpu Rcx) (seen_by_templates s)
-  operands_wait = record { first = refl; second = refl;
-      ready = ready_same o (view_of s.cpu) (seen_by_templates s) refl refl w.again.ready }
+    pub operands_wait : HasOperands o (register s.cpu Rax) (register s.cpu Rcx) (seen_by_templates s)
+    operands_wait = record {
+      first = refl;
+      second = refl;
+      ready = ready_same o (view_of s.cpu) (seen_by_templates s) refl refl w.again.ready;
+    }
 
-  pub code_here : HasCode s.memory s.cpu.rip (finish_code y o to)
-  code_here =
-      subst (λ a. HasCode s.memory a (finish_code y o to)) (sym w.again.here)
-      (finish_is_at t fs program p q image s.memory c.frame.body w.body.slots.code c.frame.next to o
+    pub code_here : HasCode s.memory s.cpu.rip (finish_code y o to)
+    code_here =
+        subst (λ a. HasCode s.memory a (finish_code y o to)) (sym w.again.here)
+        (finish_is_at t fs program p q image s.memory c.frame.body w.body.slots.code c.frame.next to o
         first second w.memory.code w.body.slots.body there)
 
-  abbrev pub outcome : OperationResult
-  outcome = performed (is_reserved program.globals) o (register s.cpu Rax) (register s.cpu Rcx)
-      c.store.memory
+    abbrev pub outcome : OperationResult
+    outcome = performed (is_reserved program.globals) o (register s.cpu Rax) (register s.cpu Rcx)
+        c.store.memory
 
-  pub made_here : Finished frame_here o to (seen_by_templates s) s.cpu.rip s.cpu.flags
-      slots_now outcome
-  made_here =
-      finish_run frame_here o to (seen_by_templates s) s.cpu.rip s.cpu.flags slots_now
-      (register s.cpu Rax) (register s.cpu Rcx)
+    pub made_here : Finished frame_here o to (seen_by_templates s) s.cpu.rip s.cpu.flags
+        slots_now outcome
+    made_here =
+        finish_run frame_here o to (seen_by_templates s) s.cpu.rip s.cpu.flags slots_now
+        (register s.cpu Rax) (register s.cpu Rcx)
         (room_here t fs program p q image before c begins_before counted)
-      (has_slots t fs program p q image made.room before c begins_before counted here at_here).0
-      first_small second_small operands_wait (sp_is t fs program p q image made.room before c
+        (has_slots t fs program p q image made.room before c begins_before counted here at_here).0
+        first_small second_small operands_wait (sp_is t fs program p q image made.room before c
         begins_before counted)
-      (holds_here t fs program p q image before c begins_before counted) code_here
+        (holds_here t fs program p q image before c begins_before counted) code_here
 
-  -- on the same numbers as in linear code
-  pub same_outcome : (x : OperationResult) → ComesTo program c o first second x → outcome ≡ x
-  same_outcome x h = by (is_constant o) refl h.reads_first h.reads_second
-    where
-      by : (constant : Bool) → is_constant o ≡ constant → operand constant c first ≡ Some h.a
-        → operand constant c second ≡ Some h.b → outcome ≡ x
-      by true k f g = same_constant (is_reserved program.globals) o (register s.cpu Rax)
-        (register s.cpu Rcx) h.a h.b c.store.memory k ∙ h.comes
-      by false k f g =
-          let a : register s.cpu Rax ≡ h.a = some_is (register s.cpu Rax) h.a
+    -- on the same numbers as in linear code
+    pub same_outcome : (x : OperationResult) → ComesTo program c o first second x → outcome ≡ x
+    same_outcome x h = by (is_constant o) refl h.reads_first h.reads_second
+      where
+        by : (constant : Bool) → is_constant o ≡ constant → operand constant c first ≡ Some h.a
+            → operand constant c second ≡ Some h.b → outcome ≡ x
+        by true k f g = same_constant (is_reserved program.globals) o (register s.cpu Rax)
+            (register s.cpu Rcx) h.a h.b c.store.memory k ∙ h.comes
+        by false k f g =
+            let a : register s.cpu Rax ≡ h.a = some_is (register s.cpu Rax) h.a
             (sym w.again.has_first ∙ f) in
-          let b : register s.cpu Rcx ≡ h.b = some_is (register s.cpu Rcx) h.b
+            let b : register s.cpu Rcx ≡ h.b = some_is (register s.cpu Rcx) h.b
             (sym w.again.has_second ∙ g) in
-          ap (λ z. performed (is_reserved program.globals) o z (register s.cpu Rcx) c.store.memory)
+            ap (λ z. performed (is_reserved program.globals) o z (register s.cpu Rcx) c.store.memory)
             a
-          ∙ ap (λ z. performed (is_reserved program.globals) o h.a z c.store.memory) b ∙ h.comes
+            ∙ ap (λ z. performed (is_reserved program.globals) o h.a z c.store.memory) b ∙ h.comes

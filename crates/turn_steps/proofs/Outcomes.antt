@@ -47,168 +47,182 @@ with_none (Continues s es) = refl
 with_none (Ends es end) = refl
 
 module _ (t : Functions) (fs : List Funclet) (program : LinearProgram) (p : ImagePlan) (q : Sites)
-    where
-  -- where a funclet's first instruction begins, the state represents the configuration
-  pub begins_there : (s : State) (c : Configuration)
-      → LeadsTo t fs entry_turns (Begins t fs program p q) s c
-      → LeadsTo t fs entry_turns (Represents t fs program p q) s c
-  begins_there s c l = record { turns = l.turns; few = l.few; state = l.state; comes = l.comes;
-      is_there = inl l.is_there }
+  where
+    -- where a funclet's first instruction begins, the state represents the configuration
+    pub begins_there : (s : State) (c : Configuration)
+        → LeadsTo t fs entry_turns (Begins t fs program p q) s c
+        → LeadsTo t fs entry_turns (Represents t fs program p q) s c
+    begins_there s c l = record {
+      turns = l.turns;
+      few = l.few;
+      state = l.state;
+      comes = l.comes;
+      is_there = inl l.is_there;
+    }
 
-  pub outcome_same : (x y : Turn) (seen other : Next → Seen) (es : List Event) (left : ℕ)
-      (shadow : List Context) → y ≡ x → ((next : Next) → other next ≡ seen next)
-      → Outcome t fs program p q x seen es left shadow
-      → Outcome t fs program p q y other es left shadow
-  outcome_same x y seen other es left shadow e same (inl g) = inl (record {
-    state = g.state;
-    events = g.events;
-    turns = e ∙ g.turns;
-    configuration = g.configuration;
-    few = g.few;
-    acts = λ next. same next ∙ g.acts next;
-    shown = g.shown;
-    quiet = g.quiet;
-    walk = g.walk;
-    leads = g.leads;
-  })
-  outcome_same x y seen other es left shadow e same (inr (inl g)) = inr (inl (record {
-    state = g.state;
-    event = g.event;
-    turns = e ∙ g.turns;
-    configuration = g.configuration;
-    more = g.more;
-    held = g.held;
-    store = g.store;
-    few = g.few;
-    acts = λ next. same next ∙ g.acts next;
-    shown = g.shown;
-    arrives = g.arrives;
-    walk = g.walk;
-    leads = g.leads;
-  }))
-  outcome_same x y seen other es left shadow e same (inr (inr g)) = inr
-      (inr (record { code = g.code; turns = e ∙ g.turns; acts = λ next. same next ∙ g.acts next }))
+    pub outcome_same : (x y : Turn) (seen other : Next → Seen) (es : List Event) (left : ℕ)
+        (shadow : List Context) → y ≡ x → ((next : Next) → other next ≡ seen next)
+        → Outcome t fs program p q x seen es left shadow
+        → Outcome t fs program p q y other es left shadow
+    outcome_same x y seen other es left shadow e same (inl g) = inl (record {
+      state = g.state;
+      events = g.events;
+      turns = e ∙ g.turns;
+      configuration = g.configuration;
+      few = g.few;
+      acts = λ next. same next ∙ g.acts next;
+      shown = g.shown;
+      quiet = g.quiet;
+      walk = g.walk;
+      leads = g.leads;
+    })
+    outcome_same x y seen other es left shadow e same (inr (inl g)) = inr (inl (record {
+      state = g.state;
+      event = g.event;
+      turns = e ∙ g.turns;
+      configuration = g.configuration;
+      more = g.more;
+      held = g.held;
+      store = g.store;
+      few = g.few;
+      acts = λ next. same next ∙ g.acts next;
+      shown = g.shown;
+      arrives = g.arrives;
+      walk = g.walk;
+      leads = g.leads;
+    }))
+    outcome_same x y seen other es left shadow e same (inr (inr g)) = inr
+        (inr (record { code = g.code; turns = e ∙ g.turns; acts = λ next. same next ∙ g.acts next }))
 
-  -- with more turns left
-  pub outcome_more : (x : Turn) (seen : Next → Seen) (es : List Event) (left more : ℕ)
-      (shadow : List Context) → left ≤ more → Outcome t fs program p q x seen es left shadow
-      → Outcome t fs program p q x seen es more shadow
-  outcome_more x seen es left more shadow le (inl g) =
-      let few = g.few in
-      inl (record { state = g.state; events = g.events; turns = g.turns;
-        configuration = g.configuration; few = omega arith; acts = g.acts; shown = g.shown;
-        quiet = g.quiet; walk = g.walk; leads = g.leads })
-  outcome_more x seen es left more shadow le (inr (inl g)) = inr (inl (record {
-    state = g.state;
-    event = g.event;
-    turns = g.turns;
-    configuration = g.configuration;
-    more = g.more;
-    held = g.held;
-    store = g.store;
-    few = λ shallow. let few = g.few shallow in omega arith;
-    acts = g.acts;
-    shown = g.shown;
-    arrives = g.arrives;
-    walk = g.walk;
-    leads = g.leads;
-  }))
-  outcome_more x seen es left more shadow le (inr (inr g)) = inr (inr g)
-
-  -- quiet turns, and one turn of the host, which shows some events before those of its outcome
-  module _ (pace k left : ℕ) (s u : State) (c : Configuration) (i : Instruction)
-      (before : List Event) (x : Turn)
-      (quiet : Comes t fs k s [] u) (live : IsLive u) (turns : turn t fs u ≡ with_events before x)
-        (enough : k + 1 + entry_turns + left ≤ pace + turns_left c)
-      (known : KnownNext program c i) (shadow : List Context)
-        (keeps : KeepsWith t fs program p q u shadow) where
-    abbrev Matched : Type 0
-    Matched = IsMatched t fs program pace turns_left (Represents t fs program p q) s c i
-
-    abbrev step : Next → Seen
-    step next = act program i next c
-
-    reaches : (state : State) (events : List Event) → x ≡ Continues state events
-      → KeepsShadow t fs u state → Comes t fs (k + 1) s (before ++ events) state
-    reaches state events e kept = quietly_before t fs k 1 s u state (before ++ events) quiet
-      (comes_one t fs u state (before ++ events) live (turns ∙ ap (with_events before) e) kept)
-
-    matched_on : ContinuesAs t fs program p q x step (c.events ++ before) left shadow → Matched
-    matched_on g =
+    -- with more turns left
+    pub outcome_more : (x : Turn) (seen : Next → Seen) (es : List Event) (left more : ℕ)
+        (shadow : List Context) → left ≤ more → Outcome t fs program p q x seen es left shadow
+        → Outcome t fs program p q x seen es more shadow
+    outcome_more x seen es left more shadow le (inl g) =
         let few = g.few in
-        let l = g.leads (known g.configuration g.acts) in
-        let most = l.few in
         inl (record {
-          turns = k + 1 + l.turns;
-          some = omega arith;
+          state = g.state;
+          events = g.events;
+          turns = g.turns;
           configuration = g.configuration;
           few = omega arith;
-          state = l.state;
-          events = before ++ g.events;
-          comes = quietly_after t fs (k + 1) l.turns s g.state l.state (before ++ g.events)
-            (reaches g.state g.events g.turns (keeps g.state [] g.quiet g.walk)) l.comes;
           acts = g.acts;
-          shown = g.shown ∙ append_assoc c.events before g.events;
-          is_there = l.is_there;
+          shown = g.shown;
+          quiet = g.quiet;
+          walk = g.walk;
+          leads = g.leads;
         })
-
-    matched_in : EntersFunclet t fs program p q x step (c.events ++ before) left shadow → Matched
-    unfolding pick
-    matched_in g = by (nat_lt 1000 (length g.store.activations + g.held + g.more)) refl
-      where
-        by : (b : Bool) → nat_lt 1000 (length g.store.activations + g.held + g.more) ≡ b → Matched
-        by true deep = inr (inr (inr (record {
-          turns = k + 1;
-          few = omega arith;
-          state = g.state;
-          made = before ++ g.event ∷ [];
-          comes = reaches g.state (g.event ∷ []) g.turns
-            (keeps g.state (g.event ∷ []) g.arrives g.walk);
-          events = before;
-          front = (g.event ∷ [], refl);
-          end = Deep 1001;
-          wild = refl;
-          acts = λ next. g.acts next ∙ ap (λ (b : Bool). pick b
-            (Finished (Deep 1001) (c.events ++ before)) (next g.configuration)) deep;
-        })))
-        by false shallow =
-            let moves = λ (next : Next). g.acts next
-              ∙ ap (λ (b : Bool). pick b (Finished (Deep 1001) (c.events ++ before))
-                (next g.configuration)) shallow in
-            let l = g.leads shallow (known g.configuration moves) in
-            let few = g.few shallow in
-            let most = l.few in
-            inl (record {
-              turns = k + 1 + l.turns;
-              some = omega arith;
-              configuration = g.configuration;
-              few = omega arith;
-              state = l.state;
-              events = before ++ g.event ∷ [];
-              comes = quietly_after t fs (k + 1) l.turns s g.state l.state (before ++ g.event ∷ [])
-                (reaches g.state (g.event ∷ []) g.turns
-                (keeps g.state (g.event ∷ []) g.arrives g.walk)) l.comes;
-              acts = moves;
-              shown = g.shown ∙ append_assoc c.events before (g.event ∷ []);
-              is_there = l.is_there;
-            })
-
-    matched_out : EndsRun t fs program p q x step (c.events ++ before) → Matched
-    matched_out g = inr (inr (inl (record {
-      turns = k;
-      few = omega arith;
-      state = u;
-      events = [];
-      comes = quiet;
-      live = live;
-      last = before;
-      code = g.code;
-      ends = turns ∙ ap (with_events before) g.turns
-        ∙ ap (λ (es : List Event). Ends es (ends.Unhandled g.code)) (append-nil before);
+    outcome_more x seen es left more shadow le (inr (inl g)) = inr (inl (record {
+      state = g.state;
+      event = g.event;
+      turns = g.turns;
+      configuration = g.configuration;
+      more = g.more;
+      held = g.held;
+      store = g.store;
+      few = λ shallow. let few = g.few shallow in omega arith;
       acts = g.acts;
-    })))
+      shown = g.shown;
+      arrives = g.arrives;
+      walk = g.walk;
+      leads = g.leads;
+    }))
+    outcome_more x seen es left more shadow le (inr (inr g)) = inr (inr g)
 
-    pub matched_by_turn : Outcome t fs program p q x step (c.events ++ before) left shadow → Matched
-    matched_by_turn (inl g) = matched_on g
-    matched_by_turn (inr (inl g)) = matched_in g
-    matched_by_turn (inr (inr g)) = matched_out g
+    -- quiet turns, and one turn of the host, which shows some events before those of its outcome
+    module _ (pace k left : ℕ) (s u : State) (c : Configuration) (i : Instruction)
+        (before : List Event) (x : Turn)
+        (quiet : Comes t fs k s [] u) (live : IsLive u) (turns : turn t fs u ≡ with_events before x)
+        (enough : k + 1 + entry_turns + left ≤ pace + turns_left c)
+        (known : KnownNext program c i) (shadow : List Context)
+        (keeps : KeepsWith t fs program p q u shadow) where
+      abbrev Matched : Type 0
+      Matched = IsMatched t fs program pace turns_left (Represents t fs program p q) s c i
+
+      abbrev step : Next → Seen
+      step next = act program i next c
+
+      reaches : (state : State) (events : List Event) → x ≡ Continues state events
+          → KeepsShadow t fs u state → Comes t fs (k + 1) s (before ++ events) state
+      reaches state events e kept = quietly_before t fs k 1 s u state (before ++ events) quiet
+          (comes_one t fs u state (before ++ events) live (turns ∙ ap (with_events before) e) kept)
+
+      matched_on : ContinuesAs t fs program p q x step (c.events ++ before) left shadow → Matched
+      matched_on g =
+          let few = g.few in
+          let l = g.leads (known g.configuration g.acts) in
+          let most = l.few in
+          inl (record {
+            turns = k + 1 + l.turns;
+            some = omega arith;
+            configuration = g.configuration;
+            few = omega arith;
+            state = l.state;
+            events = before ++ g.events;
+            comes = quietly_after t fs (k + 1) l.turns s g.state l.state (before ++ g.events)
+                (reaches g.state g.events g.turns (keeps g.state [] g.quiet g.walk)) l.comes;
+            acts = g.acts;
+            shown = g.shown ∙ append_assoc c.events before g.events;
+            is_there = l.is_there;
+          })
+
+      matched_in : EntersFunclet t fs program p q x step (c.events ++ before) left shadow → Matched
+      unfolding pick
+      matched_in g = by (nat_lt 1000 (length g.store.activations + g.held + g.more)) refl
+        where
+          by : (b : Bool) → nat_lt 1000 (length g.store.activations + g.held + g.more) ≡ b → Matched
+          by true deep = inr (inr (inr (record {
+            turns = k + 1;
+            few = omega arith;
+            state = g.state;
+            made = before ++ g.event ∷ [];
+            comes = reaches g.state (g.event ∷ []) g.turns
+                (keeps g.state (g.event ∷ []) g.arrives g.walk);
+            events = before;
+            front = (g.event ∷ [], refl);
+            end = Deep 1001;
+            wild = refl;
+            acts = λ next. g.acts next ∙ ap (λ (b : Bool). pick b
+                (Finished (Deep 1001) (c.events ++ before)) (next g.configuration)) deep;
+          })))
+          by false shallow =
+              let moves = λ (next : Next). g.acts next
+              ∙ ap (λ (b : Bool). pick b (Finished (Deep 1001) (c.events ++ before))
+              (next g.configuration)) shallow in
+              let l = g.leads shallow (known g.configuration moves) in
+              let few = g.few shallow in
+              let most = l.few in
+              inl (record {
+                turns = k + 1 + l.turns;
+                some = omega arith;
+                configuration = g.configuration;
+                few = omega arith;
+                state = l.state;
+                events = before ++ g.event ∷ [];
+                comes = quietly_after t fs (k + 1) l.turns s g.state l.state (before ++ g.event ∷ [])
+                    (reaches g.state (g.event ∷ []) g.turns
+                    (keeps g.state (g.event ∷ []) g.arrives g.walk)) l.comes;
+                acts = moves;
+                shown = g.shown ∙ append_assoc c.events before (g.event ∷ []);
+                is_there = l.is_there;
+              })
+
+      matched_out : EndsRun t fs program p q x step (c.events ++ before) → Matched
+      matched_out g = inr (inr (inl (record {
+        turns = k;
+        few = omega arith;
+        state = u;
+        events = [];
+        comes = quiet;
+        live = live;
+        last = before;
+        code = g.code;
+        ends = turns ∙ ap (with_events before) g.turns
+            ∙ ap (λ (es : List Event). Ends es (ends.Unhandled g.code)) (append-nil before);
+        acts = g.acts;
+      })))
+
+      pub matched_by_turn : Outcome t fs program p q x step (c.events ++ before) left shadow → Matched
+      matched_by_turn (inl g) = matched_on g
+      matched_by_turn (inr (inl g)) = matched_in g
+      matched_by_turn (inr (inr g)) = matched_out g

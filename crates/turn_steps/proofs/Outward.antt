@@ -59,9 +59,11 @@ module _ (p : FramePlace) (roomy : Roomy p) (room : ℕ) where
   base_beside m at x None le high up h = tt
   base_beside m at x (Some k) le high up h =
       let u = up k refl in
-      let l = u.0 in
-      (same_number (stored m at x).byte m.byte 8 (p.sp + k) u.1
-        (λ a g l. beside_at m at x a high (inr (omega arith))) ∙ h.0, h.1)
+      let l = u.0 in (
+        same_number (stored m at x).byte m.byte 8 (p.sp + k) u.1
+            (λ a g l. beside_at m at x a high (inr (omega arith))) ∙ h.0,
+        h.1,
+      )
 
   pub holds_beside : (m : Memory) (at x : ℕ) (b : BodyState) → HasOutgoing p m room → p.sp ≤ at
       → at + 8 ≤ p.sp + room → ((k : ℕ) → p.layout.base ≡ Some k → p.sp + k + 8 < 2 ^ 64)
@@ -71,12 +73,12 @@ module _ (p : FramePlace) (roomy : Roomy p) (room : ℕ) where
       let n = out.near in
       record {
         slot = λ z iz. (let up = out.slots z iz in
-          same_number (stored m at x).byte m.byte 8 (slot_at p.layout p.sp p.base z)
-          (slot_high p.layout p.counts p.reserved p.sp p.base roomy z iz)
-          (λ a g l. beside_at m at x a (omega arith) (inr (omega arith)))) ∙ h.slot z iz;
+            same_number (stored m at x).byte m.byte 8 (slot_at p.layout p.sp p.base z)
+            (slot_high p.layout p.counts p.reserved p.sp p.base roomy z iz)
+            (λ a g l. beside_at m at x a (omega arith) (inr (omega arith)))) ∙ h.slot z iz;
         small = h.small;
         kept_base = base_beside m at x p.layout.base le (omega arith)
-          (λ k e. (out.base k e, base_high k e)) h.kept_base;
+            (λ k e. (out.base k e, base_high k e)) h.kept_base;
         writable = h.writable;
         own = h.own;
         own_base = h.own_base;
@@ -90,9 +92,12 @@ module _ (p : FramePlace) (roomy : Roomy p) (room : ℕ) where
       outside : (a : ℕ) → p.reserved a ≡ false → (a < at) ⊎ (at + 8 ≤ a)
       outside a r = elim (cases_lt a at) [
         | inl l ↦ inl l
-        | inr g ↦ elim (cases_lt a (at + 8)) [ inl l ↦ absurd
-          (let z : true ≡ false = sym (out.own a (omega arith) (omega arith)) ∙ r in cc) | inr
-          u ↦ inr u ]
+        | inr g ↦ elim (cases_lt a (at + 8)) [
+          | inl l ↦ absurd
+              (let z : true ≡ false = sym (out.own a (omega arith) (omega arith)) ∙ r in cc)
+          | inr
+              u ↦ inr u
+        ]
       ]
 
   -- ---- the arguments, one after another
@@ -101,12 +106,12 @@ module _ (p : FramePlace) (roomy : Roomy p) (room : ℕ) where
     pub rax : ℕ
     pub memory : Memory
     pub does : Executes (passing_code p.layout first i n) v
-      (record { rax = rax; rcx = v.rcx; rdx = v.rdx; rest = v.rest; memory = memory })
+        (record { rax = rax; rcx = v.rcx; rdx = v.rdx; rest = v.rest; memory = memory })
     pub holds : FrameHolds p memory b
     pub number : (j : ℕ) → i ≤ j → j < i + n → number_at memory.byte 8 (p.sp + 8 * j)
-      ≡ b.slots (Temporary (first + j))
+        ≡ b.slots (Temporary (first + j))
     pub same : (a : ℕ) → (a < p.sp + 8 * i) ⊎ (p.sp + 8 * (i + n) ≤ a)
-      → memory.byte a ≡ v.memory.byte a
+        → memory.byte a ≡ v.memory.byte a
     pub protection : memory.protection ≡ v.memory.protection
     pub bytes : IsBytes v.memory → IsBytes memory
 
@@ -134,37 +139,42 @@ module _ (p : FramePlace) (roomy : Roomy p) (room : ℕ) where
       let to = p.sp + 8 * i in
       let w = put true v x in
       let d1 : Executes (fetched Rax Rsp (temporary_at y (first + i)) ∷ []) v w = fetch_does y
-        p.counts p.reserved p.sp p.base roomy true (Temporary (first + i)) v b there at h in
+      p.counts p.reserved p.sp p.base roomy true (Temporary (first + i)) v b there at h in
       let spot : (sp_of w + 0 + 8 * i) % 2 ^ 64 ≡ to = omega (arith, at) in
       let may = all_may (may_write v.memory) 8 to (omega arith)
-        (λ a l u. out.writable a (omega arith) (omega arith)) in
+      (λ a l u. out.writable a (omega arith) (omega arith)) in
       let d2 = keeps_register Rax w (8 * i) to x refl spot may small in
       let u = kept_at w to x in
       let r = passes first (i + 1) n u b base_high (omega arith) (omega arith)
-        (still_outgoing v.memory u.memory refl out) at
-        (holds_beside v.memory to x b out (omega arith) (omega arith) base_high h) in
-      let last : MachineView = record { rax = r.rax; rcx = v.rcx; rdx = v.rdx; rest = v.rest;
-        memory = r.memory } in
+      (still_outgoing v.memory u.memory refl out) at
+      (holds_beside v.memory to x b out (omega arith) (omega arith) base_high h) in
+      let last : MachineView = record {
+        rax = r.rax;
+        rcx = v.rcx;
+        rdx = v.rdx;
+        rest = v.rest;
+        memory = r.memory;
+      } in
       let here : number_at r.memory.byte 8 to ≡ x =
       same_number r.memory.byte u.memory.byte 8 to (omega arith)
-        (λ a l g. r.same a (inl (omega arith)))
+      (λ a l g. r.same a (inl (omega arith)))
       ∙ stored_is_loaded v.memory.byte 8 to x (omega arith) (omega arith)
       ∙ (let q : x % 256 ^ 8 ≡ x = omega arith in q) in
       record {
         rax = r.rax;
         memory = r.memory;
         does = executes_then (fetched Rax Rsp (temporary_at y (first + i)) ∷ [])
-          (keep_register Rax (8 * i) ∷ passing_code y first (i + 1) n) v w last d1
+            (keep_register Rax (8 * i) ∷ passing_code y first (i + 1) n) v w last d1
             (executes_then (keep_register Rax (8 * i) ∷ []) (passing_code y first (i + 1) n) w u
-              last d2 r.does);
+            last d2 r.does);
         holds = r.holds;
         number = λ j l g. elim (cases_eq j i) [
           | inl e ↦ subst (λ k. number_at r.memory.byte 8 (p.sp + 8 * k)
-          ≡ b.slots (Temporary (first + k))) (sym e) here
+              ≡ b.slots (Temporary (first + k))) (sym e) here
           | inr ne ↦ r.number j (omega arith) (omega arith)
         ];
         same = λ a o. r.same a (elim o [ inl l ↦ inl (omega arith) | inr g ↦ inr (omega arith) ])
-          ∙ beside_at v.memory to x a (omega arith)
+            ∙ beside_at v.memory to x a (omega arith)
             (elim o [ inl l ↦ inl (omega arith) | inr g ↦ inr (omega arith) ]);
         protection = r.protection;
         bytes = λ bs. r.bytes (λ a. digits v.memory.byte 8 to x a (bs a));
@@ -174,7 +184,14 @@ module _ (p : FramePlace) (roomy : Roomy p) (room : ℕ) where
       → Fine (passing_code p.layout first i n)
   passing_fine first i zero le lt = tt
   passing_fine first i (suc n) le lt =
-      let t = roomy.temporaries in
-      (near (temporary_at p.layout (first + i)) (omega arith), refl, refl,
-        (near (8 * i) (omega arith), refl, refl,
-        passing_fine first (i + 1) n (omega arith) (omega arith)))
+      let t = roomy.temporaries in (
+        near (temporary_at p.layout (first + i)) (omega arith),
+        refl,
+        refl,
+        (
+          near (8 * i) (omega arith),
+          refl,
+          refl,
+          passing_fine first (i + 1) n (omega arith) (omega arith),
+        ),
+      )

@@ -126,7 +126,7 @@ funclet_room y f b g l m same =
         base_high = omega arith;
         apart = inr (omega arith);
         kept_base = subst (λ (o : Option ℕ). HasBase y o 0 8192) (sym l.base)
-          (omega arith, omega arith);
+            (omega arith, omega arith);
       };
     }
 
@@ -143,11 +143,11 @@ module _ (t : Functions) (fs : List Funclet) (program : LinearProgram) (p : Imag
   by_name (FunctionBody f) b l = by_leaf f b (p.leaf (FunctionBody f)) l
   by_name (FuncletBody k) b l =
       let g : IsLaidOut program p (FunctionBody l.funclet.function) l.function = image.laid_out
-        (FunctionBody l.funclet.function) l.function l.function_there in
+      (FunctionBody l.funclet.function) l.function l.function_there in
       funclet_room (p.layout (FuncletBody k)) (p.layout (FunctionBody l.funclet.function)) b
-        l.function l.layout
+      l.function l.layout
       (subst (λ (leaf : Bool). IsLayoutIf program p (p.layout (FunctionBody l.funclet.function))
-        l.function leaf) l.function_framed g) l.same_locals
+      l.function leaf) l.function_framed g) l.same_locals
 
   -- ---- code
 
@@ -156,7 +156,7 @@ module _ (t : Functions) (fs : List Funclet) (program : LinearProgram) (p : Imag
       → HasProgram t fs program p q m → body_of program name ≡ Some b
       → slice_get b.code label ≡ Some i
       → HasCode m (p.address name label) (template (links_of p q name) (p.layout name)
-        (p.address name label) i)
+      (p.address name label) i)
   template_is_at m name b label i has there is = template_there t fs program p q image name b there
       m has label i is
 
@@ -166,10 +166,10 @@ module _ (t : Functions) (fs : List Funclet) (program : LinearProgram) (p : Imag
       → HasProgram t fs program p q m → body_of program name ≡ Some b
       → slice_get b.code label ≡ Some (instructions.Compute to o first second)
       → HasCode m (p.address name label + sizes (operands_code (p.layout name) o first second))
-        (finish_code (p.layout name) o to)
+      (finish_code (p.layout name) o to)
   finish_is_at m name b label to o first second has there is =
       (code_split m (p.address name label) (operands_code (p.layout name) o first second)
-        (finish_code (p.layout name) o to)
+      (finish_code (p.layout name) o to)
       (template_is_at m name b label (instructions.Compute to o first second) has there is)).1
 
   -- ---- a funclet's first instruction makes its frame
@@ -186,7 +186,7 @@ module _ (t : Functions) (fs : List Funclet) (program : LinearProgram) (p : Imag
       let l = code.placed.low in
       let h = code.placed.high in
       reads (at_place m at) i (chosen i) (spells i fine.0) (longest i) parts.0
-        (record { low = l; high = omega arith })
+      (record { low = l; high = omega arith })
 
   -- ---- so none begins at other code
 
@@ -199,7 +199,7 @@ module _ (t : Functions) (fs : List Funclet) (program : LinearProgram) (p : Imag
       let quiet = none_taking (i ∷ is) fine in
       elim (slice_get_cases program.funclets k).1 [
         | inl x ↦ funclet_makes t fs program p q image m k x.0 i (length (chosen i)) x.2 has
-          (ap (λ (a : ℕ). leading (executable m 15 a)) (sym e) ∙ read) quiet.0
+            (ap (λ (a : ℕ). leading (executable m 15 a)) (sym e) ∙ read) quiet.0
         | inr x ↦ let le = x.0 in absurd (omega arith)
       ]
 
@@ -209,17 +209,17 @@ module _ (t : Functions) (fs : List Funclet) (program : LinearProgram) (p : Imag
       → HasProgram t fs program p q m → body_of program name ≡ Some b
       → slice_get b.code label ≡ Some (instructions.Compute to o first second)
       → (c : Cpu) → arrivals c (distance t.base
-        (p.address name label + sizes (operands_code (p.layout name) o first second))) 1 fs ≡ []
+      (p.address name label + sizes (operands_code (p.layout name) o first second))) 1 fs ≡ []
   quiet_in_midst roomy m name b label to o first second has there is c =
       let y = p.layout name in
       let at = p.address name label + sizes (operands_code y o first second) in
       let code = finish_is_at m name b label to o first second has there is in
       let slots : HasSlots (counts_of b) (instructions.Compute to o first second) = each
-        (HasSlots (counts_of b)) b.code label (instructions.Compute to o first second)
-        (roomy name b there).slots is in
+      (HasSlots (counts_of b)) b.code label (instructions.Compute to o first second)
+      (roomy name b there).slots is in
       let somewhere = by_name name b (image.laid_out name b there) in
       let fine = finish_fine y (counts_of b) somewhere.sp somewhere.base o to somewhere.room
-        slots.0 in
+      slots.0 in
       let high = code.placed.high in
       image.funclets.none at (omega arith) (λ k lt. elsewhere m at k (finish_code y o to) fine
-        (some_finish y o to) code has lt) c
+      (some_finish y o to) code has lt) c

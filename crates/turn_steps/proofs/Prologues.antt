@@ -94,18 +94,22 @@ module _ (v : MachineView) (target : ℕ) (f : Flags) (top : ℕ) (arguments : �
   pub large_frame : (frame check : ℕ) → frame < 2 ^ 31 → HasBelow v.memory top 8
       → Touchable v.memory top frame → IsNear (target + 10) check → target + 10 < 2 ^ 48
       → HasCode v.memory check check_stack → HasCode v.memory target
-        (enter_large frame target check)
+      (enter_large frame target check)
       → Made v target (target + sizes (enter_large frame target check)) f top (top - frame)
-        arguments 8
+      arguments 8
   large_frame frame check small below touch near high leaf code =
       let e = enter_large_run v top frame target check f n at below touch small near high leaf
-        code in
+      code in
       let same : sizes (enter_large frame target 0)
-        ≡ sizes (enter_large frame target check) = let a = call_size (target + 10) 0 in
-          let b = call_size (target + 10) check in omega arith in
-      let w : MachineView = record { rax = frame; rcx = v.rcx; rdx = v.rdx;
+      ≡ sizes (enter_large frame target check) = let a = call_size (target + 10) 0 in
+      let b = call_size (target + 10) check in omega arith in
+      let w : MachineView = record {
+        rax = frame;
+        rcx = v.rcx;
+        rdx = v.rdx;
         rest = with_sp (set v.rest 8 e.eleventh) (top - frame);
-        memory = (pushed v top (target + 10)).memory } in
+        memory = (pushed v top (target + 10)).memory;
+      } in
       record {
         turns = 8;
         exact = refl;
@@ -113,20 +117,20 @@ module _ (v : MachineView) (target : ℕ) (f : Flags) (top : ℕ) (arguments : �
         after = w;
         flags = e.flags;
         comes = enters_of 8 (machine v target f)
-          (machine w (target + sizes (enter_large frame target check)) e.flags)
-          (subst (λ k. Reaches 8 (machine v target f) (machine w (target + k) e.flags)) same
-          e.comes);
+            (machine w (target + sizes (enter_large frame target check)) e.flags)
+            (subst (λ k. Reaches 8 (machine v target f) (machine w (target + k) e.flags)) same
+            e.comes);
         stack = get_or-set_same (set v.rest 8 e.eleventh) 1 (top - frame) 0
-          (let l = length-set v.rest 8 e.eleventh in omega arith);
+            (let l = length-set v.rest 8 e.eleventh in omega arith);
         count = length-set (set v.rest 8 e.eleventh) 1 (top - frame)
-          ∙ length-set v.rest 8 e.eleventh ∙ n;
+            ∙ length-set v.rest 8 e.eleventh ∙ n;
         registers = record {
           first = regs.first;
           second = regs.second;
           third = other_two 5 (λ h. absurd (omega arith)) (λ h. absurd (omega arith)) v.rest
-            e.eleventh (top - frame) ∙ regs.third;
+              e.eleventh (top - frame) ∙ regs.third;
           fourth = other_two 6 (λ h. absurd (omega arith)) (λ h. absurd (omega arith)) v.rest
-            e.eleventh (top - frame) ∙ regs.fourth;
+              e.eleventh (top - frame) ∙ regs.fourth;
         };
         protection = refl;
         same = λ a o. beside v.memory top (target + 10) a below.enough below.high o;

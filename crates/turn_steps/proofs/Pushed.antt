@@ -22,8 +22,11 @@ module _ (v : MachineView) (sp ret : ℕ) (low : STACK_START + 8 ≤ sp) (high :
     (data_alone : IsData v.memory) (may : (a : ℕ) → STACK_START ≤ a → a < STACK_END
     → may_write v.memory a ≡ true) where
   pub below : HasBelow v.memory sp 8
-  below = record { enough = omega arith; high = omega arith;
-      writable = λ a from to. may a (omega arith) (omega arith) }
+  below = record {
+    enough = omega arith;
+    high = omega arith;
+    writable = λ a from to. may a (omega arith) (omega arith);
+  }
 
   abbrev pub bytes : ℕ → ℕ
   bytes = with_number v.memory.byte 8 (sp - 8) ret
@@ -38,7 +41,7 @@ module _ (v : MachineView) (sp ret : ℕ) (low : STACK_START + 8 ≤ sp) (high :
       by (inl l) o = elsewhere x (inl l)
       by (inr g) (inr h) = elsewhere x (inr h)
       by (inr g) (inl l) = let w : (v.memory.protection x).execute
-        ≡ false = data_alone.no_code x (may x (omega arith) (omega arith)) in absurd cc
+          ≡ false = data_alone.no_code x (may x (omega arith) (omega arith)) in absurd cc
 
   pub keeps_above : KeepsAbove v.memory bytes sp
   keeps_above = record { above = λ x le. elsewhere x (inr le); code = code_same }
@@ -51,8 +54,10 @@ module _ (v : MachineView) (sp ret : ℕ) (low : STACK_START + 8 ≤ sp) (high :
       by x (inr g) = elsewhere x (inr (omega arith))
 
   pub pushed_data : IsData (pushed v sp ret).memory
-  pushed_data = record { bytes = pushed_bytes v sp ret data_alone.bytes;
-      no_code = data_alone.no_code }
+  pushed_data = record {
+    bytes = pushed_bytes v sp ret data_alone.bytes;
+    no_code = data_alone.no_code;
+  }
 
   -- ---- the service returns there
 
@@ -67,10 +72,10 @@ module _ (v : MachineView) (sp ret : ℕ) (low : STACK_START + 8 ≤ sp) (high :
     returns_there =
         let b : HasBack (pushed v sp ret).memory (sp - 8) ret = pushed_back v sp ret below small in
         let can = all_may (may_read there.memory) 8 (sp - 8) (omega arith)
-          (λ a p q. b.readable a p q) in
+        (λ a p q. b.readable a p q) in
         ap (λ a. loaded there.memory a W64) sp_there
-          ∙ ap (λ (o : Option ℕ). access false o (number_at there.memory.byte 8 (sp - 8))) can
-          ∙ ap (λ x. Ok x) b.number
+        ∙ ap (λ (o : Option ℕ). access false o (number_at there.memory.byte 8 (sp - 8))) can
+        ∙ ap (λ x. Ok x) b.number
 
     abbrev pub saved : Cpu
     saved = (back there ret).cpu
@@ -79,4 +84,4 @@ module _ (v : MachineView) (sp ret : ℕ) (low : STACK_START + 8 ≤ sp) (high :
     sp_saved =
         let e : (register there.cpu Rsp + 8) % 2 ^ 64 % 2 ^ 64 ≡ sp = omega (arith, sp_there) in
         get_or-set_same (set v.rest 1 (sp - 8)) 1 ((register there.cpu Rsp + 8) % 2 ^ 64 % 2 ^ 64) 0
-          (omega (arith, length-set v.rest 1 (sp - 8))) ∙ e
+        (omega (arith, length-set v.rest 1 (sp - 8))) ∙ e

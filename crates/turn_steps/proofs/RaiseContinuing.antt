@@ -67,7 +67,7 @@ temporaries_near : (program : LinearProgram) (p : ImagePlan) (name : BodyName) (
 temporaries_near program p (FunctionBody f) b h = by (p.leaf (FunctionBody f)) h
   where
     by : (leaf : Bool) → IsLayoutIf program p (p.layout (FunctionBody f)) b leaf
-      → (p.layout (FunctionBody f)).temporaries + 8 * b.temporaries + 8 ≤ LARGEST_FRAME
+        → (p.layout (FunctionBody f)).temporaries + 8 * b.temporaries + 8 ≤ LARGEST_FRAME
     by true l = let a = l.temporaries in let e = l.few in omega arith
     by false l = let a = l.temporaries in let e = l.locals in let z = l.small in omega arith
 temporaries_near program p (FuncletBody k) b h = let a = h.layout.temporaries in
@@ -78,10 +78,10 @@ module _ (t : Functions) (fs : List Funclet) (program : LinearProgram) (p : Imag
   module _ (made : IsWellMade program p) (s : State) (saved : Cpu) (is : List StackItem)
       (acts : List Activation) (c : Configuration)
       (on : On t fs program p s.memory (context_of saved) is (Waits c.frame ∷ c.below) acts)
-        (sane : IsSane (record { cpu = saved; memory = s.memory }))
-        (says : p.resumes AfterCall c.frame saved ≡ true)
+      (sane : IsSane (record { cpu = saved; memory = s.memory }))
+      (says : p.resumes AfterCall c.frame saved ≡ true)
       (memory : IsMachineMemory t fs program p q s.memory c.store.memory)
-        (store : c.store.activations ≡ locals_of acts) where
+      (store : c.store.activations ≡ locals_of acts) where
     abbrev name : BodyName
     name = c.frame.body
 
@@ -108,7 +108,7 @@ module _ (t : Functions) (fs : List Funclet) (program : LinearProgram) (p : Imag
 
     fits : first + 4 ≤ code.0.temporaries
     fits = each (HasSlots (counts_of code.0)) code.0.code c.frame.next i
-      (made.room name code.0 code.1).slots here
+        (made.room name code.0 code.1).slots here
 
     abbrev done : List Instr
     done = clear_result ∷ begin_call y first (place + 5) (q.thunk RaiseException)
@@ -118,15 +118,19 @@ module _ (t : Functions) (fs : List Funclet) (program : LinearProgram) (p : Imag
         let n = clear_size in
         let back = return_at y first (place + 5) in
         let five = call_size back (q.thunk RaiseException) in
-        omega (arith, returns.here, sizes_append (arguments_code y first)
-          (call back (q.thunk RaiseException) ∷ []))
+        omega (
+          arith,
+          returns.here,
+          sizes_append (arguments_code y first)
+              (call back (q.thunk RaiseException) ∷ []),
+        )
 
     -- the code that keeps the result
     keeps : HasCode s.memory saved.rip (put_back Rsp (temporary_at y first) ∷ [])
     keeps =
         let h = code_split s.memory place done (keep y (Temporary first))
-          (template_there t fs program p q image name code.0 code.1 s.memory memory.code
-          c.frame.next i here) in
+        (template_there t fs program p q image name code.0 code.1 s.memory memory.code
+        c.frame.next i here) in
         subst (λ x. HasCode s.memory x (keep y (Temporary first))) (sym back_is) h.1
 
     pub quiet_there : arrivals saved (distance t.base saved.rip) 1 fs ≡ []
@@ -134,7 +138,7 @@ module _ (t : Functions) (fs : List Funclet) (program : LinearProgram) (p : Imag
         let n = temporaries_near program p name code.0 (image.laid_out name code.0 code.1) in
         let f = fits in
         quiet_code t fs program p q image s.memory saved.rip (put_back Rsp (temporary_at y first))
-          saved memory.code (near (temporary_at y first) (omega arith)) refl keeps sane.rip_small
+        saved memory.code (near (temporary_at y first) (omega arith)) refl keeps sane.rip_small
 
     module _ (known : IsKnown program (resumed AfterCall c)) (free : c.frame.landed ≡ None) where
       held : length c.frame.temporaries ≡ first
@@ -150,39 +154,42 @@ module _ (t : Functions) (fs : List Funclet) (program : LinearProgram) (p : Imag
 
       counted : IsCounted t fs program p q image caller
       counted b there = ap (λ (xs : List (List ℕ)). length (locals_in xs c.frame.activation))
-        (sym store) ∙ counted_here t fs program p q image made (resumed AfterCall c) known b there
+          (sym store) ∙ counted_here t fs program p q image made (resumed AfterCall c) known b there
 
       pub continues : LeadsTo t fs entry_turns (Begins t fs program p q)
-        (record { cpu = saved; memory = s.memory }) (resumed AfterCall c)
+          (record { cpu = saved; memory = s.memory }) (resumed AfterCall c)
       continues =
           let around = surrounded t fs program p q image made (resumed AfterCall c) known code.0
-            code.1 (length acts) (sym (locals_count acts) ∙ sym (ap length store)) in
+          code.1 (length acts) (sym (locals_count acts) ∙ sym (ap length store)) in
           let u : State = record { cpu = saved; memory = s.memory } in
           let f = fits in
           let z = kept.resumes t fs program p q image made.room u c.frame c.below acts
-            c.store.memory c.events (context_of saved) is on refl sane memory code.0 code.1 i first
-            done here (λ h. h) refl (omega arith)
+          c.store.memory c.events (context_of saved) is on refl sane memory code.0 code.1 i first
+          done here (λ h. h) refl (omega arith)
           ((made.apart name code.0 code.1).within c.frame.next i here refl) held free back_is
-            counted around in
+          counted around in
           record {
             turns = 1;
             few = omega arith;
             state = z.state;
             comes = reaches_quietly t fs program p q image 1 u z.state z.reaches z.keeps memory.code
-              z.quiet;
+                z.quiet;
             is_there = subst (λ xs. Begins t fs program p q z.state (record {
-              frame = record c.frame { next = c.frame.next + 1;
-                temporaries = c.frame.temporaries ++ 0 ∷ [] };
+              frame = record c.frame {
+                next = c.frame.next + 1;
+                temporaries = c.frame.temporaries ++ 0 ∷ [];
+              };
               below = c.below;
               store = record { memory = c.store.memory; activations = xs };
               events = c.events;
             })) (sym store) (subst (λ x. Begins t fs program p q z.state
-              (kept.answered t fs program p q image made.room c.frame c.below c.store.memory acts
-              c.events x)) returns.no_result z.begins);
+                (kept.answered t fs program p q image made.room c.frame c.below c.store.memory acts
+                c.events x)) returns.no_result z.begins);
           }
 
 pub continuations_after_calls : ContinuationsAfterCalls
-continuations_after_calls t fs program p q image made s saved is acts c on sane says memory store =
-    (quiet_there t fs program p q image made s saved is acts c on sane says memory store,
-      λ known free. continues t fs program p q image made s saved is acts c on sane says memory
-      store known free)
+continuations_after_calls t fs program p q image made s saved is acts c on sane says memory store = (
+  quiet_there t fs program p q image made s saved is acts c on sane says memory store,
+  λ known free. continues t fs program p q image made s saved is acts c on sane says memory
+      store known free,
+)

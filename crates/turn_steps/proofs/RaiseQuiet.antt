@@ -43,10 +43,12 @@ reads_first m at j fine code =
     let parts = bytes_split m at (chosen j) [] code.is_there in
     let l = code.placed.low in
     let h = code.placed.high in
-    let s : State = record { cpu = record { registers = []; rip = at; flags = no_flags };
-      memory = m } in
+    let s : State = record {
+      cpu = record { registers = []; rip = at; flags = no_flags };
+      memory = m;
+    } in
     reads s j (chosen j) (spells j fine) (longest j) parts.0
-      (record { low = l; high = omega arith })
+    (record { low = l; high = omega arith })
 
 abbrev taking : Option (Instr × ℕ) → Bool
 taking None = true
@@ -77,16 +79,16 @@ module _ (t : Functions) (fs : List Funclet) (program : LinearProgram) (p : Imag
       let first = frame_code y.frame (p.funclet k) q.check_stack (p.leaf name) in
       let all = has.code name f.body is in
       let entry = code_split m (p.funclet k) (entry_code program p q name)
-        (code_from (links_of p q name) y (p.address name 0) f.body.code) all in
+      (code_from (links_of p q name) y (p.address name 0) f.body.code) all in
       let frame = code_split m (p.funclet k) first (arguments_code program p name) entry.0 in
       let i = instrs.Arithmetic operations.Sub W64 (places.Register Rsp)
-        (operands.Immediate y.frame) in
+      (operands.Immediate y.frame) in
       let made : HasCode m (p.funclet k) (i ∷ []) = subst (HasCode m (p.funclet k))
-        (made_at_once y.frame (p.funclet k) q.check_stack (p.leaf name) plan.framed small)
-        frame.0 in
+      (made_at_once y.frame (p.funclet k) q.check_stack (p.leaf name) plan.framed small)
+      frame.0 in
       never_both i j (length (chosen i)) (length (chosen j))
-        (sym (reads_first m (p.funclet k) i (near y.frame (omega arith)) made)
-        ∙ reads_first m (p.funclet k) j fine code) refl quiet
+      (sym (reads_first m (p.funclet k) i (near y.frame (omega arith)) made)
+      ∙ reads_first m (p.funclet k) j fine code) refl quiet
 
   pub quiet_code : (m : Memory) (at : ℕ) (j : Instr) (c : Cpu) → HasProgram t fs program p q m
       → is_encodable j ≡ true → takes_frame j ≡ false → HasCode m at (j ∷ []) → at < 2 ^ 64
@@ -94,6 +96,6 @@ module _ (t : Functions) (fs : List Funclet) (program : LinearProgram) (p : Imag
   quiet_code m at j c has fine quiet code small =
       image.funclets.none at small (λ k inside e. elim (slice_get_cases program.funclets k).1 [
         | inl x ↦ makes_frame m k x.0 j x.2 has fine quiet
-          (subst (λ a. HasCode m a (j ∷ [])) e code)
+            (subst (λ a. HasCode m a (j ∷ [])) e code)
         | inr x ↦ let le = x.0 in absurd (omega arith)
       ]) c

@@ -73,11 +73,11 @@ raise_acts : (program : LinearProgram) (c : Configuration) (first : ℕ)
 unfolding with_some
 raise_acts program c first held next =
     let last : last_temporaries c.frame.temporaries first (count_of RaiseException)
-      ≡ Some (drop first c.frame.temporaries) =
+    ≡ Some (drop first c.frame.temporaries) =
     ap (λ (x : Bool). if x then Some (drop first c.frame.temporaries) else None)
-      (eq-eqb (length c.frame.temporaries) (first + 4) held) in
+    (eq-eqb (length c.frame.temporaries) (first + 4) held) in
     ap (λ o. with_some c.events o (λ vs. built_in program next RaiseException vs (waiting c first)))
-      last
+    last
 
 module _ (t : Functions) (fs : List Funclet) (program : LinearProgram) (p : ImagePlan) (q : Sites)
     (image : IsProgramImage t fs program p q) (made : IsWellMade program p)
@@ -101,19 +101,19 @@ module _ (t : Functions) (fs : List Funclet) (program : LinearProgram) (p : Imag
     held = ready_here t fs program p q image made s c b known i at
 
     argument : (j : ℕ) → j < 4 → (asking.numbers t fs program p q image made s c b known
-      RaiseException first at).slots (Temporary (first + j))
-      ≡ get_or (drop first c.frame.temporaries) j 0
+        RaiseException first at).slots (Temporary (first + j))
+        ≡ get_or (drop first c.frame.temporaries) j 0
     argument j lt =
         let n = held in
         (slots_here t fs program p q image s c b
-          (counted_here t fs program p q image made c known)).temporaries (first + j)
-          (get_or (drop first c.frame.temporaries) j 0)
-          (argument_is c.frame.temporaries first j (omega arith))
+        (counted_here t fs program p q image made c known)).temporaries (first + j)
+        (get_or (drop first c.frame.temporaries) j 0)
+        (argument_is c.frame.temporaries first j (omega arith))
 
     code_given : register state.cpu Rcx ≡ get_or (drop first c.frame.temporaries) 0 0
     code_given = (let z : first + 0 ≡ first = omega arith in
-      ap (λ n. (asking.numbers t fs program p q image made s c b known RaiseException first
-      at).slots (Temporary n)) (sym z)) ∙ argument 0 (omega arith)
+        ap (λ n. (asking.numbers t fs program p q image made s c b known RaiseException first
+        at).slots (Temporary n)) (sym z)) ∙ argument 0 (omega arith)
 
     flags_given : register state.cpu Rdx ≡ get_or (drop first c.frame.temporaries) 1 0
     flags_given = argument 1 (omega arith)
@@ -132,51 +132,51 @@ module _ (t : Functions) (fs : List Funclet) (program : LinearProgram) (p : Imag
     }
 
     resumes : p.resumes AfterCall (waiting c first).frame
-      (asking.saved t fs program p q image made s c b known RaiseException first at) ≡ true
+        (asking.saved t fs program p q image made s c b known RaiseException first at) ≡ true
     resumes = (image.resumptions AfterCall (waiting c first).frame
-      (asking.saved t fs program p q image made s c b known RaiseException first at)).says
-      (record { first = first; calls = at; here = refl; no_result = refl })
+        (asking.saved t fs program p q image made s c b known RaiseException first at)).says
+        (record { first = first; calls = at; here = refl; no_result = refl })
 
     goes : (next : Next) → act program i next c
-      ≡ raise program next exception AfterCall (waiting c first)
+        ≡ raise program next exception AfterCall (waiting c first)
     goes = raise_acts program c first held
 
     pub raise_step : HasRule (act program i (exec program zero) c) → KnownNext program c i
-      → IsMatched t fs program pace turns_left (Represents t fs program p q) s c i
+        → IsMatched t fs program pace turns_left (Represents t fs program p q) s c i
     raise_step rule after =
         let asks = asking.asks t fs program p q image made s c b known RaiseException first at in
         let shown = raised_as t fs program p q image fits state
-          (asking.saved t fs program p q image made s c b known RaiseException first at) asks.is
-          b.body.acts (waiting c first) asks.asks
+        (asking.saved t fs program p q image made s c b known RaiseException first at) asks.is
+        b.body.acts (waiting c first) asks.asks
         (asking.memory t fs program p q image made s c b known RaiseException first at) b.body.store
-          code (register state.cpu Rdx % 2) None exception AfterCall is_exception resumes
-          (subst HasRule (goes (exec program zero)) rule) in
+        code (register state.cpu Rdx % 2) None exception AfterCall is_exception resumes
+        (subst HasRule (goes (exec program zero)) rule) in
         let less : turns_left (waiting c first)
-          ≤ turns_left c = (let n = length-take first c.frame.temporaries in omega arith) in
+        ≤ turns_left c = (let n = length-take first c.frame.temporaries in omega arith) in
         let saved = asking.saved t fs program p q image made s c b known RaiseException first at in
         let shadow = callers (context_of saved) asks.is in
         let high = asking.high_enough t fs program p q image made s c b known RaiseException first
-          at in
+        at in
         let low = asking.low_enough t fs program p q image made s c b known RaiseException first
-          at in
+        at in
         let sane = asking.sane t fs program p q image made s c b known RaiseException first at in
         let there = asking.sp_there t fs program p q image made s c b known RaiseException first
-          at in
+        at in
         let walk =
         service_walk t fs program p q image state (address_of services.RaiseException) back asks.is
-          refl (omega arith) (omega arith) (λ e. absurd (omega arith)) (λ e. absurd (omega arith))
+        refl (omega arith) (omega arith) (λ e. absurd (omega arith)) (λ e. absurd (omega arith))
         (asking.returns t fs program p q image made s c b known RaiseException first at) sane.count
-          (omega arith) asks.asks.on.is_there.stack in
+        (omega arith) asks.asks.on.is_there.stack in
         matched_when_shown t fs program p q 16 7 (turns_left (waiting c first)) s state c i
         (arrived t fs (raised t state code (register state.cpu Rdx % 2) None
-          (asking.saved t fs program p q image made s c b known RaiseException first at)))
-          (raise_event exception ∷ [])
+        (asking.saved t fs program p q image made s c b known RaiseException first at)))
+        (raise_event exception ∷ [])
         (λ next. raise program next exception AfterCall (waiting c first)) shadow
         (asking.comes t fs program p q image made s c b known RaiseException first at)
-          (asking.live t fs program p q image made s c b known RaiseException first at)
+        (asking.live t fs program p q image made s c b known RaiseException first at)
         (raise_turns t fs state back refl (asking.returns t fs program p q image made s c b known
-          RaiseException first at)) (raise_keeps t fs program p q state walk.0 shadow refl walk.1)
-          shown goes (omega arith) after
+        RaiseException first at)) (raise_keeps t fs program p q state walk.0 shadow refl walk.1)
+        shown goes (omega arith) after
 
 pub raises_are_matched : RaisesAreMatched
 raises_are_matched t fs program p q image made fits s c first b known at rule after = raise_step t

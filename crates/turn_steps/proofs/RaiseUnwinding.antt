@@ -108,7 +108,7 @@ nothing_landed : (program : LinearProgram) (c : Configuration) (i : Instruction)
 nothing_landed program c i None h e f = refl
 nothing_landed program c i (Some code) h e f =
     let same : instructions.Landing (Local h.0)
-      ≡ i = some_is (instructions.Landing (Local h.0)) i (sym h.1 ∙ e) in
+    ≡ i = some_is (instructions.Landing (Local h.0)) i (sym h.1 ∙ e) in
     absurd (let x : true ≡ false = ap is_landing same ∙ f in cc)
 
 -- ---- the target, in the first frame of the list
@@ -121,8 +121,8 @@ aimed_first : (t : Functions) (fs : List Funclet) (program : LinearProgram) (p :
     → Aimed t fs program p (length below) label frame address c is (Waits b ∷ below)
 aimed_first t fs program p m c (Framed f ∷ is) b below acts label frame address l framed here = inl
     here
-aimed_first t fs program p m c (Leaf back ∷ is) b below acts label frame address l framed
-    here = absurd (let z : true ≡ false = sym l.0.leaf ∙ framed in cc)
+aimed_first t fs program p m c (Leaf back ∷ is) b below acts label frame address l framed here =
+    absurd (let z : true ≡ false = sym l.0.leaf ∙ framed in cc)
 aimed_first t fs program p m c is b below acts label frame address l framed here = absurd l
 
 module _ (t : Functions) (fs : List Funclet) (program : LinearProgram) (p : ImagePlan) (q : Sites)
@@ -182,7 +182,7 @@ module _ (t : Functions) (fs : List Funclet) (program : LinearProgram) (p : Imag
         by : (leaf : Bool) → p.leaf c.frame.body ≡ leaf → p.leaf c.frame.body ≡ false
         by false e = e
         by true e = absurd (let no : true ≡ false = made.leaves c.frame.body body c.frame.next i
-          b.body.slots.body e here in cc)
+            b.body.slots.body e here in cc)
 
     free : c.frame.landed ≡ None
     free = nothing_landed program c i c.frame.landed known.stacked.landed at refl
@@ -202,19 +202,19 @@ module _ (t : Functions) (fs : List Funclet) (program : LinearProgram) (p : Imag
     inside : InCode p c.frame.body (c.frame.next + 1) back
     inside =
         let within = slice_get_within body.code (c.frame.next + 1) instructions.Separator
-          separator in
+        separator in
         let r = (image.addresses c.frame.body body b.body.slots.body).rises (c.frame.next + 1)
-          within in
+        within in
         let e = back_is in
         record { low = omega arith; high = omega arith }
 
     same_regions : SameRegions t fs program p (body_of program c.frame.body) (c.frame.next + 1)
-      c.frame.next
+        c.frame.next
     same_regions = apart_same t fs program p made.apart c.frame.body body c.frame.next i
-      b.body.slots.body here refl
+        b.body.slots.body here refl
 
     label_near : (l : ℕ) → (IMAGE_BASE < p.address c.frame.body l)
-      × (p.address c.frame.body l < IMAGE_RANGE_END)
+        × (p.address c.frame.body l < IMAGE_RANGE_END)
     label_near l =
         let a = image.addresses c.frame.body body b.body.slots.body in
         let from = a.inside.low in
@@ -249,7 +249,7 @@ module _ (t : Functions) (fs : List Funclet) (program : LinearProgram) (p : Imag
 
     back_small : back < 2 ^ 64
     back_small = let z = label_near (c.frame.next + 1) in let z1 = z.1 in let e = back_is in
-      omega arith
+        omega arith
 
     resumed : IsResumed t fs program p q c.frame.body body (c.frame.next + 1) back
     resumed = record {
@@ -267,11 +267,11 @@ module _ (t : Functions) (fs : List Funclet) (program : LinearProgram) (p : Imag
 
     same : s ≡ machine view place s.cpu.flags
     same = same_state t fs program p q image made.room s c b counted
-      ∙ ap (λ a. machine view a s.cpu.flags) b.rip
+        ∙ ap (λ a. machine view a s.cpu.flags) b.rip
 
     code_here : HasCode s.memory place (local_unwind_code place target q.local_unwind)
     code_here = subst (λ a. HasCode s.memory a (local_unwind_code a target q.local_unwind)) b.rip
-      (template_here t fs program p q image made.room s c b counted i here)
+        (template_here t fs program p q image made.room s c b counted i here)
 
     -- with its frame and the label's address in RCX and RDX
     abbrev given : MachineView
@@ -283,16 +283,16 @@ module _ (t : Functions) (fs : List Funclet) (program : LinearProgram) (p : Imag
     reaches : Reaches 4 s state
     reaches =
         let below = pushing.below view sp back low_enough high_enough b.memory.data_alone
-          b.memory.stack in
+        b.memory.stack in
         let three = local_unwind_begins view sp place target q.local_unwind s.cpu.flags
-          (sp_is t fs program p q image made.room s c b counted) below near_target near_thunk
-          code_here in
+        (sp_is t fs program p q image made.room s c b counted) below near_target near_thunk
+        code_here in
         let last = thunk_reaches (pushed given sp back) q.local_unwind service s.cpu.flags
-          (pushed_thunk given sp back q.local_unwind service below
-          b.memory.code.local_unwind.thunk) in
+        (pushed_thunk given sp back q.local_unwind service below
+        b.memory.code.local_unwind.thunk) in
         subst (λ x. Reaches 4 x state) (sym same)
         (reaches_then 3 1 (machine view place s.cpu.flags)
-          (machine (pushed given sp back) q.local_unwind s.cpu.flags) state three last)
+        (machine (pushed given sp back) q.local_unwind s.cpu.flags) state three last)
 
     -- each turn keeps the shadow
     abbrev before : List Instr
@@ -308,42 +308,42 @@ module _ (t : Functions) (fs : List Funclet) (program : LinearProgram) (p : Imag
     halves = steps_split 3 1 s state (reaches_steps 4 s state reaches)
 
     called : CalleeBegins t fs program p q image c.frame.body body b.body.slots.body c.frame.next i
-      here (λ h. h) before [] back q.local_unwind refl before_size near_thunk (c.frame.next + 1)
-      resumed (λ m. image.callers_outside.local_unwind m)
+        here (λ h. h) before [] back q.local_unwind refl before_size near_thunk (c.frame.next + 1)
+        resumed (λ m. image.callers_outside.local_unwind m)
         s halves.0 (top_of t fs program p q image s c b counted) b.body.back
-          (others_of s.cpu.registers) b.body.is b.rip
-          (begins_beneath t fs program p q image s c b counted) refl (let l = low in omega arith)
-          b.memory.code plain halves.1 sp
+        (others_of s.cpu.registers) b.body.is b.rip
+        (begins_beneath t fs program p q image s c b counted) refl (let l = low in omega arith)
+        b.memory.code plain halves.1 sp
     called =
         callee_begins t fs program p q image c.frame.body body b.body.slots.body c.frame.next i here
-          (λ h. h) before [] back q.local_unwind refl before_size near_thunk (c.frame.next + 1)
-          resumed (λ m. image.callers_outside.local_unwind m)
+        (λ h. h) before [] back q.local_unwind refl before_size near_thunk (c.frame.next + 1)
+        resumed (λ m. image.callers_outside.local_unwind m)
         s halves.0 (top_of t fs program p q image s c b counted) b.body.back
-          (others_of s.cpu.registers) b.body.is b.rip
-          (begins_beneath t fs program p q image s c b counted) refl (let l = low in omega arith)
-          b.memory.code plain halves.1 sp
+        (others_of s.cpu.registers) b.body.is b.rip
+        (begins_beneath t fs program p q image s c b counted) refl (let l = low in omega arith)
+        b.memory.code plain halves.1 sp
         (omega arith) (omega arith)
 
     keeps_shadow : AllKeep t fs 4 s
     keeps_shadow =
         keeps_split t fs 3 1 s halves.0 halves.1
         (calls_keep t fs program p q image c.frame.body body b.body.slots.body c.frame.next i here
-          (λ h. h) before [] back q.local_unwind refl before_size near_thunk (c.frame.next + 1)
-          resumed (λ m. image.callers_outside.local_unwind m)
+        (λ h. h) before [] back q.local_unwind refl before_size near_thunk (c.frame.next + 1)
+        resumed (λ m. image.callers_outside.local_unwind m)
         s halves.0 (top_of t fs program p q image s c b counted) b.body.back
-          (others_of s.cpu.registers) b.body.is b.rip
-          (begins_beneath t fs program p q image s c b counted) refl (let l = low in omega arith)
-          b.memory.code plain halves.1)
+        (others_of s.cpu.registers) b.body.is b.rip
+        (begins_beneath t fs program p q image s c b counted) refl (let l = low in omega arith)
+        b.memory.code plain halves.1)
         (thunk_keeps t fs program p q image halves.0 state (sp - 8) sp back
-          (others_of s.cpu.registers) _ called.beneath_it called.stack q.local_unwind service
-          called.rip called.program_there.local_unwind.thunk halves.2 refl
+        (others_of s.cpu.registers) _ called.beneath_it called.stack q.local_unwind service
+        called.rip called.program_there.local_unwind.thunk halves.2 refl
         (λ m. image.callers_outside.local_unwind m)
-          (λ m. image.callers_outside.services m service (omega arith) (omega arith)
-          (λ e. absurd (omega arith)) (λ e. absurd (omega arith))))
+        (λ m. image.callers_outside.services m service (omega arith) (omega arith)
+        (λ e. absurd (omega arith)) (λ e. absurd (omega arith))))
 
     comes : Comes t fs 4 s [] state
     comes = reaches_quietly t fs program p q image 4 s state reaches keeps_shadow b.memory.code
-      (host_quiet t fs program p q image s.memory service state.cpu b.memory.code (omega arith))
+        (host_quiet t fs program p q image s.memory service state.cpu b.memory.code (omega arith))
 
     sane : IsSane state
     sane = stays_sane s state (reaches_keeps 4 s state reaches) (omega arith) b.sane
@@ -355,15 +355,15 @@ module _ (t : Functions) (fs : List Funclet) (program : LinearProgram) (p : Imag
 
     abbrev saved : Cpu
     saved = pushing.saved given sp back low_enough high_enough b.memory.data_alone b.memory.stack
-      service s.cpu.flags back_small many
+        service s.cpu.flags back_small many
 
     returns : loaded state.memory (register state.cpu Rsp) W64 ≡ Ok back
     returns = pushing.returns_there given sp back low_enough high_enough b.memory.data_alone
-      b.memory.stack service s.cpu.flags back_small many
+        b.memory.stack service s.cpu.flags back_small many
 
     sp_saved : register saved Rsp ≡ sp
     sp_saved = pushing.sp_saved given sp back low_enough high_enough b.memory.data_alone
-      b.memory.stack service s.cpu.flags back_small many
+        b.memory.stack service s.cpu.flags back_small many
 
     sane_saved : IsSane (record { cpu = saved; memory = state.memory })
     sane_saved =
@@ -378,67 +378,71 @@ module _ (t : Functions) (fs : List Funclet) (program : LinearProgram) (p : Imag
     memory =
         memory_untouched t fs program p q s.memory state.memory c.store.memory
         (pushing.pushed_untouched given sp back low_enough high_enough b.memory.data_alone
-          b.memory.stack) b.memory
+        b.memory.stack) b.memory
         (pushing.pushed_data given sp back low_enough high_enough b.memory.data_alone
-          b.memory.stack)
+        b.memory.stack)
 
     abbrev at_return : InBody t fs program p q (record { cpu = saved; memory = s.memory }) c
     at_return = in_body t fs program p q s c b saved (c.frame.next + 1) c.frame.temporaries sp_saved
-      (record { low = inside.low; high = inside.high }) same_regions back_small
-      (all_front s.memory c.frame.temporaries)
+        (record { low = inside.low; high = inside.high }) same_regions back_small
+        (all_front s.memory c.frame.temporaries)
 
     asks : Asks t fs program p q image state.cpu saved s.memory
-      (pushing.bytes given sp back low_enough high_enough b.memory.data_alone b.memory.stack) c
-      b.body.acts
+        (pushing.bytes given sp back low_enough high_enough b.memory.data_alone b.memory.stack) c
+        b.body.acts
     asks =
         asks_host t fs program p q image state.cpu saved s.memory
-          (pushing.bytes given sp back low_enough high_enough b.memory.data_alone b.memory.stack) c
-          (c.frame.next + 1) c.store.memory
+        (pushing.bytes given sp back low_enough high_enough b.memory.data_alone b.memory.stack) c
+        (c.frame.next + 1) c.store.memory
         at_return resumed b.memory.code
         (subst (KeepsAbove s.memory (pushing.bytes given sp back low_enough high_enough
-          b.memory.data_alone b.memory.stack)) (sym sp_saved)
-          (pushing.keeps_above given sp back low_enough high_enough b.memory.data_alone
-          b.memory.stack))
+        b.memory.data_alone b.memory.stack)) (sym sp_saved)
+        (pushing.keeps_above given sp back low_enough high_enough b.memory.data_alone
+        b.memory.stack))
         memory sane sane_saved
 
     -- ---- the target is the body's own frame
 
     aims : AimedHere t fs program p (length c.below) label sp target (context_of saved) c.frame
-      c.below
-    aims = record { at_depth = refl; at_frame = sym sp_saved; at_address = refl;
+        c.below
+    aims = record {
+      at_depth = refl;
+      at_frame = sym sp_saved;
+      at_address = refl;
       lands = image.lands c.frame.body body label b.body.slots.body
-      (stays c.frame.body body b.body.slots.body c.frame.next label here) }
+          (stays c.frame.body body b.body.slots.body c.frame.next label here);
+    }
 
     aimed : Aimed t fs program p (length c.below) label sp target (context_of saved) asks.is
-      (Waits c.frame ∷ c.below)
+        (Waits c.frame ∷ c.below)
     aimed = aimed_first t fs program p state.memory (context_of saved) asks.is c.frame c.below
-      b.body.acts label sp target asks.asks.on.is_there.linked framed aims
+        b.body.acts label sp target asks.asks.on.is_there.linked framed aims
 
     clear : AreClear (Waits c.frame ∷ c.below)
     clear = (free, clear_below program c.below known.stacked.below)
 
     pub unwind_step : HasRule (act program i (exec program zero) c) → KnownNext program c i
-      → IsMatched t fs program pace turns_left (Represents t fs program p q) s c i
+        → IsMatched t fs program pace turns_left (Represents t fs program p q) s c i
     unwind_step rule after =
         let n = label_near label in
         let n1 = n.1 in
         let h = high_enough in
         let l = low_enough in
         let there = pushing.sp_there given sp back low_enough high_enough b.memory.data_alone
-          b.memory.stack service s.cpu.flags back_small many in
+        b.memory.stack service s.cpu.flags back_small many in
         let walk =
         service_walk t fs program p q image state service back asks.is refl (omega arith)
-          (omega arith) (λ e. absurd (omega arith)) (λ e. absurd (omega arith)) returns sane.count
-          (omega arith) asks.asks.on.is_there.stack in
+        (omega arith) (λ e. absurd (omega arith)) (λ e. absurd (omega arith)) returns sane.count
+        (omega arith) asks.asks.on.is_there.stack in
         let shown = unwound_to t fs program p q image fits state saved asks.is b.body.acts c
-          asks.asks memory b.body.store sp target label (omega arith) (omega arith) aimed rule
-          clear in
+        asks.asks memory b.body.store sp target label (omega arith) (omega arith) aimed rule
+        clear in
         matched_when_shown t fs program p q 16 4 (turns_left c) s state c i
         (arrived t fs (unwound_locally t state sp target saved)) []
-          (λ next. local_unwind program next label c) (callers (context_of saved) asks.is)
+        (λ next. local_unwind program next label c) (callers (context_of saved) asks.is)
         comes refl (local_unwind_turns t fs state back refl returns)
-          (local_unwind_keeps t fs program p q state walk.0 (callers (context_of saved) asks.is)
-          refl walk.1) shown (λ next. refl) (omega arith) after
+        (local_unwind_keeps t fs program p q state walk.0 (callers (context_of saved) asks.is)
+        refl walk.1) shown (λ next. refl) (omega arith) after
 
 pub local_unwinds_are_matched : LocalUnwindsAreMatched
 local_unwinds_are_matched t fs program p q image made follows stays fits s c label b known at rule

@@ -42,13 +42,13 @@ module _ (t : Functions) (fs : List Funclet) (program : LinearProgram) (p : Imag
       (resumption : Resumption) (asked : Handler) (rest : List Handler) (items : List Item)
       (acts : List Activation)
       → IsStack t m c is → Linked t fs program p m c is
-        (Searches exception resumption asked rest ∷ items) acts → IsSearchOnTop c is
+      (Searches exception resumption asked rest ∷ items) acts → IsSearchOnTop c is
   search_on_top m c [] exception resumption asked rest items acts s h = absurd h
   search_on_top m c (Framed f ∷ is) exception resumption asked rest items acts s h = absurd h
   search_on_top m c (Leaf back ∷ is) exception resumption asked rest items acts s h = absurd h
   search_on_top m c (Unwinding r ∷ is) exception resumption asked rest items acts s h = absurd h
-  search_on_top m c (Searching r ∷ is) exception resumption asked rest items acts s
-      h = record { dispatch = r; others = is; items = refl; at_host = s.0.at_host }
+  search_on_top m c (Searching r ∷ is) exception resumption asked rest items acts s h =
+      record { dispatch = r; others = is; items = refl; at_host = s.0.at_host }
 
   pub unwinding_on_top : (m : Memory) (c : Context) (is : List StackItem) (rest : List Region)
       (target : Target) (items : List Item) (acts : List Activation)
@@ -58,5 +58,5 @@ module _ (t : Functions) (fs : List Funclet) (program : LinearProgram) (p : Imag
   unwinding_on_top m c (Framed f ∷ is) rest target items acts s h = absurd h
   unwinding_on_top m c (Leaf back ∷ is) rest target items acts s h = absurd h
   unwinding_on_top m c (Searching r ∷ is) rest target items acts s h = absurd h
-  unwinding_on_top m c (Unwinding r ∷ is) rest target items acts s
-      h = record { dispatch = r; others = is; items = refl; at_host = s.0.at_host }
+  unwinding_on_top m c (Unwinding r ∷ is) rest target items acts s h =
+      record { dispatch = r; others = is; items = refl; at_host = s.0.at_host }

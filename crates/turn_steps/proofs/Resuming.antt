@@ -55,43 +55,47 @@ module _ (t : Functions) (fs : List Funclet) (program : LinearProgram) (p : Imag
   module _ (u : State) (w : Frame) (items : List Item) (acts : List Activation) (source : Memory)
       (es : List Event) (above : Context) (is : List StackItem)
       (on : On t fs program p u.memory above is (Waits w ∷ items) acts)
-        (sp : register u.cpu Rsp ≡ rsp above) (sane : IsSane u)
-        (memory : IsMachineMemory t fs program p q u.memory source)
+      (sp : register u.cpu Rsp ≡ rsp above) (sane : IsSane u)
+      (memory : IsMachineMemory t fs program p q u.memory source)
       (o : LinearBody) (there : body_of program w.body ≡ Some o) (f first arguments : ℕ)
-        (calls : slice_get o.code w.next ≡ Some (instructions.Call f first arguments))
-        (within : w.next + 1 < length o.code)
+      (calls : slice_get o.code w.next ≡ Some (instructions.Call f first arguments))
+      (within : w.next + 1 < length o.code)
       (held : length w.temporaries ≡ first) (free : w.landed ≡ None)
-        (back : u.cpu.rip ≡ returns_at (p.layout w.body) first arguments (p.address w.body w.next))
-        where
-    abbrev layout : Layout
-    layout = p.layout w.body
+      (back : u.cpu.rip ≡ returns_at (p.layout w.body) first arguments (p.address w.body w.next))
+    where
+      abbrev layout : Layout
+      layout = p.layout w.body
 
-    abbrev passing : List Instr
-    passing = passing_code layout first 4 (arguments - 4)
+      abbrev passing : List Instr
+      passing = passing_code layout first 4 (arguments - 4)
 
-    abbrev beginning : List Instr
-    beginning = begin_call layout first (p.address w.body w.next + sizes passing) (q.function f)
+      abbrev beginning : List Instr
+      beginning = begin_call layout first (p.address w.body w.next + sizes passing) (q.function f)
 
-    fits : first < o.temporaries
-    fits = let h = each (HasSlots (counts_of o)) o.code w.next (instructions.Call f first arguments)
-      (roomy w.body o there).slots calls in let few = h.0 in omega arith
+      fits : first < o.temporaries
+      fits = let h = each (HasSlots (counts_of o)) o.code w.next (instructions.Call f first arguments)
+          (roomy w.body o there).slots calls in let few = h.0 in omega arith
 
-    back_is : u.cpu.rip ≡ p.address w.body w.next + sizes (passing ++ beginning)
-    back_is =
-        let at = p.address w.body w.next + sizes passing in
-        let five = call_size (return_at layout first at) (q.function f) in
-        omega (arith, back, sizes_append passing beginning,
-          sizes_append (arguments_code layout first)
-          (call (return_at layout first at) (q.function f) ∷ []))
+      back_is : u.cpu.rip ≡ p.address w.body w.next + sizes (passing ++ beginning)
+      back_is =
+          let at = p.address w.body w.next + sizes passing in
+          let five = call_size (return_at layout first at) (q.function f) in
+          omega (
+            arith,
+            back,
+            sizes_append passing beginning,
+            sizes_append (arguments_code layout first)
+                (call (return_at layout first at) (q.function f) ∷ []),
+          )
 
-    -- in one turn, which keeps the shadow, the next instruction begins
-    pub resumes : IsCounted t fs program p q image (on_top w items source acts es)
-      → IsSurrounded t fs program p q image roomy w.body w.activation items (length acts)
-        → kept.Resumes t fs program p q u (answered t fs program p q image roomy w items source acts
+      -- in one turn, which keeps the shadow, the next instruction begins
+      pub resumes : IsCounted t fs program p q image (on_top w items source acts es)
+          → IsSurrounded t fs program p q image roomy w.body w.activation items (length acts)
+          → kept.Resumes t fs program p q u (answered t fs program p q image roomy w items source acts
           es (register u.cpu Rax))
-    resumes counted surrounded =
-        kept.resumes t fs program p q image roomy u w items acts source es above is on sp sane
+      resumes counted surrounded =
+          kept.resumes t fs program p q image roomy u w items acts source es above is on sp sane
           memory o there (instructions.Call f first arguments) first (passing ++ beginning) calls
           (λ h. h)
-        (sym (append_assoc passing beginning (keep layout (Temporary first)))) fits within held free
+          (sym (append_assoc passing beginning (keep layout (Temporary first)))) fits within held free
           back_is counted surrounded

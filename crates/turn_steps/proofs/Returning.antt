@@ -56,7 +56,7 @@ module _ (t : Functions) (fs : List Funclet) (program : LinearProgram) (p : Imag
       (counted : IsCounted t fs program p q image c) (f : ℕ)
       (function : c.frame.body ≡ FunctionBody f) (from : Slot)
       (at : slice_get b.body.slots.code.code c.frame.next ≡ Some (instructions.Return from)) (x : ℕ)
-        (reads : read c from ≡ Some x) where
+      (reads : read c from ≡ Some x) where
     abbrev layout : Layout
     layout = p.layout c.frame.body
 
@@ -77,12 +77,17 @@ module _ (t : Functions) (fs : List Funclet) (program : LinearProgram) (p : Imag
 
     -- the state after it
     pub run : Returned n view (sp + layout.frame + 8) back
-      ((slots t fs program p q image roomy s c b counted).slots from) s.cpu.rip s.cpu.flags
+        ((slots t fs program p q image roomy s c b counted).slots from) s.cpu.rip s.cpu.flags
     run = leaving.run t fs program p q image roomy s c b counted from at
 
     abbrev after_view : ℕ → MachineView
-    after_view r = record { rax = r; rcx = view.rcx; rdx = view.rdx; rest = view.rest;
-      memory = view.memory }
+    after_view r = record {
+      rax = r;
+      rcx = view.rcx;
+      rdx = view.rdx;
+      rest = view.rest;
+      memory = view.memory;
+    }
 
     abbrev pub after : State
     after = machine (moved (after_view x) (sp + layout.frame + 8)) back run.flags
@@ -91,12 +96,12 @@ module _ (t : Functions) (fs : List Funclet) (program : LinearProgram) (p : Imag
     reaches =
         subst (λ z. Reaches n z after) (sym (same_state t fs program p q image roomy s c b counted))
         (subst (λ r. Reaches n (machine view s.cpu.rip s.cpu.flags)
-          (machine (moved (after_view r) (sp + layout.frame + 8)) back run.flags))
-          (leaving.result_is t fs program p q image roomy s c b counted from at x reads) run.comes)
+        (machine (moved (after_view r) (sp + layout.frame + 8)) back run.flags))
+        (leaving.result_is t fs program p q image roomy s c b counted from at x reads) run.comes)
 
     pub sp_after : register after.cpu Rsp ≡ sp + layout.frame + 8
     sp_after = sym (index_of (with_sp view.rest (sp + layout.frame + 8)) 1)
-      ∙ sp_moved view (sp + layout.frame + 8)
+        ∙ sp_moved view (sp + layout.frame + 8)
         (length-drop 3 s.cpu.registers ∙ (let k = b.sane.count in omega arith))
 
     sane_after : IsSane after
@@ -108,17 +113,17 @@ module _ (t : Functions) (fs : List Funclet) (program : LinearProgram) (p : Imag
 
     -- linear code leaves the function's locals
     left : left_store c.frame.body c.frame.activation c.store
-      ≡ store_of c.store.memory (activations_below c.frame.body b.body.acts)
+        ≡ store_of c.store.memory (activations_below c.frame.body b.body.acts)
     left =
         ap (λ (xs : List (List ℕ)). let o : Store =
-          record { memory = c.store.memory; activations = xs } in
-          left_store c.frame.body c.frame.activation o) b.body.store
+        record { memory = c.store.memory; activations = xs } in
+        left_store c.frame.body c.frame.activation o) b.body.store
         ∙ left_activations s.memory c.store.memory layout sp
-          (slots_end layout (p.leaf c.frame.body)) c.frame.activation b.body.acts c.frame.body
-          b.body.slots.activation
+        (slots_end layout (p.leaf c.frame.body)) c.frame.activation b.body.acts c.frame.body
+        b.body.slots.activation
 
     acts_as : (next : Next) → act program (instructions.Return from) next c
-      ≡ return next x c.below c.events (store_of c.store.memory
+        ≡ return next x c.below c.events (store_of c.store.memory
         (activations_below c.frame.body b.body.acts))
     unfolding with_some
     acts_as next =
@@ -132,19 +137,23 @@ module _ (t : Functions) (fs : List Funclet) (program : LinearProgram) (p : Imag
     first_is_high k lt e =
         let g = slice_get-get_or program.funclets k other lt in
         let a = image.addresses (FuncletBody k) (get_or program.funclets k other).body
-          (ap funclet_body g) in
+        (ap funclet_body g) in
         let low = a.inside.low in
         absurd (omega (arith, e))
       where
         other : LinearFunclet
-        other = record { kind = kinds.Filter; function = 0; parent = None;
-          body = record { locals = 0; temporaries = 0; passed = 0; code = []; regions = [] } }
+        other = record {
+          kind = kinds.Filter;
+          function = 0;
+          parent = None;
+          body = record { locals = 0; temporaries = 0; passed = 0; code = []; regions = [] };
+        }
 
     pub exits : c.below ≡ [] → Exits t fs program 16 turns_left s c (instructions.Return from)
     exits none =
         let few = (leaving.returns_soon layout from).1 in
         let over : back ≡ 0 = subst (λ items. ReturnsTo t fs program p items back) none
-          b.body.returns_to in
+        b.body.returns_to in
         record {
           turns = n;
           few = omega arith;
@@ -152,33 +161,33 @@ module _ (t : Functions) (fs : List Funclet) (program : LinearProgram) (p : Imag
           events = [];
           comes = reaches_quietly t fs program p q image n s after reaches keeps b.memory.code
               (subst (λ r. arrivals after.cpu (distance t.base r) 1 fs ≡ []) (sym over)
-                (image.funclets.none 0 (omega arith) first_is_high after.cpu));
+              (image.funclets.none 0 (omega arith) first_is_high after.cpu));
           over = over;
           value = signed W32 x;
           answer = refl;
           acts = λ next. acts_as next ∙ ap (λ items. return next x items c.events
-            (store_of c.store.memory (activations_below c.frame.body b.body.acts))) none
+              (store_of c.store.memory (activations_below c.frame.body b.body.acts))) none
               ∙ ap (λ es. Finished (ends.Exit (signed W32 x)) es) (sym (append-nil c.events));
         }
 
     -- ---- to the body that waits
 
     module _ (w : Frame) (items : List Item) (below : c.below ≡ Waits w ∷ items) (o : LinearBody)
-      (there : body_of program w.body ≡ Some o) (g first arguments : ℕ)
-      (calls : slice_get o.code w.next ≡ Some (instructions.Call g first arguments))
+        (there : body_of program w.body ≡ Some o) (g first arguments : ℕ)
+        (calls : slice_get o.code w.next ≡ Some (instructions.Call g first arguments))
         (within : w.next + 1 < length o.code) (held : length w.temporaries ≡ first)
-          (free : w.landed ≡ None) where
+        (free : w.landed ≡ None) where
       returns : back ≡ returns_at (p.layout w.body) first arguments (p.address w.body w.next)
       returns =
           let to : ReturnsTo t fs program p (Waits w ∷ items) back = subst
-            (λ items. ReturnsTo t fs program p items back) below b.body.returns_to in
+          (λ items. ReturnsTo t fs program p items back) below b.body.returns_to in
           let is : return_of (p.layout w.body) (p.address w.body w.next)
-            (instruction_in (body_of program w.body) w.next)
-            ≡ Some (returns_at (p.layout w.body) first arguments (p.address w.body w.next)) =
+          (instruction_in (body_of program w.body) w.next)
+          ≡ Some (returns_at (p.layout w.body) first arguments (p.address w.body w.next)) =
           ap (λ o. return_of (p.layout w.body) (p.address w.body w.next) (instruction_in o w.next))
-            there ∙ ap (return_of (p.layout w.body) (p.address w.body w.next)) calls in
+          there ∙ ap (return_of (p.layout w.body) (p.address w.body w.next)) calls in
           the_same back (returns_at (p.layout w.body) first arguments (p.address w.body w.next))
-            (sym to ∙ is)
+          (sym to ∙ is)
         where
           the_same : (a b : ℕ) → Some a ≡ Some b → a ≡ b
           the_same a b e = cc
@@ -194,7 +203,7 @@ module _ (t : Functions) (fs : List Funclet) (program : LinearProgram) (p : Imag
 
       on : On t fs program p s.memory above b.body.is (Waits w ∷ items) outer
       on = subst (λ ws. On t fs program p s.memory above b.body.is ws outer) below
-        (b.body.below rest refl)
+          (b.body.below rest refl)
 
       abbrev pub waiting_for_it : Configuration
       waiting_for_it = on_top w items c.store.memory outer c.events
@@ -205,23 +214,28 @@ module _ (t : Functions) (fs : List Funclet) (program : LinearProgram) (p : Imag
 
       pub goes : (next : Next) → act program (instructions.Return from) next c ≡ next next_one
       goes next = acts_as next ∙ ap (λ ws. return next x ws c.events
-        (store_of c.store.memory outer)) below
+          (store_of c.store.memory outer)) below
 
       pub moves : IsCounted t fs program p q image waiting_for_it
-        → IsSurrounded t fs program p q image roomy w.body w.activation items (length outer)
+          → IsSurrounded t fs program p q image roomy w.body w.activation items (length outer)
           → Moves t fs program 16 turns_left (Begins t fs program p q) s c
-            (instructions.Return from)
+          (instructions.Return from)
       moves counts surrounded =
           let few = (leaving.returns_soon layout from).1 in
           let some = (leaving.returns_soon layout from).0 in
           let more = length-append w.temporaries (x ∷ []) in
           let z = resumes t fs program p q image roomy after w items outer c.store.memory c.events
-            above b.body.is on sp_after sane_after
-          (record { data_alone = b.memory.data_alone; agrees = b.memory.agrees;
-            stack = b.memory.stack; arena = b.memory.arena; code = b.memory.code }) o there g first
-            arguments calls within held free returns counts surrounded in
+          above b.body.is on sp_after sane_after
+          (record {
+            data_alone = b.memory.data_alone;
+            agrees = b.memory.agrees;
+            stack = b.memory.stack;
+            arena = b.memory.arena;
+            code = b.memory.code;
+          }) o there g first
+          arguments calls within held free returns counts surrounded in
           let credit : held_below c.below ≡ length w.temporaries
-            + held_below items = ap held_below below in
+          + held_below items = ap held_below below in
           record {
             turns = n + 1;
             some = omega arith;
@@ -230,8 +244,8 @@ module _ (t : Functions) (fs : List Funclet) (program : LinearProgram) (p : Imag
             state = z.state;
             events = [];
             comes = reaches_quietly t fs program p q image (n + 1) s z.state
-              (reaches_then n 1 s after z.state reaches z.reaches)
-              (keep_then t fs n 1 s after reaches keeps z.keeps) b.memory.code z.quiet;
+                (reaches_then n 1 s after z.state reaches z.reaches)
+                (keep_then t fs n 1 s after reaches keeps z.keeps) b.memory.code z.quiet;
             acts = goes;
             shown = sym (append-nil c.events);
             is_there = z.begins;

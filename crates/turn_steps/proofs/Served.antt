@@ -56,7 +56,7 @@ module _ (t : Functions) (fs : List Funclet) where
 
   pub finally_turns : (s : State) → s.cpu.rip ≡ finally_return
       → turn t fs s ≡ arrived t fs (finally_returned t s (register s.cpu Rsp)
-        (fetched s.memory (register s.cpu Rsp)))
+      (fetched s.memory (register s.cpu Rsp)))
   finally_turns s e = at_service s finally_return e
 
   -- RaiseException: its code is ECX, bit 0 of its flags that of EDX, and the state after its return
@@ -64,20 +64,20 @@ module _ (t : Functions) (fs : List Funclet) where
   pub raise_turns : (s : State) (ret : ℕ) → s.cpu.rip ≡ address_of services.RaiseException
       → loaded s.memory (register s.cpu Rsp) W64 ≡ Ok ret
       → turn t fs s ≡ arrived t fs (raised t s (record { 0 = low W32 (register s.cpu Rcx) })
-        (register s.cpu Rdx % 2) None (back s ret).cpu)
+      (register s.cpu Rdx % 2) None (back s ret).cpu)
   raise_turns s ret e w = at_service s (address_of services.RaiseException) e
       ∙ ap (λ (x : Result ℕ RefusedAccess). arrived t fs
-        (returned s x (λ u. raised t s (record { 0 = low W32 (register s.cpu Rcx) })
-        (register s.cpu Rdx % 2) None u.cpu))) w
+      (returned s x (λ u. raised t s (record { 0 = low W32 (register s.cpu Rcx) })
+      (register s.cpu Rdx % 2) None u.cpu))) w
 
   -- a local unwind: to the target in RDX, of the frame in RCX
   pub local_unwind_turns : (s : State) (ret : ℕ) → s.cpu.rip ≡ address_of services.LocalUnwind
       → loaded s.memory (register s.cpu Rsp) W64 ≡ Ok ret
       → turn t fs s ≡ arrived t fs (unwound_locally t s (register s.cpu Rcx) (register s.cpu Rdx)
-        (back s ret).cpu)
+      (back s ret).cpu)
   local_unwind_turns s ret e w = at_service s (address_of services.LocalUnwind) e
       ∙ ap (λ (x : Result ℕ RefusedAccess). arrived t fs
-        (returned s x (λ u. unwound_locally t s (register s.cpu Rcx) (register s.cpu Rdx) u.cpu))) w
+      (returned s x (λ u. unwound_locally t s (register s.cpu Rcx) (register s.cpu Rdx) u.cpu))) w
 
   -- an instruction that faults raises an exception, and its own state is saved
   pub fault_turns : (s : State) (code : Code) (access : Option (Bool × ℕ))
@@ -98,7 +98,7 @@ module _ (t : Functions) (fs : List Funclet) where
 
   service_step : (s : State) (a : ℕ) → s.cpu.rip ≡ a
       → step s ≡ cond (in_host_page a) (Err (hosted a (service_at a)))
-        (execute s (leading (executable s.memory 15 s.cpu.rip)))
+      (execute s (leading (executable s.memory 15 s.cpu.rip)))
   unfolding step
   service_step s a e = ap (λ b. cond (in_host_page b) (Err (hosted b (service_at b)))
       (execute s (leading (executable s.memory 15 s.cpu.rip)))) e
@@ -107,36 +107,36 @@ module _ (t : Functions) (fs : List Funclet) where
 
   module _ (program : LinearProgram) (p : ImagePlan) (q : Sites) where
     pub filter_return_keeps : (s : State) (cs : List Context) → s.cpu.rip ≡ filter_return
-      → WalkGives t s cs → KeepsWith t fs program p q s cs
+        → WalkGives t s cs → KeepsWith t fs program p q s cs
     filter_return_keeps s cs e before = keeps_at s filter_return cs (service_step s filter_return e)
-      before
+        before
 
     pub finally_return_keeps : (s : State) (cs : List Context) → s.cpu.rip ≡ finally_return
-      → WalkGives t s cs → KeepsWith t fs program p q s cs
+        → WalkGives t s cs → KeepsWith t fs program p q s cs
     finally_return_keeps s cs e before = keeps_at s finally_return cs
-      (service_step s finally_return e) before
+        (service_step s finally_return e) before
 
     -- the call of a service that dispatches is over
     pub raise_keeps : (s : State) (c : Context) (cs : List Context)
-      → s.cpu.rip ≡ address_of services.RaiseException → WalkGives t s (c ∷ cs)
-      → KeepsWith t fs program p q s cs
+        → s.cpu.rip ≡ address_of services.RaiseException → WalkGives t s (c ∷ cs)
+        → KeepsWith t fs program p q s cs
     raise_keeps s c cs e before = keeps_at s (address_of services.RaiseException) (c ∷ cs)
-      (service_step s (address_of services.RaiseException) e) before
+        (service_step s (address_of services.RaiseException) e) before
 
     pub local_unwind_keeps : (s : State) (c : Context) (cs : List Context)
-      → s.cpu.rip ≡ address_of services.LocalUnwind → WalkGives t s (c ∷ cs)
-      → KeepsWith t fs program p q s cs
+        → s.cpu.rip ≡ address_of services.LocalUnwind → WalkGives t s (c ∷ cs)
+        → KeepsWith t fs program p q s cs
     local_unwind_keeps s c cs e before = keeps_at s (address_of services.LocalUnwind) (c ∷ cs)
-      (service_step s (address_of services.LocalUnwind) e) before
+        (service_step s (address_of services.LocalUnwind) e) before
 
     pub raised_keeps : (s : State) (code : Code) (access : Option (Bool × ℕ)) (cs : List Context)
-      → step s ≡ Err (stops.Fault code access) → WalkGives t s cs → KeepsWith t fs program p q s cs
+        → step s ≡ Err (stops.Fault code access) → WalkGives t s cs → KeepsWith t fs program p q s cs
     raised_keeps s code access cs e before = λ u es arrives after. fault_keeps t fs s u code access
-      es cs (drop_below (register u.cpu Rsp) (started u es cs)) e arrives before after refl
+        es cs (drop_below (register u.cpu Rsp) (started u es cs)) e arrives before after refl
 
     -- quiet turns lead to a turn of the host, which shows what the step shows
     pub matched_when_shown : (pace k left : ℕ) (s u : State) (c : Configuration) (i : Instruction)
-      (x : Turn) (before : List Event) (seen : Next → Seen) (shadow : List Context)
+        (x : Turn) (before : List Event) (seen : Next → Seen) (shadow : List Context)
         → Comes t fs k s [] u → IsLive u → turn t fs u ≡ x → KeepsWith t fs program p q u shadow
         → Shows t fs program p q x before seen c.events left shadow
         → ((next : Next) → act program i next c ≡ seen next)
@@ -144,8 +144,8 @@ module _ (t : Functions) (fs : List Funclet) where
         → KnownNext program c i
         → IsMatched t fs program pace turns_left (Represents t fs program p q) s c i
     matched_when_shown pace k left s u c i x before seen shadow quiet live e keeps shows acts enough
-      known =
+        known =
         matched_by_turn t fs program p q pace k left s u c i before shows.further quiet live
-          (e ∙ shows.turns) enough known shadow keeps
+        (e ∙ shows.turns) enough known shadow keeps
         (outcome_same t fs program p q shows.further shows.further seen
-          (λ next. act program i next c) (c.events ++ before) left shadow refl acts shows.outcome)
+        (λ next. act program i next c) (c.events ++ before) left shadow refl acts shows.outcome)

@@ -56,13 +56,20 @@ module _ (t : Functions) (fs : List Funclet) (program : LinearProgram) (p : Imag
       → IsAsked b.exception items
   filter_is_asked k b f [] e h = absurd h
   filter_is_asked k b f (Searches exception resumption asked rest ∷ []) e h = absurd h
-  filter_is_asked k b f (Searches exception resumption asked rest ∷ Waits w ∷ below) e
-      h = let alike = h.1 in record { searched = exception; resumption = resumption; asked = asked;
-      rest = rest; below = Waits w ∷ below; items_are = refl; same = alike.1 }
-  filter_is_asked k b f (Searches exception resumption asked rest ∷ Searches x y z v ∷ below) e
-      h = absurd h
-  filter_is_asked k b f (Searches exception resumption asked rest ∷ Unwinds x y ∷ below) e
-      h = absurd h
+  filter_is_asked k b f (Searches exception resumption asked rest ∷ Waits w ∷ below) e h =
+      let alike = h.1 in record {
+        searched = exception;
+        resumption = resumption;
+        asked = asked;
+        rest = rest;
+        below = Waits w ∷ below;
+        items_are = refl;
+        same = alike.1;
+      }
+  filter_is_asked k b f (Searches exception resumption asked rest ∷ Searches x y z v ∷ below) e h =
+      absurd h
+  filter_is_asked k b f (Searches exception resumption asked rest ∷ Unwinds x y ∷ below) e h =
+      absurd h
   filter_is_asked k b f (Unwinds rest target ∷ []) e h = absurd h
   filter_is_asked k b f (Unwinds rest target ∷ Waits w ∷ below) e h = absurd
       (no_block k h.0 (sym e ∙ h.1))
@@ -75,7 +82,7 @@ module _ (t : Functions) (fs : List Funclet) (program : LinearProgram) (p : Imag
   asked_by b items f h =
       filter_is_asked f.number b f.funclet items f.kind
       (subst (λ o. FuncletIsAbove t fs program p f.number b o items) f.there
-        (subst (λ name. IsAbove t fs program p b name items) f.is h))
+      (subst (λ name. IsAbove t fs program p b name items) f.is h))
 
   -- the record of a search on top of a list
   pub record HasRecord (m : Memory) (c : Context) (exception : Exception) : Type 0 where
@@ -90,7 +97,7 @@ module _ (t : Functions) (fs : List Funclet) (program : LinearProgram) (p : Imag
       (exception : Exception) (resumption : Resumption) (asked : Handler) (rest : List Handler)
       (below : List Item)
       → IsStack t m c is → Linked t fs program p m c is
-        (Searches exception resumption asked rest ∷ below) acts → HasRecord m c exception
+      (Searches exception resumption asked rest ∷ below) acts → HasRecord m c exception
   record_on_top m c [] acts exception resumption asked rest below s l = absurd l
   record_on_top m c (Framed f ∷ is) acts exception resumption asked rest below s l = absurd l
   record_on_top m c (Leaf back ∷ is) acts exception resumption asked rest below s l = absurd l
@@ -98,8 +105,14 @@ module _ (t : Functions) (fs : List Funclet) (program : LinearProgram) (p : Imag
   record_on_top m c (Searching r ∷ is) acts exception resumption asked rest below s l =
       let top = in_stack t fs program p m (context_of r.saved) is below acts s.1 l.1 in
       let a = s.0.above in
-      record { found = r; fetches = s.0.fetches; pointers = s.0.pointers; carries = l.0.carries;
-        fits = l.0.own.fits; high = omega arith }
+      record {
+        found = r;
+        fetches = s.0.fetches;
+        pointers = s.0.pointers;
+        carries = l.0.carries;
+        fits = l.0.own.fits;
+        high = omega arith;
+      }
 
   module _ (q : Sites) (s : State) (c : Configuration) (b : Begins t fs program p q s c) where
     abbrev sp : ℕ
@@ -115,31 +128,34 @@ module _ (t : Functions) (fs : List Funclet) (program : LinearProgram) (p : Imag
     asked_here f = asked_by c.frame c.below f b.body.above
 
     record_here : (f : IsFilterBody program c.frame.body)
-      → HasRecord s.memory above c.frame.exception
+        → HasRecord s.memory above c.frame.exception
     record_here f =
         let a = asked_here f in
         let on = b.body.below (replicate 8 0) refl in
         subst (HasRecord s.memory above) (sym a.same)
         (record_on_top s.memory above b.body.is (activations_below c.frame.body b.body.acts)
-          a.searched a.resumption a.asked a.rest a.below on.is_there.stack
+        a.searched a.resumption a.asked a.rest a.below on.is_there.stack
         (subst (λ items. Linked t fs program p s.memory above b.body.is items
-          (activations_below c.frame.body b.body.acts)) a.items_are on.is_there.linked))
+        (activations_below c.frame.body b.body.acts)) a.items_are on.is_there.linked))
 
     pub pointers_here : (f : IsFilterBody program c.frame.body)
-      → linked.KeepsPointers t fs program p s.memory (p.layout c.frame.body) sp size
+        → linked.KeepsPointers t fs program p s.memory (p.layout c.frame.body) sp size
     pointers_here f = let a = asked_here f in
-      subst (HasPointers t fs program p s.memory (p.layout c.frame.body) sp size) a.items_are
-      b.body.pointers
+        subst (HasPointers t fs program p s.memory (p.layout c.frame.body) sp size) a.items_are
+        b.body.pointers
 
     -- bytes of the stack may be read
     reads : (at n x : ℕ) → STACK_START ≤ at → at + n ≤ STACK_END → number_at s.memory.byte n at ≡ x
-      → MayRead s.memory n at x
-    reads at n x low high e = record { high = omega arith;
+        → MayRead s.memory n at x
+    reads at n x low high e = record {
+      high = omega arith;
       readable = λ a from to. may_read_written s.memory a
-      (b.memory.stack a (omega arith) (omega arith)); number = e }
+          (b.memory.stack a (omega arith) (omega arith));
+      number = e;
+    }
 
     width_most : (field : Field) → IsField field
-      → field_at field + bytes_of (field_width field) ≤ 152
+        → field_at field + bytes_of (field_width field) ≤ 152
     width_most ExceptionCode is = omega arith
     width_most ExceptionFlags is = omega arith
     width_most NumberParameters is = omega arith
@@ -148,13 +164,13 @@ module _ (t : Functions) (fs : List Funclet) (program : LinearProgram) (p : Imag
     -- what a filter reads is its exception's
     pub record ReadsException (field : Field) : Type 0 where
       pub has : HasException s.memory (sp + (p.layout c.frame.body).pointers) field
-        (field_of field c.frame.exception)
+          (field_of field c.frame.exception)
       pub fits : field_number field (field_of field c.frame.exception)
-        ≡ field_of field c.frame.exception
+          ≡ field_of field c.frame.exception
       pub small : field_of field c.frame.exception < 2 ^ 64
 
     pub reads_exception : (field : Field) → IsFilterBody program c.frame.body → IsField field
-      → ReadsException field
+        → ReadsException field
     reads_exception field f is =
         let r = record_here f in
         let k = pointers_here f in
@@ -165,23 +181,23 @@ module _ (t : Functions) (fs : List Funclet) (program : LinearProgram) (p : Imag
         let shallow = b.body.slots.space.shallow in
         let most = width_most field is in
         let same : recorded_field field r.found
-          ≡ field_of field c.frame.exception = field_is t fs program p r.found c.frame.exception
-            field r.carries in
+        ≡ field_of field c.frame.exception = field_is t fs program p r.found c.frame.exception
+        field r.carries in
         let to : at + 80 ≡ sp + size + 88 = omega arith in
         record {
           has = record {
             pointers = at + 80;
             exception = at + 96;
             keeps = reads (sp + (p.layout c.frame.body).pointers) 8 (at + 80) (omega arith)
-              (omega arith) (word_is s.memory (sp + (p.layout c.frame.body).pointers)
-              (sp + size + 88) k.kept ∙ sym to);
+                (omega arith) (word_is s.memory (sp + (p.layout c.frame.body).pointers)
+                (sp + size + 88) k.kept ∙ sym to);
             leads = reads (at + 80) 8 (at + 96) (omega arith) (omega arith)
-              (word_is s.memory (at + 80) (at + 96) r.pointers);
+                (word_is s.memory (at + 80) (at + 96) r.pointers);
             holds = reads (at + 96 + field_at field) (bytes_of (field_width field))
-              (field_of field c.frame.exception) (omega arith) (omega arith)
-              (field_is_at s.memory at r.found field (omega arith) is r.fetches ∙ same);
+                (field_of field c.frame.exception) (omega arith) (omega arith)
+                (field_is_at s.memory at r.found field (omega arith) is r.fetches ∙ same);
           };
           fits = subst (λ x. field_number field x ≡ x) same
-            (field_fits r.found field is r.fits r.carries.one_flag);
+              (field_fits r.found field is r.fits r.carries.one_flag);
           small = subst (λ x. x < 2 ^ 64) same (field_small r.found field is r.fits);
         }

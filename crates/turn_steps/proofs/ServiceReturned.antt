@@ -80,21 +80,33 @@ saved_kept xs third fourth low sp old back was =
     let all = set (set (set (set xs 5 third) 6 fourth) 1 low) 1 sp in
     let same = λ (k : ℕ) (a : 1 ≡ k → ⊥) (b : 5 ≡ k → ⊥) (c : 6 ≡ k → ⊥).
     index_other (set (set (set xs 5 third) 6 fourth) 1 low) 1 k sp a
-      ∙ index_other (set (set xs 5 third) 6 fourth) 1 k low a
-      ∙ index_other (set xs 5 third) 6 k fourth c ∙ index_other xs 5 k third b in
+    ∙ index_other (set (set xs 5 third) 6 fourth) 1 k low a
+    ∙ index_other (set xs 5 third) 6 k fourth c ∙ index_other xs 5 k third b in
     let rsp = back ∙ was in
     let at = λ (k : ℕ) (h : (k < 1) ⊎ ((1 < k) × (k < 5)) ⊎ (6 < k)). same k
-      (λ e. absurd (elim h [ inl l ↦ omega arith | inr (inl l) ↦ (let z = l.0 in omega arith) | inr
-      (inr l) ↦ omega arith ]))
-    (λ e. absurd (elim h [ inl l ↦ omega arith | inr (inl l) ↦ (let z = l.1 in omega arith) | inr
-      (inr l) ↦ omega arith ]))
-    (λ e. absurd (elim h [ inl l ↦ omega arith | inr (inl l) ↦ (let z = l.1 in omega arith) | inr
-      (inr l) ↦ omega arith ])) in
+    (λ e. absurd (elim h [
+      | inl l ↦ omega arith
+      | inr (inl l) ↦ (let z = l.0 in omega arith)
+      | inr
+          (inr l) ↦ omega arith
+    ]))
+    (λ e. absurd (elim h [
+      | inl l ↦ omega arith
+      | inr (inl l) ↦ (let z = l.1 in omega arith)
+      | inr
+          (inr l) ↦ omega arith
+    ]))
+    (λ e. absurd (elim h [
+      | inl l ↦ omega arith
+      | inr (inl l) ↦ (let z = l.1 in omega arith)
+      | inr
+          (inr l) ↦ omega arith
+    ])) in
     λ j. rsp j ∷ at 0 (inl (omega arith)) j ∷ at 2 (inr (inl (omega arith, omega arith))) j
-      ∷ at 3 (inr (inl (omega arith, omega arith))) j
-      ∷ at 4 (inr (inl (omega arith, omega arith))) j ∷ at 9 (inr (inr (omega arith))) j
-      ∷ at 10 (inr (inr (omega arith))) j ∷ at 11 (inr (inr (omega arith))) j
-      ∷ at 12 (inr (inr (omega arith))) j ∷ []
+    ∷ at 3 (inr (inl (omega arith, omega arith))) j
+    ∷ at 4 (inr (inl (omega arith, omega arith))) j ∷ at 9 (inr (inr (omega arith))) j
+    ∷ at 10 (inr (inr (omega arith))) j ∷ at 11 (inr (inr (omega arith))) j
+    ∷ at 12 (inr (inr (omega arith))) j ∷ []
 
 nothing : (landed : Option ℕ) (code : ℕ) → landed ≡ None → landed ≡ Some code → ⊥
 nothing landed code e h = let z : ◌≡◌ {A = Option ℕ} None (Some code) = sym e ∙ h in cc
@@ -105,10 +117,10 @@ module _ (t : Functions) (fs : List Funclet) (program : LinearProgram) (p : Imag
       (counted : IsCounted t fs program p q image c)
       (around : Surroundings t fs program p q image roomy s c b counted) (f : BuiltIn) (first : ℕ)
       (at : slice_get b.body.slots.code.code c.frame.next ≡ Some (instructions.CallBuiltIn f first))
-        (framed : p.leaf c.frame.body ≡ false)
-        (within : c.frame.next + 1 < length b.body.slots.code.code)
+      (framed : p.leaf c.frame.body ≡ false)
+      (within : c.frame.next + 1 < length b.body.slots.code.code)
       (held : length c.frame.temporaries ≤ b.body.slots.code.temporaries)
-        (fits : first ≤ length c.frame.temporaries) (free : c.frame.landed ≡ None) where
+      (fits : first ≤ length c.frame.temporaries) (free : c.frame.landed ≡ None) where
     abbrev called_from : ℕ
     called_from = sp t fs program p q image roomy s c b counted f first at
 
@@ -131,18 +143,21 @@ module _ (t : Functions) (fs : List Funclet) (program : LinearProgram) (p : Imag
 
     -- the state after the service, by its result and the memory that it leaves
     abbrev pub view_after : ℕ → Memory → MachineView
-    view_after x m = record { rax = x; rcx = with_given.rcx; rdx = with_given.rdx;
-      rest = set (set with_given.rest 1 (called_from - 8)) 1 sp_after; memory = m }
+    view_after x m = record {
+      rax = x;
+      rcx = with_given.rcx;
+      rdx = with_given.rdx;
+      rest = set (set with_given.rest 1 (called_from - 8)) 1 sp_after;
+      memory = m;
+    }
 
     abbrev pub returned_to : ℕ → Memory → State
-    returned_to x m = machine (view_after x m) to
-      (flags_there t fs program p q image roomy s c b counted f first at)
+    returned_to x m = machine (view_after x m) to (flags_there t fs program p q image roomy s c b counted f first at)
 
     -- linear code with the result
     abbrev pub answered : ℕ → Memory → List Event → Configuration
     answered x source events = record {
-      frame = record c.frame { next = c.frame.next + 1;
-        temporaries = take first c.frame.temporaries ++ x ∷ [] };
+      frame = record c.frame { next = c.frame.next + 1; temporaries = take first c.frame.temporaries ++ x ∷ [] };
       below = c.below;
       store = record { memory = source; activations = c.store.activations };
       events = events;
@@ -150,20 +165,20 @@ module _ (t : Functions) (fs : List Funclet) (program : LinearProgram) (p : Imag
 
     above : KeepsAbove s.memory memory_there.byte called_from
     above = keeps_above with_given called_from to
-      (let l = low t fs program p q image roomy s c b counted f first at in omega arith)
-      (top t fs program p q image roomy s c b counted f first at) b.memory.data_alone b.memory.stack
+        (let l = low t fs program p q image roomy s c b counted f first at in omega arith)
+        (top t fs program p q image roomy s c b counted f first at) b.memory.data_alone b.memory.stack
 
     sp_is : (x : ℕ) (m : Memory) → sp_of (view_after x m) ≡ called_from
     sp_is x m = sp_saved with_given called_from to
-      (let l = low t fs program p q image roomy s c b counted f first at in omega arith)
-      (top t fs program p q image roomy s c b counted f first at) b.memory.data_alone b.memory.stack
-      there.cpu.rip there.cpu.flags
+        (let l = low t fs program p q image roomy s c b counted f first at in omega arith)
+        (top t fs program p q image roomy s c b counted f first at) b.memory.data_alone b.memory.stack
+        there.cpu.rip there.cpu.flags
         (back_small t fs program p q image roomy s c b counted f first at)
-          (many t fs program p q image roomy s c b counted f first at)
+        (many t fs program p q image roomy s c b counted f first at)
 
     module _ (x : ℕ) (x_small : x < 2 ^ 64) (m source : Memory) (events : List Event)
-      (keeps : KeepsStack memory_there m called_from)
-      (memory : IsMachineMemory t fs program p q m source) where
+        (keeps : KeepsStack memory_there m called_from)
+        (memory : IsMachineMemory t fs program p q m source) where
       pub keeps_all : KeepsStack s.memory m called_from
       keeps_all = record {
         bytes = λ a l u. keeps.bytes a l u ∙ above.above a l;
@@ -177,20 +192,18 @@ module _ (t : Functions) (fs : List Funclet) (program : LinearProgram) (p : Imag
       earlier = elsewhere t fs program p q image s c b counted framed m source keeps_all memory
 
       abbrev pub calling : Configuration
-      calling = source_elsewhere t fs program p q image s c b counted framed m source keeps_all
-        memory
+      calling = source_elsewhere t fs program p q image s c b counted framed m source keeps_all memory
 
       pub begins : Begins t fs program p q earlier calling
-      begins = begins_elsewhere t fs program p q image s c b counted framed m source keeps_all
-        memory
+      begins = begins_elsewhere t fs program p q image s c b counted framed m source keeps_all memory
 
       around_earlier : Surroundings t fs program p q image roomy earlier calling begins counted
       unfolding begins
       around_earlier = record {
         caller = around.caller;
         owner = λ k e. subst (OwnerHasFrame t fs program p c.frame.activation c.below)
-          (sym (same_acts t fs program p q image s c b counted framed m source keeps_all memory))
-          (around.owner k e);
+            (sym (same_acts t fs program p q image s c b counted framed m source keeps_all memory))
+            (around.owner k e);
       }
 
       abbrev body : LinearBody
@@ -202,21 +215,20 @@ module _ (t : Functions) (fs : List Funclet) (program : LinearProgram) (p : Imag
 
       pub at_earlier : slice_get body.code c.frame.next ≡ Some (instructions.CallBuiltIn f first)
       at_earlier = subst (λ (o : LinearBody). slice_get o.code c.frame.next
-        ≡ Some (instructions.CallBuiltIn f first)) is_body at
+          ≡ Some (instructions.CallBuiltIn f first)) is_body at
 
       inside : c.frame.next + 1 < length body.code
       inside = subst (λ (o : LinearBody). c.frame.next + 1 < length o.code) is_body within
 
       held_earlier : length c.frame.temporaries ≤ body.temporaries
-      held_earlier = subst (λ (o : LinearBody). length c.frame.temporaries ≤ o.temporaries) is_body
-        held
+      held_earlier = subst (λ (o : LinearBody). length c.frame.temporaries ≤ o.temporaries) is_body held
 
       abbrev now : BodyState
       now = slots t fs program p q image roomy earlier calling begins counted
 
       room_slots : first + 4 ≤ body.temporaries
       room_slots = has_slots t fs program p q image roomy earlier calling begins counted
-        (instructions.CallBuiltIn f first) at_earlier
+          (instructions.CallBuiltIn f first) at_earlier
 
       abbrev after_code : List Instr
       after_code = keep (p.layout c.frame.body) (Temporary first)
@@ -229,16 +241,15 @@ module _ (t : Functions) (fs : List Funclet) (program : LinearProgram) (p : Imag
 
       -- the result is kept
       pub run : ReachesBody (frame t fs program p q image roomy earlier calling begins counted) 1
-        (returned_to x m) rip (view_after x m).rest d
+          (returned_to x m) rip (view_after x m).rest d
       run =
           let r = room_slots in
           call_ends (frame t fs program p q image roomy earlier calling begins counted)
-            (Temporary first) (view_after x m) to
-            (flags_there t fs program p q image roomy s c b counted f first at) now
+          (Temporary first) (view_after x m) to
+          (flags_there t fs program p q image roomy s c b counted f first at) now
           (room_here t fs program p q image earlier calling begins counted) (omega arith) x_small
-            (sp_is x m) (holds_here t fs program p q image earlier calling begins counted)
-          (code_after t fs program p q image roomy earlier calling begins counted f first
-            at_earlier)
+          (sp_is x m) (holds_here t fs program p q image earlier calling begins counted)
+          (code_after t fs program p q image roomy earlier calling begins counted f first at_earlier)
 
       abbrev u : State
       u = returned_to x m
@@ -249,13 +260,19 @@ module _ (t : Functions) (fs : List Funclet) (program : LinearProgram) (p : Imag
       -- registers
       given_small : AreSmall s.cpu.registers → AreSmall u.cpu.registers
       given_small h =
-          let k = (reaches_keeps 7 s there (reaches t fs program p q image roomy s c b counted f
-            first at)).small h in
+          let k = (reaches_keeps 7 s there (reaches t fs program p q image roomy s c b counted f first at)).small h in
           let after_rax = k.1 in
-          let after_rcx = after_rax.1 in
-          (x_small, (after_rax.0, (after_rcx.0,
-            small_set (set with_given.rest 1 (called_from - 8)) 1 sp_after after_rcx.1
-            (omega arith))))
+          let after_rcx = after_rax.1 in (
+            x_small,
+            (
+              after_rax.0,
+              (
+                after_rcx.0,
+                small_set (set with_given.rest 1 (called_from - 8)) 1 sp_after after_rcx.1
+                    (omega arith),
+              ),
+            ),
+          )
 
       as_many : length u.cpu.registers ≡ length s.cpu.registers
       as_many =
@@ -267,8 +284,12 @@ module _ (t : Functions) (fs : List Funclet) (program : LinearProgram) (p : Imag
 
       keeps_registers : Keeps earlier after
       keeps_registers =
-          keeps_then earlier u after (record { protection = refl; fixed = λ a w. refl;
-            count = as_many; small = given_small }) (reaches_keeps 1 u after run.comes)
+          keeps_then earlier u after (record {
+            protection = refl;
+            fixed = λ a w. refl;
+            count = as_many;
+            small = given_small;
+          }) (reaches_keeps 1 u after run.comes)
 
       stack : register after.cpu Rsp ≡ called_from
       stack = ap (λ (xs : List ℕ). slice_index xs 1) run.rest ∙ sp_is x m
@@ -285,7 +306,7 @@ module _ (t : Functions) (fs : List Funclet) (program : LinearProgram) (p : Imag
         holds = run.holds;
         stack = stack;
         leaves = (let r = room_slots in leaves_stored t fs program p q image roomy earlier calling
-          begins counted around_earlier (Temporary first) x source held_earlier fits (omega arith));
+            begins counted around_earlier (Temporary first) x source held_earlier fits (omega arith));
       }
 
       rip_is : rip ≡ p.address c.frame.body (c.frame.next + 1)
@@ -293,17 +314,15 @@ module _ (t : Functions) (fs : List Funclet) (program : LinearProgram) (p : Imag
 
       rip_small : rip < 2 ^ 64
       rip_small = let n = label_small t fs program p q image roomy s c b counted around
-        (c.frame.next + 1) within in omega (arith, rip_is)
+          (c.frame.next + 1) within in omega (arith, rip_is)
 
-      same_locals : locals_of (with_values begins.body.acts c.frame.activation values)
-        ≡ c.store.activations
+      same_locals : locals_of (with_values begins.body.acts c.frame.activation values) ≡ c.store.activations
       same_locals =
           let own = placed t fs program p q image earlier calling begins counted in
-          let n = slice_get_within (locals_of begins.body.acts) c.frame.activation own.values
-            own.number in
+          let n = slice_get_within (locals_of begins.body.acts) c.frame.activation own.values own.number in
           let k = locals_count begins.body.acts in
           ap (λ vs. locals_of (with_values begins.body.acts c.frame.activation vs))
-            (locals_here t fs program p q image earlier calling begins counted)
+          (locals_here t fs program p q image earlier calling begins counted)
           ∙ same_activations begins.body.acts c.frame.activation own.values (omega arith) own.number
           ∙ sym begins.body.store
 
@@ -316,10 +335,9 @@ module _ (t : Functions) (fs : List Funclet) (program : LinearProgram) (p : Imag
             events = events;
           } in Begins t fs program p q after o) same_locals
           (begins_next t fs program p q image earlier calling begins counted after d values ts ran
-            (c.frame.next + 1) c.frame.landed events rip_is inside
-            (stays_sane earlier after keeps_registers rip_small begins.sane)
-          (λ code e. absurd (nothing c.frame.landed code free e)) around_earlier.caller
-            around_earlier.owner)
+          (c.frame.next + 1) c.frame.landed events rip_is inside
+          (stays_sane earlier after keeps_registers rip_small begins.sane)
+          (λ code e. absurd (nothing c.frame.landed code free e)) around_earlier.caller around_earlier.owner)
 
       -- nothing is shown where the service returns to, nor at the next instruction
       pub quiet_back : arrivals u.cpu (distance t.base u.cpu.rip) 1 fs ≡ []
@@ -328,13 +346,13 @@ module _ (t : Functions) (fs : List Funclet) (program : LinearProgram) (p : Imag
       -- RSP and the nonvolatile registers are those of the body before the call
       kept_back : kept_of u.cpu.registers ≡ kept_of s.cpu.registers
       kept_back = saved_kept (drop 3 s.cpu.registers) _ _ (called_from - 8) sp_after called_from
-        (sp_is x m) (sym (dropped s.cpu.registers))
-        ∙ kept_by_rest (drop 3 s.cpu.registers) s.cpu.registers refl
+          (sp_is x m) (sym (dropped s.cpu.registers))
+          ∙ kept_by_rest (drop 3 s.cpu.registers) s.cpu.registers refl
 
       -- up to where the service returns to
       abbrev pub call_code : List Instr
       call_code = clear_result ∷ begin_call (p.layout c.frame.body) first
-        (p.address c.frame.body c.frame.next + 5) (q.thunk f)
+          (p.address c.frame.body c.frame.next + 5) (q.thunk f)
 
       back_is : to ≡ p.address c.frame.body c.frame.next + sizes call_code
       back_is =
@@ -342,13 +360,20 @@ module _ (t : Functions) (fs : List Funclet) (program : LinearProgram) (p : Imag
           let place = p.address c.frame.body c.frame.next + 5 in
           let back = return_at (p.layout c.frame.body) first place in
           let five = call_size back (q.thunk f) in
-          omega (arith, b.rip, sizes_append (arguments_code (p.layout c.frame.body) first)
-            (call back (q.thunk f) ∷ []))
+          omega (
+            arith,
+            b.rip,
+            sizes_append (arguments_code (p.layout c.frame.body) first)
+                (call back (q.thunk f) ∷ []),
+          )
 
       pub past_call : IsPast t fs program p q image earlier calling begins counted
-        (instructions.CallBuiltIn f first) at_earlier (λ h. h) call_code u
-      past_call = record { rip = back_is; registers = kept_back;
-        is_there = is_here t fs program p q image earlier calling begins counted }
+          (instructions.CallBuiltIn f first) at_earlier (λ h. h) call_code u
+      past_call = record {
+        rip = back_is;
+        registers = kept_back;
+        is_there = is_here t fs program p q image earlier calling begins counted;
+      }
 
       -- the code that keeps the result keeps the shadow
       keeps_shadow : AllKeep t fs 1 u
@@ -358,24 +383,28 @@ module _ (t : Functions) (fs : List Funclet) (program : LinearProgram) (p : Imag
           let room = room_here t fs program p q image earlier calling begins counted in
           let kept = ap (λ (rest : List ℕ). kept_of (0 ∷ 0 ∷ 0 ∷ rest)) run.rest ∙ kept_back in
           let ends = ends_at t fs program p q image earlier calling begins counted after
-            (c.frame.next + 1) rip_is inside kept
+          (c.frame.next + 1) rip_is inside kept
           (is_after t fs program p q image earlier calling begins counted after d values ts ran
-            around_earlier.caller around_earlier.owner) in
+          around_earlier.caller around_earlier.owner) in
           one_piece t fs program p q image earlier calling begins counted i at_earlier (λ h. h)
-            call_code after_code u refl
+          call_code after_code u refl
           (keep_flow (p.layout c.frame.body) (counts_of body) (register earlier.cpu Rsp)
-            (placed t fs program p q image earlier calling begins counted).base room
-            (Temporary first) (omega arith))
+          (placed t fs program p q image earlier calling begins counted).base room
+          (Temporary first) (omega arith))
           past_call after run.comes ends
 
       -- and so does the service's own turn
       program_there : HasProgram t fs program p q memory_there
       program_there = program_reaches t fs program p q 7 s there
-        (reaches t fs program p q image roomy s c b counted f first at) b.memory.code
+          (reaches t fs program p q image roomy s c b counted f first at) b.memory.code
 
       keeps_there : KeepsStack s.memory memory_there called_from
-      keeps_there = record { bytes = λ a l h. above.above a l; protection = λ a l h. refl;
-        code = λ a e. (above.code a e, refl); no_more_code = λ a e. e }
+      keeps_there = record {
+        bytes = λ a l h. above.above a l;
+        protection = λ a l h. refl;
+        code = λ a e. (above.code a e, refl);
+        no_more_code = λ a e. e;
+      }
 
       abbrev caller : Context
       caller = caller_here t fs program p q image s c b counted
@@ -384,23 +413,26 @@ module _ (t : Functions) (fs : List Funclet) (program : LinearProgram) (p : Imag
       callers = beyond_here t fs program p q image s c b counted
 
       gives_by : (n : Memory) → KeepsStack s.memory n called_from → HasProgram t fs program p q n
-        → WalkGives t (record { cpu = u.cpu; memory = n }) (caller ∷ callers)
+          → WalkGives t (record { cpu = u.cpu; memory = n }) (caller ∷ callers)
       gives_by n same has =
           let x : State = record { cpu = u.cpu; memory = n } in
           ends_gives t fs program p q image s c b counted x
           (past_ends t fs program p q image s c b counted (instructions.CallBuiltIn f first) at
-            (λ h. h) call_code after_code x refl (omega arith)
-          (record { rip = back_is; registers = kept_back;
-            is_there = is_elsewhere t fs program p q image s c b counted n same has }))
+          (λ h. h) call_code after_code x refl (omega arith)
+          (record {
+            rip = back_is;
+            registers = kept_back;
+            is_there = is_elsewhere t fs program p q image s c b counted n same has;
+          }))
 
       sp_there : register there.cpu Rsp ≡ called_from - 8
       sp_there =
           returned_sp with_given called_from to
-            (let l = low t fs program p q image roomy s c b counted f first at in omega arith)
-            (top t fs program p q image roomy s c b counted f first at) b.memory.data_alone
-            b.memory.stack there.cpu.rip there.cpu.flags
+          (let l = low t fs program p q image roomy s c b counted f first at in omega arith)
+          (top t fs program p q image roomy s c b counted f first at) b.memory.data_alone
+          b.memory.stack there.cpu.rip there.cpu.flags
           (back_small t fs program p q image roomy s c b counted f first at)
-            (many t fs program p q image roomy s c b counted f first at)
+          (many t fs program p q image roomy s c b counted f first at)
 
       pub keeps_served : KeepsShadow t fs there u
       keeps_served =
@@ -410,29 +442,35 @@ module _ (t : Functions) (fs : List Funclet) (program : LinearProgram) (p : Imag
           let e : register u.cpu Rsp ≡ called_from = sp_is x m in
           let up : called_from ≡ register there.cpu Rsp + 0 + 8 = omega arith in
           let same = ap (λ (ks : List ℕ). let k : Context = record { rip = to; kept = ks } in k)
-            (set_back (set with_given.rest 1 (called_from - 8)) sp_after
-            (register there.cpu Rsp + 0 + 8) (e ∙ up)) in
+          (set_back (set with_given.rest 1 (called_from - 8)) sp_after
+          (register there.cpu Rsp + 0 + 8) (e ∙ up)) in
           service_keeps t fs program p q image f there u to caller callers refl
-            (returns t fs program p q image roomy s c b counted f first at) (omega arith) same
-            (gives_by memory_there keeps_there program_there) (gives_by m keeps_all memory.code)
-            (omega arith) (omega arith) quiet_back
+          (returns t fs program p q image roomy s c b counted f first at) (omega arith) same
+          (gives_by memory_there keeps_there program_there) (gives_by m keeps_all memory.code)
+          (omega arith) (omega arith) quiet_back
 
       comes_after : Comes t fs 1 u [] after
       comes_after = reaches_quietly t fs program p q image 1 u after run.comes keeps_shadow
-        memory.code (quiet_at t fs program p q image roomy earlier calling begins counted
-        (c.frame.next + 1) rip rip_is inside rip_small after refl)
+          memory.code (quiet_at t fs program p q image roomy earlier calling begins counted
+          (c.frame.next + 1) rip rip_is inside rip_small after refl)
 
       -- a service that shows these events
       pub served : (shown : List Event) → turn t fs there ≡ Continues u shown
-        → events ≡ c.events ++ shown → ((next : Next)
-        → act program (instructions.CallBuiltIn f first) next c ≡ next (answered x source events))
-          → Moves t fs program 16 turns_left (Begins t fs program p q) s c
-            (instructions.CallBuiltIn f first)
+          → events ≡ c.events ++ shown → ((next : Next)
+          → act program (instructions.CallBuiltIn f first) next c ≡ next (answered x source events))
+          → Moves t fs program 16 turns_left (Begins t fs program p q) s c (instructions.CallBuiltIn f first)
       served shown turns all acts =
           let one : Comes t fs 1 there shown u =
-            record { live = live_there t fs program p q image roomy s c b counted f first at;
-            state = u; first = shown; others = []; turns = turns; shadow = keeps_served;
-            whole = sym (append-nil shown); rest = (refl, refl) } in
+          record {
+            live = live_there t fs program p q image roomy s c b counted f first at;
+            state = u;
+            first = shown;
+            others = [];
+            turns = turns;
+            shadow = keeps_served;
+            whole = sym (append-nil shown);
+            rest = (refl, refl);
+          } in
           let more = one_more c.frame.temporaries (Temporary first) x fits in
           record {
             turns = 7 + (1 + 1);
@@ -442,8 +480,8 @@ module _ (t : Functions) (fs : List Funclet) (program : LinearProgram) (p : Imag
             state = after;
             events = [] ++ (shown ++ []);
             comes = comes_then t fs 7 (1 + 1) s there after [] (shown ++ [])
-              (comes_there t fs program p q image roomy s c b counted f first at)
-              (comes_then t fs 1 1 there u after shown [] one comes_after);
+                (comes_there t fs program p q image roomy s c b counted f first at)
+                (comes_then t fs 1 1 there u after shown [] one comes_after);
             acts = acts;
             shown = all ∙ ap (λ es. c.events ++ es) (sym (append-nil shown));
             is_there = begins_after;

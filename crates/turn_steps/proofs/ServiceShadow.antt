@@ -54,7 +54,7 @@ host_step RaiseException s e = ap (λ b. if in_host_page b then Err (hosted b (s
 -- the service's own call is dropped
 call_over : (f : BuiltIn) (sp : ℕ) (u : State) (c d : Context) (cs : List Context) → rsp c < sp + 8
     → sp + 8 ≤ rsp d → drop_below sp (started u []
-      (served (service_at (address_of (service_of f))) (c ∷ d ∷ cs))) ≡ d ∷ cs
+    (served (service_at (address_of (service_of f))) (c ∷ d ∷ cs))) ≡ d ∷ cs
 call_over Put sp u c d cs below above = one_below sp c (d ∷ cs) below ∙ none_below sp (d ∷ cs) above
 call_over Protect sp u c d cs below above = one_below sp c (d ∷ cs) below
     ∙ none_below sp (d ∷ cs) above
@@ -64,10 +64,18 @@ service_found : (f : BuiltIn) → (0 < address_of (service_of f))
     × (address_of (service_of f) < 0x100000000) × (address_of (service_of f) ≡ filter_return → ⊥)
     × (address_of (service_of f) ≡ finally_return → ⊥)
 service_found Put = (omega arith, omega arith, λ e. absurd (omega arith), λ e. absurd (omega arith))
-service_found Protect = (omega arith, omega arith, λ e. absurd (omega arith),
-    λ e. absurd (omega arith))
-service_found RaiseException = (omega arith, omega arith, λ e. absurd (omega arith),
-    λ e. absurd (omega arith))
+service_found Protect = (
+  omega arith,
+  omega arith,
+  λ e. absurd (omega arith),
+  λ e. absurd (omega arith),
+)
+service_found RaiseException = (
+  omega arith,
+  omega arith,
+  λ e. absurd (omega arith),
+  λ e. absurd (omega arith),
+)
 
 module _ (t : Functions) (fs : List Funclet) (program : LinearProgram) (p : ImagePlan) (q : Sites)
     (image : IsProgramImage t fs program p q) where
@@ -82,16 +90,24 @@ module _ (t : Functions) (fs : List Funclet) (program : LinearProgram) (p : Imag
       let low = sp_low t fs program p q image s c b counted in
       let top = frame_top t fs program p q image s c b counted in
       let reads = reads_other s.memory m sp 0x70800000
-        (record { bytes = keeps.bytes; protection = keeps.protection; code = keeps.code;
-        no_more_code = keeps.no_more_code }) (omega arith) (omega arith) in
+      (record {
+        bytes = keeps.bytes;
+        protection = keeps.protection;
+        code = keeps.code;
+        no_more_code = keeps.no_more_code;
+      }) (omega arith) (omega arith) in
       let kept = kept_here t fs program p q image s c b counted in
       let caller = caller_here t fs program p q image s c b counted in
       let list = kept_by_other_memories t fs program p s.memory m caller b.body.is c.below
-        (activations_below c.frame.body b.body.acts)
-        (higher_stack s.memory m sp (sp + frame + 8) (omega arith) keeps) (omega arith)
-        (b.body.below (drop 1 kept) refl).is_there in
-      record { program_there = has; returns = reads.words (sp + frame) b.body.back (omega arith)
-        (omega arith) b.body.returns; beyond = on_stack t m caller 0 b.body.is list.stack }
+      (activations_below c.frame.body b.body.acts)
+      (higher_stack s.memory m sp (sp + frame + 8) (omega arith) keeps) (omega arith)
+      (b.body.below (drop 1 kept) refl).is_there in
+      record {
+        program_there = has;
+        returns = reads.words (sp + frame) b.body.back (omega arith)
+            (omega arith) b.body.returns;
+        beyond = on_stack t m caller 0 b.body.is list.stack;
+      }
 
   -- where the return address of the call is at RSP, and the walk gives the same callers after the
   -- return
@@ -107,13 +123,13 @@ module _ (t : Functions) (fs : List Funclet) (program : LinearProgram) (p : Imag
       let at = service_found f in
       let flat : register s.cpu Rsp + 0 ≡ register s.cpu Rsp = omega arith in
       let there : word s.memory (register s.cpu Rsp + 0) ≡ Ok back = ap (word s.memory) flat
-        ∙ ap (λ (x : Result ℕ RefusedAccess). readable (register s.cpu Rsp) x) returns in
+      ∙ ap (λ (x : Result ℕ RefusedAccess). readable (register s.cpu Rsp) x) returns in
       let found = image.callers_outside.services s.memory (address_of (service_of f)) at.0 at.1 at.2
-        at.3 (context_of s.cpu) back here refl (omega arith) there in
+      at.3 (context_of s.cpu) back here refl (omega arith) there in
       let gives : WalkGives t s (c ∷ d ∷ cs) = gives_caller t s.memory (context_of s.cpu) c (d ∷ cs)
-        found (subst (λ (x : Context). GivesCallers t s.memory (state x 0) (d ∷ cs)) same before) in
+      found (subst (λ (x : Context). GivesCallers t s.memory (state x 0) (d ∷ cs)) same before) in
       host_keeps t fs s u (address_of (service_of f)) [] (c ∷ d ∷ cs) (d ∷ cs) (host_step f s here)
-        quiet gives after (call_over f (register u.cpu Rsp) u c d cs (omega arith) above)
+      quiet gives after (call_over f (register u.cpu Rsp) u c d cs (omega arith) above)
 
 -- RSP alone is set anew
 pub set_back : (xs : List ℕ) (sp v : ℕ) → slice_index (slice_set xs 1 sp) 1 ≡ v
@@ -122,5 +138,5 @@ set_back xs sp v e =
     let same = λ (k : ℕ) (n : 1 ≡ k → ⊥). index_other xs 1 k sp n in
     let far = λ (k : ℕ) (h : 1 < k). same k (λ z. absurd (omega arith)) in
     λ j. e j ∷ same 0 (λ z. absurd (omega arith)) j ∷ far 2 (omega arith) j ∷ far 3 (omega arith) j
-      ∷ far 4 (omega arith) j ∷ far 9 (omega arith) j ∷ far 10 (omega arith) j
-      ∷ far 11 (omega arith) j ∷ far 12 (omega arith) j ∷ []
+    ∷ far 4 (omega arith) j ∷ far 9 (omega arith) j ∷ far 10 (omega arith) j
+    ∷ far 11 (omega arith) j ∷ far 12 (omega arith) j ∷ []

@@ -34,7 +34,7 @@ pub nothing_landed : (program : LinearProgram) (c : Configuration) (i : Instruct
 nothing_landed program c i None h e f = refl
 nothing_landed program c i (Some v) h e f =
     let same : instructions.Landing (Local h.0)
-      ≡ i = some_is (instructions.Landing (Local h.0)) i (sym h.1 ∙ e) in
+    ≡ i = some_is (instructions.Landing (Local h.0)) i (sym h.1 ∙ e) in
     absurd (let x : true ≡ false = ap is_landing same ∙ f in cc)
 
 pub information_is_matched : InformationIsMatched
@@ -43,11 +43,11 @@ information_is_matched t fs program p q image made reads s c to field b known e 
     let at = code_at t fs program p q image made s c b known i e in
     let r = reads c.frame.body b.body.slots.code c.frame.next to field b.body.slots.body at in
     information_step t fs program p q image made.room s c b
-      (counted_here t fs program p q image made c known)
-      (around_here t fs program p q image made s c b known) to field
+    (counted_here t fs program p q image made c known)
+    (around_here t fs program p q image made s c b known) to field
     (nothing_landed program c i c.frame.landed known.stacked.landed e refl) at
-      (held_here t fs program p q image made s c b known)
-      (ready_here t fs program p q image made s c b known i e) r.0 r.1
+    (held_here t fs program p q image made s c b known)
+    (ready_here t fs program p q image made s c b known i e) r.0 r.1
     (goes_inside t fs program p q image made s c b known i e)
 
 -- a body that calls is no leaf
@@ -55,7 +55,7 @@ module _ (t : Functions) (fs : List Funclet) (program : LinearProgram) (p : Imag
     (image : IsProgramImage t fs program p q) (made : IsWellMade program p) (s : State)
     (c : Configuration) (b : Begins t fs program p q s c) (known : IsKnown program c)
     (f : BuiltIn) (first : ℕ) (e : instruction_at program c
-      ≡ Some (instructions.CallBuiltIn f first)) where
+    ≡ Some (instructions.CallBuiltIn f first)) where
   abbrev i : Instruction
   i = instructions.CallBuiltIn f first
 
@@ -68,7 +68,7 @@ module _ (t : Functions) (fs : List Funclet) (program : LinearProgram) (p : Imag
       by : (leaf : Bool) → p.leaf c.frame.body ≡ leaf → p.leaf c.frame.body ≡ false
       by false e = e
       by true e = absurd (let no : true ≡ false = made.leaves c.frame.body b.body.slots.code
-        c.frame.next i b.body.slots.body e call_here in cc)
+          c.frame.next i b.body.slots.body e call_here in cc)
 
   within : c.frame.next + 1 < length b.body.slots.code.code
   within = (made.apart c.frame.body b.body.slots.code b.body.slots.body).within c.frame.next i
@@ -78,24 +78,24 @@ pub puts_are_matched : PutsAreMatched
 puts_are_matched t fs program p q image made s c first b known e =
     let i = instructions.CallBuiltIn Put first in
     put_step t fs program p q image made.room s c b
-      (counted_here t fs program p q image made c known)
-      (around_here t fs program p q image made s c b known) first
+    (counted_here t fs program p q image made c known)
+    (around_here t fs program p q image made s c b known) first
     (call_here t fs program p q image made s c b known Put first e)
-      (framed t fs program p q image made s c b known Put first e)
-      (within t fs program p q image made s c b known Put first e)
+    (framed t fs program p q image made s c b known Put first e)
+    (within t fs program p q image made s c b known Put first e)
     (held_here t fs program p q image made s c b known)
-      (ready_here t fs program p q image made s c b known i e)
-      (nothing_landed program c i c.frame.landed known.stacked.landed e refl)
+    (ready_here t fs program p q image made s c b known i e)
+    (nothing_landed program c i c.frame.landed known.stacked.landed e refl)
 
 pub protects_are_matched : ProtectsAreMatched
 protects_are_matched t fs program p q image made s c first b known e =
     let i = instructions.CallBuiltIn Protect first in
     protect_step t fs program p q image made.room s c b
-      (counted_here t fs program p q image made c known)
-      (around_here t fs program p q image made s c b known) first
+    (counted_here t fs program p q image made c known)
+    (around_here t fs program p q image made s c b known) first
     (call_here t fs program p q image made s c b known Protect first e)
-      (framed t fs program p q image made s c b known Protect first e)
-      (within t fs program p q image made s c b known Protect first e)
+    (framed t fs program p q image made s c b known Protect first e)
+    (within t fs program p q image made s c b known Protect first e)
     (held_here t fs program p q image made s c b known)
-      (ready_here t fs program p q image made s c b known i e)
-      (nothing_landed program c i c.frame.landed known.stacked.landed e refl)
+    (ready_here t fs program p q image made s c b known i e)
+    (nothing_landed program c i c.frame.landed known.stacked.landed e refl)

@@ -56,10 +56,10 @@ module _ (t : Functions) (fs : List Funclet) where
   put_turns : (s : State) (ret : ℕ) → s.cpu.rip ≡ address_of services.Put
       → loaded s.memory (register s.cpu Rsp) W64 ≡ Ok ret
       → turn t fs s ≡ arrived t fs (Continues (back s ret)
-        (events.Put (signed W64 (register s.cpu Rcx)) ∷ []))
+      (events.Put (signed W64 (register s.cpu Rcx)) ∷ []))
   put_turns s ret e w = at_service s (address_of services.Put) e
       ∙ ap (λ (x : Result ℕ RefusedAccess). arrived t fs
-        (returned s x (λ u. Continues u (events.Put (signed W64 (register s.cpu Rcx)) ∷ [])))) w
+      (returned s x (λ u. Continues u (events.Put (signed W64 (register s.cpu Rcx)) ∷ [])))) w
 
   protect_turns : (s : State) (ret : ℕ) → s.cpu.rip ≡ address_of services.Protect
       → loaded s.memory (register s.cpu Rsp) W64 ≡ Ok ret
@@ -85,7 +85,7 @@ calls_as program c f first held next =
     let arguments = drop first c.frame.temporaries in
     let e : last_temporaries c.frame.temporaries first (count_of f) ≡ Some arguments =
     ap (λ (x : Bool). if x then Some arguments else None)
-      (eq-eqb (length c.frame.temporaries) (first + count_of f) held) in
+    (eq-eqb (length c.frame.temporaries) (first + count_of f) held) in
     ap (λ o. with_some c.events o (λ vs. built_in program next f vs (waiting c first))) e
 
 numbered : (b : Bool) → answer_number b % 2 ^ 64 ≡ of_test b
@@ -98,55 +98,59 @@ module _ (t : Functions) (fs : List Funclet) (program : LinearProgram) (p : Imag
       (counted : IsCounted t fs program p q image c)
       (around : Surroundings t fs program p q image roomy s c b counted) (f : BuiltIn) (first : ℕ)
       (at : slice_get b.body.slots.code.code c.frame.next ≡ Some (instructions.CallBuiltIn f first))
-        (framed : p.leaf c.frame.body ≡ false)
-        (within : c.frame.next + 1 < length b.body.slots.code.code)
+      (framed : p.leaf c.frame.body ≡ false)
+      (within : c.frame.next + 1 < length b.body.slots.code.code)
       (held : length c.frame.temporaries ≤ b.body.slots.code.temporaries)
-        (fits : first ≤ length c.frame.temporaries) (free : c.frame.landed ≡ None) where
+      (fits : first ≤ length c.frame.temporaries) (free : c.frame.landed ≡ None) where
     -- the number of an argument, for templates and for linear code
     argument : (k : ℕ) → first + k < length c.frame.temporaries
-      → (numbers t fs program p q image roomy s c b counted f first at).slots
+        → (numbers t fs program p q image roomy s c b counted f first at).slots
         (Temporary (first + k)) ≡ get_or (drop first c.frame.temporaries) k 0
     argument k lt = (slots_here t fs program p q image s c b counted).temporaries (first + k)
-      (get_or c.frame.temporaries (first + k) 0)
-      (slice_get-get_or c.frame.temporaries (first + k) 0 lt)
-      ∙ sym (given_in c.frame.temporaries first k)
+        (get_or c.frame.temporaries (first + k) 0)
+        (slice_get-get_or c.frame.temporaries (first + k) 0 lt)
+        ∙ sym (given_in c.frame.temporaries first k)
 
     pushed_memory : IsMachineMemory t fs program p q
-      (memory_there t fs program p q image roomy s c b counted around f first at framed within held
-      fits free) c.store.memory
+        (memory_there t fs program p q image roomy s c b counted around f first at framed within held
+        fits free) c.store.memory
     pushed_memory =
         let v = with_given t fs program p q image roomy s c b counted around f first at framed
-          within held fits free in
+        within held fits free in
         let from = sp t fs program p q image roomy s c b counted f first at in
         let ret = to t fs program p q image roomy s c b counted around f first at framed within held
-          fits free in
+        fits free in
         let l = low t fs program p q image roomy s c b counted f first at in
         let h = top t fs program p q image roomy s c b counted f first at in
         memory_untouched t fs program p q s.memory
-          (memory_there t fs program p q image roomy s c b counted around f first at framed within
-          held fits free) c.store.memory
+        (memory_there t fs program p q image roomy s c b counted around f first at framed within
+        held fits free) c.store.memory
         (pushed_untouched v from ret (omega arith) h b.memory.data_alone b.memory.stack) b.memory
-          (pushed_data v from ret (omega arith) h b.memory.data_alone b.memory.stack)
+        (pushed_data v from ret (omega arith) h b.memory.data_alone b.memory.stack)
 
     same_stack : (m : Memory) (from : ℕ) → KeepsStack m m from
-    same_stack m from = record { bytes = λ a l u. refl; protection = λ a l u. refl;
-      code = λ a e. (refl, refl); no_more_code = λ a e. e }
+    same_stack m from = record {
+      bytes = λ a l u. refl;
+      protection = λ a l u. refl;
+      code = λ a e. (refl, refl);
+      no_more_code = λ a e. e;
+    }
 
   -- `put`
   module _ (s : State) (c : Configuration) (b : Begins t fs program p q s c)
       (counted : IsCounted t fs program p q image c)
       (around : Surroundings t fs program p q image roomy s c b counted) (first : ℕ)
       (at : slice_get b.body.slots.code.code c.frame.next
-        ≡ Some (instructions.CallBuiltIn Put first)) (framed : p.leaf c.frame.body ≡ false)
-          (within : c.frame.next + 1 < length b.body.slots.code.code)
+      ≡ Some (instructions.CallBuiltIn Put first)) (framed : p.leaf c.frame.body ≡ false)
+      (within : c.frame.next + 1 < length b.body.slots.code.code)
       (held : length c.frame.temporaries ≤ b.body.slots.code.temporaries)
-        (count : length c.frame.temporaries ≡ first + 1) (free : c.frame.landed ≡ None) where
+      (count : length c.frame.temporaries ≡ first + 1) (free : c.frame.landed ≡ None) where
     abbrev fits : first ≤ length c.frame.temporaries
     fits = omega arith
 
     abbrev here : State
     here = there t fs program p q image roomy s c b counted around Put first at framed within held
-      fits free
+        fits free
 
     abbrev value : ℕ
     value = register here.cpu Rcx
@@ -158,43 +162,43 @@ module _ (t : Functions) (fs : List Funclet) (program : LinearProgram) (p : Imag
     value_is =
         let z : first + 0 ≡ first = omega arith in
         ap (λ i. (numbers t fs program p q image roomy s c b counted Put first at).slots
-          (Temporary i)) (sym z) ∙ argument s c b counted around Put first at framed within held
-          fits free 0 (omega arith)
+        (Temporary i)) (sym z) ∙ argument s c b counted around Put first at framed within held
+        fits free 0 (omega arith)
 
     abbrev after_put : Configuration
     after_put = answered t fs program p q image roomy s c b counted around Put first at framed
-      within held fits free 0 c.store.memory (c.events ++ shown)
+        within held fits free 0 c.store.memory (c.events ++ shown)
 
     puts : (next : Next) → act program (instructions.CallBuiltIn Put first) next c ≡ next after_put
     puts next =
         calls_as program c Put first count next
         ∙ ap (λ x. next (answered t fs program p q image roomy s c b counted around Put first at
-          framed within held fits free 0 c.store.memory
-          (c.events ++ events.Put (signed W64 x) ∷ []))) (sym value_is)
+        framed within held fits free 0 c.store.memory
+        (c.events ++ events.Put (signed W64 x) ∷ []))) (sym value_is)
 
     turns : turn t fs here ≡ Continues (returned_to t fs program p q image roomy s c b counted
-      around Put first at framed within held fits free 0 here.memory) shown
+        around Put first at framed within held fits free 0 here.memory) shown
     turns =
         let u = returned_to t fs program p q image roomy s c b counted around Put first at framed
-          within held fits free 0 here.memory in
+        within held fits free 0 here.memory in
         let quiet = quiet_back t fs program p q image roomy s c b counted around Put first at framed
-          within held fits free 0 (omega arith) here.memory c.store.memory (c.events ++ shown)
-          (same_stack s c b counted around Put first at framed within held fits free here.memory
-          (sp t fs program p q image roomy s c b counted Put first at))
-          (pushed_memory s c b counted around Put first at framed within held fits free) in
+        within held fits free 0 (omega arith) here.memory c.store.memory (c.events ++ shown)
+        (same_stack s c b counted around Put first at framed within held fits free here.memory
+        (sp t fs program p q image roomy s c b counted Put first at))
+        (pushed_memory s c b counted around Put first at framed within held fits free) in
         put_turns t fs here (to t fs program p q image roomy s c b counted around Put first at
-          framed within held fits free) refl (returns t fs program p q image roomy s c b counted Put
-          first at)
+        framed within held fits free) refl (returns t fs program p q image roomy s c b counted Put
+        first at)
         ∙ ap (λ es. Continues u (shown ++ es)) quiet
 
     pub put_step : Moves t fs program 16 turns_left (Begins t fs program p q) s c
-      (instructions.CallBuiltIn Put first)
+        (instructions.CallBuiltIn Put first)
     put_step =
         served t fs program p q image roomy s c b counted around Put first at framed within held
-          fits free 0 (omega arith) here.memory c.store.memory (c.events ++ shown)
+        fits free 0 (omega arith) here.memory c.store.memory (c.events ++ shown)
         (same_stack s c b counted around Put first at framed within held fits free here.memory
-          (sp t fs program p q image roomy s c b counted Put first at))
-          (pushed_memory s c b counted around Put first at framed within held fits free)
+        (sp t fs program p q image roomy s c b counted Put first at))
+        (pushed_memory s c b counted around Put first at framed within held fits free)
         shown turns refl puts
 
   -- `protect`
@@ -202,16 +206,16 @@ module _ (t : Functions) (fs : List Funclet) (program : LinearProgram) (p : Imag
       (counted : IsCounted t fs program p q image c)
       (around : Surroundings t fs program p q image roomy s c b counted) (first : ℕ)
       (at : slice_get b.body.slots.code.code c.frame.next
-        ≡ Some (instructions.CallBuiltIn Protect first)) (framed : p.leaf c.frame.body ≡ false)
-          (within : c.frame.next + 1 < length b.body.slots.code.code)
+      ≡ Some (instructions.CallBuiltIn Protect first)) (framed : p.leaf c.frame.body ≡ false)
+      (within : c.frame.next + 1 < length b.body.slots.code.code)
       (held : length c.frame.temporaries ≤ b.body.slots.code.temporaries)
-        (count : length c.frame.temporaries ≡ first + 2) (free : c.frame.landed ≡ None) where
+      (count : length c.frame.temporaries ≡ first + 2) (free : c.frame.landed ≡ None) where
     abbrev enough : first ≤ length c.frame.temporaries
     enough = omega arith
 
     abbrev at_protect : State
     at_protect = there t fs program p q image roomy s c b counted around Protect first at framed
-      within held enough free
+        within held enough free
 
     abbrev page : ℕ
     page = register at_protect.cpu Rcx
@@ -232,58 +236,58 @@ module _ (t : Functions) (fs : List Funclet) (program : LinearProgram) (p : Imag
     page_is =
         let z : first + 0 ≡ first = omega arith in
         ap (λ i. (numbers t fs program p q image roomy s c b counted Protect first at).slots
-          (Temporary i)) (sym z) ∙ argument s c b counted around Protect first at framed within held
-          enough free 0 (omega arith)
+        (Temporary i)) (sym z) ∙ argument s c b counted around Protect first at framed within held
+        enough free 0 (omega arith)
 
     number_is : register at_protect.cpu Rdx ≡ get_or (drop first c.frame.temporaries) 1 0
     number_is = argument s c b counted around Protect first at framed within held enough free 1
-      (omega arith)
+        (omega arith)
 
     abbrev after_protect : Configuration
     after_protect = answered t fs program p q image roomy s c b counted around Protect first at
-      framed within held enough free result new_source c.events
+        framed within held enough free result new_source c.events
 
     protects : (next : Next) → act program (instructions.CallBuiltIn Protect first) next c
-      ≡ next after_protect
+        ≡ next after_protect
     protects next =
         let arrive = λ (a n : ℕ). next (answered t fs program p q image roomy s c b counted around
-          Protect first at framed within held enough free
-          (of_test (is_some (rights_asked a (signed W32 n))))
-          (protected c.store.memory a (signed W32 n)) c.events) in
+        Protect first at framed within held enough free
+        (of_test (is_some (rights_asked a (signed W32 n))))
+        (protected c.store.memory a (signed W32 n)) c.events) in
         calls_as program c Protect first count next
         ∙ ap (λ a. arrive a (get_or (drop first c.frame.temporaries) 1 0)) (sym page_is)
         ∙ ap (arrive page) (sym number_is)
         ∙ ap (λ x. next (answered t fs program p q image roomy s c b counted around Protect first at
-          framed within held enough free x new_source c.events))
-          (sym (numbered (is_some (rights_asked page rights))))
+        framed within held enough free x new_source c.events))
+        (sym (numbered (is_some (rights_asked page rights))))
 
     kept_stack : KeepsStack at_protect.memory new_memory
-      (sp t fs program p q image roomy s c b counted Protect first at)
+        (sp t fs program p q image roomy s c b counted Protect first at)
     kept_stack = arena_stack t fs program p q image at_protect.memory c.store.memory page rights
-      (pushed_memory s c b counted around Protect first at framed within held enough free)
-      (sp t fs program p q image roomy s c b counted Protect first at)
+        (pushed_memory s c b counted around Protect first at framed within held enough free)
+        (sp t fs program p q image roomy s c b counted Protect first at)
 
     kept_memory : IsMachineMemory t fs program p q new_memory new_source
     kept_memory = arena_memory t fs program p q image at_protect.memory c.store.memory page rights
-      (pushed_memory s c b counted around Protect first at framed within held enough free)
+        (pushed_memory s c b counted around Protect first at framed within held enough free)
 
     protect_turn : turn t fs at_protect ≡ Continues
-      (returned_to t fs program p q image roomy s c b counted around Protect first at framed within
-      held enough free result new_memory) []
+        (returned_to t fs program p q image roomy s c b counted around Protect first at framed within
+        held enough free result new_memory) []
     protect_turn =
         let u = returned_to t fs program p q image roomy s c b counted around Protect first at
-          framed within held enough free result new_memory in
+        framed within held enough free result new_memory in
         let quiet = quiet_back t fs program p q image roomy s c b counted around Protect first at
-          framed within held enough free result (omega arith) new_memory new_source c.events
-          kept_stack kept_memory in
+        framed within held enough free result (omega arith) new_memory new_source c.events
+        kept_stack kept_memory in
         protect_turns t fs at_protect (to t fs program p q image roomy s c b counted around Protect
-          first at framed within held enough free) refl
-          (returns t fs program p q image roomy s c b counted Protect first at)
+        first at framed within held enough free) refl
+        (returns t fs program p q image roomy s c b counted Protect first at)
         ∙ ap (λ es. Continues u es) quiet
 
     pub protect_step : Moves t fs program 16 turns_left (Begins t fs program p q) s c
-      (instructions.CallBuiltIn Protect first)
+        (instructions.CallBuiltIn Protect first)
     protect_step =
         served t fs program p q image roomy s c b counted around Protect first at framed within held
-          enough free result (omega arith) new_memory new_source c.events kept_stack kept_memory
+        enough free result (omega arith) new_memory new_source c.events kept_stack kept_memory
         [] protect_turn (sym (append-nil c.events)) protects

@@ -41,7 +41,7 @@ module _ (t : Functions) (fs : List Funclet) (program : LinearProgram) (p : Imag
       (resumption : Resumption) (asked : Handler) (rest : List Handler) (f : Frame)
       (below : List Item) (acts : List Activation)
       → Linked t fs program p m c is (Searches exception resumption asked rest ∷ Waits f ∷ below)
-        acts → HasRecordSpace (rsp c) (length acts + f.held)
+      acts → HasRecordSpace (rsp c) (length acts + f.held)
   search_space m c [] exception resumption asked rest f below acts h = absurd h
   search_space m c (Framed x ∷ is) exception resumption asked rest f below acts h = absurd h
   search_space m c (Leaf back ∷ is) exception resumption asked rest f below acts h = absurd h

@@ -42,18 +42,18 @@ module _ (t : Functions) (fs : List Funclet) (program : LinearProgram) (p : Imag
       (clear : w.target.code ≡ None → AreClear w.items) where
     abbrev seen : Next → Seen
     seen next = linear.unwind program next w.target w.items w.left w.shown
-      (store_of w.source w.acts)
+        (store_of w.source w.acts)
 
     short : IsShort n (seen counting)
     short = unwind_short program n w.target w.items w.left w.shown (store_of w.source w.acts) few
 
     -- a `__finally` block
     block_enters : (s : State) (at : ℕ) (r : DispatchRecord) (is : List StackItem) (turn : Turn)
-      (flag : ℕ) → IsUnwinding t fs program p s at r is w
-      → (b : BlockBegins t fs program p s r turn w)
-      → flag_of (slice_get program.funclets b.block) ≡ Some flag
-      → IsMachineMemory t fs program p q s.memory w.source
-      → EntersFunclet t fs program p q turn seen w.shown n (callers r.walk is)
+        (flag : ℕ) → IsUnwinding t fs program p s at r is w
+        → (b : BlockBegins t fs program p s r turn w)
+        → flag_of (slice_get program.funclets b.block) ≡ Some flag
+        → IsMachineMemory t fs program p q s.memory w.source
+        → EntersFunclet t fs program p q turn seen w.shown n (callers r.walk is)
     unfolding with_some pick
     block_enters s at r is turn flag u b flagged memory =
         let target : Target = record w.target { held = b.held } in
@@ -61,11 +61,11 @@ module _ (t : Functions) (fs : List Funclet) (program : LinearProgram) (p : Imag
         let under = Unwinds b.rest target ∷ Waits b.body ∷ b.below in
         let d = begin_finally b.block flag true b.held under c in
         let memory' = memory_untouched t fs program p q s.memory b.state.memory w.source b.untouched
-          memory (b.arrives.on []).data_alone in
+        memory (b.arrives.on []).data_alone in
         let goes = λ (next : Next). b.goes next
-          ∙ ap (λ (o : Option ℕ). with_some w.shown o
-            (λ flag. deeper 2 b.held c.store w.shown
-            (next (begin_finally b.block flag true b.held under c)))) flagged in
+        ∙ ap (λ (o : Option ℕ). with_some w.shown o
+        (λ flag. deeper 2 b.held c.store w.shown
+        (next (begin_finally b.block flag true b.held under c)))) flagged in
         record {
           state = b.state;
           event = events.Finally (b.block + 1) true;
@@ -75,70 +75,70 @@ module _ (t : Functions) (fs : List Funclet) (program : LinearProgram) (p : Imag
           held = b.held;
           store = c.store;
           few = λ shallow. counted_back n d (not_deep
-            (nat_lt 1000 (length c.store.activations + b.held + 2)) shallow (counting d)
-            (subst (IsShort n) (goes counting) short));
+              (nat_lt 1000 (length c.store.activations + b.held + 2)) shallow (counting d)
+              (subst (IsShort n) (goes counting) short));
           acts = goes;
           shown = refl;
           arrives = b.named;
           walk = block_walk t fs program p q image s at r is turn w u b;
           leads = λ shallow known. begins_there t fs program p q b.state d
-            (called_blocks_begin t fs program p q image fits b.state b.block flag b.rest target c
-            b.outer b.arrives flagged memory' refl shallow known);
+              (called_blocks_begin t fs program p q image fits b.state b.block flag b.rest target c
+              b.outer b.arrives flagged memory' refl shallow known);
         }
       where
         not_deep : (b : Bool) → b ≡ false → (x : Seen)
-          → IsShort n (pick b (Finished (Deep 1001) w.shown) x) → IsShort n x
+            → IsShort n (pick b (Finished (Deep 1001) w.shown) x) → IsShort n x
         not_deep true e x h = absurd cc
         not_deep false e x h = h
 
     unwinds_as : (s : State) (at : ℕ) (r : DispatchRecord) (is : List StackItem) (turn : Turn)
-      → IsUnwinding t fs program p s at r is w → IsMachineMemory t fs program p q s.memory w.source
-      → HasRule (seen (exec program zero))
+        → IsUnwinding t fs program p s at r is w → IsMachineMemory t fs program p q s.memory w.source
+        → HasRule (seen (exec program zero))
         → BlockBegins t fs program p s r turn w
         → Outcome t fs program p q turn seen w.shown n (callers r.walk is)
     unfolding with_some
     unwinds_as s at r is turn u memory rule b = by (flag_of (slice_get program.funclets b.block))
-      refl
+        refl
       where
         by : (o : Option ℕ) → flag_of (slice_get program.funclets b.block) ≡ o
-          → Outcome t fs program p q turn seen w.shown n (callers r.walk is)
+            → Outcome t fs program p q turn seen w.shown n (callers r.walk is)
         by None e =
             let c = on_top b.body b.below w.source b.outer w.shown in
             let under = Unwinds b.rest (record w.target { held = b.held }) ∷ Waits b.body
-              ∷ b.below in
+            ∷ b.below in
             let z = b.goes (exec program zero)
-              ∙ ap (λ (o : Option ℕ). with_some w.shown o
-                (λ flag. deeper 2 b.held c.store w.shown
-                (exec program zero (begin_finally b.block flag true b.held under c)))) e in
+            ∙ ap (λ (o : Option ℕ). with_some w.shown o
+            (λ flag. deeper 2 b.held c.store w.shown
+            (exec program zero (begin_finally b.block flag true b.held under c)))) e in
             absurd (subst HasRule z rule)
         by (Some flag) e = inr (inl (block_enters s at r is turn flag u b e memory))
 
     lands_with : (s : State) (at : ℕ) (r : DispatchRecord) (is : List StackItem) (turn : Turn)
-      → IsUnwinding t fs program p s at r is w → IsMachineMemory t fs program p q s.memory w.source
-      → LandsThere t fs program p s r turn w
+        → IsUnwinding t fs program p s at r is w → IsMachineMemory t fs program p q s.memory w.source
+        → LandsThere t fs program p s r turn w
         → Outcome t fs program p q turn seen w.shown n (callers r.walk is)
     lands_with s at r is turn u memory l =
         let target : Target = record w.target { held = l.held } in
         let d = arrival l.body l.below w.target.label w.target.code w.source l.outer w.shown in
         let goes = λ (next : Next). l.goes next
-          ∙ arrives_there l.body l.below target w.target.code w.source l.outer w.shown next in
+        ∙ arrives_there l.body l.below target w.target.code w.source l.outer w.shown next in
         inl (lands_as t fs program p q image s at r is turn w n u l memory
-          (counted_back n d (subst (IsShort n) (goes counting) short))
+        (counted_back n d (subst (IsShort n) (goes counting) short))
         (λ e. kept_clear l.body l.below w.target.label w.target.code e
-          (unmarked d.frame.landed (subst IsBare (goes noticing)
-          (unwind_bare program w.target w.items w.left w.shown (store_of w.source w.acts) e
-          (clear e))))))
+        (unmarked d.frame.landed (subst IsBare (goes noticing)
+        (unwind_bare program w.target w.items w.left w.shown (store_of w.source w.acts) e
+        (clear e))))))
       where
         kept_clear : (body : Frame) (below : List Item) (label : ℕ) (code : Option ℕ) → code ≡ None
-          → (landed body label code).landed ≡ None → body.landed ≡ None
+            → (landed body label code).landed ≡ None → body.landed ≡ None
         kept_clear body below label None e h = h
         kept_clear body below label (Some x) e h = absurd cc
 
     pub unwound : (s : State) (at : ℕ) (r : DispatchRecord) (is : List StackItem)
-      → IsUnwinding t fs program p s at r is w → IsMachineMemory t fs program p q s.memory w.source
-      → HasRule (seen (exec program zero))
+        → IsUnwinding t fs program p s at r is w → IsMachineMemory t fs program p q s.memory w.source
+        → HasRule (seen (exec program zero))
         → Outcome t fs program p q (arrived t fs (unwinds_on t s at r)) seen w.shown n
-          (callers r.walk is)
+        (callers r.walk is)
     unwound s at r is u memory rule = elim (unwind_turns t fs program p s at r is w u) [
       | inl b ↦ unwinds_as s at r is (arrived t fs (unwinds_on t s at r)) u memory rule b
       | inr l ↦ lands_with s at r is (arrived t fs (unwinds_on t s at r)) u memory l

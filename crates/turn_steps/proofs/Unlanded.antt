@@ -73,10 +73,10 @@ module _ (program : LinearProgram) where
       (h (left_store c.frame.body c.frame.activation c.store))
   body_bare target out (r ∷ regions) c e clear h =
       either_bare (stops target r (length c.below)) (arrive target target.code noticing c)
-        (leave_region program noticing target r.kind regions
-        (unwind_body program noticing target out regions c) c) (arrive_bare target c e clear)
+      (leave_region program noticing target r.kind regions
+      (unwind_body program noticing target out regions c) c) (arrive_bare target c e clear)
       (region_bare target r.kind regions (unwind_body program noticing target out regions c) c
-        (body_bare target out regions c e clear h))
+      (body_bare target out regions c e clear h))
 
   pub unwind_bare : (target : Target) (items : List Item) (left : Option (List Region))
       (es : List Event) (store : Store) → target.code ≡ None → AreClear items
@@ -84,11 +84,11 @@ module _ (program : LinearProgram) where
   unwind_bare target [] left es store e clear = tt
   unwind_bare target (Waits f ∷ below) left es store e clear =
       body_bare target (λ store. unwind program noticing (target_past f.body target) below None es
-        store) (regions_left left (regions_at program f.body f.next))
-        (record { frame = f; below = below; store = store; events = es }) e clear.0
+      store) (regions_left left (regions_at program f.body f.next))
+      (record { frame = f; below = below; store = store; events = es }) e clear.0
       (λ store. unwind_bare (target_past f.body target) below None es store
-        (past_code f.body target e) clear.1)
-  unwind_bare target (Searches exception resumption asked rest ∷ below) left es store e
-      clear = unwind_bare target below None es store e clear
+      (past_code f.body target e) clear.1)
+  unwind_bare target (Searches exception resumption asked rest ∷ below) left es store e clear =
+      unwind_bare target below None es store e clear
   unwind_bare target (Unwinds rest older ∷ below) left es store e clear = unwind_bare target below
       (Some rest) es store e clear

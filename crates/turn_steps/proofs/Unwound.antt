@@ -21,12 +21,12 @@ blocks_begin t fs program p q image fits s k flag rest target c acts a flagged m
     typed =
     let items = Unwinds rest target ∷ Waits c.frame ∷ c.below in
     let n : length acts + target.held + 2 ≤ 1000 =
-      (let z = shallow_is (length c.store.activations + target.held + 2) shallow in
-      omega (arith, ap length stored, locals_count acts)) in
+    (let z = shallow_is (length c.store.activations + target.held + 2) shallow in
+    omega (arith, ap length stored, locals_count acts)) in
     block_leads t fs program p q image s k flag c.frame.activation target.held true items c.store
-      (c.events ++ events.Finally (k + 1) true ∷ []) acts
+    (c.events ++ events.Finally (k + 1) true ∷ []) acts
     (arrives_below t fs program p s k c.frame.activation 1 items acts a tt) c.frame.body
-      typed.stacked.above.funclet flagged fits memory stored
+    typed.stacked.above.funclet flagged fits memory stored
     (unwind_space t fs program p s.memory (context_below a.back a.at []) a.is rest target
-      (Waits c.frame ∷ c.below) acts (a.on []).is_there.linked).space n
+    (Waits c.frame ∷ c.below) acts (a.on []).is_there.linked).space n
     (λ m sp size. tt) (λ g kind. (flag, kind)) typed

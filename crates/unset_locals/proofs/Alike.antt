@@ -27,13 +27,23 @@ is_over marks c d a =
     let b = sym a.below in
     let m = sym a.memory in
     let e = sym a.events in
-    λ j. record { frame = f j; below = b j; store =
-      record { memory = m j; activations = d.store.activations }; events = e j }
+    λ j. record {
+      frame = f j;
+      below = b j;
+      store =
+          record { memory = m j; activations = d.store.activations };
+      events = e j;
+    }
 
 pub over_alike : (marks : Marks) (c : Configuration) (ys : List (List ℕ))
     → AreActivationsAlike marks c.store.activations ys → AreAlike marks c (over c ys)
-over_alike marks c ys h = record { frame = refl; below = refl; memory = refl; events = refl;
-    activations = h }
+over_alike marks c ys h = record {
+  frame = refl;
+  below = refl;
+  memory = refl;
+  events = refl;
+  activations = h;
+}
 
 -- ---- steps
 
@@ -56,8 +66,8 @@ module _ (program : LinearProgram) (i : Instruction) (marks : Marks) (c : Config
         one = t;
         other = g;
         alike = subst (λ z. AreAlike (next_marks program i c z marks) z (over d zs))
-          (alike_is_same d d' (λ next. sym (e next) ∙ t next))
-          (over_alike (next_marks program i c d marks) d zs r);
+            (alike_is_same d d' (λ next. sym (e next) ∙ t next))
+            (over_alike (next_marks program i c d marks) d zs r);
       },
     );
     back = λ d' t. (
@@ -66,13 +76,13 @@ module _ (program : LinearProgram) (i : Instruction) (marks : Marks) (c : Config
         one = e;
         other = t;
         alike = subst (λ z. AreAlike (next_marks program i c d marks) d z)
-          (alike_is_same (over d zs) d' (λ next. sym (g next) ∙ t next))
-          (over_alike (next_marks program i c d marks) d zs r);
+            (alike_is_same (over d zs) d' (λ next. sym (g next) ∙ t next))
+            (over_alike (next_marks program i c d marks) d zs r);
       },
     );
     end = λ seen t. absurd (ends_or_moves (λ next. act program i next c) seen d t e);
     back_end = λ seen t. absurd (ends_or_moves (λ next. act program i next (over c ys)) seen
-      (over d zs) t g);
+        (over d zs) t g);
     seen = g (exec program 0) ∙ sym (e (exec program 0));
   }
 
@@ -80,7 +90,7 @@ pub steps_are_alike : StepsAreAlike
 steps_are_alike program i marks c d a s =
     subst (λ z. GoAlike program i marks c z) (is_over marks c d a)
     (both_alike program i marks c d.store.activations a.activations
-      (act_both program marks c d.store.activations a.activations i s))
+    (act_both program marks c d.store.activations a.activations i s))
 
 -- ---- functions that begin
 
@@ -89,17 +99,17 @@ calls_are_alike program marks c d f first count function arguments values a e g 
     let ys = d.store.activations in
     let x = called c d f first function arguments values in
     let same : called_with c (over c ys) f first function arguments values
-      ≡ called_with c d f first function arguments values =
+    ≡ called_with c d f first function arguments values =
     ap (λ z. called_with c z f first function arguments values) (is_over marks c d a) in
     subst (λ z. AreAlike (next_marks program (instructions.Call f first count) c x marks) x z) same
-      (record {
+    (record {
       frame = ap (λ k. record x.frame { activation = k })
-        (as_long marks c.store.activations ys a.activations);
+          (as_long marks c.store.activations ys a.activations);
       below = refl;
       memory = refl;
       events = refl;
       activations = called_alike program marks c ys a.activations f first count function arguments
-        values (Waits (waiting c first).frame ∷ c.below) e g n;
+          values (Waits (waiting c first).frame ∷ c.below) e g n;
     })
 
 pub starts_are_alike : StartsAreAlike
@@ -110,8 +120,11 @@ starts_are_alike program arg main values n =
       below = refl;
       memory = refl;
       events = refl;
-      activations = (begun_alike (main_arguments main.parameters arg) (replicate rest 0) values rest
-        (length-replicate rest 0) n, tt);
+      activations = (
+        begun_alike (main_arguments main.parameters arg) (replicate rest 0) values rest
+            (length-replicate rest 0) n,
+        tt,
+      );
     }
 
 -- ---- runs with their marks
@@ -120,31 +133,45 @@ module _ (program : LinearProgram) where
   without_marks : (n : ℕ) (c : Configuration) (marks : Marks) (d : Configuration) (ends : Marks)
       → ComesMarked program n c marks d ends → Comes program n c d
   without_marks zero c marks d ends h = h.0
-  without_marks (suc n) c marks d ends h = (h.0, h.1,
-      without_marks n h.0 (next_marks program h.1.instruction c h.0 marks) d ends h.2)
+  without_marks (suc n) c marks d ends h = (
+    h.0,
+    h.1,
+    without_marks n h.0 (next_marks program h.1.instruction c h.0 marks) d ends h.2,
+  )
 
   one_turn : (c d e : Configuration) (marks ends : Marks) → c ≡ d → marks ≡ ends
       → (t : IsTurn program d e) → ComesMarked program (suc zero) c marks e
-        (next_marks program t.instruction d e ends)
+      (next_marks program t.instruction d e ends)
   one_turn c d e marks ends same marked =
       subst (λ z. (t : IsTurn program z e) → ComesMarked program (suc zero) c marks e
-        (next_marks program t.instruction z e ends)) same
+      (next_marks program t.instruction z e ends)) same
       (λ t. (e, t, (refl, ap (λ m. next_marks program t.instruction c e m) marked)))
 
   one_more_turn : (n : ℕ) (c : Configuration) (marks : Marks) (d e : Configuration) (ends : Marks)
       → ComesMarked program n c marks d ends → (t : IsTurn program d e)
       → ComesMarked program (suc n) c marks e (next_marks program t.instruction d e ends)
   one_more_turn zero c marks d e ends h t = one_turn c d e marks ends h.0 h.1 t
-  one_more_turn (suc n) c marks d e ends h t =
-      (h.0, h.1, one_more_turn n h.0 (next_marks program h.1.instruction c h.0 marks) d e ends h.2
-      t)
+  one_more_turn (suc n) c marks d e ends h t = (
+    h.0,
+    h.1,
+    one_more_turn n h.0 (next_marks program h.1.instruction c h.0 marks) d e ends h.2
+        t,
+  )
 
 pub marked_is_reached : MarkedIsReached
-marked_is_reached program c marks r = record { argument = r.argument; main = r.main;
-    is_main = r.is_main; turns = r.turns; comes = without_marks program r.turns _ _ c marks r.comes
-    }
+marked_is_reached program c marks r = record {
+  argument = r.argument;
+  main = r.main;
+  is_main = r.is_main;
+  turns = r.turns;
+  comes = without_marks program r.turns _ _ c marks r.comes;
+}
 
 pub marked_continues : MarkedContinues
-marked_continues program c d marks r t = record { argument = r.argument; main = r.main;
-    is_main = r.is_main; turns = suc r.turns;
-    comes = one_more_turn program r.turns _ _ c d marks r.comes t }
+marked_continues program c d marks r t = record {
+  argument = r.argument;
+  main = r.main;
+  is_main = r.is_main;
+  turns = suc r.turns;
+  comes = one_more_turn program r.turns _ _ c d marks r.comes t;
+}

@@ -40,13 +40,13 @@ module _ (R : Configuration → List (List ℕ) → Type 0) where
   pub deeper_both : (n held : ℕ) (store : Store) (ys : List (List ℕ)) (es : List Event)
       (f f' : Next → Seen) → length ys ≡ length store.activations → Both R f f'
       → Both R (λ next. deeper n held store es (f next))
-        (λ next. deeper n held (over_store store ys) es (f' next))
+      (λ next. deeper n held (over_store store ys) es (f' next))
   deeper_both n held store ys es f f' same t =
       let ended : Next → Seen = λ next. Finished (Deep 1001) es in
       subst (λ m. Both R (λ next. deeper n held store es (f next))
-        (λ next. pick (nat_lt 1000 (m + held + n)) (Finished (Deep 1001) es) (f' next))) (sym same)
+      (λ next. pick (nat_lt 1000 (m + held + n)) (Finished (Deep 1001) es) (f' next))) (sym same)
       (pick_both (nat_lt 1000 (length store.activations + held + n)) ended f ended f'
-        (Halt (Finished (Deep 1001) es) (λ next. refl) (λ next. refl)) t)
+      (Halt (Finished (Deep 1001) es) (λ next. refl) (λ next. refl)) t)
 
 differ : Running [] ≡ Stuck [] → ⊥
 differ e = cc

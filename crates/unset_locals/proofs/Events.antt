@@ -41,8 +41,11 @@ module _ (before : List Event) where
 
   pub adds_one : (es : List Event) (e : Event) → Adds es → begins_block (e ∷ []) ≡ false
       → Adds (es ++ e ∷ [])
-  adds_one es e a q = record { more = a.more ++ e ∷ []; is = joined es e a;
-      quiet = no_block a.more e a.quiet q }
+  adds_one es e a q = record {
+    more = a.more ++ e ∷ [];
+    is = joined es e a;
+    quiet = no_block a.more e a.quiet q;
+  }
 
   added : (es more : List Event) → es ≡ before ++ more
       → begins_block (drop (length before) es) ≡ begins_block more

@@ -18,12 +18,21 @@ module _ (program : LinearProgram) where
   stored ks (m ∷ marks) [] ys h o = absurd h
   stored ks (m ∷ marks) (x ∷ xs) [] h o = absurd h
   stored [] (m ∷ marks) (x ∷ xs) (y ∷ ys) h o = absurd o
-  stored (k ∷ ks) (m ∷ marks) (x ∷ xs) (y ∷ ys) h o =
-      (record { function = o.0.function; there = o.0.there; count = locals_long m x y h.0
-        ∙ o.0.count }, stored ks marks xs ys h.1 o.1)
+  stored (k ∷ ks) (m ∷ marks) (x ∷ xs) (y ∷ ys) h o = (
+    record {
+      function = o.0.function;
+      there = o.0.there;
+      count = locals_long m x y h.0
+          ∙ o.0.count;
+    },
+    stored ks marks xs ys h.1 o.1,
+  )
 
 pub has_activations : AlikeHasActivations
 has_activations program marks c d a o =
     subst (HasActivations program) (is_over marks c d a)
-    (record { working = o.working; stored = stored program (owners_of (Waits c.frame ∷ c.below))
-      marks c.store.activations d.store.activations a.activations o.stored })
+    (record {
+      working = o.working;
+      stored = stored program (owners_of (Waits c.frame ∷ c.below))
+          marks c.store.activations d.store.activations a.activations o.stored;
+    })

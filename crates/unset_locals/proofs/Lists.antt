@@ -51,7 +51,7 @@ unset_alike (suc n) (v ∷ vs) (w ∷ ws) e g = (tt, unset_alike n vs ws (omega 
 -- the arguments are the same, and so many other numbers follow
 pub begun_alike : (arguments vs ws : List ℕ) (n : ℕ) → length vs ≡ n → length ws ≡ n
     → AreLocalsAlike (replicate (length arguments) true ++ replicate n false) (arguments ++ vs)
-      (arguments ++ ws)
+    (arguments ++ ws)
 begun_alike [] vs ws n e g = unset_alike n vs ws e g
 begun_alike (a ∷ arguments) vs ws n e g = (refl, begun_alike arguments vs ws n e g)
 
@@ -126,10 +126,10 @@ taken_alive (suc k) (m ∷ marks) (x ∷ xs) (y ∷ ys) h = (h.0, taken_alive k 
 
 pub set_alive : (marks : Marks) (xs ys : List (List ℕ)) (k x v : ℕ) → Alive marks xs ys
     → AreActivationsAlike (set_mark (take (length (set_in xs k x v)) marks) k x) (set_in xs k x v)
-      (set_in ys k x v)
+    (set_in ys k x v)
 set_alive marks xs ys k x v h =
     subst (λ n. AreActivationsAlike (set_mark (take n marks) k x) (set_in xs k x v)
-      (set_in ys k x v)) (sym (length-set xs k (slice_set (locals_in (slice_get xs k)) x v)))
+    (set_in ys k x v)) (sym (length-set xs k (slice_set (locals_in (slice_get xs k)) x v)))
     (set_alike (take (length xs) marks) xs ys k x v h)
 
 pub alive_long : (marks : Marks) (xs ys : List (List ℕ)) → Alive marks xs ys → length ys ≡ length xs

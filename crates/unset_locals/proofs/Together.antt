@@ -37,8 +37,11 @@ joined_small (x ∷ xs) ys h k = (h.0, joined_small xs ys h.1 k)
 other_small : (acts : List (List ℕ)) (arguments zeros values : List ℕ)
     → AllSmall (acts ++ (arguments ++ zeros) ∷ []) → AreSmall values
     → AllSmall (acts ++ (arguments ++ values) ∷ [])
-other_small [] arguments zeros values h s = (joined_small arguments values
-    (left_small arguments zeros h.0) s, tt)
+other_small [] arguments zeros values h s = (
+  joined_small arguments values
+      (left_small arguments zeros h.0) s,
+  tt,
+)
 other_small (a ∷ acts) arguments zeros values h
     s = (h.0, other_small acts arguments zeros values h.1 s)
 
@@ -60,9 +63,9 @@ same_place program c d e = ap (λ (f : Frame). instruction_in (body_of program f
 pub twins_continue : TwinsContinue
 twins_continue program reads c d t i at =
     let here : instruction_at program c ≡ Some i = sym (same_place program c d t.alike.frame)
-      ∙ at in
+    ∙ at in
     let both : GoAlike program i t.marks c d = steps_are_alike program i t.marks c d t.alike
-      (reads c t.marks i t.marked here) in
+    (reads c t.marks i t.marked here) in
     record {
       at = here;
       back = λ d' g.
@@ -73,10 +76,10 @@ twins_continue program reads c d t i at =
             twins = record {
               marks = next_marks program i c r.0 t.marks;
               marked = marked_continues program c r.0 t.marks t.marked
-                (record { instruction = i; at = here; goes = r.1.one });
+                  (record { instruction = i; at = here; goes = r.1.one });
               alike = r.1.alike;
               small = (stays_small program d d' (record { instruction = i; at = at; goes = g })
-                (twins_are_small program c d t)).locals;
+                  (twins_are_small program c d t)).locals;
             };
           };
       end = both.back_end;
@@ -95,43 +98,46 @@ call_goes : (program : LinearProgram) (c : Configuration) (f first count : ℕ)
 unfolding pick with_some
 call_goes program c f first count function arguments values e g n next =
     let begun : List ℕ → LinearFunction → Seen = λ vs function. next
-      (begin_function f function vs c.frame.held (Waits (waiting c first).frame ∷ c.below) c.store
-      c.events) in
+    (begin_function f function vs c.frame.held (Waits (waiting c first).frame ∷ c.below) c.store
+    c.events) in
     ap (λ (o : Option (List ℕ)). with_some c.events o
-      (λ vs. with_some c.events (slice_get program.functions f)
-      (λ function. deeper 1 c.frame.held c.store c.events (begun vs function)))) e
+    (λ vs. with_some c.events (slice_get program.functions f)
+    (λ function. deeper 1 c.frame.held c.store c.events (begun vs function)))) e
     ∙ ap (λ (o : Option LinearFunction). with_some c.events o
-      (λ function. deeper 1 c.frame.held c.store c.events (begun arguments function))) g
+    (λ function. deeper 1 c.frame.held c.store c.events (begun arguments function))) g
     ∙ ap (λ b. pick b (Finished (Deep 1001) c.events) (begun arguments function)) n
 
 pub twins_call : TwinsCall
 twins_call program c d f first count function arguments values t at e g n long s =
     let i = instructions.Call f first count in
     let here : instruction_at program c ≡ Some i = sym (same_place program c d t.alike.frame)
-      ∙ at in
+    ∙ at in
     let own : last_temporaries c.frame.temporaries first count
-      ≡ Some arguments = ap (λ (k : Frame). last_temporaries k.temporaries first count)
-        (sym t.alike.frame) ∙ e in
+    ≡ Some arguments = ap (λ (k : Frame). last_temporaries k.temporaries first count)
+    (sym t.alike.frame) ∙ e in
     let held : nat_lt 1000 (length c.store.activations + c.frame.held + 1) ≡ false =
     ap (λ (k : Frame). nat_lt 1000 (length c.store.activations + k.held + 1)) (sym t.alike.frame)
     ∙ ap (λ m. nat_lt 1000 (m + d.frame.held + 1))
-      (sym (as_long t.marks c.store.activations d.store.activations t.alike.activations)) ∙ n in
+    (sym (as_long t.marks c.store.activations d.store.activations t.alike.activations)) ∙ n in
     let goes = call_goes program c f first count function arguments values own g held in
     let on = called c d f first function arguments values in
     let other = called d d f first function arguments values in
     let zeros = replicate (function.body.locals - function.parameters) 0 in
-    let small = (stays_small program d other (record
-      { instruction = i; at = at; goes = call_goes program d f first count function arguments values
-      e g n }) (twins_are_small program c d t)).locals in
+    let small = (stays_small program d other (record {
+      instruction = i;
+      at = at;
+      goes = call_goes program d f first count function arguments values
+          e g n;
+    }) (twins_are_small program c d t)).locals in
     record {
       on = on;
       goes = goes;
       twins = record {
         marks = next_marks program i c on t.marks;
         marked = marked_continues program c on t.marks t.marked
-          (record { instruction = i; at = here; goes = goes });
+            (record { instruction = i; at = here; goes = goes });
         alike = calls_are_alike program t.marks c d f first count function arguments values t.alike
-          own g long;
+            own g long;
         small = other_small d.store.activations arguments zeros values small s;
       };
     }
@@ -140,12 +146,17 @@ pub twins_start : TwinsStart
 twins_start program arg main values is_main long s =
     let zeros = replicate (main.body.locals - main.parameters) 0 in
     let first : IsReached program (start program arg main) =
-      record { argument = arg; main = main; is_main = is_main; turns = zero; comes = refl } in
+    record { argument = arg; main = main; is_main = is_main; turns = zero; comes = refl } in
     record {
       marks = start_marks program arg main;
-      marked = record { argument = arg; main = main; is_main = is_main; turns = zero;
-        comes = (refl, refl) };
+      marked = record {
+        argument = arg;
+        main = main;
+        is_main = is_main;
+        turns = zero;
+        comes = (refl, refl);
+      };
       alike = starts_are_alike program arg main values long;
       small = other_small [] (main_arguments main.parameters arg) zeros values
-        (reached_small program (start program arg main) first).locals s;
+          (reached_small program (start program arg main) first).locals s;
     }

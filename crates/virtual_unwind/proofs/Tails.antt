@@ -43,7 +43,7 @@ after-last m (Err e) i = refl
 after-last m (Ok c) i = last (left_by m i c)
   where
     last : (r : Answer Context) → ◌≡◌ {A = Option (Answer Context)} (Some (r >>= left m []))
-      (Some r)
+        (Some r)
     last (Ok c) = refl
     last (Err e) = refl
 
@@ -68,10 +68,10 @@ last-here m a (suc n) f at k first i lt e = ap (after m a)
 pub more-here : (m : Memory) (a : Answer Context) (n j f at k : ℕ) (first : Bool) (i : Instr)
     → n ≡ j + 1 → part f first m at ≡ Some (i, k, false)
     → after m a (tail n first f m at) ≡ after m (a >>= left_by m i)
-      (tail j false f m ((at + k) % 2 ^ 64))
+    (tail j false f m ((at + k) % 2 ^ 64))
 more-here m a zero j f at k first i h e = absurd (omega arith)
 more-here m a (suc n) j f at k first i h e =
     let g : n ≡ j = omega arith in
     ap (after m a) (step n f at first m (Some (i, k, false)) e)
-      ∙ ap (λ n. after m a (prepend_instr i (tail n false f m ((at + k) % 2 ^ 64)))) g
-      ∙ after-prepend_instr m a i (tail j false f m ((at + k) % 2 ^ 64))
+    ∙ ap (λ n. after m a (prepend_instr i (tail n false f m ((at + k) % 2 ^ 64)))) g
+    ∙ after-prepend_instr m a i (tail j false f m ((at + k) % 2 ^ 64))

@@ -50,108 +50,110 @@ module _ (t : Functions) (fs : List Funclet) (program : LinearProgram) (pace : �
   none_yet : (turns : ℕ) (s : State) (c : Configuration)
       → ShowsAll (shown (exec program zero c)) (run t fs turns (host s) c.events)
   unfolding exec
-  none_yet turns s c = record { shows = begins t fs turns (host s) c.events;
-      ends = λ e h. absurd cc }
+  none_yet turns s c = record {
+    shows = begins t fs turns (host s) c.events;
+    ends = λ e h. absurd cc;
+  }
 
   module _ (n turns : ℕ) (s : State) (c : Configuration) (i : Instruction)
       (bound : pace * n + pace + credit c ≤ turns) where
     -- what a step shows, given what its next step does
     exits : Exits t fs program pace credit s c i
-      → ShowsAll (shown (act program i (exec program n) c)) (run t fs turns (host s) c.events)
+        → ShowsAll (shown (act program i (exec program n) c)) (run t fs turns (host s) c.events)
     exits v =
         let few = v.few in
         let split : turns ≡ v.turns + (turns - v.turns) = omega arith in
         subst (λ (x : Seen). ShowsAll (shown x) (run t fs turns (host s) c.events))
-          (sym (v.acts (exec program n)))
+        (sym (v.acts (exec program n)))
         (ended_so (c.events ++ v.events) (ends.Exit v.value) (run t fs turns (host s) c.events)
         (ap (λ k. run t fs k (host s) c.events) split
-          ∙ run_comes t fs v.turns (turns - v.turns) s v.state c.events v.events v.comes
+        ∙ run_comes t fs v.turns (turns - v.turns) s v.state c.events v.events v.comes
         ∙ run_returned t fs (turns - v.turns) v.state (c.events ++ v.events) v.over
         ∙ ap (λ a. record { events = c.events ++ v.events; end = Some (ends.Exit a) }) v.answer))
 
     dies : Dies t fs program pace credit s c i
-      → ShowsAll (shown (act program i (exec program n) c)) (run t fs turns (host s) c.events)
+        → ShowsAll (shown (act program i (exec program n) c)) (run t fs turns (host s) c.events)
     dies v =
         let few = v.few in
         let split : turns ≡ v.turns + suc (turns - suc v.turns) = omega arith in
         subst (λ (x : Seen). ShowsAll (shown x) (run t fs turns (host s) c.events))
-          (sym (v.acts (exec program n)))
+        (sym (v.acts (exec program n)))
         (ended_so (c.events ++ (v.events ++ v.last)) (ends.Unhandled v.code)
-          (run t fs turns (host s) c.events)
+        (run t fs turns (host s) c.events)
         (ap (λ k. run t fs k (host s) c.events) split
-          ∙ run_comes t fs v.turns (suc (turns - suc v.turns)) s v.state c.events v.events v.comes
+        ∙ run_comes t fs v.turns (suc (turns - suc v.turns)) s v.state c.events v.events v.comes
         ∙ run_dies t fs (turns - suc v.turns) v.state (c.events ++ v.events) v.last
-          (ends.Unhandled v.code) v.live v.ends
+        (ends.Unhandled v.code) v.live v.ends
         ∙ ap (λ (es : List Event). record { events = es; end = Some (ends.Unhandled v.code) })
-          (append_assoc c.events v.events v.last)))
+        (append_assoc c.events v.events v.last)))
 
     -- what the machine shows of the step is shown, whatever comes after it
     fails : Fails t fs program pace credit s c i
-      → ShowsAll (shown (act program i (exec program n) c)) (run t fs turns (host s) c.events)
+        → ShowsAll (shown (act program i (exec program n) c)) (run t fs turns (host s) c.events)
     fails v =
         let few = v.few in
         let split : turns ≡ v.turns + (turns - v.turns) = omega arith in
         let rest = begins t fs (turns - v.turns) (host v.state) (c.events ++ v.made) in
         subst (λ (x : Seen). ShowsAll (shown x) (run t fs turns (host s) c.events))
-          (sym (v.acts (exec program n)))
+        (sym (v.acts (exec program n)))
         (wild_so (c.events ++ v.events) v.end v.wild (run t fs turns (host s) c.events) (
           v.front.0 ++ rest.0,
           ap (λ (x : Shown RunEnd). x.events)
-            (ap (λ k. run t fs k (host s) c.events) split
-            ∙ run_comes t fs v.turns (turns - v.turns) s v.state c.events v.made v.comes)
+              (ap (λ k. run t fs k (host s) c.events) split
+              ∙ run_comes t fs v.turns (turns - v.turns) s v.state c.events v.made v.comes)
               ∙ rest.1 ∙ ap (λ (es : List Event). (c.events ++ es) ++ rest.0) (sym v.front.1)
               ∙ ap (λ (es : List Event). es ++ rest.0)
-                (sym (append_assoc c.events v.events v.front.0))
+              (sym (append_assoc c.events v.events v.front.0))
               ∙ append_assoc (c.events ++ v.events) v.front.0 rest.0,
         ))
 
     moves : (v : Moves t fs program pace credit (Follows t fs program pace credit n) s c i)
         → ((rest : ℕ) → pace * n + credit v.configuration ≤ rest
         → ShowsAll (shown (exec program n v.configuration))
-          (run t fs rest (host v.state) v.configuration.events))
+        (run t fs rest (host v.state) v.configuration.events))
         → ShowsAll (shown (act program i (exec program n) c)) (run t fs turns (host s) c.events)
     moves v rest =
         let few = v.few in
         let split : turns ≡ v.turns + (turns - v.turns) = omega arith in
         subst (λ (x : Seen). ShowsAll (shown x) (run t fs turns (host s) c.events))
-          (sym (v.acts (exec program n)))
+        (sym (v.acts (exec program n)))
         (subst (λ (x : Shown RunEnd). ShowsAll (shown (exec program n v.configuration)) x)
         (sym (ap (λ k. run t fs k (host s) c.events) split
-          ∙ run_comes t fs v.turns (turns - v.turns) s v.state c.events v.events v.comes
-          ∙ ap (run t fs (turns - v.turns) (host v.state)) (sym v.shown)))
+        ∙ run_comes t fs v.turns (turns - v.turns) s v.state c.events v.events v.comes
+        ∙ ap (run t fs (turns - v.turns) (host v.state)) (sym v.shown)))
         (rest (turns - v.turns) (omega arith)))
 
   pub runs_show_all : (n turns : ℕ) (s : State) (c : Configuration)
       → Follows t fs program pace credit n s c → HasRule (exec program n c)
       → pace * n + credit c ≤ turns → ShowsAll (shown (exec program n c))
-        (run t fs turns (host s) c.events)
+      (run t fs turns (host s) c.events)
   runs_show_all zero turns s c follows rule bound = none_yet turns s c
   runs_show_all (suc n) turns s c follows rule bound = by (instruction_at program c) refl
       (λ turns u d. runs_show_all n turns u d)
     where
       Rest : Type 0
       Rest = (turns : ℕ) (u : State) (d : Configuration) → Follows t fs program pace credit n u d
-        → HasRule (exec program n d) → pace * n + credit d ≤ turns
-        → ShowsAll (shown (exec program n d)) (run t fs turns (host u) d.events)
+          → HasRule (exec program n d) → pace * n + credit d ≤ turns
+          → ShowsAll (shown (exec program n d)) (run t fs turns (host u) d.events)
 
       more : pace * n + pace + credit c ≤ turns
       more = let e = mul-suc pace n in omega arith
 
       matched : (i : Instruction) → HasRule (act program i (exec program n) c) → Rest
-        → IsMatched t fs program pace credit (Follows t fs program pace credit n) s c i
-        → ShowsAll (shown (act program i (exec program n) c)) (run t fs turns (host s) c.events)
+          → IsMatched t fs program pace credit (Follows t fs program pace credit n) s c i
+          → ShowsAll (shown (act program i (exec program n) c)) (run t fs turns (host s) c.events)
       matched i quiet rest (inl v) = moves n turns s c i more v
-        (λ left enough. rest left v.state v.configuration v.is_there
-        (subst HasRule (v.acts (exec program n)) quiet) enough)
+          (λ left enough. rest left v.state v.configuration v.is_there
+          (subst HasRule (v.acts (exec program n)) quiet) enough)
       matched i quiet rest (inr (inl v)) = exits n turns s c i more v
       matched i quiet rest (inr (inr (inl v))) = dies n turns s c i more v
       matched i quiet rest (inr (inr (inr v))) = fails n turns s c i more v
 
       by : (o : Option Instruction) → instruction_at program c ≡ o → Rest
-        → ShowsAll (shown (exec program (suc n) c)) (run t fs turns (host s) c.events)
+          → ShowsAll (shown (exec program (suc n) c)) (run t fs turns (host s) c.events)
       by None at rest = absurd (none_has_no_rule program n c at rule)
       by (Some i) at rest =
           subst (λ (x : Seen). ShowsAll (shown x) (run t fs turns (host s) c.events))
-            (sym (at_instruction program n c i at))
+          (sym (at_instruction program n c i at))
           (matched i (subst HasRule (at_instruction program n c i at) rule) rest
-            (follows i at (first_has_rule program n c i at rule)))
+          (follows i at (first_has_rule program n c i at rule)))

@@ -33,8 +33,11 @@ pub prefix_same : (a b : List Event) → a ≡ b → IsPrefixOf a b
 prefix_same a b e = ([], append-nil a ∙ e)
 
 pub prefix_then : (a b c : List Event) → IsPrefixOf a b → IsPrefixOf b c → IsPrefixOf a c
-prefix_then a b c p q = (p.0 ++ q.0, sym (append_assoc a p.0 q.0)
-    ∙ ap (λ (x : List Event). x ++ q.0) p.1 ∙ q.1)
+prefix_then a b c p q = (
+  p.0 ++ q.0,
+  sym (append_assoc a p.0 q.0)
+      ∙ ap (λ (x : List Event). x ++ q.0) p.1 ∙ q.1,
+)
 
 pub prefix_after : (out a b : List Event) → IsPrefixOf a b → IsPrefixOf (out ++ a) (out ++ b)
 prefix_after out a b p = (p.0, append_assoc out a p.0 ∙ ap (λ (x : List Event). out ++ x) p.1)
@@ -75,47 +78,51 @@ module _ (t : Functions) (fs : List Funclet) where
       let x = midst t fs k m s u out events comes lt in
       continues meant (run t fs m (host s) out) (out ++ x.part) x.runs
       (prefix_then (out ++ x.part) (out ++ events) meant.events
-        (prefix_after out x.part events (x.others, sym x.whole)) front)
+      (prefix_after out x.part events (x.others, sym x.whole)) front)
 
 module _ (t : Functions) (fs : List Funclet) (program : LinearProgram) (pace : ℕ)
     (credit : Configuration → ℕ) where
   module _ (n m : ℕ) (s : State) (c : Configuration) (i : Instruction) (fewer : m ≤ suc n) where
     exits : Exits t fs program pace credit s c i
-      → ShowsNoMore (shown (act program i (exec program n) c)) (run t fs m (host s) c.events)
+        → ShowsNoMore (shown (act program i (exec program n) c)) (run t fs m (host s) c.events)
     exits v =
         subst (λ (x : Seen). ShowsNoMore (shown x) (run t fs m (host s) c.events))
-          (sym (v.acts (exec program n)))
+        (sym (v.acts (exec program n)))
         (elim (cases_lt m v.turns) as (λ _. ShowsNoMore
-          (record { events = c.events ++ v.events; end = Some (source.Exit v.value) })
-          (run t fs m (host s) c.events)) [
-          | inl lt ↦ in_midst t fs (record { events = c.events ++ v.events;
-            end = Some (source.Exit v.value) }) v.turns m s v.state c.events v.events v.comes lt
-            (prefix_same (c.events ++ v.events) (c.events ++ v.events) refl)
+        (record { events = c.events ++ v.events; end = Some (source.Exit v.value) })
+        (run t fs m (host s) c.events)) [
+          | inl lt ↦ in_midst t fs (record {
+            events = c.events ++ v.events;
+            end = Some (source.Exit v.value);
+          }) v.turns m s v.state c.events v.events v.comes lt
+              (prefix_same (c.events ++ v.events) (c.events ++ v.events) refl)
           | inr le ↦
               let split : m ≡ v.turns + (m - v.turns) = omega arith in
               ended_as (record { events = c.events ++ v.events; end = Some (source.Exit v.value) })
-                (run t fs m (host s) c.events) (c.events ++ v.events) (ends.Exit v.value)
+              (run t fs m (host s) c.events) (c.events ++ v.events) (ends.Exit v.value)
               (ap (λ k. run t fs k (host s) c.events) split
-                ∙ run_comes t fs v.turns (m - v.turns) s v.state c.events v.events v.comes
+              ∙ run_comes t fs v.turns (m - v.turns) s v.state c.events v.events v.comes
               ∙ run_returned t fs (m - v.turns) v.state (c.events ++ v.events) v.over
               ∙ ap (λ a. record { events = c.events ++ v.events; end = Some (ends.Exit a) })
-                v.answer)
+              v.answer)
               refl refl
         ])
 
     dies : Dies t fs program pace credit s c i
-      → ShowsNoMore (shown (act program i (exec program n) c)) (run t fs m (host s) c.events)
+        → ShowsNoMore (shown (act program i (exec program n) c)) (run t fs m (host s) c.events)
     dies v =
         subst (λ (x : Seen). ShowsNoMore (shown x) (run t fs m (host s) c.events))
-          (sym (v.acts (exec program n)))
+        (sym (v.acts (exec program n)))
         (elim (cases_lt m v.turns) as (λ _. ShowsNoMore meant (run t fs m (host s) c.events)) [
           | inl lt ↦ in_midst t fs meant v.turns m s v.state c.events v.events v.comes lt front
           | inr le ↦ from (m - v.turns) (omega arith)
         ])
       where
         meant : Shown Ended
-        meant = record { events = c.events ++ (v.events ++ v.last);
-          end = Some (source.Unhandled v.code) }
+        meant = record {
+          events = c.events ++ (v.events ++ v.last);
+          end = Some (source.Unhandled v.code);
+        }
 
         front : IsPrefixOf (c.events ++ v.events) meant.events
         front = (v.last, append_assoc c.events v.events v.last)
@@ -124,40 +131,40 @@ module _ (t : Functions) (fs : List Funclet) (program : LinearProgram) (pace : �
         from zero e =
             continues meant (run t fs m (host s) c.events) (c.events ++ v.events)
             (ap (λ k. run t fs k (host s) c.events) e
-              ∙ run_comes t fs v.turns zero s v.state c.events v.events v.comes
-              ∙ run_pauses t fs v.state (c.events ++ v.events) v.live) front
+            ∙ run_comes t fs v.turns zero s v.state c.events v.events v.comes
+            ∙ run_pauses t fs v.state (c.events ++ v.events) v.live) front
         from (suc k) e =
             ended_as meant (run t fs m (host s) c.events) (c.events ++ (v.events ++ v.last))
-              (ends.Unhandled v.code)
+            (ends.Unhandled v.code)
             (ap (λ k. run t fs k (host s) c.events) e
-              ∙ run_comes t fs v.turns (suc k) s v.state c.events v.events v.comes
+            ∙ run_comes t fs v.turns (suc k) s v.state c.events v.events v.comes
             ∙ run_dies t fs k v.state (c.events ++ v.events) v.last (ends.Unhandled v.code) v.live
-              v.ends
+            v.ends
             ∙ ap (λ (es : List Event). record { events = es; end = Some (ends.Unhandled v.code) })
-              (append_assoc c.events v.events v.last))
+            (append_assoc c.events v.events v.last))
             refl refl
 
     moves : (v : Moves t fs program pace credit (Follows t fs program pace credit n) s c i)
         → ((left : ℕ) → left ≤ n → ShowsNoMore (shown (exec program n v.configuration))
-          (run t fs left (host v.state) v.configuration.events))
+        (run t fs left (host v.state) v.configuration.events))
         → ShowsNoMore (shown (act program i (exec program n) c)) (run t fs m (host s) c.events)
     moves v rest =
         subst (λ (x : Seen). ShowsNoMore (shown x) (run t fs m (host s) c.events))
-          (sym (v.acts (exec program n)))
+        (sym (v.acts (exec program n)))
         (elim (cases_lt m v.turns) as (λ _. ShowsNoMore (shown (exec program n v.configuration))
-          (run t fs m (host s) c.events)) [
+        (run t fs m (host s) c.events)) [
           | inl lt ↦ in_midst t fs (shown (exec program n v.configuration)) v.turns m s v.state
-            c.events v.events v.comes lt
+              c.events v.events v.comes lt
               (subst (λ (es : List Event). IsPrefixOf es
-                (shown (exec program n v.configuration)).events) v.shown
-                (before program n v.configuration))
+              (shown (exec program n v.configuration)).events) v.shown
+              (before program n v.configuration))
           | inr le ↦
               let some = v.some in
               let split : m ≡ v.turns + (m - v.turns) = omega arith in
               subst (λ (x : Shown RunEnd). ShowsNoMore (shown (exec program n v.configuration)) x)
               (sym (ap (λ k. run t fs k (host s) c.events) split
-                ∙ run_comes t fs v.turns (m - v.turns) s v.state c.events v.events v.comes
-                ∙ ap (run t fs (m - v.turns) (host v.state)) (sym v.shown)))
+              ∙ run_comes t fs v.turns (m - v.turns) s v.state c.events v.events v.comes
+              ∙ ap (run t fs (m - v.turns) (host v.state)) (sym v.shown)))
               (rest (m - v.turns) (omega arith))
         ])
 
@@ -177,26 +184,26 @@ module _ (t : Functions) (fs : List Funclet) (program : LinearProgram) (pace : �
     where
       Rest : Type 0
       Rest = (left : ℕ) (u : State) (d : Configuration) → Follows t fs program pace credit n u d
-        → IsCalm (exec program n d) → left ≤ n
-        → ShowsNoMore (shown (exec program n d)) (run t fs left (host u) d.events)
+          → IsCalm (exec program n d) → left ≤ n
+          → ShowsNoMore (shown (exec program n d)) (run t fs left (host u) d.events)
 
       matched : (i : Instruction) → IsCalm (act program i (exec program n) c) → Rest
-        → IsMatched t fs program pace credit (Follows t fs program pace credit n) s c i
-        → ShowsNoMore (shown (act program i (exec program n) c)) (run t fs m (host s) c.events)
+          → IsMatched t fs program pace credit (Follows t fs program pace credit n) s c i
+          → ShowsNoMore (shown (act program i (exec program n) c)) (run t fs m (host s) c.events)
       matched i quiet rest (inl v) = moves n m s c i fewer v
-        (λ left less. rest left v.state v.configuration v.is_there
-        (subst IsCalm (v.acts (exec program n)) quiet) less)
+          (λ left less. rest left v.state v.configuration v.is_there
+          (subst IsCalm (v.acts (exec program n)) quiet) less)
       matched i quiet rest (inr (inl v)) = exits n m s c i fewer v
       matched i quiet rest (inr (inr (inl v))) = dies n m s c i fewer v
       matched i quiet rest (inr (inr (inr v))) = absurd
-        (not_wild v.end (c.events ++ v.events) v.wild
-        (subst IsCalm (v.acts (exec program n)) quiet))
+          (not_wild v.end (c.events ++ v.events) v.wild
+          (subst IsCalm (v.acts (exec program n)) quiet))
 
       by : (o : Option Instruction) → instruction_at program c ≡ o → Rest
-        → ShowsNoMore (shown (exec program (suc n) c)) (run t fs m (host s) c.events)
+          → ShowsNoMore (shown (exec program (suc n) c)) (run t fs m (host s) c.events)
       by None at rest = absurd (none_has_no_rule program n c at calm.rule)
       by (Some i) at rest =
           subst (λ (x : Seen). ShowsNoMore (shown x) (run t fs m (host s) c.events))
-            (sym (at_instruction program n c i at))
+          (sym (at_instruction program n c i at))
           (matched i (subst IsCalm (at_instruction program n c i at) calm) rest
-            (follows i at (first_has_rule program n c i at calm.rule)))
+          (follows i at (first_has_rule program n c i at calm.rule)))

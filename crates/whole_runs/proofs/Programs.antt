@@ -45,25 +45,25 @@ module _ (t : Functions) (fs : List Funclet) (program : LinearProgram) (pace : �
       let split : turns ≡ first + (turns - first) = omega arith in
       subst (λ (x : Seen). ShowsAll (shown x) (run t fs turns (host s) [])) (sym from_main)
       (subst (λ (x : Shown RunEnd). ShowsAll (shown (exec program n (start program arg b.main))) x)
-        (sym (ap (λ k. run t fs k (host s) []) split ∙ first_run (turns - first)))
+      (sym (ap (λ k. run t fs k (host s) []) split ∙ first_run (turns - first)))
       (runs_show_all t fs program pace credit n (turns - first) b.state (start program arg b.main)
-        b.follows (subst HasRule from_main rule) (omega arith)))
+      b.follows (subst HasRule from_main rule) (omega arith)))
 
   pub program_no_more : (m : ℕ) → IsCalm (seen program arg n) → m ≤ n
       → ShowsNoMore (shown (seen program arg n)) (run t fs m (host s) [])
   program_no_more m calm fewer =
       elim (cases_lt m first) as (λ _. ShowsNoMore (shown (seen program arg n))
-        (run t fs m (host s) [])) [
+      (run t fs m (host s) [])) [
         | inl lt ↦ in_midst t fs (shown (seen program arg n)) first m s b.state [] [] b.comes lt
-          ((shown (seen program arg n)).events, refl)
+            ((shown (seen program arg n)).events, refl)
         | inr le ↦
             let split : m ≡ first + (m - first) = omega arith in
             subst (λ (x : Seen). ShowsNoMore (shown x) (run t fs m (host s) [])) (sym from_main)
             (subst (λ (x : Shown RunEnd). ShowsNoMore
-              (shown (exec program n (start program arg b.main))) x)
-              (sym (ap (λ k. run t fs k (host s) []) split ∙ first_run (m - first)))
+            (shown (exec program n (start program arg b.main))) x)
+            (sym (ap (λ k. run t fs k (host s) []) split ∙ first_run (m - first)))
             (runs_show_no_more t fs program pace credit n (m - first) b.state
-              (start program arg b.main) b.follows (subst IsCalm from_main calm) (omega arith)))
+            (start program arg b.main) b.follows (subst IsCalm from_main calm) (omega arith)))
       ]
 
 pub programs_all : ProgramsShowAll

@@ -60,9 +60,12 @@ module _ (t : Functions) (fs : List Funclet) where
   along zero (suc m) s u cs events r le w = absurd (omega arith)
   along (suc k) (suc m) s u cs events r le w =
       let x = along k m r.state u (shadow_after t fs s r.state cs) r.others r.rest (omega arith)
-        (r.shadow cs w) in
-      record { there = x.there; comes = one_more m s r.state cs r.first r.live r.turns ∙ x.comes;
-        walk = x.walk }
+      (r.shadow cs w) in
+      record {
+        there = x.there;
+        comes = one_more m s r.state cs r.first r.live r.turns ∙ x.comes;
+        walk = x.walk;
+      }
 
   -- and after all of them
   pub record After (k : ℕ) (s u : State) (cs : List Context) : Type 0 where
@@ -76,7 +79,7 @@ module _ (t : Functions) (fs : List Funclet) where
     shadow = cs;
     walk = subst (λ (x : State). WalkGives t x cs) r.1 w;
     more = λ m. let e : 0 + m ≡ m = omega arith in ap (λ k. shadowed k t fs s cs) e
-      ∙ ap (λ (x : State). shadowed m t fs x cs) r.1;
+        ∙ ap (λ (x : State). shadowed m t fs x cs) r.1;
   }
   after (suc k) s u cs events r w =
       let x = after k r.state u (shadow_after t fs s r.state cs) r.others r.rest (r.shadow cs w) in
@@ -84,8 +87,8 @@ module _ (t : Functions) (fs : List Funclet) where
         shadow = x.shadow;
         walk = x.walk;
         more = λ m. let e : suc k + m ≡ suc (k + m) = omega arith in
-          ap (λ j. shadowed j t fs s cs) e ∙ one_more (k + m) s r.state cs r.first r.live r.turns
-          ∙ x.more m;
+            ap (λ j. shadowed j t fs s cs) e ∙ one_more (k + m) s r.state cs r.first r.live r.turns
+            ∙ x.more m;
       }
 
   -- past some turns, as from where they lead
@@ -98,57 +101,61 @@ module _ (t : Functions) (fs : List Funclet) where
       let split : m ≡ k + (m - k) = omega arith in
       let x = after k s u cs events r w in
       let z = rest x.shadow x.walk (subst HasNoEnd
-        (ap (λ j. run t fs j (host s) out) split ∙ run_comes t fs k (m - k) s u out events r)
-        none) in
-      record { there = z.there; comes = ap (λ j. shadowed j t fs s cs) split ∙ x.more (m - k)
-        ∙ z.comes; walk = z.walk }
+      (ap (λ j. run t fs j (host s) out) split ∙ run_comes t fs k (m - k) s u out events r)
+      none) in
+      record {
+        there = z.there;
+        comes = ap (λ j. shadowed j t fs s cs) split ∙ x.more (m - k)
+            ∙ z.comes;
+        walk = z.walk;
+      }
 
 module _ (t : Functions) (fs : List Funclet) (program : LinearProgram) (pace : ℕ)
     (credit : Configuration → ℕ) where
   module _ (n m : ℕ) (s : State) (c : Configuration) (i : Instruction) (cs : List Context)
       (fewer : m ≤ suc n) (w : WalkGives t s cs) (none : HasNoEnd (run t fs m (host s) c.events))
-      where
-    exits : Exits t fs program pace credit s c i → WalkGivesShadow t fs m s cs
-    exits v = elim (cases_lt m v.turns) as (λ _. WalkGivesShadow t fs m s cs) [
-      | inl lt ↦ along t fs v.turns m s v.state cs v.events v.comes (omega arith) w
-      | inr le ↦ onward t fs v.turns m s v.state cs c.events v.events v.comes (omega arith) w
-          (λ ds walk over. absurd (has_end (run t fs (m - v.turns) (host v.state)
+    where
+      exits : Exits t fs program pace credit s c i → WalkGivesShadow t fs m s cs
+      exits v = elim (cases_lt m v.turns) as (λ _. WalkGivesShadow t fs m s cs) [
+        | inl lt ↦ along t fs v.turns m s v.state cs v.events v.comes (omega arith) w
+        | inr le ↦ onward t fs v.turns m s v.state cs c.events v.events v.comes (omega arith) w
+            (λ ds walk over. absurd (has_end (run t fs (m - v.turns) (host v.state)
             (c.events ++ v.events)) (c.events ++ v.events)
             (ends.Exit (signed W32 (register v.state.cpu Rax)))
             (run_returned t fs (m - v.turns) v.state (c.events ++ v.events) v.over) over)) none
-    ]
+      ]
 
-    dies : Dies t fs program pace credit s c i → WalkGivesShadow t fs m s cs
-    dies v = elim (cases_lt m v.turns) as (λ _. WalkGivesShadow t fs m s cs) [
-      | inl lt ↦ along t fs v.turns m s v.state cs v.events v.comes (omega arith) w
-      | inr le ↦ onward t fs v.turns m s v.state cs c.events v.events v.comes (omega arith) w
-        (λ ds walk over. last (m - v.turns) ds walk over) none
-    ]
-      where
-        last : (k : ℕ) (ds : List Context) → WalkGives t v.state ds
-          → HasNoEnd (run t fs k (host v.state) (c.events ++ v.events))
-          → WalkGivesShadow t fs k v.state ds
-        last zero ds walk over = at_once t fs v.state ds walk
-        last (suc k) ds walk over = absurd (has_end
-          (run t fs (suc k) (host v.state) (c.events ++ v.events))
-          ((c.events ++ v.events) ++ v.last) (ends.Unhandled v.code)
-          (run_dies t fs k v.state (c.events ++ v.events) v.last (ends.Unhandled v.code) v.live
-          v.ends) over)
+      dies : Dies t fs program pace credit s c i → WalkGivesShadow t fs m s cs
+      dies v = elim (cases_lt m v.turns) as (λ _. WalkGivesShadow t fs m s cs) [
+        | inl lt ↦ along t fs v.turns m s v.state cs v.events v.comes (omega arith) w
+        | inr le ↦ onward t fs v.turns m s v.state cs c.events v.events v.comes (omega arith) w
+            (λ ds walk over. last (m - v.turns) ds walk over) none
+      ]
+        where
+          last : (k : ℕ) (ds : List Context) → WalkGives t v.state ds
+              → HasNoEnd (run t fs k (host v.state) (c.events ++ v.events))
+              → WalkGivesShadow t fs k v.state ds
+          last zero ds walk over = at_once t fs v.state ds walk
+          last (suc k) ds walk over = absurd (has_end
+              (run t fs (suc k) (host v.state) (c.events ++ v.events))
+              ((c.events ++ v.events) ++ v.last) (ends.Unhandled v.code)
+              (run_dies t fs k v.state (c.events ++ v.events) v.last (ends.Unhandled v.code) v.live
+              v.ends) over)
 
-    moves : (v : Moves t fs program pace credit (Follows t fs program pace credit n) s c i)
-        → ((left : ℕ) (ds : List Context) → left ≤ n → WalkGives t v.state ds
-        → HasNoEnd (run t fs left (host v.state) v.configuration.events)
-        → WalkGivesShadow t fs left v.state ds)
-        → WalkGivesShadow t fs m s cs
-    moves v rest = elim (cases_lt m v.turns) as (λ _. WalkGivesShadow t fs m s cs) [
-      | inl lt ↦ along t fs v.turns m s v.state cs v.events v.comes (omega arith) w
-      | inr le ↦
-          let some = v.some in
-          onward t fs v.turns m s v.state cs c.events v.events v.comes (omega arith) w
-          (λ ds walk over. rest (m - v.turns) ds (omega arith) walk
+      moves : (v : Moves t fs program pace credit (Follows t fs program pace credit n) s c i)
+          → ((left : ℕ) (ds : List Context) → left ≤ n → WalkGives t v.state ds
+          → HasNoEnd (run t fs left (host v.state) v.configuration.events)
+          → WalkGivesShadow t fs left v.state ds)
+          → WalkGivesShadow t fs m s cs
+      moves v rest = elim (cases_lt m v.turns) as (λ _. WalkGivesShadow t fs m s cs) [
+        | inl lt ↦ along t fs v.turns m s v.state cs v.events v.comes (omega arith) w
+        | inr le ↦
+            let some = v.some in
+            onward t fs v.turns m s v.state cs c.events v.events v.comes (omega arith) w
+            (λ ds walk over. rest (m - v.turns) ds (omega arith) walk
             (subst (λ (es : List Event). HasNoEnd (run t fs (m - v.turns) (host v.state) es))
             (sym v.shown) over)) none
-    ]
+      ]
 
   pub walks_the_shadow : (n m : ℕ) (s : State) (c : Configuration) (cs : List Context)
       → Follows t fs program pace credit n s c → IsCalm (exec program n c) → m ≤ n
@@ -160,27 +167,27 @@ module _ (t : Functions) (fs : List Funclet) (program : LinearProgram) (pace : �
     where
       Rest : Type 0
       Rest = (left : ℕ) (u : State) (d : Configuration) (ds : List Context)
-        → Follows t fs program pace credit n u d → IsCalm (exec program n d) → left ≤ n
-        → WalkGives t u ds → HasNoEnd (run t fs left (host u) d.events)
-        → WalkGivesShadow t fs left u ds
+          → Follows t fs program pace credit n u d → IsCalm (exec program n d) → left ≤ n
+          → WalkGives t u ds → HasNoEnd (run t fs left (host u) d.events)
+          → WalkGivesShadow t fs left u ds
 
       matched : (i : Instruction) → IsCalm (act program i (exec program n) c) → Rest
-        → IsMatched t fs program pace credit (Follows t fs program pace credit n) s c i
-        → WalkGivesShadow t fs m s cs
+          → IsMatched t fs program pace credit (Follows t fs program pace credit n) s c i
+          → WalkGivesShadow t fs m s cs
       matched i quiet rest (inl v) = moves n m s c i cs fewer w none v
-        (λ left ds less. rest left v.state v.configuration ds v.is_there
-        (subst IsCalm (v.acts (exec program n)) quiet) less)
+          (λ left ds less. rest left v.state v.configuration ds v.is_there
+          (subst IsCalm (v.acts (exec program n)) quiet) less)
       matched i quiet rest (inr (inl v)) = exits n m s c i cs fewer w none v
       matched i quiet rest (inr (inr (inl v))) = dies n m s c i cs fewer w none v
       matched i quiet rest (inr (inr (inr v))) = absurd
-        (not_wild v.end (c.events ++ v.events) v.wild
-        (subst IsCalm (v.acts (exec program n)) quiet))
+          (not_wild v.end (c.events ++ v.events) v.wild
+          (subst IsCalm (v.acts (exec program n)) quiet))
 
       by : (o : Option Instruction) → instruction_at program c ≡ o → Rest
-        → WalkGivesShadow t fs m s cs
+          → WalkGivesShadow t fs m s cs
       by None at rest = absurd (none_has_no_rule program n c at calm.rule)
       by (Some i) at rest = matched i (subst IsCalm (at_instruction program n c i at) calm) rest
-        (follows i at (first_has_rule program n c i at calm.rule))
+          (follows i at (first_has_rule program n c i at calm.rule))
 
 pub programs_walk_the_shadow : ProgramsWalkTheShadow
 programs_walk_the_shadow t fs program pace credit arg first m n s cs b calm fewer w none =
@@ -188,7 +195,7 @@ programs_walk_the_shadow t fs program pace credit arg first m n s cs b calm fewe
       | inl lt ↦ along t fs first m s b.state cs [] b.comes (omega arith) w
       | inr le ↦ onward t fs first m s b.state cs [] [] b.comes (omega arith) w
           (λ ds walk over. walks_the_shadow t fs program pace credit n (m - first) b.state
-            (start program arg b.main) ds b.follows
-            (subst IsCalm (from_main t fs program pace credit arg first n s b) calm) (omega arith)
-            walk over) none
+          (start program arg b.main) ds b.follows
+          (subst IsCalm (from_main t fs program pace credit arg first n s b) calm) (omega arith)
+          walk over) none
     ]

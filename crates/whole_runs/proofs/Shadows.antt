@@ -49,7 +49,7 @@ module _ (t : Functions) (m : Memory) (w : WalkState) where
       gives : (n : ℕ) → suc g.steps ≤ n → callers_of (walked n t m w) ≡ Some (f.context ∷ cs)
       gives zero le = absurd (omega arith)
       gives (suc k) le = ap (λ (x : Visited). callers_of (given_by (walked k t m) x)) e
-        ∙ more_callers (record { at = f.frame; caller = f.context }) (walked k t m v) cs
+          ∙ more_callers (record { at = f.frame; caller = f.context }) (walked k t m v) cs
           (g.gives k (omega arith))
 
   -- past a return address of the host it continues by the record there
@@ -61,7 +61,7 @@ module _ (t : Functions) (m : Memory) (w : WalkState) where
       gives : (n : ℕ) → suc g.steps ≤ n → callers_of (walked n t m w) ≡ Some cs
       gives zero le = absurd (omega arith)
       gives (suc k) le = ap (λ (x : Visited). callers_of (given_by (walked k t m) x)) e
-        ∙ g.gives k (omega arith)
+          ∙ g.gives k (omega arith)
 
   -- at RIP 0 it is over
   pub at_end : w.context.rip ≡ 0 → GivesCallers t m w []
@@ -104,7 +104,7 @@ module _ (t : Functions) (fs : List Funclet) (s u : State) where
       → shadow_after t fs s u cs ≡ ds → KeepsShadow t fs s u
   keeps_by cs ds before after e = λ xs g.
       let same = unique t s.memory (record { context = context_of s.cpu; row = 0 }) cs xs before
-        g in
+      g in
       subst (WalkGives t u) (sym e ∙ ap (shadow_after t fs s u) same) after
 
   -- ---- instructions
@@ -117,7 +117,7 @@ module _ (t : Functions) (fs : List Funclet) (s u : State) where
   unfolding shadow_after
   after_step cs b e call =
       ap (λ (a : Answer State). drop_below (register u.cpu Rsp)
-        (by_step s u (arrivals u.cpu (distance t.base u.cpu.rip) 1 fs) cs a)) e
+      (by_step s u (arrivals u.cpu (distance t.base u.cpu.rip) 1 fs) cs a)) e
       ∙ ap (λ (x : Bool). drop_below (register u.cpu Rsp) (entered u cs x)) call
 
   -- an instruction that is no call, and no return
@@ -139,7 +139,7 @@ module _ (t : Functions) (fs : List Funclet) (s u : State) where
       → rsp c < register u.cpu Rsp + 8 → HeadAbove (register u.cpu Rsp) cs → KeepsShadow t fs s u
   return_keeps c cs e call before after below above =
       keeps_by (c ∷ cs) cs before after (after_step (c ∷ cs) false e call
-        ∙ one_below (register u.cpu Rsp) c cs below ∙ none_below (register u.cpu Rsp) cs above)
+      ∙ one_below (register u.cpu Rsp) c cs below ∙ none_below (register u.cpu Rsp) cs above)
 
   -- ---- the host
 
@@ -152,9 +152,9 @@ module _ (t : Functions) (fs : List Funclet) (s u : State) where
   host_keeps a es cs ds e arrives before after same =
       keeps_by cs ds before after
       (ap (λ (x : Answer State). drop_below (register u.cpu Rsp)
-        (by_step s u (arrivals u.cpu (distance t.base u.cpu.rip) 1 fs) cs x)) e
+      (by_step s u (arrivals u.cpu (distance t.base u.cpu.rip) 1 fs) cs x)) e
       ∙ ap (λ (xs : List Event). drop_below (register u.cpu Rsp)
-        (started u xs (served (service_at a) cs))) arrives ∙ same)
+      (started u xs (served (service_at a) cs))) arrives ∙ same)
 
   -- an instruction that faults
   pub fault_keeps : (code : Code) (access : Option (Bool × ℕ)) (es : List Event)
@@ -165,7 +165,7 @@ module _ (t : Functions) (fs : List Funclet) (s u : State) where
   fault_keeps code access es cs ds e arrives before after same =
       keeps_by cs ds before after
       (ap (λ (x : Answer State). drop_below (register u.cpu Rsp)
-        (by_step s u (arrivals u.cpu (distance t.base u.cpu.rip) 1 fs) cs x)) e
+      (by_step s u (arrivals u.cpu (distance t.base u.cpu.rip) 1 fs) cs x)) e
       ∙ ap (λ (xs : List Event). drop_below (register u.cpu Rsp) (started u xs cs)) arrives ∙ same)
 
 -- ---- chains of instructions

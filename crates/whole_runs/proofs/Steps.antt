@@ -47,7 +47,7 @@ module _ (program : LinearProgram) where
       let k : 1 + n ≡ suc n = omega arith in
       subst HasRule (at_instruction zero c i e)
       (rule_less (exec program 1 c) (exec program (suc n) c)
-        (subst (λ m. More (exec program 1 c) (exec program m c)) k (longer program 1 n c)) rule)
+      (subst (λ m. More (exec program 1 c) (exec program m c)) k (longer program 1 n c)) rule)
 
   pub none_has_no_rule : (n : ℕ) (c : Configuration) → instruction_at program c ≡ None
       → HasRule (exec program (suc n) c) → ⊥

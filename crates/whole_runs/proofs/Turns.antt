@@ -26,8 +26,16 @@ module _ (t : Functions) (fs : List Funclet) where
 
   pub comes_one : (s u : State) (events : List Event) → IsLive s → turn t fs s ≡ Continues u events
       → KeepsShadow t fs s u → Comes t fs 1 s events u
-  comes_one s u events live e keeps = record { live = live; state = u; first = events; others = [];
-      turns = e; shadow = keeps; whole = sym (append-nil events); rest = (refl, refl) }
+  comes_one s u events live e keeps = record {
+    live = live;
+    state = u;
+    first = events;
+    others = [];
+    turns = e;
+    shadow = keeps;
+    whole = sym (append-nil events);
+    rest = (refl, refl);
+  }
 
   -- an instruction that is run, with the event of the funclet at which RIP arrives, if it does
   pub comes_by_step : (s u : State) → IsLive s → step s ≡ Ok u → KeepsShadow t fs s u
@@ -41,8 +49,8 @@ module _ (t : Functions) (fs : List Funclet) where
   comes_then zero n s u w a b r q =
       let e : n ≡ 0 + n = omega arith in
       subst (λ m. Comes t fs m s (a ++ b) w) e
-        (subst (λ (x : List Event). Comes t fs n s (x ++ b) w) (sym r.0)
-        (subst (λ (v : State). Comes t fs n v b w) (sym r.1) q))
+      (subst (λ (x : List Event). Comes t fs n s (x ++ b) w) (sym r.0)
+      (subst (λ (v : State). Comes t fs n v b w) (sym r.1) q))
   comes_then (suc k) n s u w a b r q =
       let e : suc (k + n) ≡ suc k + n = omega arith in
       subst (λ m. Comes t fs m s (a ++ b) w) e (record {
@@ -70,8 +78,10 @@ module _ (t : Functions) (fs : List Funclet) where
   run_ended (suc n) e out = refl
 
   pub run_returned : (n : ℕ) (s : State) (out : List Event) → s.cpu.rip ≡ 0
-      → run t fs n (host s) out ≡ record { events = out;
-        end = Some (ends.Exit (signed W32 (register s.cpu Rax))) }
+      → run t fs n (host s) out ≡ record {
+        events = out;
+        end = Some (ends.Exit (signed W32 (register s.cpu Rax)));
+      }
   run_returned n s out e = ap (λ a. run t fs n (over s (a == 0)) out) e
       ∙ run_ended n (ends.Exit (signed W32 (register s.cpu Rax))) out
 
@@ -81,12 +91,12 @@ module _ (t : Functions) (fs : List Funclet) where
   run_comes zero n s u out events r =
       let e : 0 + n ≡ n = omega arith in
       ap (λ m. run t fs m (host s) out) e ∙ ap (λ (v : State). run t fs n (host v) out) r.1
-        ∙ ap (run t fs n (host u)) (sym (append-nil out))
-        ∙ ap (λ (x : List Event). run t fs n (host u) (out ++ x)) (sym r.0)
+      ∙ ap (run t fs n (host u)) (sym (append-nil out))
+      ∙ ap (λ (x : List Event). run t fs n (host u) (out ++ x)) (sym r.0)
   run_comes (suc k) n s u out events r =
       let e : suc k + n ≡ suc (k + n) = omega arith in
       ap (λ m. run t fs m (host s) out) e ∙ run_live (k + n) s out r.live
-        ∙ ap (continued_by (run t fs (k + n)) out) r.turns
+      ∙ ap (continued_by (run t fs (k + n)) out) r.turns
       ∙ run_comes k n r.state u (out ++ r.first) r.others r.rest
       ∙ ap (run t fs n (host u)) (append_assoc out r.first r.others)
       ∙ ap (λ (x : List Event). run t fs n (host u) (out ++ x)) (sym r.whole)
@@ -116,16 +126,21 @@ module _ (t : Functions) (fs : List Funclet) where
       → Midst m s out events
   midst zero m s u out events r lt = absurd (omega arith)
   midst (suc k) zero s u out events r lt =
-      record { part = []; others = events; whole = refl; runs = run_pauses s out r.live
-        ∙ ap (λ (x : List Event). record { events = x; end = None }) (sym (append-nil out)) }
+      record {
+        part = [];
+        others = events;
+        whole = refl;
+        runs = run_pauses s out r.live
+            ∙ ap (λ (x : List Event). record { events = x; end = None }) (sym (append-nil out));
+      }
   midst (suc k) (suc m) s u out events r lt =
       let x = midst k m r.state u (out ++ r.first) r.others r.rest (omega arith) in
       record {
         part = r.first ++ x.part;
         others = x.others;
         whole = r.whole ∙ ap (λ (ys : List Event). r.first ++ ys) x.whole
-          ∙ sym (append_assoc r.first x.part x.others);
+            ∙ sym (append_assoc r.first x.part x.others);
         runs = run_live m s out r.live ∙ ap (continued_by (run t fs m) out) r.turns ∙ x.runs
-          ∙ ap (λ (ys : List Event). record { events = ys; end = None })
+            ∙ ap (λ (ys : List Event). record { events = ys; end = None })
             (append_assoc out r.first x.part);
       }

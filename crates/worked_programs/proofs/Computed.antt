@@ -37,8 +37,12 @@ return_and_leave_flags_leave = record { faults = refl; sound = refl; prints = re
 
 pub division_faults_unhandled_overflow : division_faults_unhandled_overflow_row
 unfolding computed
-division_faults_unhandled_overflow = record { faults = refl; sound = refl; prints = refl;
-    ends = refl }
+division_faults_unhandled_overflow = record {
+  faults = refl;
+  sound = refl;
+  prints = refl;
+  ends = refl;
+}
 
 pub division_faults_unhandled_zero : division_faults_unhandled_zero_row
 unfolding computed
@@ -142,8 +146,12 @@ target_in_outer_activation = record { faults = refl; sound = refl; prints = refl
 
 pub filter_asked_once_under_collision : filter_asked_once_under_collision_row
 unfolding computed
-filter_asked_once_under_collision = record { faults = refl; sound = refl; prints = refl;
-    ends = refl }
+filter_asked_once_under_collision = record {
+  faults = refl;
+  sound = refl;
+  prints = refl;
+  ends = refl;
+}
 
 pub collided_twice : collided_twice_row
 unfolding computed

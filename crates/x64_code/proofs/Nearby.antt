@@ -35,7 +35,7 @@ pub spelled_both : (old a b : List ℕ) (is js : List Instr) → a ≡ old ++ sp
     → b ≡ a ++ spelled js → b ≡ old ++ spelled (is ++ js)
 spelled_both old a b is js e f =
     f ∙ ap (λ t. t ++ spelled js) e ∙ append_assoc old (spelled is) (spelled js)
-      ∙ ap (λ t. old ++ t) (sym (flat_map-append chosen is js))
+    ∙ ap (λ t. old ++ t) (sym (flat_map-append chosen is js))
 
 -- how many bytes there are more
 pub grown : (old new : List ℕ) (is : List Instr) → new ≡ old ++ spelled is
@@ -67,8 +67,8 @@ pub stepped : (code new whole : List ℕ) (a is all : List Instr) → new ≡ co
     → all ≡ a ++ is → code ++ spelled all ≡ whole → new ++ spelled is ≡ whole
 stepped code new whole a is all e f g =
     ap (λ t. t ++ spelled is) e ∙ append_assoc code (spelled a) (spelled is)
-      ∙ ap (λ t. code ++ t) (sym (flat_map-append chosen a is))
-      ∙ ap (λ x. code ++ spelled x) (sym f) ∙ g
+    ∙ ap (λ t. code ++ t) (sym (flat_map-append chosen a is))
+    ∙ ap (λ x. code ++ spelled x) (sym f) ∙ g
 
 -- ---- calls with more than four arguments
 
@@ -86,8 +86,11 @@ passing_last y first i count le = ap (passing_code y first i)
 passing_sizes : (y : Layout) (first i n : ℕ) → sizes (passing_code y first i n) ≤ 30 * n
 passing_sizes y first i zero = omega arith
 passing_sizes y first i (suc n) = let r = passing_sizes y first (i + 1) n in
-    omega (arith, sizes_small (fetched Rax Rsp (temporary_at y (first + i))
-    ∷ keep_register Rax (8 * i) ∷ []))
+    omega (
+      arith,
+      sizes_small (fetched Rax Rsp (temporary_at y (first + i))
+          ∷ keep_register Rax (8 * i) ∷ []),
+    )
 
 pub passing_small : (y : Layout) (first count : ℕ) → count ≤ 8
     → sizes (passing_code y first 4 (count - 4)) ≤ 120
@@ -155,7 +158,7 @@ after i = omega arith
 pub body_next : (k : Links) (y : Layout) (at i : ℕ) (body : List Instruction) (d : Instruction)
     → i < length body → code_from k y at (drop i body)
     ≡ template k y at (get_or body i d) ++ code_from k y (at + template_size y (get_or body i d))
-      (drop (i + 1) body)
+    (drop (i + 1) body)
 body_next k y at i body d lt = ap (code_from k y at) (drop-cons body i d lt)
     ∙ ap (λ (n : ℕ). template k y at (get_or body i d)
     ++ code_from k y (at + template_size y (get_or body i d)) (drop n body)) (after i)
@@ -170,7 +173,7 @@ pub labels_next : (y : Layout) (at i : ℕ) (body : List Instruction) (d : Instr
     ≡ at ∷ label_list y (at + template_size y (get_or body i d)) (drop (i + 1) body)
 labels_next y at i body d lt = ap (label_list y at) (drop-cons body i d lt)
     ∙ ap (λ (n : ℕ). at ∷ label_list y (at + template_size y (get_or body i d)) (drop n body))
-      (after i)
+    (after i)
 
 pub size_next : (y : Layout) (i : ℕ) (body : List Instruction) (d : Instruction) → i < length body
     → body_size y (drop i body) ≡ template_size y (get_or body i d)
@@ -187,5 +190,8 @@ label_added old new whole more all at e f g = ap (λ t. t ++ more) e
 pub grown_to : (k : Links) (y : Layout) (at : ℕ) (i : Instruction) (old new : List ℕ)
     → new ≡ old ++ spelled (template k y at i) → length new ≡ length old + template_size y i
 grown_to k y at i old new e = let l = ap length e in let t = template_sizes k y at i in
-    omega (arith, length-append old (spelled (template k y at i)),
-    sizes_spelled (template k y at i))
+    omega (
+      arith,
+      length-append old (spelled (template k y at i)),
+      sizes_spelled (template k y at i),
+    )

@@ -60,7 +60,7 @@ at_register_length : (r : ℕ) (b : Reg) (d : ℕ) → length (at_register r b N
 at_register_length r b d =
     let e = displacement_by (is_signed W8 W64 d) d in
     shorter_by (number b % 8 == 4) ((64 * mode d + 8 * r + 4) ∷ sib None 4 ∷ displacement d)
-      ((64 * mode d + 8 * r + number b % 8) ∷ displacement d) 6 (omega arith) (omega arith)
+    ((64 * mode d + 8 * r + number b % 8) ∷ displacement d) 6 (omega arith) (omega arith)
 
 word_length : (op r : ℕ) (b : Reg) (d : ℕ) → length
     (modrm W64 (opcodes.One op) r (places.Memory (above b d))) ≤ 8
@@ -191,9 +191,13 @@ compute_size y to o first second =
     let b = fetch_size y Rcx second in
     let c = operation_size o in
     let e = keep_size y to in
-    omega (arith, sizes_append (operands_code y o first second) (finish_code y o to),
+    omega (
+      arith,
+      sizes_append (operands_code y o first second) (finish_code y o to),
       sizes_append (fetch y Rax first) (fetch y Rcx second ++ before o),
-      sizes_append (fetch y Rcx second) (before o), sizes_append (work o) (keep y to))
+      sizes_append (fetch y Rcx second) (before o),
+      sizes_append (work o) (keep y to),
+    )
 
 -- ---- the others
 

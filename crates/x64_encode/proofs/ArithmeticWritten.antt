@@ -56,7 +56,7 @@ immediate_read w v more fits = signed_little (immediate_of w) w v more (immediat
 byte_is : (v : ℕ) → v < 256 → is_signed W8 W8 v ≡ true
 byte_is v lt = elim (leb_tells 128 v) [
   | inl a ↦ let le = a.1 in ap (λ c. nat_lt v 128 || (c && nat_lt v 256)) (le-leb 128 v le)
-  ∙ ap (λ c. nat_lt v 128 || c) (lt-ltb v 256 lt) ∙ ap (λ c. c || true) (le-ltb v 128 le)
+      ∙ ap (λ c. nat_lt v 128 || c) (lt-ltb v 256 lt) ∙ ap (λ c. c || true) (le-ltb v 128 le)
   | inr b ↦ let less = b.1 in ap (λ c. c || (nat_le 128 v && nat_lt v 256)) (lt-ltb v 128 less)
 ]
 
@@ -83,10 +83,10 @@ arithmetic_read : (o : Operation) (from w : Width) (to : RegisterOrMemory) (v : 
 arithmetic_read o from w to v more le fits =
     let bytes = little (bytes_of from) (low from v) ++ more in
     ap (λ x. given x bytes >>= λ y. signed from w y.1
-      >>= λ n. read_as (instrs.Arithmetic y.0 w to (operands.Immediate n.0)) n.1)
-        (operation-opcode_extension o)
+    >>= λ n. read_as (instrs.Arithmetic y.0 w to (operands.Immediate n.0)) n.1)
+    (operation-opcode_extension o)
     ∙ ap (λ (x : Read ℕ). x >>= λ n. read_as (instrs.Arithmetic o w to (operands.Immediate n.0))
-      n.1) (signed_little from w v more le fits)
+    n.1) (signed_little from w v more le fits)
 
 is_80 : IsOpcode 0x80
 is_80 = record { even = refl; size = λ e. absurd (omega arith); rex = λ e. absurd (omega arith) }
@@ -110,20 +110,23 @@ is_F6 = record { even = refl; size = λ e. absurd (omega arith); rex = λ e. abs
 
 move_immediate_read : (w : Width) (r : Reg) (v : ℕ) (more : List ℕ) → is_word w ≡ true → v < limit w
     → move_immediate (register_prefixes w r) (0xB8 + regs.number r % 8)
-      (little (bytes_of w) v ++ more) ≡ Some (instrs.Move w (places.Register r)
-      (operands.Immediate v), more)
+    (little (bytes_of w) v ++ more) ≡ Some (
+      instrs.Move w (places.Register r)
+          (operands.Immediate v),
+      more,
+    )
 move_immediate_read w r v more word fits =
     let b = number_small r in
     let is_w = width_read w (8 * wide w + regs.number r / 8) word
-      (let a = wide_small w in omega arith) in
+    (let a = wide_small w in omega arith) in
     let p = register_prefixes w r in
     let op = 0xB8 + regs.number r % 8 in
     let made = λ (v : Width) (x : Reg) (n : ℕ). instrs.Move v (places.Register x)
-      (operands.Immediate n) in
+    (operands.Immediate n) in
     ap (λ u. number (bytes_of u) (little (bytes_of w) v ++ more)
-      >>= λ x. read_as (made u (register_of_low_bits p op) x.0) x.1) is_w
+    >>= λ x. read_as (made u (register_of_low_bits p op) x.0) x.1) is_w
     ∙ ap (λ (o : Read ℕ). o >>= λ x. read_as (made w (register_of_low_bits p op) x.0) x.1)
-      (number_little (bytes_of w) v more (let e = bytes_limit w in omega arith))
+    (number_little (bytes_of w) v more (let e = bytes_limit w in omega arith))
     ∙ ap (λ x. read_as (made w x v) more) (lowest_read w 0xB8 r (omega arith))
 
 move_word : (w : Width) (r : Reg) (v : ℕ) (more : List ℕ) → is_word w ≡ true
@@ -141,15 +144,15 @@ pub move_place : (w : Width) (to : RegisterOrMemory) (v : ℕ) (more : List ℕ)
     ++ immediate_bytes w v) ++ more) ≡ Some (instrs.Move w to (operands.Immediate v), more)
 move_place w to v more ok fits =
     ap instr (append_assoc (modrm w (opcodes.One (sized_opcode w 0xC6)) 0 to) (immediate_bytes w v)
-      more)
+    more)
     ∙ rm_digit_again w 0xC6 (immediate_bytes w v ++ more) is_C6 (λ p. group_11) 0 to (omega arith)
-      ok (row_move_number w)
+    ok (row_move_number w)
     ∙ ap (λ (o : Read ℕ). o >>= λ n. read_as (instrs.Move w to (operands.Immediate n.0)) n.1)
-      (immediate_read w v more fits)
+    (immediate_read w v more fits)
 
 pub again_move_number : (w : Width) (r : Reg) (v : ℕ) (more : List ℕ) → nat_lt v (limit w) ≡ true
     → instr (move_bytes w r v ++ more) ≡ Some
-      (instrs.Move w (places.Register r) (operands.Immediate v), more)
+    (instrs.Move w (places.Register r) (operands.Immediate v), more)
 again_move_number W8 r v more fits = move_place W8 (places.Register r) v more refl
     (byte_is v (ltb-true v 256 fits))
 again_move_number W16 r v more fits = move_word W16 r v more refl fits
@@ -171,11 +174,11 @@ arithmetic_byte o w to v more word ok fits =
     let is_w = width_is w (opcode_extension o) to (bytes ++ more) lr word in
     ap instr (append_assoc (modrm w (opcodes.One 0x83) (opcode_extension o) to) bytes more)
     ∙ open_one w (opcode_extension o) to (bytes ++ more) lr 0x83 (λ e. absurd (omega arith))
-      (λ e. absurd (omega arith))
+    (λ e. absurd (omega arith))
     ∙ ap (λ u. rm_extension p u (group_1 W8 u)
-      (place_bytes (opcode_extension o % 8) to ++ (bytes ++ more))) is_w
+    (place_bytes (opcode_extension o % 8) to ++ (bytes ++ more))) is_w
     ∙ rm_digit_read w w (opcode_extension o) to (bytes ++ more) (group_1 W8 w) d ok
-      (listed w (modrm_bits w (opcode_extension o) to) to)
+    (listed w (modrm_bits w (opcode_extension o) to) to)
     ∙ arithmetic_read o W8 w to v more (limit_least w) fits
 
 arithmetic_full : (o : Operation) (w : Width) (to : RegisterOrMemory) (v : ℕ) (more : List ℕ)
@@ -184,9 +187,9 @@ arithmetic_full : (o : Operation) (w : Width) (to : RegisterOrMemory) (v : ℕ) 
     ++ immediate_bytes w v) ++ more) ≡ Some (instrs.Arithmetic o w to (operands.Immediate v), more)
 arithmetic_full o w to v more ok fits =
     ap instr (append_assoc (modrm w (opcodes.One (sized_opcode w 0x80)) (opcode_extension o) to)
-      (immediate_bytes w v) more)
+    (immediate_bytes w v) more)
     ∙ rm_digit_again w 0x80 (immediate_bytes w v ++ more) is_80 (λ p u. group_1 (immediate_of u) u)
-      (opcode_extension o) to (digit_small o) ok (row_arithmetic_number w)
+    (opcode_extension o) to (digit_small o) ok (row_arithmetic_number w)
     ∙ arithmetic_read o (immediate_of w) w to v more (immediate_most w) fits
 
 -- the short form where t holds
@@ -219,6 +222,6 @@ is_arithmetic_first o = let d = digit_small o in
 
 pub again_arithmetic : (o : Operation) (w : Width) (to : RegisterOrMemory) (r : Reg) (more : List ℕ)
     → is_place to ≡ true → instr (modrm w (opcodes.One (sized_opcode w (8 * opcode_extension o)))
-      (regs.number r) to ++ more) ≡ Some (instrs.Arithmetic o w to (operands.Register r), more)
+    (regs.number r) to ++ more) ≡ Some (instrs.Arithmetic o w to (operands.Register r), more)
 again_arithmetic o w to r more ok = rm_r_again w (8 * opcode_extension o) more
     (is_arithmetic_first o) (instrs.Arithmetic o) r to ok (row_arithmetic o w)

@@ -55,7 +55,7 @@ at_register_length : (r : ℕ) (b : Reg) (i : Option Index) (d : ℕ) → length
 at_register_length r b None d =
     let e = displacement_by (is_signed W8 W64 d) d in
     shorter_by (number b % 8 == 4) ((64 * mode d + 8 * r + 4) ∷ sib None 4 ∷ displacement d)
-      ((64 * mode d + 8 * r + number b % 8) ∷ displacement d) 6 (omega arith) (omega arith)
+    ((64 * mode d + 8 * r + number b % 8) ∷ displacement d) 6 (omega arith) (omega arith)
 at_register_length r b (Some i) d = let e = displacement_by (is_signed W8 W64 d) d in omega arith
 
 memory_length : (r : ℕ) (b : Base) (i : Option Index) (d : ℕ) → length (memory_bytes r b i d) ≤ 6

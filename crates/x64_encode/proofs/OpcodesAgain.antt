@@ -49,26 +49,19 @@ abbrev rex_by : Bool → ℕ → List ℕ
 rex_by t bits = cond t ((0x40 + bits) ∷ []) []
 
 module _ (op : ℕ) (more : List ℕ) (other : op / 16 ≢ 4) where
-  after_rex : (size : Bool) (bits : ℕ) → bits < 16
-      → opened size ((0x40 + bits) ∷ op ∷ more)
-      ≡ after_prefixes (record { operand_size = size; has_rex = true; rex = bits }) op more
+  after_rex : (size : Bool) (bits : ℕ) → bits < 16 → opened size ((0x40 + bits) ∷ op ∷ more) ≡ after_prefixes (record { operand_size = size; has_rex = true; rex = bits }) op more
   unfolding after_size
   after_rex size bits lt =
       let four : (0x40 + bits) / 16 ≡ 4 = omega arith in
       let lowest_bits : (0x40 + bits) % 16 ≡ bits = omega arith in
-      ap (λ c. cond c (after_prefixes (record
-        { operand_size = size; has_rex = true; rex = (0x40 + bits) % 16 }) op more)
-        (after_prefixes (record { operand_size = size; has_rex = false; rex = 0 }) (0x40 + bits)
-        (op ∷ more))) (eq-eqb _ _ four)
+      ap (λ c. cond c (after_prefixes (record { operand_size = size; has_rex = true; rex = (0x40 + bits) % 16 }) op more) (after_prefixes (record { operand_size = size; has_rex = false; rex = 0 }) (0x40 + bits) (op ∷ more))) (eq-eqb _ _ four)
       ∙ ap (λ k. after_prefixes (record { operand_size = size; has_rex = true; rex = k }) op more) lowest_bits
 
   no_rex : (size : Bool) (bits : ℕ) → bits ≡ 0 → opened size (op ∷ more) ≡ after_prefixes (record { operand_size = size; has_rex = false; rex = bits }) op more
   unfolding after_size
   no_rex size bits e = rw (ne_eqb _ _ other) (ap (λ k. after_prefixes (record { operand_size = size; has_rex = false; rex = k }) op more) (sym e))
 
-  maybe_rex : (size t : Bool) (bits : ℕ) → bits < 16 → (t ≡ false → bits ≡ 0)
-      → opened size (rex_by t bits ++ op ∷ more)
-      ≡ after_prefixes (record { operand_size = size; has_rex = t; rex = bits }) op more
+  maybe_rex : (size t : Bool) (bits : ℕ) → bits < 16 → (t ≡ false → bits ≡ 0) → opened size (rex_by t bits ++ op ∷ more) ≡ after_prefixes (record { operand_size = size; has_rex = t; rex = bits }) op more
   maybe_rex size true bits lt e = after_rex size bits lt
   maybe_rex size false bits lt e = no_rex size bits (e refl)
 
@@ -81,8 +74,7 @@ module _ (op : ℕ) (more : List ℕ) (other : op / 16 ≢ 4) where
 none_where_zero : (bits : ℕ) → not (eqb bits 0) ≡ false → bits ≡ 0
 none_where_zero bits e = eqb-true bits 0 (not-false (eqb bits 0) e)
 
-front : (w : Width) (bits op : ℕ) (more : List ℕ) → bits < 16 → op ≢ 0x66 → op / 16 ≢ 4
-    → instr (prefixes w bits ++ op ∷ more) ≡ after_prefixes (read_prefixes w bits) op more
+front : (w : Width) (bits op : ℕ) (more : List ℕ) → bits < 16 → op ≢ 0x66 → op / 16 ≢ 4 → instr (prefixes w bits ++ op ∷ more) ≡ after_prefixes (read_prefixes w bits) op more
 unfolding instr
 front W8 bits op more lt n other = no_size op more other true bits lt n ∙ after_rex op more other false bits lt
 front W16 bits op more lt n other = maybe_rex op more other true (has_rex W16 bits) bits lt (none_where_zero bits)
@@ -120,16 +112,13 @@ module _ (w : Width) (r : ℕ) (at : RegisterOrMemory) (more : List ℕ) (lr : r
   pub open_one : (op : ℕ) → op ≢ 0x66 → op / 16 ≢ 4 → instr (modrm w (opcodes.One op) r at ++ more) ≡ after_prefixes pre op operand_bytes
   unfolding modrm
   open_one op n other =
-      ap instr (append_assoc (prefixes w (modrm_bits w r at) ++ op ∷ []) (place_bytes (r % 8) at)
-        more ∙ append_assoc (prefixes w (modrm_bits w r at)) (op ∷ []) operand_bytes)
+      ap instr (append_assoc (prefixes w (modrm_bits w r at) ++ op ∷ []) (place_bytes (r % 8) at) more ∙ append_assoc (prefixes w (modrm_bits w r at)) (op ∷ []) operand_bytes)
       ∙ front w (modrm_bits w r at) op operand_bytes bits_small n other
 
   pub open_two : (op : ℕ) → instr (modrm w (opcodes.Two op) r at ++ more) ≡ two_byte_row pre op operand_bytes
   unfolding modrm after_prefixes
   open_two op =
-      ap instr (append_assoc (prefixes w (modrm_bits w r at) ++ 0x0F ∷ op ∷ [])
-        (place_bytes (r % 8) at) more ∙ append_assoc (prefixes w (modrm_bits w r at))
-        (0x0F ∷ op ∷ []) operand_bytes)
+      ap instr (append_assoc (prefixes w (modrm_bits w r at) ++ 0x0F ∷ op ∷ []) (place_bytes (r % 8) at) more ∙ append_assoc (prefixes w (modrm_bits w r at)) (0x0F ∷ op ∷ []) operand_bytes)
       ∙ front w (modrm_bits w r at) 0x0F (op ∷ operand_bytes) bits_small (λ e. absurd (omega arith)) (λ e. absurd (omega arith))
 
   high : High pre (high_bits at)
@@ -153,9 +142,7 @@ module _ (w : Width) (r : ℕ) (at : RegisterOrMemory) (more : List ℕ) (lr : r
       ∙ ap (λ c. cond c (read_as (at, i.modrm / 8 % 8) more) None) listed
       ∙ ap (λ k. read_as (at, k) more) same
 
-register_read : (w : Width) (r : Reg) (at : RegisterOrMemory) (more : List ℕ) → is_place at ≡ true
-    → modrm_with_register (modrm_prefixes w (regs.number r) at)
-      (place_bytes (regs.number r % 8) at ++ more) ≡ Some ((at, r), more)
+register_read : (w : Width) (r : Reg) (at : RegisterOrMemory) (more : List ℕ) → is_place at ≡ true → modrm_with_register (modrm_prefixes w (regs.number r) at) (place_bytes (regs.number r % 8) at ++ more) ≡ Some ((at, r), more)
 register_read w r at more ok =
     let n = number_small r in
     let p = modrm_prefixes w (regs.number r) at in
@@ -168,9 +155,7 @@ register_read w r at more ok =
     ∙ ap (λ (x : Reg). read_as (at, x) more) (joined r (bit 2 p.rex) (i.modrm / 8 % 8) third i.opcode_extension)
 
 -- the place of width v, the register of width u
-pub operands_read : (w v u : Width) (r : Reg) (at : RegisterOrMemory) (more : List ℕ)
-    → is_place at ≡ true → is_listed (modrm_prefixes w (regs.number r) at) v at ≡ true
-    → is_listed (modrm_prefixes w (regs.number r) at) u (places.Register r) ≡ true
+pub operands_read : (w v u : Width) (r : Reg) (at : RegisterOrMemory) (more : List ℕ) → is_place at ≡ true → is_listed (modrm_prefixes w (regs.number r) at) v at ≡ true → is_listed (modrm_prefixes w (regs.number r) at) u (places.Register r) ≡ true
     → rm_and_register (modrm_prefixes w (regs.number r) at) v u (place_bytes (regs.number r % 8) at ++ more) ≡ Some ((at, r), more)
 operands_read w v u r at more ok a b =
     let p = modrm_prefixes w (regs.number r) at in
@@ -186,24 +171,15 @@ listed W16 bits at = refl
 listed W32 bits at = refl
 listed W64 bits at = refl
 
-rm_r_read : (w : Width) (r : Reg) (at : RegisterOrMemory) (more : List ℕ)
-    (made : RegisterOrMemory → Operand → Instr) → is_place at ≡ true
-    → rm_r (modrm_prefixes w (regs.number r) at) w made (place_bytes (regs.number r % 8) at ++ more)
-    ≡ Some (made at (operands.Register r), more)
+rm_r_read : (w : Width) (r : Reg) (at : RegisterOrMemory) (more : List ℕ) (made : RegisterOrMemory → Operand → Instr) → is_place at ≡ true → rm_r (modrm_prefixes w (regs.number r) at) w made (place_bytes (regs.number r % 8) at ++ more) ≡ Some (made at (operands.Register r), more)
 rm_r_read w r at more made ok =
     let bits = modrm_bits w (regs.number r) at in
-    ap (λ (o : Read (RegisterOrMemory × Reg)). o
-      >>= λ x. read_as (made x.0.0 (operands.Register x.0.1)) x.1)
-        (operands_read w w w r at more ok (listed w bits at) (listed w bits (places.Register r)))
+    ap (λ (o : Read (RegisterOrMemory × Reg)). o >>= λ x. read_as (made x.0.0 (operands.Register x.0.1)) x.1) (operands_read w w w r at more ok (listed w bits at) (listed w bits (places.Register r)))
 
-pub r_rm_read : (w : Width) (r : Reg) (at : RegisterOrMemory) (more : List ℕ)
-    (made : Reg → RegisterOrMemory → Instr) → is_place at ≡ true
-    → r_rm (modrm_prefixes w (regs.number r) at) w w made
-      (place_bytes (regs.number r % 8) at ++ more) ≡ Some (made r at, more)
+pub r_rm_read : (w : Width) (r : Reg) (at : RegisterOrMemory) (more : List ℕ) (made : Reg → RegisterOrMemory → Instr) → is_place at ≡ true → r_rm (modrm_prefixes w (regs.number r) at) w w made (place_bytes (regs.number r % 8) at ++ more) ≡ Some (made r at, more)
 r_rm_read w r at more made ok =
     let bits = modrm_bits w (regs.number r) at in
-    ap (λ (o : Read (RegisterOrMemory × Reg)). o >>= λ x. read_as (made x.0.1 x.0.0) x.1)
-      (operands_read w w w r at more ok (listed w bits at) (listed w bits (places.Register r)))
+    ap (λ (o : Read (RegisterOrMemory × Reg)). o >>= λ x. read_as (made x.0.1 x.0.0) x.1) (operands_read w w w r at more ok (listed w bits at) (listed w bits (places.Register r)))
 
 pub rm_digit_read : (w v : Width) (d : ℕ) (at : RegisterOrMemory) (more : List ℕ)
     (made : ℕ → RegisterOrMemory → List ℕ → Read Instr) → d < 8 → is_place at ≡ true
@@ -225,9 +201,7 @@ pub record IsOpcode (base : ℕ) : Type 0 where
   pub size : base / 2 ≢ 0x66 / 2
   pub rex : base / 16 ≢ 4
 
-open_sized : (w : Width) (r : ℕ) (at : RegisterOrMemory) (more : List ℕ) (base : ℕ) → r < 16
-    → IsOpcode base → instr (modrm w (opcodes.One (sized_opcode w base)) r at ++ more)
-    ≡ after_prefixes (modrm_prefixes w r at) (sized_opcode w base) (place_bytes (r % 8) at ++ more)
+open_sized : (w : Width) (r : ℕ) (at : RegisterOrMemory) (more : List ℕ) (base : ℕ) → r < 16 → IsOpcode base → instr (modrm w (opcodes.One (sized_opcode w base)) r at ++ more) ≡ after_prefixes (modrm_prefixes w r at) (sized_opcode w base) (place_bytes (r % 8) at ++ more)
 open_sized W8 r at more base lr k = let even = k.even in open_one W8 r at more lr base (λ e. k.size (omega arith)) k.rex
 open_sized W16 r at more base lr k = let even = k.even in open_one W16 r at more lr (base + 1) (λ e. k.size (omega arith)) (λ e. k.rex (omega arith))
 open_sized W32 r at more base lr k = let even = k.even in open_one W32 r at more lr (base + 1) (λ e. k.size (omega arith)) (λ e. k.rex (omega arith))
@@ -247,9 +221,7 @@ module _ (w : Width) (base : ℕ) (more : List ℕ) (k : IsOpcode base) where
       ∙ rm_r_read w r at more (made w) ok
 
   pub r_rm_again : (made : Width → Reg → RegisterOrMemory → Instr) (r : Reg) (at : RegisterOrMemory) → is_place at ≡ true
-      → ((p : Prefixes) (bytes : List ℕ) → after_prefixes p (sized_opcode w base) bytes
-      ≡ r_rm p (sized p (sized_opcode w base)) (sized p (sized_opcode w base))
-        (made (sized p (sized_opcode w base))) bytes)
+      → ((p : Prefixes) (bytes : List ℕ) → after_prefixes p (sized_opcode w base) bytes ≡ r_rm p (sized p (sized_opcode w base)) (sized p (sized_opcode w base)) (made (sized p (sized_opcode w base))) bytes)
       → instr (modrm w (opcodes.One (sized_opcode w base)) (regs.number r) at ++ more) ≡ Some (made w r at, more)
   r_rm_again made r at ok is =
       let n = regs.number r in
@@ -261,9 +233,7 @@ module _ (w : Width) (base : ℕ) (more : List ℕ) (k : IsOpcode base) where
       ∙ r_rm_read w r at more (made w) ok
 
   pub rm_digit_again : (made : Prefixes → Width → ℕ → RegisterOrMemory → List ℕ → Read Instr) (d : ℕ) (at : RegisterOrMemory) → d < 8 → is_place at ≡ true
-      → ((p : Prefixes) (bytes : List ℕ) → after_prefixes p (sized_opcode w base) bytes
-      ≡ rm_extension p (sized p (sized_opcode w base)) (made p (sized p (sized_opcode w base)))
-        bytes)
+      → ((p : Prefixes) (bytes : List ℕ) → after_prefixes p (sized_opcode w base) bytes ≡ rm_extension p (sized p (sized_opcode w base)) (made p (sized p (sized_opcode w base))) bytes)
       → instr (modrm w (opcodes.One (sized_opcode w base)) d at ++ more) ≡ made (modrm_prefixes w d at) w d at more
   rm_digit_again made d at small ok is =
       let p = modrm_prefixes w d at in
@@ -279,9 +249,7 @@ module _ (w : Width) (base : ℕ) (more : List ℕ) (k : IsOpcode base) where
 abbrev pub register_prefixes : Width → Reg → Prefixes
 register_prefixes w r = read_prefixes w (8 * wide w + regs.number r / 8)
 
-pub open_register : (w : Width) (op : ℕ) (r : Reg) (more : List ℕ) → (op + regs.number r % 8) ≢ 0x66
-    → (op + regs.number r % 8) / 16 ≢ 4 → instr (opcode_register w op r ++ more)
-    ≡ after_prefixes (register_prefixes w r) (op + regs.number r % 8) more
+pub open_register : (w : Width) (op : ℕ) (r : Reg) (more : List ℕ) → (op + regs.number r % 8) ≢ 0x66 → (op + regs.number r % 8) / 16 ≢ 4 → instr (opcode_register w op r ++ more) ≡ after_prefixes (register_prefixes w r) (op + regs.number r % 8) more
 unfolding opcode_register
 open_register w op r more n other =
     let a = wide_small w in
@@ -289,93 +257,115 @@ open_register w op r more n other =
     ap instr (append_assoc (prefixes w (8 * wide w + regs.number r / 8)) ((op + regs.number r % 8) ∷ []) more)
     ∙ front w (8 * wide w + regs.number r / 8) (op + regs.number r % 8) more (omega arith) n other
 
-pub lowest_read : (w : Width) (op : ℕ) (r : Reg) → (op + regs.number r % 8) % 8 ≡ regs.number r % 8
-    → register_of_low_bits (register_prefixes w r) (op + regs.number r % 8) ≡ r
+pub lowest_read : (w : Width) (op : ℕ) (r : Reg) → (op + regs.number r % 8) % 8 ≡ regs.number r % 8 → register_of_low_bits (register_prefixes w r) (op + regs.number r % 8) ≡ r
 lowest_read w op r e =
     let a = wide_small w in
     let b = number_small r in
     joined r (bit 0 (8 * wide w + regs.number r / 8)) ((op + regs.number r % 8) % 8) (omega arith) e
 
 -- these rows by each register, since the opcode has its number
-pub push_row : (r : Reg) (h : Bool) (bits : ℕ) (more : List ℕ)
-    → let p : Prefixes = record { operand_size = false; has_rex = h; rex = bits } in
-      after_prefixes p (0x50 + regs.number r % 8) more
-    ≡ Some (instrs.Push (register_of_low_bits p (0x50 + regs.number r % 8)), more)
+pub push_row : (r : Reg) (h : Bool) (bits : ℕ) (more : List ℕ) → let p : Prefixes = record { operand_size = false; has_rex = h; rex = bits } in after_prefixes p (0x50 + regs.number r % 8) more ≡ Some (instrs.Push (register_of_low_bits p (0x50 + regs.number r % 8)), more)
 unfolding after_prefixes row plain_row
 push_row r h bits more = elim r as (λ r. let p : Prefixes =
     record { operand_size = false; has_rex = h; rex = bits } in
     after_prefixes p (0x50 + regs.number r % 8) more
-    ≡ Some (instrs.Push (register_of_low_bits p (0x50 + regs.number r % 8)), more))
-      [ Rax ↦ refl | Rcx ↦ refl | Rdx ↦ refl | Rbx ↦ refl | Rsp ↦ refl | Rbp ↦ refl | Rsi ↦ refl
-    | Rdi ↦ refl | R8 ↦ refl | R9 ↦ refl | R10 ↦ refl | R11 ↦ refl | R12 ↦ refl | R13 ↦ refl
-    | R14 ↦ refl | R15 ↦ refl ]
+    ≡ Some (instrs.Push (register_of_low_bits p (0x50 + regs.number r % 8)), more)) [
+      | Rax ↦ refl
+      | Rcx ↦ refl
+      | Rdx ↦ refl
+      | Rbx ↦ refl
+      | Rsp ↦ refl
+      | Rbp ↦ refl
+      | Rsi ↦ refl
+      | Rdi ↦ refl
+      | R8 ↦ refl
+      | R9 ↦ refl
+      | R10 ↦ refl
+      | R11 ↦ refl
+      | R12 ↦ refl
+      | R13 ↦ refl
+      | R14 ↦ refl
+      | R15 ↦ refl
+    ]
 
-pub pop_row : (r : Reg) (h : Bool) (bits : ℕ) (more : List ℕ)
-    → let p : Prefixes = record { operand_size = false; has_rex = h; rex = bits } in
-      after_prefixes p (0x58 + regs.number r % 8) more
-    ≡ Some (instrs.Pop (register_of_low_bits p (0x58 + regs.number r % 8)), more)
+pub pop_row : (r : Reg) (h : Bool) (bits : ℕ) (more : List ℕ) → let p : Prefixes = record { operand_size = false; has_rex = h; rex = bits } in after_prefixes p (0x58 + regs.number r % 8) more ≡ Some (instrs.Pop (register_of_low_bits p (0x58 + regs.number r % 8)), more)
 unfolding after_prefixes row plain_row
 pop_row r h bits more = elim r as (λ r. let p : Prefixes =
     record { operand_size = false; has_rex = h; rex = bits } in
     after_prefixes p (0x58 + regs.number r % 8) more
-    ≡ Some (instrs.Pop (register_of_low_bits p (0x58 + regs.number r % 8)), more))
-      [ Rax ↦ refl | Rcx ↦ refl | Rdx ↦ refl | Rbx ↦ refl | Rsp ↦ refl | Rbp ↦ refl | Rsi ↦ refl
-    | Rdi ↦ refl | R8 ↦ refl | R9 ↦ refl | R10 ↦ refl | R11 ↦ refl | R12 ↦ refl | R13 ↦ refl
-    | R14 ↦ refl | R15 ↦ refl ]
+    ≡ Some (instrs.Pop (register_of_low_bits p (0x58 + regs.number r % 8)), more)) [
+      | Rax ↦ refl
+      | Rcx ↦ refl
+      | Rdx ↦ refl
+      | Rbx ↦ refl
+      | Rsp ↦ refl
+      | Rbp ↦ refl
+      | Rsi ↦ refl
+      | Rdi ↦ refl
+      | R8 ↦ refl
+      | R9 ↦ refl
+      | R10 ↦ refl
+      | R11 ↦ refl
+      | R12 ↦ refl
+      | R13 ↦ refl
+      | R14 ↦ refl
+      | R15 ↦ refl
+    ]
 
 pub immediate_row : (r : Reg) (p : Prefixes) (more : List ℕ) → after_prefixes p (0xB8 + regs.number r % 8) more ≡ move_immediate p (0xB8 + regs.number r % 8) more
 unfolding after_prefixes row
 immediate_row r p more = elim r as (λ r. after_prefixes p (0xB8 + regs.number r % 8) more
-    ≡ move_immediate p (0xB8 + regs.number r % 8) more)
-      [ Rax ↦ refl | Rcx ↦ refl | Rdx ↦ refl | Rbx ↦ refl | Rsp ↦ refl | Rbp ↦ refl | Rsi ↦ refl
-    | Rdi ↦ refl | R8 ↦ refl | R9 ↦ refl | R10 ↦ refl | R11 ↦ refl | R12 ↦ refl | R13 ↦ refl
-    | R14 ↦ refl | R15 ↦ refl ]
+    ≡ move_immediate p (0xB8 + regs.number r % 8) more) [
+      | Rax ↦ refl
+      | Rcx ↦ refl
+      | Rdx ↦ refl
+      | Rbx ↦ refl
+      | Rsp ↦ refl
+      | Rbp ↦ refl
+      | Rsi ↦ refl
+      | Rdi ↦ refl
+      | R8 ↦ refl
+      | R9 ↦ refl
+      | R10 ↦ refl
+      | R11 ↦ refl
+      | R12 ↦ refl
+      | R13 ↦ refl
+      | R14 ↦ refl
+      | R15 ↦ refl
+    ]
 
 -- ---- rows
 
 -- by each width, and by each operation
-pub row_move : (w : Width) (p : Prefixes) (bytes : List ℕ)
-    → after_prefixes p (sized_opcode w 0x88) bytes
-    ≡ rm_r p (sized p (sized_opcode w 0x88)) (instrs.Move (sized p (sized_opcode w 0x88))) bytes
+pub row_move : (w : Width) (p : Prefixes) (bytes : List ℕ) → after_prefixes p (sized_opcode w 0x88) bytes ≡ rm_r p (sized p (sized_opcode w 0x88)) (instrs.Move (sized p (sized_opcode w 0x88))) bytes
 unfolding after_prefixes row
 row_move W8 p bytes = refl
 row_move W16 p bytes = refl
 row_move W32 p bytes = refl
 row_move W64 p bytes = refl
 
-pub row_load : (w : Width) (p : Prefixes) (bytes : List ℕ)
-    → after_prefixes p (sized_opcode w 0x8A) bytes
-    ≡ r_rm p (sized p (sized_opcode w 0x8A)) (sized p (sized_opcode w 0x8A))
-      (load (sized p (sized_opcode w 0x8A))) bytes
+pub row_load : (w : Width) (p : Prefixes) (bytes : List ℕ) → after_prefixes p (sized_opcode w 0x8A) bytes ≡ r_rm p (sized p (sized_opcode w 0x8A)) (sized p (sized_opcode w 0x8A)) (load (sized p (sized_opcode w 0x8A))) bytes
 unfolding after_prefixes row
 row_load W8 p bytes = refl
 row_load W16 p bytes = refl
 row_load W32 p bytes = refl
 row_load W64 p bytes = refl
 
-pub row_test : (w : Width) (p : Prefixes) (bytes : List ℕ)
-    → after_prefixes p (sized_opcode w 0x84) bytes
-    ≡ rm_r p (sized p (sized_opcode w 0x84)) (instrs.Test (sized p (sized_opcode w 0x84))) bytes
+pub row_test : (w : Width) (p : Prefixes) (bytes : List ℕ) → after_prefixes p (sized_opcode w 0x84) bytes ≡ rm_r p (sized p (sized_opcode w 0x84)) (instrs.Test (sized p (sized_opcode w 0x84))) bytes
 unfolding after_prefixes row
 row_test W8 p bytes = refl
 row_test W16 p bytes = refl
 row_test W32 p bytes = refl
 row_test W64 p bytes = refl
 
-pub row_move_number : (w : Width) (p : Prefixes) (bytes : List ℕ)
-    → after_prefixes p (sized_opcode w 0xC6) bytes
-    ≡ rm_extension p (sized p (sized_opcode w 0xC6)) (group_11 (sized p (sized_opcode w 0xC6)))
-      bytes
+pub row_move_number : (w : Width) (p : Prefixes) (bytes : List ℕ) → after_prefixes p (sized_opcode w 0xC6) bytes ≡ rm_extension p (sized p (sized_opcode w 0xC6)) (group_11 (sized p (sized_opcode w 0xC6))) bytes
 unfolding after_prefixes row
 row_move_number W8 p bytes = refl
 row_move_number W16 p bytes = refl
 row_move_number W32 p bytes = refl
 row_move_number W64 p bytes = refl
 
-pub row_arithmetic_number : (w : Width) (p : Prefixes) (bytes : List ℕ)
-    → after_prefixes p (sized_opcode w 0x80) bytes
-    ≡ rm_extension p (sized p (sized_opcode w 0x80))
-      (group_1 (immediate_of (sized p (sized_opcode w 0x80))) (sized p (sized_opcode w 0x80))) bytes
+pub row_arithmetic_number : (w : Width) (p : Prefixes) (bytes : List ℕ) → after_prefixes p (sized_opcode w 0x80) bytes ≡ rm_extension p (sized p (sized_opcode w 0x80)) (group_1 (immediate_of (sized p (sized_opcode w 0x80))) (sized p (sized_opcode w 0x80))) bytes
 unfolding after_prefixes row
 row_arithmetic_number W8 p bytes = refl
 row_arithmetic_number W16 p bytes = refl
@@ -385,10 +375,7 @@ row_arithmetic_number W64 p bytes = refl
 abbrev pub third : Width → Prefixes → Width → ℕ → RegisterOrMemory → List ℕ → Read Instr
 third w p v d at bytes = group_3 (eqb (sized_opcode w 0xF6) 0xF7 && not p.operand_size) v d at bytes
 
-pub row_third : (w : Width) (p : Prefixes) (bytes : List ℕ)
-    → after_prefixes p (sized_opcode w 0xF6) bytes
-    ≡ rm_extension p (sized p (sized_opcode w 0xF6)) (third w p (sized p (sized_opcode w 0xF6)))
-      bytes
+pub row_third : (w : Width) (p : Prefixes) (bytes : List ℕ) → after_prefixes p (sized_opcode w 0xF6) bytes ≡ rm_extension p (sized p (sized_opcode w 0xF6)) (third w p (sized p (sized_opcode w 0xF6))) bytes
 unfolding after_prefixes row
 row_third W8 p bytes = refl
 row_third W16 p bytes = refl
@@ -398,7 +385,7 @@ row_third W64 p bytes = refl
 pub row_arithmetic : (o : Operation) (w : Width) (p : Prefixes) (bytes : List ℕ)
     → after_prefixes p (sized_opcode w (8 * opcode_extension o)) bytes
     ≡ rm_r p (sized p (sized_opcode w (8 * opcode_extension o)))
-      (instrs.Arithmetic o (sized p (sized_opcode w (8 * opcode_extension o)))) bytes
+    (instrs.Arithmetic o (sized p (sized_opcode w (8 * opcode_extension o)))) bytes
 unfolding after_prefixes row
 row_arithmetic operations.Add W8 p bytes = refl
 row_arithmetic operations.Add W16 p bytes = refl
@@ -431,8 +418,8 @@ from_memory o w to from = instrs.Arithmetic o w (places.Register to) (source fro
 pub row_arithmetic_load : (o : Operation) (w : Width) (p : Prefixes) (bytes : List ℕ)
     → after_prefixes p (sized_opcode w (8 * opcode_extension o + 2)) bytes
     ≡ r_rm p (sized p (sized_opcode w (8 * opcode_extension o + 2)))
-      (sized p (sized_opcode w (8 * opcode_extension o + 2)))
-      (from_memory o (sized p (sized_opcode w (8 * opcode_extension o + 2)))) bytes
+    (sized p (sized_opcode w (8 * opcode_extension o + 2)))
+    (from_memory o (sized p (sized_opcode w (8 * opcode_extension o + 2)))) bytes
 unfolding after_prefixes row
 row_arithmetic_load operations.Add W8 p bytes = refl
 row_arithmetic_load operations.Add W16 p bytes = refl
@@ -476,10 +463,7 @@ row_jump_if conditions.GreaterOrEqual bytes = refl
 row_jump_if conditions.LessOrEqual bytes = refl
 row_jump_if conditions.Greater bytes = refl
 
-pub row_set : (c : Condition) (bits : ℕ) (bytes : List ℕ)
-    → two_byte_row (read_prefixes W8 bits) (0x90 + condition_number c) bytes
-    ≡ (rm_and_opcode_extension (read_prefixes W8 bits) W8 bytes
-    >>= λ x. Some (instrs.Set c x.0.0, x.1))
+pub row_set : (c : Condition) (bits : ℕ) (bytes : List ℕ) → two_byte_row (read_prefixes W8 bits) (0x90 + condition_number c) bytes ≡ (rm_and_opcode_extension (read_prefixes W8 bits) W8 bytes >>= λ x. Some (instrs.Set c x.0.0, x.1))
 unfolding two_byte_row
 row_set conditions.Overflow bits bytes = refl
 row_set conditions.NotOverflow bits bytes = refl

@@ -43,7 +43,7 @@ number_little (suc n) v more h =
     let small : v / 256 < 256 ^ n = omega arith in
     let e : v % 256 + 256 * (v / 256) ≡ v = omega arith in
     ap (λ (o : Read ℕ). o >>= λ x. read_as (v % 256 + 256 * x.0) x.1)
-      (number_little n (v / 256) more small) ∙ ap (λ k. read_as k more) e
+    (number_little n (v / 256) more small) ∙ ap (λ k. read_as k more) e
 
 -- what the test says
 signed_cases : (from to : Width) (v : ℕ) → is_signed from to v ≡ true
@@ -51,7 +51,7 @@ signed_cases : (from to : Width) (v : ℕ) → is_signed from to v ≡ true
 signed_cases from to v t = elim (or_cases (nat_lt v (half from)) _ t) [
   | inl a ↦ inl (ltb-true v (half from) a)
   | inr b ↦ let p = and_parts (nat_le (limit to - half from) v) (nat_lt v (limit to)) b in
-    inr (leb-true (limit to - half from) v p.0, ltb-true v (limit to) p.1)
+      inr (leb-true (limit to - half from) v p.0, ltb-true v (limit to) p.1)
 ]
 
 extended_small : (f t h v m : ℕ) → m ≡ v → v < h → cond (nat_lt m h) m (m + (t - f)) ≡ v
@@ -63,48 +63,72 @@ extended_large f t h v m e le = rw (le-ltb m h le) e
 extended_low : (from to : Width) (v : ℕ) → limit from ≤ limit to
     → (v < half from) ⊎ ((limit to - half from ≤ v) × (v < limit to))
     → extended from to (low from v) ≡ v
-extended_low W8 W8 v le c = elim c [ inl a ↦ extended_small (limit W8) (limit W8) (half W8) v
-    (v % limit W8) (omega arith) a | inr b ↦ let lo = b.0 in let hi = b.1 in
-    extended_large (limit W8) (limit W8) (half W8) v (v % limit W8) (omega arith) (omega arith) ]
-extended_low W8 W16 v le c = elim c [ inl a ↦ extended_small (limit W8) (limit W16) (half W8) v
-    (v % limit W8) (omega arith) a | inr b ↦ let lo = b.0 in let hi = b.1 in
-    extended_large (limit W8) (limit W16) (half W8) v (v % limit W8) (omega arith) (omega arith) ]
-extended_low W8 W32 v le c = elim c [ inl a ↦ extended_small (limit W8) (limit W32) (half W8) v
-    (v % limit W8) (omega arith) a | inr b ↦ let lo = b.0 in let hi = b.1 in
-    extended_large (limit W8) (limit W32) (half W8) v (v % limit W8) (omega arith) (omega arith) ]
-extended_low W8 W64 v le c = elim c [ inl a ↦ extended_small (limit W8) (limit W64) (half W8) v
-    (v % limit W8) (omega arith) a | inr b ↦ let lo = b.0 in let hi = b.1 in
-    extended_large (limit W8) (limit W64) (half W8) v (v % limit W8) (omega arith) (omega arith) ]
+extended_low W8 W8 v le c = elim c [
+  | inl a ↦ extended_small (limit W8) (limit W8) (half W8) v
+      (v % limit W8) (omega arith) a
+  | inr b ↦ let lo = b.0 in let hi = b.1 in
+      extended_large (limit W8) (limit W8) (half W8) v (v % limit W8) (omega arith) (omega arith)
+]
+extended_low W8 W16 v le c = elim c [
+  | inl a ↦ extended_small (limit W8) (limit W16) (half W8) v
+      (v % limit W8) (omega arith) a
+  | inr b ↦ let lo = b.0 in let hi = b.1 in
+      extended_large (limit W8) (limit W16) (half W8) v (v % limit W8) (omega arith) (omega arith)
+]
+extended_low W8 W32 v le c = elim c [
+  | inl a ↦ extended_small (limit W8) (limit W32) (half W8) v
+      (v % limit W8) (omega arith) a
+  | inr b ↦ let lo = b.0 in let hi = b.1 in
+      extended_large (limit W8) (limit W32) (half W8) v (v % limit W8) (omega arith) (omega arith)
+]
+extended_low W8 W64 v le c = elim c [
+  | inl a ↦ extended_small (limit W8) (limit W64) (half W8) v
+      (v % limit W8) (omega arith) a
+  | inr b ↦ let lo = b.0 in let hi = b.1 in
+      extended_large (limit W8) (limit W64) (half W8) v (v % limit W8) (omega arith) (omega arith)
+]
 extended_low W16 W8 v le c = absurd (omega arith)
-extended_low W16 W16 v le c = elim c [ inl a ↦ extended_small (limit W16) (limit W16) (half W16) v
-    (v % limit W16) (omega arith) a | inr b ↦ let lo = b.0 in let hi = b.1 in
-    extended_large (limit W16) (limit W16) (half W16) v (v % limit W16) (omega arith) (omega arith)
-    ]
-extended_low W16 W32 v le c = elim c [ inl a ↦ extended_small (limit W16) (limit W32) (half W16) v
-    (v % limit W16) (omega arith) a | inr b ↦ let lo = b.0 in let hi = b.1 in
-    extended_large (limit W16) (limit W32) (half W16) v (v % limit W16) (omega arith) (omega arith)
-    ]
-extended_low W16 W64 v le c = elim c [ inl a ↦ extended_small (limit W16) (limit W64) (half W16) v
-    (v % limit W16) (omega arith) a | inr b ↦ let lo = b.0 in let hi = b.1 in
-    extended_large (limit W16) (limit W64) (half W16) v (v % limit W16) (omega arith) (omega arith)
-    ]
+extended_low W16 W16 v le c = elim c [
+  | inl a ↦ extended_small (limit W16) (limit W16) (half W16) v
+      (v % limit W16) (omega arith) a
+  | inr b ↦ let lo = b.0 in let hi = b.1 in
+      extended_large (limit W16) (limit W16) (half W16) v (v % limit W16) (omega arith) (omega arith)
+]
+extended_low W16 W32 v le c = elim c [
+  | inl a ↦ extended_small (limit W16) (limit W32) (half W16) v
+      (v % limit W16) (omega arith) a
+  | inr b ↦ let lo = b.0 in let hi = b.1 in
+      extended_large (limit W16) (limit W32) (half W16) v (v % limit W16) (omega arith) (omega arith)
+]
+extended_low W16 W64 v le c = elim c [
+  | inl a ↦ extended_small (limit W16) (limit W64) (half W16) v
+      (v % limit W16) (omega arith) a
+  | inr b ↦ let lo = b.0 in let hi = b.1 in
+      extended_large (limit W16) (limit W64) (half W16) v (v % limit W16) (omega arith) (omega arith)
+]
 extended_low W32 W8 v le c = absurd (omega arith)
 extended_low W32 W16 v le c = absurd (omega arith)
-extended_low W32 W32 v le c = elim c [ inl a ↦ extended_small (limit W32) (limit W32) (half W32) v
-    (v % limit W32) (omega arith) a | inr b ↦ let lo = b.0 in let hi = b.1 in
-    extended_large (limit W32) (limit W32) (half W32) v (v % limit W32) (omega arith) (omega arith)
-    ]
-extended_low W32 W64 v le c = elim c [ inl a ↦ extended_small (limit W32) (limit W64) (half W32) v
-    (v % limit W32) (omega arith) a | inr b ↦ let lo = b.0 in let hi = b.1 in
-    extended_large (limit W32) (limit W64) (half W32) v (v % limit W32) (omega arith) (omega arith)
-    ]
+extended_low W32 W32 v le c = elim c [
+  | inl a ↦ extended_small (limit W32) (limit W32) (half W32) v
+      (v % limit W32) (omega arith) a
+  | inr b ↦ let lo = b.0 in let hi = b.1 in
+      extended_large (limit W32) (limit W32) (half W32) v (v % limit W32) (omega arith) (omega arith)
+]
+extended_low W32 W64 v le c = elim c [
+  | inl a ↦ extended_small (limit W32) (limit W64) (half W32) v
+      (v % limit W32) (omega arith) a
+  | inr b ↦ let lo = b.0 in let hi = b.1 in
+      extended_large (limit W32) (limit W64) (half W32) v (v % limit W32) (omega arith) (omega arith)
+]
 extended_low W64 W8 v le c = absurd (omega arith)
 extended_low W64 W16 v le c = absurd (omega arith)
 extended_low W64 W32 v le c = absurd (omega arith)
-extended_low W64 W64 v le c = elim c [ inl a ↦ extended_small (limit W64) (limit W64) (half W64) v
-    (v % limit W64) (omega arith) a | inr b ↦ let lo = b.0 in let hi = b.1 in
-    extended_large (limit W64) (limit W64) (half W64) v (v % limit W64) (omega arith) (omega arith)
-    ]
+extended_low W64 W64 v le c = elim c [
+  | inl a ↦ extended_small (limit W64) (limit W64) (half W64) v
+      (v % limit W64) (omega arith) a
+  | inr b ↦ let lo = b.0 in let hi = b.1 in
+      extended_large (limit W64) (limit W64) (half W64) v (v % limit W64) (omega arith) (omega arith)
+]
 
 bytes_limit : (w : Width) → 256 ^ bytes_of w ≡ limit w
 bytes_limit W8 = refl
@@ -123,7 +147,7 @@ pub signed_little : (from to : Width) (v : ℕ) (more : List ℕ) → limit from
     ≡ read_as v more
 signed_little from to v more le t =
     ap (λ (o : Read ℕ). o >>= λ x. read_as (extended from to x.0) x.1)
-      (number_little (bytes_of from) (low from v) more (low_small from v))
+    (number_little (bytes_of from) (low from v) more (low_small from v))
     ∙ ap (λ k. read_as k more) (extended_low from to v le (signed_cases from to v t))
 
 -- ---- ModRM, SIB and displacement
@@ -135,12 +159,12 @@ pub record High (p : Prefixes) (h : ℕ) : Type 0 where
 
 -- a place that is read, with the reg field beside it
 pub record IsRead (p : Prefixes) (r : ℕ) (at : RegisterOrMemory) (bytes more : List ℕ) : Type 0
-    where
-  pub modrm : ℕ
-  pub rest : List ℕ
-  pub whole : bytes ≡ modrm ∷ rest
-  pub opcode_extension : modrm / 8 % 8 ≡ r
-  pub gives : place p modrm rest ≡ Some (at, more)
+  where
+    pub modrm : ℕ
+    pub rest : List ℕ
+    pub whole : bytes ≡ modrm ∷ rest
+    pub opcode_extension : modrm / 8 % 8 ≡ r
+    pub gives : place p modrm rest ≡ Some (at, more)
 
 place_at : (p : Prefixes) (m mode low : ℕ) (bytes : List ℕ) → m / 64 ≡ mode → m % 8 ≡ low → mode < 3
     → place p m bytes ≡ memory_operand p mode low bytes
@@ -148,7 +172,7 @@ unfolding place
 place_at p m mode low bytes em el lt =
     let no : eqb (m / 64) 3 ≡ false = ne_eqb _ _ (λ h. absurd (omega arith)) in
     ap (λ c. cond c (read_as (places.Register (register_of_low_bits p m)) bytes)
-      (memory_operand p (m / 64) (m % 8) bytes)) no
+    (memory_operand p (m / 64) (m % 8) bytes)) no
     ∙ ap (λ k. memory_operand p k (m % 8) bytes) em
     ∙ ap (λ k. memory_operand p mode k bytes) el
 
@@ -179,8 +203,11 @@ unfolding IsIndex
 indexed_sib p None b lt h fine =
     let e : 8 * bit 1 p.rex + (8 * 4 + b) / 8 % 8 ≡ 4 = omega arith in
     let none : Option Index = None in
-    ap (λ c. cond c none (Some (record { register = regs.register
-      (8 * bit 1 p.rex + (8 * 4 + b) / 8 % 8); scale = scale ((8 * 4 + b) / 64) }))) (eq-eqb _ _ e)
+    ap (λ c. cond c none (Some (record {
+      register = regs.register
+          (8 * bit 1 p.rex + (8 * 4 + b) / 8 % 8);
+      scale = scale ((8 * 4 + b) / 64);
+    }))) (eq-eqb _ _ e)
 indexed_sib p (Some i) b lt h fine =
     let n = number_small i.register in
     let s = scale_small i.scale in
@@ -189,15 +216,15 @@ indexed_sib p (Some i) b lt h fine =
     let whole : 8 * bit 1 p.rex + sib (Some i) b / 8 % 8 ≡ regs.number i.register = omega arith in
     let none : Option Index = None in
     let index = λ (k t : ℕ). let x : Option Index = Some
-      (record { register = regs.register k; scale = scale t }) in x in
+    (record { register = regs.register k; scale = scale t }) in x in
     ap (λ k. cond (eqb k 4) none (index k (sib (Some i) b / 64))) whole
     ∙ ap (λ c. cond c none (index (regs.number i.register) (sib (Some i) b / 64))) (ne_eqb _ _ fine)
     ∙ ap (λ t. index (regs.number i.register) t) top
     ∙ ap (λ (r : Reg). let x : Option Index = Some
-      (record { register = r; scale = scale (scale_number i.scale) }) in x)
-      (register_number i.register)
+    (record { register = r; scale = scale (scale_number i.scale) }) in x)
+    (register_number i.register)
     ∙ ap (λ (t : Scale). let x : Option Index = Some
-      (record { register = i.register; scale = t }) in x) (scale-number i.scale)
+    (record { register = i.register; scale = t }) in x) (scale-number i.scale)
 
 -- a displacement of a byte where t holds
 abbrev bytes_by : Bool → ℕ → List ℕ
@@ -215,10 +242,10 @@ sib_by : (t : Bool) (p : Prefixes) (s d : ℕ) (more : List ℕ)
     ≡ read_as (memory (bases.Register (register_of_low_bits p s)) (index_of_sib p s) d) more
 sib_by true p s d more a b = ap (λ (o : Read ℕ). o
     >>= λ v. read_as (memory (bases.Register (register_of_low_bits p s)) (index_of_sib p s) v.0)
-      v.1) (displaced_by true d more a b)
+    v.1) (displaced_by true d more a b)
 sib_by false p s d more a b = ap (λ (o : Read ℕ). o
     >>= λ v. read_as (memory (bases.Register (register_of_low_bits p s)) (index_of_sib p s) v.0)
-      v.1) (displaced_by false d more a b)
+    v.1) (displaced_by false d more a b)
 
 -- a base without SIB
 low_by : (t : Bool) (p : Prefixes) (k d : ℕ) (more : List ℕ) → k ≢ 4
@@ -227,17 +254,17 @@ low_by : (t : Bool) (p : Prefixes) (k d : ℕ) (more : List ℕ) → k ≢ 4
     ≡ read_as (memory (bases.Register (register_of_low_bits p k)) None d) more
 low_by true p k d more n a b =
     ap (λ c. cond c (byte (bytes_by true d ++ more) >>= λ s. sib_operand p 1 s.0 s.1)
-      (displaced 1 (bytes_by true d ++ more) >>= λ v. read_as
-      (memory (bases.Register (register_of_low_bits p k)) None v.0) v.1)) (ne_eqb _ _ n)
+    (displaced 1 (bytes_by true d ++ more) >>= λ v. read_as
+    (memory (bases.Register (register_of_low_bits p k)) None v.0) v.1)) (ne_eqb _ _ n)
     ∙ ap (λ (o : Read ℕ). o >>= λ v. read_as (memory (bases.Register (register_of_low_bits p k))
-      None v.0) v.1) (displaced_by true d more a b)
+    None v.0) v.1) (displaced_by true d more a b)
 low_by false p k d more n a b =
     ap (λ c. cond c (byte (bytes_by false d ++ more) >>= λ s. sib_operand p 2 s.0 s.1)
-      (displaced 2 (bytes_by false d ++ more)
-      >>= λ v. read_as (memory (bases.Register (register_of_low_bits p k)) None v.0) v.1))
-        (ne_eqb _ _ n)
+    (displaced 2 (bytes_by false d ++ more)
+    >>= λ v. read_as (memory (bases.Register (register_of_low_bits p k)) None v.0) v.1))
+    (ne_eqb _ _ n)
     ∙ ap (λ (o : Read ℕ). o >>= λ v. read_as (memory (bases.Register (register_of_low_bits p k))
-      None v.0) v.1) (displaced_by false d more a b)
+    None v.0) v.1) (displaced_by false d more a b)
 
 mode_small : (t : Bool) → cond t 1 2 < 3
 mode_small true = omega arith
@@ -248,7 +275,7 @@ with_sib : (p : Prefixes) (r : ℕ) (b : Reg) (i : Option Index) (d : ℕ) (more
     → IsIndex i → is_signed W32 W64 d ≡ true → bit 1 p.rex ≡ index_number i / 8
     → bit 0 p.rex ≡ regs.number b / 8
     → IsRead p r (memory (bases.Register b) i d)
-      ((64 * mode d + 8 * r + 4) ∷ sib i (regs.number b % 8) ∷ (displacement d ++ more)) more
+    ((64 * mode d + 8 * r + 4) ∷ sib i (regs.number b % 8) ∷ (displacement d ++ more)) more
 with_sib p r b i d more lr fine fits hx hb =
     let t = is_signed W8 W64 d in
     let lm = mode_small t in
@@ -265,15 +292,15 @@ with_sib p r b i d more lr fine fits hx hb =
           place_at p m (mode d) 4 (s ∷ (displacement d ++ more)) top bottom lm
           ∙ sib_by t p s d more (λ e. e) fits
           ∙ ap (λ (x : Reg). read_as (memory (bases.Register x) (index_of_sib p s) d) more)
-            (joined b (bit 0 p.rex) (s % 8) hb (sib_low i (regs.number b % 8) (omega arith)))
+          (joined b (bit 0 p.rex) (s % 8) hb (sib_low i (regs.number b % 8) (omega arith)))
           ∙ ap (λ (x : Option Index). read_as (memory (bases.Register b) x d) more)
-            (indexed_sib p i (regs.number b % 8) (omega arith) hx fine);
+          (indexed_sib p i (regs.number b % 8) (omega arith) hx fine);
     }
 
 without_sib : (p : Prefixes) (r : ℕ) (b : Reg) (d : ℕ) (more : List ℕ) → r < 8
     → regs.number b % 8 ≢ 4 → is_signed W32 W64 d ≡ true → bit 0 p.rex ≡ regs.number b / 8
     → IsRead p r (memory (bases.Register b) None d)
-      ((64 * mode d + 8 * r + regs.number b % 8) ∷ (displacement d ++ more)) more
+    ((64 * mode d + 8 * r + regs.number b % 8) ∷ (displacement d ++ more)) more
 without_sib p r b d more lr n fits hb =
     let t = is_signed W8 W64 d in
     let lm = mode_small t in
@@ -291,14 +318,14 @@ without_sib p r b d more lr n fits hb =
           place_at p m (mode d) k (displacement d ++ more) top bottom lm
           ∙ low_by t p k d more n (λ e. e) fits
           ∙ ap (λ (x : Reg). read_as (memory (bases.Register x) None d) more)
-            (joined b (bit 0 p.rex) (k % 8) hb same);
+          (joined b (bit 0 p.rex) (k % 8) hb same);
     }
 
 -- no base
 no_base : (p : Prefixes) (r : ℕ) (i : Option Index) (d : ℕ) (more : List ℕ) → r < 8 → IsIndex i
     → is_signed W32 W64 d ≡ true → bit 1 p.rex ≡ index_number i / 8
     → IsRead p r (memory bases.Nothing i d) ((8 * r + 4) ∷ sib i 5 ∷ (little 4 (low W32 d) ++ more))
-      more
+    more
 no_base p r i d more lr fine fits hx =
     let s = sib i 5 in
     let m = 8 * r + 4 in
@@ -314,13 +341,13 @@ no_base p r i d more lr fine fits hx =
           place_at p m 0 4 (s ∷ bytes) top bottom (omega arith)
           ∙ ap (λ c. cond c (signed W32 W64 bytes
           >>= λ v. read_as (memory bases.Nothing (index_of_sib p s) v.0) v.1)
-            (displaced 0 bytes >>= λ v. read_as
-            (memory (bases.Register (register_of_low_bits p s)) (index_of_sib p s) v.0) v.1))
-            (eq-eqb (s % 8) 5 (sib_low i 5 (omega arith)))
+          (displaced 0 bytes >>= λ v. read_as
+          (memory (bases.Register (register_of_low_bits p s)) (index_of_sib p s) v.0) v.1))
+          (eq-eqb (s % 8) 5 (sib_low i 5 (omega arith)))
           ∙ ap (λ (o : Read ℕ). o >>= λ v. read_as (memory bases.Nothing (index_of_sib p s) v.0)
-            v.1) (signed_little W32 W64 d more (omega arith) fits)
+          v.1) (signed_little W32 W64 d more (omega arith) fits)
           ∙ ap (λ (x : Option Index). read_as (memory bases.Nothing x d) more)
-            (indexed_sib p i 5 (omega arith) hx fine);
+          (indexed_sib p i 5 (omega arith) hx fine);
     }
 
 relative : (p : Prefixes) (r d : ℕ) (more : List ℕ) → r < 8 → is_signed W32 W64 d ≡ true
@@ -336,13 +363,13 @@ relative p r d more lr fits =
       whole = refl;
       opcode_extension = omega arith;
       gives = place_at p m 0 5 bytes top bottom (omega arith)
-        ∙ ap (λ (o : Read ℕ). o >>= λ v. read_as (memory bases.Rip None v.0) v.1)
+          ∙ ap (λ (o : Read ℕ). o >>= λ v. read_as (memory bases.Rip None v.0) v.1)
           (signed_little W32 W64 d more (omega arith) fits);
     }
 
 of_register : (p : Prefixes) (r : ℕ) (b : Reg) (more : List ℕ) → r < 8
     → bit 0 p.rex ≡ regs.number b / 8 → IsRead p r (places.Register b)
-      ((64 * 3 + 8 * r + regs.number b % 8) ∷ more) more
+    ((64 * 3 + 8 * r + regs.number b % 8) ∷ more) more
 unfolding place
 of_register p r b more lr hb =
     let m = 64 * 3 + 8 * r + regs.number b % 8 in
@@ -354,15 +381,20 @@ of_register p r b more lr hb =
       whole = refl;
       opcode_extension = omega arith;
       gives = ap (λ c. cond c (read_as (places.Register (register_of_low_bits p m)) more)
-        (memory_operand p (m / 64) (m % 8) more)) (eq-eqb _ _ top)
-        ∙ ap (λ (x : Reg). read_as (places.Register x) more)
+          (memory_operand p (m / 64) (m % 8) more)) (eq-eqb _ _ top)
+          ∙ ap (λ (x : Reg). read_as (places.Register x) more)
           (joined b (bit 0 p.rex) (m % 8) hb bottom);
     }
 
 along : {p : Prefixes} {r : ℕ} {at : RegisterOrMemory} {more : List ℕ} (bytes others : List ℕ)
     → bytes ≡ others → IsRead p r at others more → IsRead p r at bytes more
-along bytes others e i = record { modrm = i.modrm; rest = i.rest; whole = e ∙ i.whole;
-    opcode_extension = i.opcode_extension; gives = i.gives }
+along bytes others e i = record {
+  modrm = i.modrm;
+  rest = i.rest;
+  whole = e ∙ i.whole;
+  opcode_extension = i.opcode_extension;
+  gives = i.gives;
+}
 
 at_base : (p : Prefixes) (r : ℕ) (b : Reg) (i : Option Index) (d : ℕ) (more : List ℕ) → r < 8
     → IsIndex i → is_signed W32 W64 d ≡ true → bit 1 p.rex ≡ index_number i / 8
@@ -374,12 +406,12 @@ at_base p r b None d more lr fine fits hx hb =
     elim (cases_eq (regs.number b % 8) 4) [
       | inl e ↦
           let four : IsRead p r (memory (bases.Register b) None d) (long ++ more) more = subst
-            (λ (k : ℕ). IsRead p r (memory (bases.Register b) None d)
-            (((64 * mode d + 8 * r + 4) ∷ sib None k ∷ displacement d) ++ more) more) e
-            (with_sib p r b None d more lr fine fits hx hb) in
+          (λ (k : ℕ). IsRead p r (memory (bases.Register b) None d)
+          (((64 * mode d + 8 * r + 4) ∷ sib None k ∷ displacement d) ++ more) more) e
+          (with_sib p r b None d more lr fine fits hx hb) in
           along _ (long ++ more) (ap (λ c. cond c long short ++ more) (eq-eqb _ _ e)) four
       | inr n ↦ along _ (short ++ more) (ap (λ c. cond c long short ++ more) (ne_eqb _ _ n))
-        (without_sib p r b d more lr n fits hb)
+          (without_sib p r b d more lr n fits hb)
     ]
 at_base p r b (Some i) d more lr fine fits hx hb = with_sib p r b (Some i) d more lr fine fits hx hb
 
@@ -408,7 +440,7 @@ read_memory p r (bases.Register b) (Some i) d more lr ok fits h =
     let n = number_small b in
     let m = number_small i.register in
     at_base p r b (Some i) d more lr (not_four (regs.number i.register) ok) fits
-      (let x = h.x in omega arith) (let y = h.b in omega arith)
+    (let x = h.x in omega arith) (let y = h.b in omega arith)
 
 pub read_place : (p : Prefixes) (r : ℕ) (at : RegisterOrMemory) (more : List ℕ) → r < 8
     → is_place at ≡ true → High p (high_bits at) → IsRead p r at (place_bytes r at ++ more) more

@@ -43,7 +43,7 @@ module _ (w : Width) (op : ℕ) (more : List ℕ) (size : op ≢ 0x66) (rex : op
       (at : RegisterOrMemory) → d < 8 → is_place at ≡ true
       → ((bits : ℕ) (bytes : List ℕ) → after_prefixes (read_prefixes w bits) op bytes
       ≡ rm_extension (read_prefixes w bits) (width_of (read_prefixes w bits))
-        (made (width_of (read_prefixes w bits))) bytes)
+      (made (width_of (read_prefixes w bits))) bytes)
       → instr (modrm w (opcodes.One op) d at ++ more) ≡ made w d at more
   wide_digit_again made d at small ok is =
       let lr : d < 16 = omega arith in
@@ -59,7 +59,7 @@ module _ (w : Width) (op : ℕ) (more : List ℕ) (size : op ≢ 0x66) (rex : op
       (at : RegisterOrMemory) → is_place at ≡ true
       → ((bits : ℕ) (bytes : List ℕ) → after_prefixes (read_prefixes w bits) op bytes
       ≡ (rm_and_register (read_prefixes w bits) (width_of (read_prefixes w bits))
-        (width_of (read_prefixes w bits)) bytes
+      (width_of (read_prefixes w bits)) bytes
       >>= λ x. made (width_of (read_prefixes w bits)) x.0.1 x.0.0 x.1))
       → instr (modrm w (opcodes.One op) (regs.number r) at ++ more) ≡ made w r at more
   wide_register_again made r at ok is =
@@ -71,9 +71,9 @@ module _ (w : Width) (op : ℕ) (more : List ℕ) (size : op ≢ 0x66) (rex : op
       open_one w n at more lr op size rex
       ∙ is bits bytes
       ∙ ap (λ u. rm_and_register p u u bytes >>= λ x. made u x.0.1 x.0.0 x.1)
-        (width_is w n at more lr word)
+      (width_is w n at more lr word)
       ∙ ap (λ (o : Read (RegisterOrMemory × Reg)). o >>= λ x. made w x.0.1 x.0.0 x.1)
-        (operands_read w w w r at more ok (listed w bits at) (listed w bits (places.Register r)))
+      (operands_read w w w r at more ok (listed w bits at) (listed w bits (places.Register r)))
 
 abbrev multiplied_by : Width → Width → Reg → RegisterOrMemory → List ℕ → Read Instr
 multiplied_by from w to at bytes = signed from w bytes
@@ -90,16 +90,16 @@ multiply_byte W32 to from v more is ok fits =
     let bytes = little 1 (low W8 v) in
     ap instr (append_assoc (modrm W32 (opcodes.One 0x6B) (regs.number to) from) bytes more)
     ∙ wide_register_again W32 0x6B (bytes ++ more) (λ e. absurd (omega arith))
-      (λ e. absurd (omega arith)) refl (multiplied_by W8) to from ok (λ b bs. refl)
+    (λ e. absurd (omega arith)) refl (multiplied_by W8) to from ok (λ b bs. refl)
     ∙ ap (λ (o : Read ℕ). o >>= λ n. read_as (instrs.MultiplyBy W32 to from n.0) n.1)
-      (signed_little W8 W32 v more (limit_least W32) fits)
+    (signed_little W8 W32 v more (limit_least W32) fits)
 multiply_byte W64 to from v more is ok fits =
     let bytes = little 1 (low W8 v) in
     ap instr (append_assoc (modrm W64 (opcodes.One 0x6B) (regs.number to) from) bytes more)
     ∙ wide_register_again W64 0x6B (bytes ++ more) (λ e. absurd (omega arith))
-      (λ e. absurd (omega arith)) refl (multiplied_by W8) to from ok (λ b bs. refl)
+    (λ e. absurd (omega arith)) refl (multiplied_by W8) to from ok (λ b bs. refl)
     ∙ ap (λ (o : Read ℕ). o >>= λ n. read_as (instrs.MultiplyBy W64 to from n.0) n.1)
-      (signed_little W8 W64 v more (limit_least W64) fits)
+    (signed_little W8 W64 v more (limit_least W64) fits)
 
 multiply_full : (w : Width) (to : Reg) (from : RegisterOrMemory) (v : ℕ) (more : List ℕ)
     → is_wide w ≡ true → is_place from ≡ true → is_immediate w v ≡ true
@@ -112,18 +112,18 @@ multiply_full W32 to from v more is ok fits =
     let bytes = immediate_bytes W32 v in
     ap instr (append_assoc (modrm W32 (opcodes.One 0x69) (regs.number to) from) bytes more)
     ∙ wide_register_again W32 0x69 (bytes ++ more) (λ e. absurd (omega arith))
-      (λ e. absurd (omega arith)) refl (λ u. multiplied_by (immediate_of u) u) to from ok
-      (λ b bs. refl)
+    (λ e. absurd (omega arith)) refl (λ u. multiplied_by (immediate_of u) u) to from ok
+    (λ b bs. refl)
     ∙ ap (λ (o : Read ℕ). o >>= λ n. read_as (instrs.MultiplyBy W32 to from n.0) n.1)
-      (immediate_read W32 v more fits)
+    (immediate_read W32 v more fits)
 multiply_full W64 to from v more is ok fits =
     let bytes = immediate_bytes W64 v in
     ap instr (append_assoc (modrm W64 (opcodes.One 0x69) (regs.number to) from) bytes more)
     ∙ wide_register_again W64 0x69 (bytes ++ more) (λ e. absurd (omega arith))
-      (λ e. absurd (omega arith)) refl (λ u. multiplied_by (immediate_of u) u) to from ok
-      (λ b bs. refl)
+    (λ e. absurd (omega arith)) refl (λ u. multiplied_by (immediate_of u) u) to from ok
+    (λ b bs. refl)
     ∙ ap (λ (o : Read ℕ). o >>= λ n. read_as (instrs.MultiplyBy W64 to from n.0) n.1)
-      (immediate_read W64 v more fits)
+    (immediate_read W64 v more fits)
 
 again_multiply : (w : Width) (to : Reg) (from : RegisterOrMemory) (more : List ℕ) → is_wide w ≡ true
     → is_place from ≡ true → instr (modrm w (opcodes.Two 0xAF) (regs.number to) from ++ more)
@@ -135,13 +135,13 @@ again_multiply W32 to from more is ok =
     let p = modrm_prefixes W32 (regs.number to) from in
     open_two W32 (regs.number to) from more (number_small to) 0xAF
     ∙ ap (λ u. r_rm p u u (instrs.Multiply u) (place_bytes (regs.number to % 8) from ++ more))
-      (width_is W32 (regs.number to) from more (number_small to) refl)
+    (width_is W32 (regs.number to) from more (number_small to) refl)
     ∙ r_rm_read W32 to from more (instrs.Multiply W32) ok
 again_multiply W64 to from more is ok =
     let p = modrm_prefixes W64 (regs.number to) from in
     open_two W64 (regs.number to) from more (number_small to) 0xAF
     ∙ ap (λ u. r_rm p u u (instrs.Multiply u) (place_bytes (regs.number to % 8) from ++ more))
-      (width_is W64 (regs.number to) from more (number_small to) refl)
+    (width_is W64 (regs.number to) from more (number_small to) refl)
     ∙ r_rm_read W64 to from more (instrs.Multiply W64) ok
 
 again_load_address : (w : Width) (to : Reg) (from : RegisterOrMemory) (more : List ℕ)
@@ -175,8 +175,8 @@ shifted_by : (d : Direction) (w : Width) (to : RegisterOrMemory) (n : ℕ) (more
 shifted_by d w to n more lt =
     let same : n % 256 ≡ n = omega arith in
     ap (λ x. given x (little 1 n ++ more) >>= λ y. byte y.1
-      >>= λ b. read_as (instrs.Shift y.0 w to (counts.Immediate b.0)) b.1)
-        (direction-opcode_extension d)
+    >>= λ b. read_as (instrs.Shift y.0 w to (counts.Immediate b.0)) b.1)
+    (direction-opcode_extension d)
     ∙ ap (λ b. read_as (instrs.Shift d w to (counts.Immediate b)) more) same
 
 shift_number : (d : Direction) (w : Width) (to : RegisterOrMemory) (n : ℕ) (more : List ℕ)
@@ -188,17 +188,17 @@ shift_number d W8 to n more is ok lt = impossible is
 shift_number d W16 to n more is ok lt = impossible is
 shift_number d W32 to n more is ok lt =
     ap instr (append_assoc (modrm W32 (opcodes.One 0xC1) (direction_opcode_extension d) to)
-      (little 1 n) more)
+    (little 1 n) more)
     ∙ wide_digit_again W32 0xC1 (little 1 n ++ more) (λ e. absurd (omega arith))
-      (λ e. absurd (omega arith)) refl group_2_immediate (direction_opcode_extension d) to
-      (direction_small d) ok (λ b bs. refl)
+    (λ e. absurd (omega arith)) refl group_2_immediate (direction_opcode_extension d) to
+    (direction_small d) ok (λ b bs. refl)
     ∙ shifted_by d W32 to n more lt
 shift_number d W64 to n more is ok lt =
     ap instr (append_assoc (modrm W64 (opcodes.One 0xC1) (direction_opcode_extension d) to)
-      (little 1 n) more)
+    (little 1 n) more)
     ∙ wide_digit_again W64 0xC1 (little 1 n ++ more) (λ e. absurd (omega arith))
-      (λ e. absurd (omega arith)) refl group_2_immediate (direction_opcode_extension d) to
-      (direction_small d) ok (λ b bs. refl)
+    (λ e. absurd (omega arith)) refl group_2_immediate (direction_opcode_extension d) to
+    (direction_small d) ok (λ b bs. refl)
     ∙ shifted_by d W64 to n more lt
 
 shift_cl : (d : Direction) (w : Width) (to : RegisterOrMemory) (more : List ℕ) → is_wide w ≡ true
@@ -209,14 +209,14 @@ shift_cl d W8 to more is ok = impossible is
 shift_cl d W16 to more is ok = impossible is
 shift_cl d W32 to more is ok =
     wide_digit_again W32 0xD3 more (λ e. absurd (omega arith)) (λ e. absurd (omega arith)) refl
-      group_2_cl (direction_opcode_extension d) to (direction_small d) ok (λ b bs. refl)
+    group_2_cl (direction_opcode_extension d) to (direction_small d) ok (λ b bs. refl)
     ∙ ap (λ x. given x more >>= λ y. read_as (instrs.Shift y.0 W32 to counts.Cl) y.1)
-      (direction-opcode_extension d)
+    (direction-opcode_extension d)
 shift_cl d W64 to more is ok =
     wide_digit_again W64 0xD3 more (λ e. absurd (omega arith)) (λ e. absurd (omega arith)) refl
-      group_2_cl (direction_opcode_extension d) to (direction_small d) ok (λ b bs. refl)
+    group_2_cl (direction_opcode_extension d) to (direction_small d) ok (λ b bs. refl)
     ∙ ap (λ x. given x more >>= λ y. read_as (instrs.Shift y.0 W64 to counts.Cl) y.1)
-      (direction-opcode_extension d)
+    (direction-opcode_extension d)
 
 again_shift : (d : Direction) (w : Width) (to : RegisterOrMemory) (by : Count) (more : List ℕ)
     → is_wide w ≡ true → is_place to ≡ true → is_count by ≡ true
@@ -247,10 +247,10 @@ again_test_number : (w : Width) (at : RegisterOrMemory) (v : ℕ) (more : List �
     ++ immediate_bytes w v) ++ more) ≡ Some (instrs.Test w at (operands.Immediate v), more)
 again_test_number w at v more ok fits =
     ap instr (append_assoc (modrm w (opcodes.One (sized_opcode w 0xF6)) 0 at) (immediate_bytes w v)
-      more)
+    more)
     ∙ divided w 0 at (immediate_bytes w v ++ more) (omega arith) ok
     ∙ ap (λ (o : Read ℕ). o >>= λ n. read_as (instrs.Test w at (operands.Immediate n.0)) n.1)
-      (immediate_read w v more fits)
+    (immediate_read w v more fits)
 
 -- ---- extensions
 
@@ -274,7 +274,7 @@ extended_again e q w n to from more op ok is narrow width a b =
     ∙ ap (λ u. r_rm p u n (λ t f. instrs.Extend e u t n f) bytes) width
     ∙ ap (λ (o : Read (RegisterOrMemory × Reg)). o
     >>= λ x. read_as (instrs.Extend e w x.0.1 n x.0.0) x.1)
-      (operands_read q n w to from more ok a b)
+    (operands_read q n w to from more ok a b)
 
 byte_width : (bits : ℕ) → bits / 8 ≡ 0 → width_of (read_prefixes W8 bits) ≡ W32
 byte_width bits e = ap (λ c. cond c W64 W32) (ne_eqb (bit 3 bits) 1 (λ h. absurd (omega arith)))
@@ -320,13 +320,13 @@ again_extend Sign W64 W32 to from more is ok =
     let p = modrm_prefixes W64 (regs.number to) from in
     let bytes = place_bytes (regs.number to % 8) from ++ more in
     open_one W64 (regs.number to) from more n 0x63 (λ e. absurd (omega arith))
-      (λ e. absurd (omega arith))
+    (λ e. absurd (omega arith))
     ∙ ap (λ c. cond c (r_rm p W64 W32 (λ t f. instrs.Extend Sign W64 t W32 f) bytes) None)
-      (eq-eqb (bit 3 (modrm_bits W64 (regs.number to) from)) 1
-      (let h = high_small from in omega arith))
+    (eq-eqb (bit 3 (modrm_bits W64 (regs.number to) from)) 1
+    (let h = high_small from in omega arith))
     ∙ ap (λ (o : Read (RegisterOrMemory × Reg)). o
     >>= λ x. read_as (instrs.Extend Sign W64 x.0.1 W32 x.0.0) x.1)
-      (operands_read W64 W32 W64 to from more ok refl refl)
+    (operands_read W64 W32 W64 to from more ok refl refl)
 again_extend e w W8 to from more is ok = impossible is
 again_extend e w W16 to from more is ok = impossible is
 again_extend e w W32 to from more is ok = impossible is
@@ -347,8 +347,8 @@ again_set c at more ok =
     open_two W8 0 at more (omega arith) (0x90 + condition_number c)
     ∙ row_set c (modrm_bits W8 0 at) (place_bytes 0 at ++ more)
     ∙ ap (λ (o : Read (RegisterOrMemory × ℕ)). o >>= λ x. read_as (instrs.Set c x.0.0) x.1)
-      (digit_read W8 0 at more (omega arith) W8 (listed W8 (modrm_bits W8 0 at) at) ok
-      (omega arith))
+    (digit_read W8 0 at more (omega arith) W8 (listed W8 (modrm_bits W8 0 at) at) ok
+    (omega arith))
 
 again_indirect : (d : ℕ) (at : RegisterOrMemory) (more : List ℕ) → d < 8 → is_place at ≡ true
     → instr (modrm W32 (opcodes.One 0xFF) d at ++ more) ≡ group_5 d at more
@@ -404,7 +404,7 @@ again (instrs.MultiplyBy w to from v) more ok =
     let parts = and_parts (is_wide w) (is_place from && is_immediate w v) ok in
     let others = and_parts (is_place from) (is_immediate w v) parts.1 in
     either (is_signed W8 w v) _ _ more _ (multiply_byte w to from v more parts.0 others.0)
-      (multiply_full w to from v more parts.0 others.0 others.1)
+    (multiply_full w to from v more parts.0 others.0 others.1)
 again (instrs.Unary Not w at) more ok = divided w 2 at more (omega arith) ok
 again (instrs.Unary Negate w at) more ok = divided w 3 at more (omega arith) ok
 again (instrs.Divide d w at) more ok = let parts = and_parts (is_wide w) (is_place at) ok in
@@ -424,12 +424,12 @@ again (instrs.Call (Indirect at)) more ok = again_indirect 2 at more (omega arit
 again (instrs.Push r) more ok =
     open_register W32 0x50 r more (λ e. absurd (omega arith)) (λ e. absurd (omega arith))
     ∙ push_row r (has_rex W32 (8 * wide W32 + regs.number r / 8)) (8 * wide W32 + regs.number r / 8)
-      more
+    more
     ∙ ap (λ x. read_as (instrs.Push x) more) (lowest_read W32 0x50 r (omega arith))
 again (instrs.Pop r) more ok =
     open_register W32 0x58 r more (λ e. absurd (omega arith)) (λ e. absurd (omega arith))
     ∙ pop_row r (has_rex W32 (8 * wide W32 + regs.number r / 8)) (8 * wide W32 + regs.number r / 8)
-      more
+    more
     ∙ ap (λ x. read_as (instrs.Pop x) more) (lowest_read W32 0x58 r (omega arith))
 again instrs.Return more ok = refl
 again instrs.NoOperation more ok = refl
@@ -446,6 +446,6 @@ pub read_again : (i : Instr) (more : List ℕ) → IsEncodable i
 read_again i more ok =
     let all = chosen i ++ more in
     let k : length all - length more ≡ length (chosen i) = omega
-      (arith, length-append (chosen i) more) in
+    (arith, length-append (chosen i) more) in
     ap (option_map (λ (x : Instr × List ℕ). let y : Instr × ℕ = (x.0, length all - length x.1) in
-      y)) (again i more ok) ∙ ap (λ n. let y : Option (Instr × ℕ) = Some (i, n) in y) k
+    y)) (again i more ok) ∙ ap (λ n. let y : Option (Instr × ℕ) = Some (i, n) in y) k

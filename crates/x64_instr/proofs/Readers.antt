@@ -27,16 +27,21 @@ pub byte-IsReader : IsReader byte
 byte-IsReader = record { takes = go }
   where
     go : (bytes : List ℕ) (x : ℕ) (rest : List ℕ) → byte bytes ≡ Some (x, rest)
-      → Takes byte bytes x rest
+        → Takes byte bytes x rest
     go [] x rest e = absurd cc
     go (b ∷ bytes) x rest e =
         let p = pair b x bytes rest e in
-        record { front = x ∷ []; whole = ap (λ c. c ∷ bytes) p.0 ∙ ap (λ r. x ∷ r) p.1;
-          alike = λ more. refl }
+        record {
+          front = x ∷ [];
+          whole = ap (λ c. c ∷ bytes) p.0 ∙ ap (λ r. x ∷ r) p.1;
+          alike = λ more. refl;
+        }
 
 pub done-IsReader : {A : Type 0} (x : A) → IsReader (λ bytes. Some (x, bytes))
-done-IsReader {A} x = record { takes = λ bytes y rest e. let p = pair x y bytes rest e in
-    record { front = []; whole = p.1; alike = λ more. ap (λ (z : A). Some (z, more)) p.0 } }
+done-IsReader {A} x = record {
+  takes = λ bytes y rest e. let p = pair x y bytes rest e in
+      record { front = []; whole = p.1; alike = λ more. ap (λ (z : A). Some (z, more)) p.0 };
+}
 
 pub fail-IsReader : {A : Type 0} → IsReader {A = A} (λ bytes. None)
 fail-IsReader = record { takes = λ bytes x rest e. absurd cc }
@@ -52,8 +57,8 @@ pub bind-IsReader : {A B : Type 0} (read : List ℕ → Read A) (next : A → Li
 bind-IsReader {A} {B} read next r n = record { takes = go }
   where
     go : (bytes : List ℕ) (y : B) (rest : List ℕ)
-      → (read bytes >>= λ p. next p.0 p.1) ≡ Some (y, rest)
-      → Takes (λ bs. read bs >>= λ p. next p.0 p.1) bytes y rest
+        → (read bytes >>= λ p. next p.0 p.1) ≡ Some (y, rest)
+        → Takes (λ bs. read bs >>= λ p. next p.0 p.1) bytes y rest
     go bytes y rest e =
         let b = bind_some (read bytes) (λ p. next p.0 p.1) (y, rest) e in
         let first = r.takes bytes b.0.0 b.0.1 b.1 in
@@ -61,11 +66,11 @@ bind-IsReader {A} {B} read next r n = record { takes = go }
         record {
           front = first.front ++ second.front;
           whole = first.whole ∙ ap (λ (t : List ℕ). first.front ++ t) second.whole
-            ∙ sym (append_assoc first.front second.front rest);
+              ∙ sym (append_assoc first.front second.front rest);
           alike = λ more. ap (λ bs. read bs >>= λ p. next p.0 p.1)
-            (append_assoc first.front second.front more)
-            ∙ ap (λ (o : Read A). o >>= λ p. next p.0 p.1) (first.alike (second.front ++ more))
-            ∙ second.alike more;
+              (append_assoc first.front second.front more)
+              ∙ ap (λ (o : Read A). o >>= λ p. next p.0 p.1) (first.alike (second.front ++ more))
+              ∙ second.alike more;
         }
 
 pub map-IsReader : {A B : Type 0} (read : List ℕ → Read A) (f : A → B) → IsReader read
@@ -86,8 +91,8 @@ pub number-IsReader : (n : ℕ) → IsReader (number n)
 number-IsReader zero = done-IsReader 0
 number-IsReader (suc n) = bind-IsReader byte (λ b bytes. number n bytes
     >>= λ v. Some (b + 256 * v.0, v.1)) byte-IsReader
-      (λ b. bind-IsReader (number n) (λ v bytes. Some (b + 256 * v, bytes)) (number-IsReader n)
-      (λ v. done-IsReader (b + 256 * v)))
+    (λ b. bind-IsReader (number n) (λ v bytes. Some (b + 256 * v, bytes)) (number-IsReader n)
+    (λ v. done-IsReader (b + 256 * v)))
 
 pub signed-IsReader : (from to : Width) → IsReader (signed from to)
 signed-IsReader from to = map-IsReader (number (bytes_of from)) (extended from to)

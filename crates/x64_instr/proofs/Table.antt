@@ -43,11 +43,11 @@ sib_operand-IsReader p mode sib = if-IsReader (eqb mode 0 && eqb (sib % 8) 5) _ 
 memory_operand-IsReader : (p : Prefixes) (mode low : ℕ) → IsReader (memory_operand p mode low)
 memory_operand-IsReader p mode low =
     if-IsReader (eqb low 4) _ _ (bind-IsReader byte (sib_operand p mode) byte-IsReader
-      (sib_operand-IsReader p mode))
+    (sib_operand-IsReader p mode))
     (if-IsReader (eqb mode 0 && eqb low 5) _ _
-      (map-IsReader (signed W32 W64) (memory bases.Rip None) (signed-IsReader W32 W64))
-      (map-IsReader (displaced mode) (memory (bases.Register (register_of_low_bits p low)) None)
-      (displaced-IsReader mode)))
+    (map-IsReader (signed W32 W64) (memory bases.Rip None) (signed-IsReader W32 W64))
+    (map-IsReader (displaced mode) (memory (bases.Register (register_of_low_bits p low)) None)
+    (displaced-IsReader mode)))
 
 place-IsReader : (p : Prefixes) (modrm : ℕ) → IsReader (place p modrm)
 unfolding place
@@ -103,11 +103,11 @@ group_1-IsReader : (from w : Width) (opcode_extension : ℕ) (to : RegisterOrMem
     → IsReader (group_1 from w opcode_extension to)
 group_1-IsReader from w opcode_extension to =
     bind-IsReader (given (operation opcode_extension))
-      (λ o bytes. signed from w bytes >>= λ v. Some
-      (instrs.Arithmetic o w to (operands.Immediate v.0), v.1))
-      (given-IsReader (operation opcode_extension))
+    (λ o bytes. signed from w bytes >>= λ v. Some
+    (instrs.Arithmetic o w to (operands.Immediate v.0), v.1))
+    (given-IsReader (operation opcode_extension))
     (λ o. map-IsReader (signed from w) (λ v. instrs.Arithmetic o w to (operands.Immediate v))
-      (signed-IsReader from w))
+    (signed-IsReader from w))
 
 group_11-IsReader : (w : Width) (opcode_extension : ℕ) (to : RegisterOrMemory)
     → IsReader (group_11 w opcode_extension to)
@@ -119,19 +119,19 @@ group_3-IsReader : (t : Bool) (w : Width) (opcode_extension : ℕ) (at : Registe
     → IsReader (group_3 t w opcode_extension at)
 group_3-IsReader t w opcode_extension at =
     if-IsReader (eqb opcode_extension 0) _ _ (map-IsReader (signed (immediate_of w) w)
-      (λ v. instrs.Test w at (operands.Immediate v)) (signed-IsReader (immediate_of w) w))
+    (λ v. instrs.Test w at (operands.Immediate v)) (signed-IsReader (immediate_of w) w))
     (if-IsReader (eqb opcode_extension 2) _ _ (done-IsReader (instrs.Unary Not w at))
     (if-IsReader (eqb opcode_extension 3) _ _ (done-IsReader (instrs.Unary Negate w at))
     (if-IsReader (eqb opcode_extension 6 && t) _ _ (done-IsReader (instrs.Divide Unsigned w at))
     (if-IsReader (eqb opcode_extension 7 && t) _ _ (done-IsReader (instrs.Divide Signed w at))
-      fail-IsReader))))
+    fail-IsReader))))
 
 group_2_immediate-IsReader : (w : Width) (opcode_extension : ℕ) (to : RegisterOrMemory)
     → IsReader (group_2_immediate w opcode_extension to)
 group_2_immediate-IsReader w opcode_extension to =
     bind-IsReader (given (direction opcode_extension))
-      (λ d bytes. byte bytes >>= λ n. Some (instrs.Shift d w to (counts.Immediate n.0), n.1))
-      (given-IsReader (direction opcode_extension))
+    (λ d bytes. byte bytes >>= λ n. Some (instrs.Shift d w to (counts.Immediate n.0), n.1))
+    (given-IsReader (direction opcode_extension))
     (λ d. map-IsReader byte (λ n. instrs.Shift d w to (counts.Immediate n)) byte-IsReader)
 
 group_2_cl-IsReader : (w : Width) (opcode_extension : ℕ) (to : RegisterOrMemory)
@@ -162,11 +162,11 @@ extend-IsReader e p op = r_rm-IsReader p (width_of p) (sized_narrow op)
 multiply_by-IsReader : (p : Prefixes) (from : Width) → IsReader (multiply_by p from)
 multiply_by-IsReader p from =
     bind-IsReader (rm_and_register p (width_of p) (width_of p))
-      (λ x bytes. signed from (width_of p) bytes
-      >>= λ v. Some (instrs.MultiplyBy (width_of p) x.1 x.0 v.0, v.1))
-        (rm_and_register-IsReader p (width_of p) (width_of p))
+    (λ x bytes. signed from (width_of p) bytes
+    >>= λ v. Some (instrs.MultiplyBy (width_of p) x.1 x.0 v.0, v.1))
+    (rm_and_register-IsReader p (width_of p) (width_of p))
     (λ x. map-IsReader (signed from (width_of p)) (λ v. instrs.MultiplyBy (width_of p) x.1 x.0 v)
-      (signed-IsReader from (width_of p)))
+    (signed-IsReader from (width_of p)))
 
 address_to-IsReader : (w : Width) (to : Reg) (at : RegisterOrMemory) → IsReader (address_to w to at)
 address_to-IsReader w to (places.Memory m) = done-IsReader (instrs.LoadAddress w to m)
@@ -180,17 +180,17 @@ load_address-IsReader p = bind-IsReader (rm_and_register p (width_of p) (width_o
 jump_if-IsReader : (from : Width) (op : ℕ) → IsReader (jump_if from op)
 jump_if-IsReader from op =
     bind-IsReader (given (condition (op % 16)))
-      (λ c bytes. signed from W64 bytes >>= λ d. Some (instrs.JumpIf c d.0, d.1))
-      (given-IsReader (condition (op % 16)))
+    (λ c bytes. signed from W64 bytes >>= λ d. Some (instrs.JumpIf c d.0, d.1))
+    (given-IsReader (condition (op % 16)))
     (λ c. map-IsReader (signed from W64) (λ d. instrs.JumpIf c d) (signed-IsReader from W64))
 
 set_if-IsReader : (p : Prefixes) (op : ℕ) → IsReader (set_if p op)
 set_if-IsReader p op =
     bind-IsReader (given (condition (op % 16)))
-      (λ c bytes. rm_and_opcode_extension p W8 bytes >>= λ x. Some (instrs.Set c x.0.0, x.1))
-      (given-IsReader (condition (op % 16)))
+    (λ c bytes. rm_and_opcode_extension p W8 bytes >>= λ x. Some (instrs.Set c x.0.0, x.1))
+    (given-IsReader (condition (op % 16)))
     (λ c. map-IsReader (rm_and_opcode_extension p W8) (λ x. instrs.Set c x.0)
-      (rm_and_opcode_extension-IsReader p W8))
+    (rm_and_opcode_extension-IsReader p W8))
 
 jump-IsReader : (from : Width) → IsReader (jump from)
 jump-IsReader from = map-IsReader (signed from W64) (λ d. instrs.Jump (Relative d))
@@ -210,10 +210,10 @@ arithmetic_form-IsReader : (p : Prefixes) (o : Operation) (op : ℕ)
     → IsReader (arithmetic_form p o op)
 arithmetic_form-IsReader p o op =
     if-IsReader (eqb (op % 8 / 2) 0) _ _ (rm_r-IsReader p (sized p op)
-      (instrs.Arithmetic o (sized p op)))
+    (instrs.Arithmetic o (sized p op)))
     (if-IsReader (eqb (op % 8 / 2) 1) _ _ (r_rm-IsReader p (sized p op) (sized p op)
-      (λ to from. instrs.Arithmetic o (sized p op) (places.Register to) (source from)))
-      fail-IsReader)
+    (λ to from. instrs.Arithmetic o (sized p op) (places.Register to) (source from)))
+    fail-IsReader)
 
 arithmetic_row-IsReader : (p : Prefixes) (op : ℕ) → IsReader (arithmetic_row p op)
 arithmetic_row-IsReader p op = bind-IsReader (given (operation (op / 8)))
@@ -224,9 +224,9 @@ plain_row-IsReader : (p : Prefixes) (op : ℕ) → IsReader (plain_row p op)
 unfolding plain_row
 plain_row-IsReader p op =
     if-IsReader (eqb (op / 8) (0x50 / 8)) _ _
-      (done-IsReader (instrs.Push (register_of_low_bits p op)))
+    (done-IsReader (instrs.Push (register_of_low_bits p op)))
     (if-IsReader (eqb (op / 8) (0x58 / 8)) _ _
-      (done-IsReader (instrs.Pop (register_of_low_bits p op)))
+    (done-IsReader (instrs.Pop (register_of_low_bits p op)))
     (if-IsReader (eqb op 0x63) _ _ (sign_extend-IsReader p)
     (if-IsReader (eqb op 0x69) _ _ (multiply_by-IsReader p (immediate_of (width_of p)))
     (if-IsReader (eqb op 0x6B) _ _ (multiply_by-IsReader p W8)
@@ -235,39 +235,39 @@ plain_row-IsReader p op =
     (if-IsReader (eqb op 0x90) _ _ (no_operation-IsReader p)
     (if-IsReader (eqb op 0x99) _ _ (done-IsReader (instrs.ExtendRax (width_of p)))
     (if-IsReader (eqb op 0xC1) _ _ (rm_extension-IsReader p (width_of p)
-      (group_2_immediate (width_of p)) (group_2_immediate-IsReader (width_of p)))
+    (group_2_immediate (width_of p)) (group_2_immediate-IsReader (width_of p)))
     (if-IsReader (eqb op 0xC3) _ _ (done-IsReader instrs.Return)
     (if-IsReader (eqb op 0xCC) _ _ (done-IsReader instrs.Breakpoint)
     (if-IsReader (eqb op 0xD3) _ _ (rm_extension-IsReader p (width_of p) (group_2_cl (width_of p))
-      (group_2_cl-IsReader (width_of p)))
+    (group_2_cl-IsReader (width_of p)))
     (if-IsReader (eqb op 0xE8) _ _ call-IsReader
     (if-IsReader (eqb op 0xE9) _ _ (jump-IsReader W32)
     (if-IsReader (eqb op 0xEB) _ _ (jump-IsReader W8)
     (if-IsReader (eqb op 0xFF) _ _ (rm_extension-IsReader p W64 group_5 group_5-IsReader)
-      fail-IsReader))))))))))))))))
+    fail-IsReader))))))))))))))))
 
 row-IsReader : (p : Prefixes) (op : ℕ) → IsReader (row p op)
 unfolding row
 row-IsReader p op =
     if-IsReader (eqb (op / 64) 0) _ _ (arithmetic_row-IsReader p op)
     (if-IsReader (eqb (op / 2) (0x80 / 2)) _ _
-      (rm_extension-IsReader p (sized p op) (group_1 (immediate_of (sized p op)) (sized p op))
-      (group_1-IsReader (immediate_of (sized p op)) (sized p op)))
+    (rm_extension-IsReader p (sized p op) (group_1 (immediate_of (sized p op)) (sized p op))
+    (group_1-IsReader (immediate_of (sized p op)) (sized p op)))
     (if-IsReader (eqb op 0x83) _ _ (rm_extension-IsReader p (width_of p) (group_1 W8 (width_of p))
-      (group_1-IsReader W8 (width_of p)))
+    (group_1-IsReader W8 (width_of p)))
     (if-IsReader (eqb (op / 2) (0x84 / 2)) _ _
-      (rm_r-IsReader p (sized p op) (instrs.Test (sized p op)))
+    (rm_r-IsReader p (sized p op) (instrs.Test (sized p op)))
     (if-IsReader (eqb (op / 2) (0x88 / 2)) _ _
-      (rm_r-IsReader p (sized p op) (instrs.Move (sized p op)))
+    (rm_r-IsReader p (sized p op) (instrs.Move (sized p op)))
     (if-IsReader (eqb (op / 2) (0x8A / 2)) _ _
-      (r_rm-IsReader p (sized p op) (sized p op) (load (sized p op)))
+    (r_rm-IsReader p (sized p op) (sized p op) (load (sized p op)))
     (if-IsReader (eqb (op / 8) (0xB8 / 8)) _ _ (move_immediate-IsReader p op)
     (if-IsReader (eqb (op / 2) (0xC6 / 2)) _ _
-      (rm_extension-IsReader p (sized p op) (group_11 (sized p op))
-      (group_11-IsReader (sized p op)))
+    (rm_extension-IsReader p (sized p op) (group_11 (sized p op))
+    (group_11-IsReader (sized p op)))
     (if-IsReader (eqb (op / 2) (0xF6 / 2)) _ _
-      (rm_extension-IsReader p (sized p op) (group_3 (eqb op 0xF7 && not p.operand_size)
-      (sized p op)) (group_3-IsReader (eqb op 0xF7 && not p.operand_size) (sized p op)))
+    (rm_extension-IsReader p (sized p op) (group_3 (eqb op 0xF7 && not p.operand_size)
+    (sized p op)) (group_3-IsReader (eqb op 0xF7 && not p.operand_size) (sized p op)))
     (if-IsReader p.operand_size _ _ fail-IsReader (plain_row-IsReader p op))))))))))
 
 extend_row-IsReader : (p : Prefixes) (op : ℕ) → IsReader (extend_row p op)
@@ -283,7 +283,7 @@ two_byte_row-IsReader p op =
     (if-IsReader (eqb (op / 16) (0x80 / 16)) _ _ (jump_if-IsReader W32 op)
     (if-IsReader (eqb (op / 16) (0x90 / 16)) _ _ (set_if-IsReader p op)
     (if-IsReader (eqb op 0xAF) _ _ (r_rm-IsReader p (width_of p) (width_of p)
-      (instrs.Multiply (width_of p))) (extend_row-IsReader p op)))))
+    (instrs.Multiply (width_of p))) (extend_row-IsReader p op)))))
 
 after_prefixes-IsReader : (p : Prefixes) (b : ℕ) → IsReader (after_prefixes p b)
 unfolding after_prefixes
@@ -311,11 +311,13 @@ instr-IsReader = bind-IsReader byte (λ b bytes. cond (eqb b 0x66)
 pub found : (bytes : List ℕ) (i : Instr) (rest : List ℕ) → instr bytes ≡ Some (i, rest)
     → (k : ℕ) × (k + length rest ≡ length bytes) × IsEncoding i (take k bytes)
 found bytes i rest e =
-    let t = instr-IsReader.takes bytes i rest e in
-    (length t.front, omega (arith, ap length t.whole, length-append t.front rest),
+    let t = instr-IsReader.takes bytes i rest e in (
+      length t.front,
+      omega (arith, ap length t.whole, length-append t.front rest),
       subst (λ b. IsEncoding i (take (length t.front) b)) (sym t.whole)
-      (subst (λ b. IsEncoding i b) (sym (take_at t.front rest (length t.front) refl))
-      (subst (λ b. instr b ≡ Some (i, [])) (append-nil t.front) (t.alike []))))
+          (subst (λ b. IsEncoding i b) (sym (take_at t.front rest (length t.front) refl))
+          (subst (λ b. instr b ≡ Some (i, [])) (append-nil t.front) (t.alike []))),
+    )
 
 -- a spelling is read whatever follows it
 pub again : (i : Instr) (a more : List ℕ) → IsEncoding i a → instr (a ++ more) ≡ Some (i, more)

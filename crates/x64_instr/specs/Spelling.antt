@@ -250,7 +250,7 @@ row p op bytes =
     if op / 64 == 0 then arithmetic_row p op bytes
     -- ADD /0, OR /1, AND /4, SUB /5, XOR /6, CMP /7 r/m, imm
     else (if op / 2 == 0x80 / 2 then rm_extension p (sized p op)
-      (group_1 (immediate_of (sized p op)) (sized p op)) bytes
+    (group_1 (immediate_of (sized p op)) (sized p op)) bytes
     -- the same with imm8
     else (if op == 0x83 then rm_extension p (width_of p) (group_1 W8 (width_of p)) bytes
     -- TEST r/m, r
@@ -265,7 +265,7 @@ row p op bytes =
     else (if op / 2 == 0xC6 / 2 then rm_extension p (sized p op) (group_11 (sized p op)) bytes
     -- TEST /0, NOT /2, NEG /3, DIV /6, IDIV /7
     else (if op / 2 == 0xF6 / 2 then rm_extension p (sized p op)
-      (group_3 ((op == 0xF7) && not p.operand_size) (sized p op)) bytes
+    (group_3 ((op == 0xF7) && not p.operand_size) (sized p op)) bytes
     else (if p.operand_size then None
     else plain_row p op bytes)))))))))
 

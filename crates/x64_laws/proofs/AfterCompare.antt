@@ -52,9 +52,9 @@ equal_signed w a b la lb x y ex ey = elim (cases_eq a b) [
   | inl e ↦
       let same : x ≡ y = sym ex ∙ ap (signed w) e ∙ ey in
       ap (λ (t : Bool). t || int_lt x y) (eq-eqb a b e)
-        ∙ sym (ap (λ (z : ℤ). int_le x z) (sym same) ∙ self x)
+      ∙ sym (ap (λ (z : ℤ). int_le x z) (sym same) ∙ self x)
   | inr n ↦ ap (λ (t : Bool). t || int_lt x y) (ne_eqb a b n)
-  ∙ strict x y (λ e. n (signed_once w a b la lb (ex ∙ e ∙ sym ey)))
+      ∙ strict x y (λ e. n (signed_once w a b la lb (ex ∙ e ∙ sym ey)))
 ]
   where
     self : (x : ℤ) → int_le x x ≡ true
@@ -74,9 +74,9 @@ equal_signed w a b la lb x y ex ey = elim (cases_eq a b) [
     strict (negsuc a) (negsuc b) n = strict_nat b a (λ e. n (ap negsuc (sym e)))
 
     signed_once : (w : Width) (a b : ℕ) → a < limit w → b < limit w → signed w a ≡ signed w b
-      → a ≡ b
+        → a ≡ b
     signed_once w a b la lb e = sym (wrapped_signed w a la) ∙ ap (wrapped w) e
-      ∙ wrapped_signed w b lb
+        ∙ wrapped_signed w b lb
 
 -- ---- the sign of the difference
 
@@ -84,9 +84,9 @@ sign_is : (w : Width) (r : ℕ) (z : ℤ) → r < limit w → r ≡ wrapped w z
     → leb (half w) r ≡ int_lt (signed w (wrapped w z)) (pos 0)
 sign_is w r z lt e = elim (cases_lt r (half w)) [
   | inl l ↦ lt-leb (half w) r l ∙ sym (ap (λ (k : ℕ). int_lt (signed w k) (pos 0)) (sym e)
-  ∙ ap (λ (x : ℤ). int_lt x (pos 0)) (signed_low w r l) ∙ le-ltb r 0 (omega arith))
+      ∙ ap (λ (x : ℤ). int_lt x (pos 0)) (signed_low w r l) ∙ le-ltb r 0 (omega arith))
   | inr g ↦ le-leb (half w) r g ∙ sym (ap (λ (k : ℕ). int_lt (signed w k) (pos 0)) (sym e)
-  ∙ ap (λ (x : ℤ). int_lt x (pos 0)) (signed_high w r g lt))
+      ∙ ap (λ (x : ℤ). int_lt x (pos 0)) (signed_high w r g lt))
 ]
 
 -- ---- the flags of a difference, each as a comparison
@@ -111,7 +111,7 @@ module _ (w : Width) (a b : ℕ) (la : a < limit w) (lb : b < limit w) where
       ≡ int_le (signed w a) (signed w b)
   less_or_equal =
       ap (λ (t : Bool). t || differ (leb (half w) r) (not (is_signed w d))) zero_flag
-        ∙ ap (λ (t : Bool). eqb a b || t) less_flags
+      ∙ ap (λ (t : Bool). eqb a b || t) less_flags
       ∙ equal_signed w a b la lb (signed w a) (signed w b) refl refl
 
 not_not : (b : Bool) → not (not b) ≡ b

@@ -26,8 +26,11 @@ use Rattle.x64_laws.proofs.AfterCompare.{difference_decides}
 
 abbrev after : State → Width → Reg → ℕ → Flags → State
 after s w to v f = record {
-  cpu = record { registers = set s.cpu.registers (number to) (merged w (register s.cpu to) v);
-      rip = s.cpu.rip; flags = f };
+  cpu = record {
+    registers = set s.cpu.registers (number to) (merged w (register s.cpu to) v);
+    rip = s.cpu.rip;
+    flags = f;
+  };
   memory = s.memory;
 }
 
@@ -47,13 +50,13 @@ puts s w to v P f g h lt is e =
     let old = register s.cpu to in
     let within = number_small to in
     let there : register (after s w to v g).cpu to
-      ≡ merged w old v = read_back xs (number to) (merged w old v) h within in
+    ≡ merged w old v = read_back xs (number to) (merged w old v) h within in
     let kept : unsigned_in w (after s w to v g) to ≡ v = ap (low w) there ∙ merged_low w old v lt in
     record {
       result = subst P (sym kept) is;
       above = there ∙ ap (merged w old) (sym kept);
       others = λ r n. get_or-set_other xs (number to) (number r) (merged w old v) 0
-        (λ z. n (number_once r to z));
+          (λ z. n (number_once r to z));
       flags = e;
       rip = refl;
       memory = refl;
@@ -71,10 +74,10 @@ below w z n e = subst (λ (k : ℕ). k < limit w) (sym e) (wrapped_below w z)
 puts_of : (s : State) (w : Width) (to : Reg) (n : ℕ) (z : ℤ) (carry : Bool) → HasRegisters s
     → n ≡ wrapped w z
     → Puts s w to (IsOf w z) (flags_for w z carry)
-      (after s w to n (flags_of w n carry (not (is_signed w z))))
+    (after s w to n (flags_of w n carry (not (is_signed w z))))
 puts_of s w to n z carry h e =
     puts s w to n (IsOf w z) (flags_for w z carry) (flags_of w n carry (not (is_signed w z))) h
-      (below w z n e) (is_of w z n e)
+    (below w z n e) (is_of w z n e)
     (ap (λ (k : ℕ). flags_of w k carry (not (is_signed w z))) e)
 
 pub add_is_sum : AddIsSum
@@ -83,7 +86,7 @@ add_is_sum s w to from h =
     let a = unsigned_in w s to in
     let b = unsigned_in w s from in
     puts_of s w to (low w (a + b)) (signed_in w s to +ℤ signed_in w s from)
-      (nat_le (limit w) (a + b)) h
+    (nat_le (limit w) (a + b)) h
     (sum_bits w a b (low_below w (register s.cpu to)) (low_below w (register s.cpu from)))
 
 pub sub_is_difference : SubIsDifference
@@ -92,7 +95,7 @@ sub_is_difference s w to from h =
     let a = unsigned_in w s to in
     let b = unsigned_in w s from in
     puts_of s w to (low w (a + (limit w - b))) (signed_in w s to -ℤ signed_in w s from) (nat_lt a b)
-      h
+    h
     (difference_bits w a b (low_below w (register s.cpu to)) (low_below w (register s.cpu from)))
 
 signed_zero : (w : Width) → signed w 0 ≡ pos 0
@@ -104,31 +107,31 @@ neg_is_negative s w to h =
     let a = unsigned_in w s to in
     let n = low w (0 + (limit w - a)) in
     subst (λ (x : ℤ). Puts s w to (IsOf w (pos 0 -ℤ signed w a))
-      (flags_for w (pos 0 -ℤ signed w a) (nat_lt 0 a))
-      (after s w to n (flags_of w n (nat_lt 0 a) (not (is_signed w (x -ℤ signed w a))))))
+    (flags_for w (pos 0 -ℤ signed w a) (nat_lt 0 a))
+    (after s w to n (flags_of w n (nat_lt 0 a) (not (is_signed w (x -ℤ signed w a))))))
     (sym (signed_zero w))
     (puts_of s w to n (pos 0 -ℤ signed w a) (nat_lt 0 a) h
     (difference_bits w 0 a (limit_positive w) (low_below w (register s.cpu to))
-      ∙ ap (λ (x : ℤ). wrapped w (x -ℤ signed w a)) (signed_zero w)))
+    ∙ ap (λ (x : ℤ). wrapped w (x -ℤ signed w a)) (signed_zero w)))
 
 -- ---- products
 
 product : (s : State) (w : Width) (to : Reg) (a b : ℕ) (z : ℤ) → HasRegisters s → a < limit w
     → b < limit w → signed w a *ℤ signed w b ≡ z
     → Puts s w to (IsOf w z) (product_flags w z s.cpu.flags)
-      (after s w to (low w (a * b)) (product_flags w (signed w a *ℤ signed w b) s.cpu.flags))
+    (after s w to (low w (a * b)) (product_flags w (signed w a *ℤ signed w b) s.cpu.flags))
 product s w to a b z h la lb is =
     let e : low w (a * b) ≡ wrapped w z = product_bits w a b la lb ∙ ap (wrapped w) is in
     puts s w to (low w (a * b)) (IsOf w z) (product_flags w z s.cpu.flags)
-      (product_flags w (signed w a *ℤ signed w b) s.cpu.flags) h
+    (product_flags w (signed w a *ℤ signed w b) s.cpu.flags) h
     (low_below w (a * b)) (is_of w z (low w (a * b)) e)
-      (ap (λ (x : ℤ). product_flags w x s.cpu.flags) is)
+    (ap (λ (x : ℤ). product_flags w x s.cpu.flags) is)
 
 pub imul_is_product : ImulIsProduct
 unfolding multiplied
 imul_is_product s w to from h =
     product s w to (unsigned_in w s to) (unsigned_in w s from)
-      (signed_in w s to *ℤ signed_in w s from) h
+    (signed_in w s to *ℤ signed_in w s from) h
     (low_below w (register s.cpu to)) (low_below w (register s.cpu from)) refl
 
 pub imul_by_is_product : ImulByIsProduct
@@ -136,7 +139,7 @@ unfolding multiplied
 imul_by_is_product s w to from v h =
     product s w to (unsigned_in w s from) (low w v) (signed_in w s from *ℤ signed w v) h
     (low_below w (register s.cpu from)) (low_below w v)
-      (ap (λ (x : ℤ). signed_in w s from *ℤ x) (signed_twice w v))
+    (ap (λ (x : ℤ). signed_in w s from *ℤ x) (signed_twice w v))
 
 -- ---- extensions
 
@@ -154,7 +157,7 @@ movzx_keeps_unsigned s w narrow to from le h =
     let more = limits w in
     let small = low_below narrow v in
     puts s w to (low narrow v) (λ n. n ≡ v) s.cpu.flags s.cpu.flags h (omega arith)
-      (twice narrow (register s.cpu from)) refl
+    (twice narrow (register s.cpu from)) refl
 
 -- ---- a shift
 
@@ -164,9 +167,9 @@ sar_is_floor s w to by h few =
     let c = count_of w (amount s.cpu by) in
     let lt = low_below w (register s.cpu to) in
     puts s w to (shifted ArithmeticRight w a c)
-      (λ n. IsFloor (signed_in w s to) (2 ^ c) (signed w n))
+    (λ n. IsFloor (signed_in w s to) (2 ^ c) (signed w n))
     (shift_flags ArithmeticRight w a c s.cpu.flags) (shift_flags ArithmeticRight w a c s.cpu.flags)
-      h
+    h
     (shifted_below w a c lt) (shifted_floor w a c lt few) refl
 
 -- ---- a comparison

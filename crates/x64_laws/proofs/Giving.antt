@@ -36,7 +36,7 @@ pub byte-Gives : Gives (λ b. b < 256) 1 byte
 byte-Gives = record { gives = go }
   where
     go : (bytes : List ℕ) (x : ℕ) (rest : List ℕ) → AreByteValues bytes
-      → byte bytes ≡ Some (x, rest) → Given (λ b. b < 256) 1 bytes x rest
+        → byte bytes ≡ Some (x, rest) → Given (λ b. b < 256) 1 bytes x rest
     go [] x rest h e = absurd cc
     go (b ∷ bytes) x rest h e =
         let p = pair b x bytes rest e in
@@ -67,13 +67,17 @@ pub bind-Gives : {A B : Type 0} (P : A → Type 0) (Q : B → Type 0) (n m : ℕ
 bind-Gives {A} {B} P Q n m read next r g = record { gives = go }
   where
     go : (bytes : List ℕ) (y : B) (rest : List ℕ) → AreByteValues bytes
-      → (read bytes >>= λ p. next p.0 p.1) ≡ Some (y, rest) → Given Q (n + m) bytes y rest
+        → (read bytes >>= λ p. next p.0 p.1) ≡ Some (y, rest) → Given Q (n + m) bytes y rest
     go bytes y rest h e =
         let b = bind_some (read bytes) (λ p. next p.0 p.1) (y, rest) e in
         let first = r.gives bytes b.0.0 b.0.1 h b.1 in
         let second = (g b.0.0 first.value).gives b.0.1 y rest first.others b.2 in
-        record { value = second.value; few = (let f = first.few in let s = second.few in
-          omega arith); others = second.others }
+        record {
+          value = second.value;
+          few = (let f = first.few in let s = second.few in
+              omega arith);
+          others = second.others;
+        }
 
 pub map-Gives : {A B : Type 0} (P : A → Type 0) (Q : B → Type 0) (n : ℕ) (read : List ℕ → Read A)
     (f : A → B)
@@ -88,10 +92,10 @@ pub if-Gives : {A : Type 0} (P : A → Type 0) (n : ℕ) (b : Bool) (first secon
     → Gives P n (λ bytes. cond b (first bytes) (second bytes))
 if-Gives {A} P n b first second y f =
     let chosen : (v : Bool) → (v ≡ true → Gives P n first) → (v ≡ false → Gives P n second)
-      → Gives P n (λ bytes. cond v (first bytes) (second bytes)) =
+    → Gives P n (λ bytes. cond v (first bytes) (second bytes)) =
     λ v. elim v as (λ u. (u ≡ true → Gives P n first) → (u ≡ false → Gives P n second)
-      → Gives P n (λ bytes. cond u (first bytes) (second bytes)))
-        [ true ↦ λ g h. g refl | false ↦ λ g h. h refl ] in
+    → Gives P n (λ bytes. cond u (first bytes) (second bytes)))
+    [ true ↦ λ g h. g refl | false ↦ λ g h. h refl ] in
     chosen b y f
 
 pub given-Gives : {A : Type 0} (o : Option A) → Gives (λ x. Unit {0}) 0 (given o)
@@ -108,9 +112,9 @@ number-Gives zero = done-Gives (λ v. v < 256 ^ 0) 0 (omega arith)
 number-Gives (suc n) =
     at_most (λ v. v < 256 ^ suc n) (1 + n) (suc n) (number (suc n)) (omega arith)
     (bind-Gives (λ b. b < 256) (λ v. v < 256 ^ suc n) 1 n byte
-      (λ b bytes. number n bytes >>= λ v. Some (b + 256 * v.0, v.1)) byte-Gives
+    (λ b bytes. number n bytes >>= λ v. Some (b + 256 * v.0, v.1)) byte-Gives
     (λ b lt. map-Gives (λ v. v < 256 ^ n) (λ v. v < 256 ^ suc n) n (number n) (λ v. b + 256 * v)
-      (number-Gives n) (λ v h. one_more n b v lt h)))
+    (number-Gives n) (λ v h. one_more n b v lt h)))
 
 pub limit_is : (w : Width) → 256 ^ bytes_of w ≡ limit w
 limit_is W8 = refl
@@ -138,21 +142,21 @@ extended_signed from over to n p q lt =
     elim (cases_lt n (half from)) [
       | inl l ↦
           ap (λ (b : Bool). is_signed over to (cond b n (n + (limit to - limit from))))
-            (lt-ltb n (half from) l)
+          (lt-ltb n (half from) l)
           ∙ ap (λ (b : Bool). b || (leb (limit to - half over) n && ltb n (limit to)))
-            (lt-ltb n (half over) (omega arith))
+          (lt-ltb n (half over) (omega arith))
       | inr g ↦
           let v : ℕ = n + (limit to - limit from) in
           ap (λ (b : Bool). is_signed over to (cond b n v)) (le-ltb n (half from) g)
           ∙ or_true (ltb v (half over)) (leb (limit to - half over) v && ltb v (limit to))
           (both_true (leb (limit to - half over) v) (ltb v (limit to))
-            (le-leb (limit to - half over) v (omega arith)) (lt-ltb v (limit to) (omega arith)))
+          (le-leb (limit to - half over) v (omega arith)) (lt-ltb v (limit to) (omega arith)))
     ]
 
 pub signed-Gives : (from over to : Width) → bytes_of from ≤ bytes_of over
     → bytes_of over ≤ bytes_of to → Gives (λ v. is_signed over to v ≡ true) (bytes_of from)
-      (signed from to)
+    (signed from to)
 signed-Gives from over to p q =
     map-Gives (λ v. v < 256 ^ bytes_of from) (λ v. is_signed over to v ≡ true) (bytes_of from)
-      (number (bytes_of from)) (extended from to) (number-Gives (bytes_of from))
+    (number (bytes_of from)) (extended from to) (number-Gives (bytes_of from))
     (λ v h. extended_signed from over to v p q (subst (λ (l : ℕ). v < l) (limit_is from) h))

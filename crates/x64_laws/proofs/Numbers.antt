@@ -90,9 +90,9 @@ is_signed_wider n w v h =
     let below = low_below n v in
     elim (cases_lt (low n v) (half n)) [
       | inl lt ↦ ap (is_signed w) (sym (signed_twice n v) ∙ signed_low n (low n v) lt)
-      ∙ lt-ltb (low n v) (half w) (omega arith)
+          ∙ lt-ltb (low n v) (half w) (omega arith)
       | inr ge ↦ ap (is_signed w) (sym (signed_twice n v) ∙ signed_high n (low n v) ge below)
-      ∙ lt-ltb (limit n - 1 - low n v) (half w) (omega arith)
+          ∙ lt-ltb (limit n - 1 - low n v) (half w) (omega arith)
     ]
 
 pub half_positive : (w : Width) → 0 < half w
@@ -111,5 +111,5 @@ wrapped_signed w a lt = elim (cases_lt a (half w)) [
   | inr g ↦
       let s : limit w - 1 - (limit w - 1 - a) ≡ a = omega arith in
       ap (wrapped w) (signed_high w a g lt) ∙ ap (λ (k : ℕ). limit w - 1 - k)
-        (low_is w (limit w - 1 - a) (omega arith)) ∙ s
+      (low_is w (limit w - 1 - a) (omega arith)) ∙ s
 ]

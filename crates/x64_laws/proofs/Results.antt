@@ -17,10 +17,18 @@ pub record Bits (w : Width) (a : ℕ) : Type 0 where
 
 pub bits : (w : Width) (a : ℕ) → a < limit w → Bits w a
 bits w a lt = elim (cases_lt a (half w)) [
-  | inl l ↦ record { times = 0; few = omega arith; is = signed_low w a l
-  ∙ (let z : pos a ≡ pos a -ℤ pos (limit w * 0) = omega (arith, ints) in z) }
-  | inr g ↦ record { times = 1; few = omega arith; is = signed_high w a g lt
-  ∙ (let z : negsuc (limit w - 1 - a) ≡ pos a -ℤ pos (limit w * 1) = omega (arith, ints) in z) }
+  | inl l ↦ record {
+    times = 0;
+    few = omega arith;
+    is = signed_low w a l
+        ∙ (let z : pos a ≡ pos a -ℤ pos (limit w * 0) = omega (arith, ints) in z);
+  }
+  | inr g ↦ record {
+    times = 1;
+    few = omega arith;
+    is = signed_high w a g lt
+        ∙ (let z : negsuc (limit w - 1 - a) ≡ pos a -ℤ pos (limit w * 1) = omega (arith, ints) in z);
+  }
 ]
 
 sum_of : (a b m n : ℕ) → (pos a -ℤ pos m) +ℤ (pos b -ℤ pos n) ≡ pos (a + b) -ℤ pos (m + n)
@@ -37,10 +45,10 @@ sum_bits w a b la lb =
     let x = bits w a la in
     let y = bits w b lb in
     let m : limit w * x.times + limit w * y.times
-      ≡ limit w * (x.times + y.times) = sym (mul-add (limit w) x.times y.times) in
+    ≡ limit w * (x.times + y.times) = sym (mul-add (limit w) x.times y.times) in
     sym (wrapped_from w (signed w a +ℤ signed w b) (a + b) (x.times + y.times)
     (ap (λ (z : ℤ). z +ℤ signed w b) x.is ∙ ap (λ (z : ℤ). (pos a -ℤ pos (limit w * x.times)) +ℤ z)
-      y.is
+    y.is
     ∙ sum_of a b (limit w * x.times) (limit w * y.times) ∙ ap (λ (k : ℕ). pos (a + b) -ℤ pos k) m))
 
 -- the bits of a difference
@@ -50,14 +58,14 @@ difference_bits w a b la lb =
     let x = bits w a la in
     let y = bits w b lb in
     let m : limit w + limit w * x.times ≡ limit w * suc x.times = omega
-      (arith, mul-suc (limit w) x.times) in
+    (arith, mul-suc (limit w) x.times) in
     let same : low w (a + (limit w - b) + limit w * y.times) ≡ low w (a + (limit w - b)) =
     low_same w (a + (limit w - b) + limit w * y.times) (a + (limit w - b)) 0 y.times
-      (omega arith) in
+    (omega arith) in
     sym (wrapped_from w (signed w a -ℤ signed w b) (a + (limit w - b) + limit w * y.times)
-      (suc x.times)
+    (suc x.times)
     (ap (λ (z : ℤ). z -ℤ signed w b) x.is ∙ ap (λ (z : ℤ). (pos a -ℤ pos (limit w * x.times)) -ℤ z)
-      y.is
+    y.is
     ∙ difference_of a b (limit w * x.times) (limit w * y.times) (limit w) (omega arith)
     ∙ ap (λ (k : ℕ). pos (a + (limit w - b) + limit w * y.times) -ℤ pos k) m)
     ∙ same)
@@ -75,7 +83,7 @@ product_low_high : (w : Width) (a b : ℕ) → a < half w → half w ≤ b → b
 product_low_high w a b la gb lb =
     let s : suc (limit w - 1 - b) ≡ limit w - b = omega arith in
     sym (ap (λ (z : ℤ). wrapped w (z *ℤ signed w b)) (signed_low w a la)
-      ∙ ap (λ (z : ℤ). wrapped w (pos a *ℤ z)) (signed_high w b gb lb)
+    ∙ ap (λ (z : ℤ). wrapped w (pos a *ℤ z)) (signed_high w b gb lb)
     ∙ ap (wrapped w) (pos-*ℤ-negsuc a (limit w - 1 - b))
     ∙ ap (λ (k : ℕ). wrapped w (neg_ℤ (pos (a * k)))) s
     ∙ wrapped_neg w (a * (limit w - b)) (a * b) a (left_product (limit w) a b (omega arith)))
@@ -84,13 +92,13 @@ product_high_low : (w : Width) (a b : ℕ) → half w ≤ a → a < limit w → 
     → low w (a * b) ≡ wrapped w (signed w a *ℤ signed w b)
 product_high_low w a b ga la lb =
     ap (low w) (mul_comm a b) ∙ product_low_high w b a lb ga la
-      ∙ ap (wrapped w) (*ℤ_comm (signed w b) (signed w a))
+    ∙ ap (wrapped w) (*ℤ_comm (signed w b) (signed w a))
 
 product_low_low : (w : Width) (a b : ℕ) → a < half w → b < half w
     → low w (a * b) ≡ wrapped w (signed w a *ℤ signed w b)
 product_low_low w a b la lb =
     sym (ap (λ (z : ℤ). wrapped w (z *ℤ signed w b)) (signed_low w a la)
-      ∙ ap (λ (z : ℤ). wrapped w (pos a *ℤ z)) (signed_low w b lb)
+    ∙ ap (λ (z : ℤ). wrapped w (pos a *ℤ z)) (signed_low w b lb)
     ∙ ap (wrapped w) (pos-*ℤ-pos a b))
 
 -- the product of two that are left: (l - a)(l - b) + l b = a b + l (l - a)
@@ -109,7 +117,7 @@ product_high_high w a b ga la gb lb =
     let t : suc (limit w - 1 - b) ≡ limit w - b = omega arith in
     let e = both_left (limit w) a b (omega arith) (omega arith) in
     sym (ap (λ (z : ℤ). wrapped w (z *ℤ signed w b)) (signed_high w a ga la)
-      ∙ ap (λ (z : ℤ). wrapped w (negsuc (limit w - 1 - a) *ℤ z)) (signed_high w b gb lb)
+    ∙ ap (λ (z : ℤ). wrapped w (negsuc (limit w - 1 - a) *ℤ z)) (signed_high w b gb lb)
     ∙ ap (wrapped w) (negsuc-*ℤ-negsuc (limit w - 1 - a) (limit w - 1 - b))
     ∙ ap (λ (k : ℕ). low w (k * suc (limit w - 1 - b))) s
     ∙ ap (λ (k : ℕ). low w ((limit w - a) * k)) t
@@ -119,8 +127,14 @@ product_high_high w a b ga la gb lb =
 pub product_bits : (w : Width) (a b : ℕ) → a < limit w → b < limit w
     → low w (a * b) ≡ wrapped w (signed w a *ℤ signed w b)
 product_bits w a b la lb = elim (cases_lt a (half w)) [
-  | inl ha ↦ elim (cases_lt b (half w)) [ inl hb ↦ product_low_low w a b ha hb | inr
-    hb ↦ product_low_high w a b ha hb lb ]
-  | inr ha ↦ elim (cases_lt b (half w)) [ inl hb ↦ product_high_low w a b ha la hb | inr
-    hb ↦ product_high_high w a b ha la hb lb ]
+  | inl ha ↦ elim (cases_lt b (half w)) [
+    | inl hb ↦ product_low_low w a b ha hb
+    | inr
+        hb ↦ product_low_high w a b ha hb lb
+  ]
+  | inr ha ↦ elim (cases_lt b (half w)) [
+    | inl hb ↦ product_high_low w a b ha la hb
+    | inr
+        hb ↦ product_high_high w a b ha la hb lb
+  ]
 ]

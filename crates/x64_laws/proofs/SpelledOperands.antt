@@ -49,8 +49,8 @@ at_nothing p sib =
     elim (cases_eq n 4) [
       | inl e ↦ ap (λ (b : Bool). is_index bases.Nothing (index_if b n sib)) (eq-eqb n 4 e)
       | inr o ↦ ap (λ (b : Bool). is_index bases.Nothing (index_if b n sib)) (ne_eqb n 4 o)
-      ∙ ap (λ (k : ℕ). not (eqb k 4)) (number_register n (index_number p sib))
-      ∙ ap not (ne_eqb n 4 o)
+          ∙ ap (λ (k : ℕ). not (eqb k 4)) (number_register n (index_number p sib))
+          ∙ ap not (ne_eqb n 4 o)
     ]
 
 at_register : (p : Prefixes) (sib : ℕ) (r : Reg)
@@ -60,8 +60,8 @@ at_register p sib r =
     elim (cases_eq n 4) [
       | inl e ↦ ap (λ (b : Bool). is_index (bases.Register r) (index_if b n sib)) (eq-eqb n 4 e)
       | inr o ↦ ap (λ (b : Bool). is_index (bases.Register r) (index_if b n sib)) (ne_eqb n 4 o)
-      ∙ ap (λ (k : ℕ). not (eqb k 4)) (number_register n (index_number p sib))
-      ∙ ap not (ne_eqb n 4 o)
+          ∙ ap (λ (k : ℕ). not (eqb k 4)) (number_register n (index_number p sib))
+          ∙ ap not (ne_eqb n 4 o)
     ]
 
 pub byte_displacement : Gives IsDisplacement 4 (signed W8 W64)
@@ -75,42 +75,42 @@ displaced-Gives : (mode : ℕ) → Gives IsDisplacement 4 (displaced mode)
 displaced-Gives mode =
     if-Gives IsDisplacement 4 (eqb mode 0) (λ bytes. Some (0, bytes)) _
     (λ _. at_most IsDisplacement 0 4 (λ bytes. Some (0, bytes)) (omega arith)
-      (done-Gives IsDisplacement 0 refl))
+    (done-Gives IsDisplacement 0 refl))
     (λ _. if-Gives IsDisplacement 4 (eqb mode 1) (signed W8 W64) (signed W32 W64)
-      (λ _. byte_displacement) (λ _. long_displacement))
+    (λ _. byte_displacement) (λ _. long_displacement))
 
 sib_operand-Gives : (p : Prefixes) (mode sib : ℕ) → Gives IsPlace 4 (sib_operand p mode sib)
 sib_operand-Gives p mode sib =
     if-Gives IsPlace 4 (eqb mode 0 && eqb (sib % 8) 5) _ _
     (λ _. map-Gives IsDisplacement IsPlace 4 (signed W32 W64)
-      (memory bases.Nothing (index_of_sib p sib)) long_displacement
-      (λ d h. both_true _ _ (at_nothing p sib) h))
+    (memory bases.Nothing (index_of_sib p sib)) long_displacement
+    (λ d h. both_true _ _ (at_nothing p sib) h))
     (λ _. map-Gives IsDisplacement IsPlace 4 (displaced mode)
-      (memory (bases.Register (register_of_low_bits p sib)) (index_of_sib p sib))
-      (displaced-Gives mode) (λ d h. both_true _ _ (at_register p sib (register_of_low_bits p sib))
-      h))
+    (memory (bases.Register (register_of_low_bits p sib)) (index_of_sib p sib))
+    (displaced-Gives mode) (λ d h. both_true _ _ (at_register p sib (register_of_low_bits p sib))
+    h))
 
 memory_operand-Gives : (p : Prefixes) (mode low : ℕ) → Gives IsPlace 5 (memory_operand p mode low)
 memory_operand-Gives p mode low =
     if-Gives IsPlace 5 (eqb low 4) _ _
     (λ _. bind-Gives (λ b. b < 256) IsPlace 1 4 byte (sib_operand p mode) byte-Gives
-      (λ sib _. sib_operand-Gives p mode sib))
+    (λ sib _. sib_operand-Gives p mode sib))
     (λ _. at_most IsPlace 4 5 _ (omega arith)
     (if-Gives IsPlace 4 (eqb mode 0 && eqb low 5) _ _
     (λ _. map-Gives IsDisplacement IsPlace 4 (signed W32 W64) (memory bases.Rip None)
-      long_displacement (λ d h. h))
+    long_displacement (λ d h. h))
     (λ _. map-Gives IsDisplacement IsPlace 4 (displaced mode)
-      (memory (bases.Register (register_of_low_bits p low)) None) (displaced-Gives mode)
-      (λ d h. h))))
+    (memory (bases.Register (register_of_low_bits p low)) None) (displaced-Gives mode)
+    (λ d h. h))))
 
 place-Gives : (p : Prefixes) (modrm : ℕ) → Gives IsPlace 5 (place p modrm)
 unfolding place
 place-Gives p modrm =
     if-Gives IsPlace 5 (eqb (modrm / 64) 3) (λ bytes. Some
-      (places.Register (register_of_low_bits p modrm), bytes))
-      (memory_operand p (modrm / 64) (modrm % 8))
+    (places.Register (register_of_low_bits p modrm), bytes))
+    (memory_operand p (modrm / 64) (modrm % 8))
     (λ _. at_most IsPlace 0 5 _ (omega arith)
-      (done-Gives IsPlace (places.Register (register_of_low_bits p modrm)) refl))
+    (done-Gives IsPlace (places.Register (register_of_low_bits p modrm)) refl))
     (λ _. memory_operand-Gives p (modrm / 64) (modrm % 8))
 
 abbrev pub FirstIsPlace : {B : Type 0} → RegisterOrMemory × B → Type 0
@@ -120,36 +120,36 @@ modrm_with_register-Gives : (p : Prefixes) → Gives {A = RegisterOrMemory × Re
     (modrm_with_register p)
 modrm_with_register-Gives p =
     bind-Gives (λ b. b < 256) FirstIsPlace 1 5 byte
-      (λ m bytes. place p m bytes >>= λ at. Some ((at.0, register_of_reg_field p m), at.1))
-      byte-Gives
+    (λ m bytes. place p m bytes >>= λ at. Some ((at.0, register_of_reg_field p m), at.1))
+    byte-Gives
     (λ m _. map-Gives IsPlace FirstIsPlace 5 (place p m) (λ at. (at, register_of_reg_field p m))
-      (place-Gives p m) (λ at h. h))
+    (place-Gives p m) (λ at h. h))
 
 modrm_with_opcode_extension-Gives : (p : Prefixes)
     → Gives {A = RegisterOrMemory × ℕ} FirstIsPlace 6 (modrm_with_opcode_extension p)
 modrm_with_opcode_extension-Gives p =
     bind-Gives (λ b. b < 256) FirstIsPlace 1 5 byte
-      (λ m bytes. place p m bytes >>= λ at. Some ((at.0, m / 8 % 8), at.1)) byte-Gives
+    (λ m bytes. place p m bytes >>= λ at. Some ((at.0, m / 8 % 8), at.1)) byte-Gives
     (λ m _. map-Gives IsPlace FirstIsPlace 5 (place p m) (λ at. (at, m / 8 % 8)) (place-Gives p m)
-      (λ at h. h))
+    (λ at h. h))
 
 pub rm_and_register-Gives : (p : Prefixes) (w v : Width)
     → Gives {A = RegisterOrMemory × Reg} FirstIsPlace 6 (rm_and_register p w v)
 rm_and_register-Gives p w v =
     bind-Gives FirstIsPlace FirstIsPlace 6 0 (modrm_with_register p)
-      (λ x bytes. cond (is_listed p w x.0 && is_listed p v (places.Register x.1)) (Some (x, bytes))
-      None) (modrm_with_register-Gives p)
+    (λ x bytes. cond (is_listed p w x.0 && is_listed p v (places.Register x.1)) (Some (x, bytes))
+    None) (modrm_with_register-Gives p)
     (λ x h. if-Gives FirstIsPlace 0 (is_listed p w x.0 && is_listed p v (places.Register x.1)) _ _
-      (λ _. done-Gives FirstIsPlace x h) (λ _. fail-Gives FirstIsPlace 0))
+    (λ _. done-Gives FirstIsPlace x h) (λ _. fail-Gives FirstIsPlace 0))
 
 pub rm_and_opcode_extension-Gives : (p : Prefixes) (w : Width)
     → Gives {A = RegisterOrMemory × ℕ} FirstIsPlace 6 (rm_and_opcode_extension p w)
 rm_and_opcode_extension-Gives p w =
     bind-Gives FirstIsPlace FirstIsPlace 6 0 (modrm_with_opcode_extension p)
-      (λ x bytes. cond (is_listed p w x.0) (Some (x, bytes)) None)
-      (modrm_with_opcode_extension-Gives p)
+    (λ x bytes. cond (is_listed p w x.0) (Some (x, bytes)) None)
+    (modrm_with_opcode_extension-Gives p)
     (λ x h. if-Gives FirstIsPlace 0 (is_listed p w x.0) _ _ (λ _. done-Gives FirstIsPlace x h)
-      (λ _. fail-Gives FirstIsPlace 0))
+    (λ _. fail-Gives FirstIsPlace 0))
 
 -- ---- the forms of operands
 
@@ -159,7 +159,7 @@ pub rm_r-Gives : (p : Prefixes) (w : Width) (made : RegisterOrMemory → Operand
 rm_r-Gives p w made h =
     at_most IsCode 6 10 (rm_r p w made) (omega arith)
     (map-Gives FirstIsPlace IsCode 6 (rm_and_register p w w) (λ x. made x.0 (operands.Register x.1))
-      (rm_and_register-Gives p w w) (λ x is. h x.0 x.1 is))
+    (rm_and_register-Gives p w w) (λ x is. h x.0 x.1 is))
 
 pub r_rm-Gives : (p : Prefixes) (v w : Width) (made : Reg → RegisterOrMemory → Instr)
     → ((r : Reg) (at : RegisterOrMemory) → IsPlace at → IsCode (made r at))
@@ -167,7 +167,7 @@ pub r_rm-Gives : (p : Prefixes) (v w : Width) (made : Reg → RegisterOrMemory �
 r_rm-Gives p v w made h =
     at_most IsCode 6 10 (r_rm p v w made) (omega arith)
     (map-Gives FirstIsPlace IsCode 6 (rm_and_register p w v) (λ x. made x.1 x.0)
-      (rm_and_register-Gives p w v) (λ x is. h x.1 x.0 is))
+    (rm_and_register-Gives p w v) (λ x is. h x.1 x.0 is))
 
 pub rm_extension-Gives : (p : Prefixes) (w : Width)
     (made : ℕ → RegisterOrMemory → List ℕ → Read Instr)

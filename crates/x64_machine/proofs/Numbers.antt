@@ -41,7 +41,7 @@ signed_low w a lt =
     let e : low w a ≡ a = low_is w a (omega arith) in
     let t : ltb a (half w) ≡ true = lt-ltb a (half w) lt in
     ap (λ (x : ℕ). cond (ltb x (half w)) (pos x) (pos x -ℤ pos (limit w))) e
-      ∙ ap (λ (b : Bool). cond b (pos a) (pos a -ℤ pos (limit w))) t
+    ∙ ap (λ (b : Bool). cond b (pos a) (pos a -ℤ pos (limit w))) t
 
 -- from half up it represents itself less the limit
 pub signed_high : (w : Width) (a : ℕ) → half w ≤ a → a < limit w
@@ -51,7 +51,7 @@ signed_high w a le lt =
     let t : ltb a (half w) ≡ false = le-ltb a (half w) le in
     let z : pos a -ℤ pos (limit w) ≡ negsuc (limit w - 1 - a) = omega (arith, ints) in
     ap (λ (x : ℕ). cond (ltb x (half w)) (pos x) (pos x -ℤ pos (limit w))) e
-      ∙ ap (λ (b : Bool). cond b (pos a) (pos a -ℤ pos (limit w))) t ∙ z
+    ∙ ap (λ (b : Bool). cond b (pos a) (pos a -ℤ pos (limit w))) t ∙ z
 
 -- a whole number modulo the limit is below the limit
 pub wrapped_below : (w : Width) (z : ℤ) → wrapped w z < limit w

@@ -14,7 +14,7 @@ through a z f e = ap (λ x. to_z w128 (of_z w128 x)) (e ∙ to_z-of_z w64 a f)
 
 pub sum_through : (a b x y : ℤ) → FitsSigned w64 a → FitsSigned w64 b → x ≡ to_z w64 (of_z w64 a)
     → y ≡ to_z w64 (of_z w64 b) → to_z w128 (of_z w128
-      (to_z w128 (of_z w128 x) +ℤ to_z w128 (of_z w128 y))) ≡ a +ℤ b
+    (to_z w128 (of_z w128 x) +ℤ to_z w128 (of_z w128 y))) ≡ a +ℤ b
 sum_through a b x y f g e h = ap (λ p. to_z w128 (of_z w128 (p +ℤ to_z w128 (of_z w128 y))))
     (through a x f e) ∙ ap (λ p. to_z w128 (of_z w128 (a +ℤ p))) (through b y g h) ∙ sum a b f g
   where
@@ -29,7 +29,7 @@ difference_through a b x y f g e h = ap (λ p. to_z w128 (of_z w128 (p -ℤ to_z
     ∙ difference a b f g
   where
     difference : (a b : ℤ) → FitsSigned w64 a → FitsSigned w64 b
-      → to_z w128 (of_z w128 (a -ℤ b)) ≡ a -ℤ b
+        → to_z w128 (of_z w128 (a -ℤ b)) ≡ a -ℤ b
     difference a b f g = let p = f.sfits in let q = g.sfits in omega (arith, ints)
 
 pub product_through : (a b x y : ℤ) → FitsSigned w64 a → FitsSigned w64 b
@@ -38,4 +38,4 @@ pub product_through : (a b x y : ℤ) → FitsSigned w64 a → FitsSigned w64 b
 product_through a b x y f g e h = ap (λ p. to_z w128 (of_z w128 (p *ℤ to_z w128 (of_z w128 y))))
     (through a x f e) ∙ ap (λ p. to_z w128 (of_z w128 (a *ℤ p))) (through b y g h)
     ∙ to_z-of_z w128 (a *ℤ b) (fits_signed_mul w128 a b (2 ^ 63) (2 ^ 63) (nat_abs-le a f.sfits)
-      (nat_abs-le b g.sfits) (lit< tt))
+    (nat_abs-le b g.sfits) (lit< tt))

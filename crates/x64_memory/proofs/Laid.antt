@@ -17,8 +17,11 @@ pub before : (s : Stretch) (k : ℕ) → k < s.first → has_number s k ≡ fals
 before s k lt = rw (lt-leb s.first k lt) refl
 
 pub past : (s : Stretch) (k : ℕ) → s.end ≤ k → has_number s k ≡ false
-past s k ge = elim (cases_lt k s.first) [ inl lt ↦ before s k lt | inr le ↦ rw
-    (le-leb s.first k le, le-ltb k s.end ge) refl ]
+past s k ge = elim (cases_lt k s.first) [
+  | inl lt ↦ before s k lt
+  | inr le ↦ rw
+      (le-leb s.first k le, le-ltb k s.end ge) refl
+]
 
 cases_stretch : (s : Stretch) (k : ℕ) → ((s.first ≤ k) × (k < s.end)) ⊎ (has_number s k ≡ false)
 cases_stretch s k = elim (cases_lt k s.first) [
@@ -44,7 +47,7 @@ none_below low from (s ∷ ss) k laid lt =
     let order = laid.0.order in
     let grows = laid.0.grows in
     index_past s ss k (before s k (omega arith))
-      ∙ none_below s.end (from + (s.end - s.first)) ss k laid.1 (omega arith)
+    ∙ none_below s.end (from + (s.end - s.first)) ss k laid.1 (omega arith)
 
 count_rises : (from : ℕ) (ss : List Stretch) → from ≤ count_from from ss
 count_rises from [] = omega arith
@@ -72,7 +75,7 @@ index_in low from (s ∷ ss) k i laid e = elim (cases_stretch s k) [
       (omega arith, omega arith)
   | inr out ↦
       let rest = index_in s.end (from + (s.end - s.first)) ss k i laid.1
-        (sym (index_past s ss k out) ∙ e) in
+      (sym (index_past s ss k out) ∙ e) in
       let low' = rest.0 in
       (omega arith, rest.1)
 ]
@@ -87,20 +90,20 @@ one_number low from (s ∷ ss) k q i laid e f = both
     (cases_stretch s q)
   where
     here : (n : ℕ) → s.first ≤ n → n < s.end → index_of (s ∷ ss) n ≡ Some i
-      → i ≡ from + (n - s.first)
+        → i ≡ from + (n - s.first)
     here n le lt g =
         let at : s.index + (n - s.first) ≡ i = same_Some _ _ (sym (index_here s ss n le lt) ∙ g) in
         let kept = laid.0.kept in
         omega arith
 
     later : (n : ℕ) → has_number s n ≡ false → index_of (s ∷ ss) n ≡ Some i
-      → from + (s.end - s.first) ≤ i
+        → from + (s.end - s.first) ≤ i
     later n out g = (index_in s.end (from + (s.end - s.first)) ss n i laid.1
-      (sym (index_past s ss n out) ∙ g)).0
+        (sym (index_past s ss n out) ∙ g)).0
 
     both : (has_number s k ≡ false → has_number s q ≡ false → k ≡ q)
-      → ((s.first ≤ k) × (k < s.end)) ⊎ (has_number s k ≡ false)
-      → ((s.first ≤ q) × (q < s.end)) ⊎ (has_number s q ≡ false) → k ≡ q
+        → ((s.first ≤ k) × (k < s.end)) ⊎ (has_number s k ≡ false)
+        → ((s.first ≤ q) × (q < s.end)) ⊎ (has_number s q ≡ false) → k ≡ q
     both again (inl a) (inl b) =
         let x = here k a.0 a.1 e in
         let y = here q b.0 b.1 f in
@@ -164,13 +167,13 @@ page_set ss ps k i p laid count at q = elim (cases_eq q k) [
       let in' = (index_in 0 0 ss k i laid at).1 in
       let lt : i < length ps = omega arith in
       ap (page_at (set ps i p)) (ap (index_of ss) e ∙ at) ∙ get_set_same ps i p lt
-        ∙ sym (ap (λ b. cond b (Some p) (page_numbered ss ps q)) (eq-eqb q k e))
+      ∙ sym (ap (λ b. cond b (Some p) (page_numbered ss ps q)) (eq-eqb q k e))
   | inr n ↦ other n (index_of ss q) refl ∙ sym
-    (ap (λ b. cond b (Some p) (page_numbered ss ps q)) (ne_eqb q k n))
+      (ap (λ b. cond b (Some p) (page_numbered ss ps q)) (ne_eqb q k n))
 ]
   where
     other : q ≢ k → (o : Option ℕ) → index_of ss q ≡ o
-      → page_at (set ps i p) (index_of ss q) ≡ page_at ps (index_of ss q)
+        → page_at (set ps i p) (index_of ss q) ≡ page_at ps (index_of ss q)
     other n None e = ap (page_at (set ps i p)) e ∙ sym (ap (page_at ps) e)
     other n (Some j) e =
         let apart : j ≢ i = λ same. n (one_number 0 0 ss q k i laid (e ∙ ap Some same) at) in
@@ -194,10 +197,10 @@ module _ (s : Stretch) (ps : List Page) (z : Page) (kept : s.index ≡ length ps
         let le = h.0 in
         let lt = h.1 in
         ap (page_at (ps ++ replicate (s.end - s.first) z)) (index_here s [] k le lt)
-          ∙ get_appended ps (s.end - s.first) (s.index + (k - s.first)) z (omega arith)
-            (omega arith) ∙ sym (ap (λ b. cond b (Some z) None) (within s k le lt))
+        ∙ get_appended ps (s.end - s.first) (s.index + (k - s.first)) z (omega arith)
+        (omega arith) ∙ sym (ap (λ b. cond b (Some z) None) (within s k le lt))
     | inr out ↦ ap (page_at (ps ++ replicate (s.end - s.first) z)) (index_past s [] k out)
-    ∙ sym (ap (λ b. cond b (Some z) None) out)
+        ∙ sym (ap (λ b. cond b (Some z) None) out)
   ]
   appended low from (t ∷ ts) k laid count above = elim (cases_stretch t k) [
     | inl h ↦
@@ -208,13 +211,13 @@ module _ (s : Stretch) (ps : List Page) (z : Page) (kept : s.index ≡ length ps
         let more = count_rises (from + (t.end - t.first)) ts in
         let old = sym (ap (page_at ps) (index_here t ts k le lt)) in
         ap (page_at (ps ++ replicate (s.end - s.first) z)) (index_here t (ts ++ s ∷ []) k le lt)
-          ∙ get_append_left ps (replicate (s.end - s.first) z) (t.index + (k - t.first))
-            (omega arith) ∙ old ∙ sym (ap (λ b. cond b (Some z) (page_numbered (t ∷ ts) ps k))
-            (before s k (omega arith)))
+        ∙ get_append_left ps (replicate (s.end - s.first) z) (t.index + (k - t.first))
+        (omega arith) ∙ old ∙ sym (ap (λ b. cond b (Some z) (page_numbered (t ∷ ts) ps k))
+        (before s k (omega arith)))
     | inr out ↦ ap (page_at (ps ++ replicate (s.end - s.first) z))
-      (index_past t (ts ++ s ∷ []) k out) ∙ appended t.end (from + (t.end - t.first)) ts k laid.1
-      count above ∙ sym (ap (λ o. cond (has_number s k) (Some z) (page_at ps o))
-      (index_past t ts k out))
+        (index_past t (ts ++ s ∷ []) k out) ∙ appended t.end (from + (t.end - t.first)) ts k laid.1
+        count above ∙ sym (ap (λ o. cond (has_number s k) (Some z) (page_at ps o))
+        (index_past t ts k out))
   ]
 
 pub page_added : (s : Stretch) (ss : List Stretch) (ps : List Page) (z : Page) → s.index ≡ length ps

@@ -24,8 +24,11 @@ below : (r : Region) (a : ℕ) → a < r.start → covers r a ≡ false
 below r a lt = rw (lt-leb r.start a lt) refl
 
 outside : (r : Region) (a : ℕ) → r.end ≤ a → covers r a ≡ false
-outside r a ge = elim (cases_lt a r.start) [ inl lt ↦ below r a lt | inr le ↦ rw
-    (le-leb r.start a le, le-ltb a r.end ge) refl ]
+outside r a ge = elim (cases_lt a r.start) [
+  | inl lt ↦ below r a lt
+  | inr le ↦ rw
+      (le-leb r.start a le, le-ltb a r.end ge) refl
+]
 
 zeros : (n i : ℕ) → get_or (replicate {A = ℕ} n 0) i 0 ≡ 0
 zeros zero i = refl
@@ -62,19 +65,19 @@ module _ (r : Region) (s : Stretch) (start : r.start % 4096 ≡ 0) (end : r.end 
   module _ (old new : ℕ → Option Page) (protection : Protection) (mode : protection ≡ region_mode r)
       (has : (k : ℕ) → new k ≡ cond (has_number s k) (Some (zero_page protection)) (old k)) where
     mode_over : (a : ℕ) → page_mode (new (a / 4096))
-      ≡ cond (covers r a) (region_mode r) (page_mode (old (a / 4096)))
+        ≡ cond (covers r a) (region_mode r) (page_mode (old (a / 4096)))
     mode_over a = ap page_mode (has (a / 4096))
-      ∙ mode_either (has_number s (a / 4096)) (zero_page protection) (old (a / 4096))
-      ∙ ap (λ b. cond b protection (page_mode (old (a / 4096)))) (has_covered a)
-      ∙ ap (λ m. cond (covers r a) m (page_mode (old (a / 4096)))) mode
+        ∙ mode_either (has_number s (a / 4096)) (zero_page protection) (old (a / 4096))
+        ∙ ap (λ b. cond b protection (page_mode (old (a / 4096)))) (has_covered a)
+        ∙ ap (λ m. cond (covers r a) m (page_mode (old (a / 4096)))) mode
 
     byte_over : (a : ℕ) → page_byte (new (a / 4096)) (a % 4096)
-      ≡ cond (covers r a) 0 (page_byte (old (a / 4096)) (a % 4096))
+        ≡ cond (covers r a) 0 (page_byte (old (a / 4096)) (a % 4096))
     byte_over a = ap (λ o. page_byte o (a % 4096)) (has (a / 4096))
-      ∙ byte_either (has_number s (a / 4096)) (zero_page protection) (old (a / 4096)) (a % 4096)
-      ∙ ap (λ b. cond b (get_or (zero_page protection).bytes (a % 4096) 0)
+        ∙ byte_either (has_number s (a / 4096)) (zero_page protection) (old (a / 4096)) (a % 4096)
+        ∙ ap (λ b. cond b (get_or (zero_page protection).bytes (a % 4096) 0)
         (page_byte (old (a / 4096)) (a % 4096))) (has_covered a)
-      ∙ ap (λ x. cond (covers r a) x (page_byte (old (a / 4096)) (a % 4096)))
+        ∙ ap (λ x. cond (covers r a) x (page_byte (old (a / 4096)) (a % 4096)))
         (zeros 4096 (a % 4096))
 
     pub region_over : paged new ≡ with_region (paged old) r
@@ -83,17 +86,19 @@ module _ (r : Region) (s : Stretch) (start : r.start % 4096 ≡ 0) (end : r.end 
 
     pub holds_over : (a : ℕ) → has_page new a ≡ (covers r a || has_page old a)
     holds_over a = ap is_some (has (a / 4096))
-      ∙ has_either (has_number s (a / 4096)) (zero_page protection) (old (a / 4096))
-      ∙ ap (λ b. b || has_page old a) (has_covered a)
+        ∙ has_either (has_number s (a / 4096)) (zero_page protection) (old (a / 4096))
+        ∙ ap (λ b. b || has_page old a) (has_covered a)
 
 -- ---- all regions
 
 pub empty_memory : (stretches : List Stretch) (pages : List Page) → stretches ≡ []
     → paged (page_numbered stretches pages) ≡ unmapped
 unfolding paged
-empty_memory stretches pages e = λ i. record { protection = λ a. page_mode
-    (page_at pages (index_of (e i) (a / 4096)));
-    byte = λ a. page_byte (page_at pages (index_of (e i) (a / 4096))) (a % 4096) }
+empty_memory stretches pages e = λ i. record {
+  protection = λ a. page_mode
+      (page_at pages (index_of (e i) (a / 4096)));
+  byte = λ a. page_byte (page_at pages (index_of (e i) (a / 4096))) (a % 4096);
+}
 
 pub empty_holds : (stretches : List Stretch) (pages : List Page) (a : ℕ) → stretches ≡ []
     → has_page (page_numbered stretches pages) a ≡ false
@@ -104,7 +109,7 @@ pub arena_mapped : (pages : ℕ → Option Page) (rs : List Region)
 arena_mapped pages rs h arena q low high =
     let e : 4096 * q / 4096 ≡ q = omega arith in
     ap (λ k. is_some (pages k)) (sym e) ∙ h (4096 * q)
-      ∙ arena (4096 * q) (omega arith) (omega arith)
+    ∙ arena (4096 * q) (omega arith) (omega arith)
 
 -- ---- bytes put
 
@@ -128,20 +133,20 @@ module _ (m : Memory) (at : ℕ) (first others : List ℕ) where
       ≡ (filled m at (first ++ others)).byte a
   both_bytes a = elim (cases_lt a at) [
     | inl lt ↦ put_below (filled m at first) (at + length first) others a (omega arith)
-    ∙ put_below m at first a lt ∙ sym (put_below m at (first ++ others) a lt)
+        ∙ put_below m at first a lt ∙ sym (put_below m at (first ++ others) a lt)
     | inr le ↦ elim (cases_lt a (at + length first)) [
       | inl lt ↦ put_below (filled m at first) (at + length first) others a lt
-      ∙ put_in m at first a le lt ∙ sym (get_or_append_left first others 0 (a - at) (omega arith))
-      ∙ sym (put_in m at (first ++ others) a le (omega (arith, both)))
+          ∙ put_in m at first a le lt ∙ sym (get_or_append_left first others 0 (a - at) (omega arith))
+          ∙ sym (put_in m at (first ++ others) a le (omega (arith, both)))
       | inr ge ↦ elim (cases_lt a (at + length first + length others)) [
         | inl lt ↦
             let place : a - at ≡ length first + (a - (at + length first)) = omega arith in
             put_in (filled m at first) (at + length first) others a ge lt
-              ∙ sym (get_or-append-add first others (a - (at + length first)) 0)
-              ∙ sym (ap (λ j. get_or (first ++ others) j 0) place)
-              ∙ sym (put_in m at (first ++ others) a le (omega (arith, both)))
+            ∙ sym (get_or-append-add first others (a - (at + length first)) 0)
+            ∙ sym (ap (λ j. get_or (first ++ others) j 0) place)
+            ∙ sym (put_in m at (first ++ others) a le (omega (arith, both)))
         | inr out ↦ put_above (filled m at first) (at + length first) others a out
-        ∙ put_above m at first a ge ∙ sym (put_above m at (first ++ others) a (omega (arith, both)))
+            ∙ put_above m at first a ge ∙ sym (put_above m at (first ++ others) a (omega (arith, both)))
       ]
     ]
   ]
@@ -154,8 +159,11 @@ pub filled_none : (m : Memory) (at : ℕ) (xs : List ℕ) → length xs ≡ 0 �
 filled_none m at xs e = λ i. record { protection = m.protection; byte = λ a. none a i }
   where
     none : (a : ℕ) → (filled m at xs).byte a ≡ m.byte a
-    none a = elim (cases_lt a at) [ inl lt ↦ put_below m at xs a lt | inr le ↦ put_above m at xs a
-      (omega arith) ]
+    none a = elim (cases_lt a at) [
+      | inl lt ↦ put_below m at xs a lt
+      | inr le ↦ put_above m at xs a
+          (omega arith)
+    ]
 
 -- ---- bytes put into one page
 
@@ -177,14 +185,14 @@ module _ (pages : ℕ → Option Page) (p q : Page) (at : ℕ) (xs : List ℕ)
       ≡ (filled (paged pages) at xs).byte a
   in_page a e = elim (cases_lt a at) [
     | inl lt ↦ before (a % 4096) (omega arith) ∙ sym (byte_had a e)
-    ∙ sym (put_below (paged pages) at xs a lt)
+        ∙ sym (put_below (paged pages) at xs a lt)
     | inr le ↦ elim (cases_lt a (at + length xs)) [
       | inl lt ↦
           let place : a % 4096 ≡ at % 4096 + (a - at) = omega arith in
           ap (λ j. get_or q.bytes j 0) place ∙ inside (a - at) (omega arith)
-            ∙ sym (put_in (paged pages) at xs a le lt)
+          ∙ sym (put_in (paged pages) at xs a le lt)
       | inr ge ↦ after (a % 4096) (omega arith) ∙ sym (byte_had a e)
-      ∙ sym (put_above (paged pages) at xs a ge)
+          ∙ sym (put_above (paged pages) at xs a ge)
     ]
   ]
 
@@ -199,18 +207,18 @@ module _ (pages : ℕ → Option Page) (p q : Page) (at : ℕ) (xs : List ℕ)
       ((paged pages).byte a) ≡ (filled (paged pages) at xs).byte a
   each_byte a = elim (cases_eq (a / 4096) (at / 4096)) [
     | inl e ↦ ap (λ b. cond b (get_or q.bytes (a % 4096) 0) ((paged pages).byte a))
-      (eq-eqb (a / 4096) (at / 4096) e) ∙ in_page a e
+        (eq-eqb (a / 4096) (at / 4096) e) ∙ in_page a e
     | inr n ↦ ap (λ b. cond b (get_or q.bytes (a % 4096) 0) ((paged pages).byte a))
-      (ne_eqb (a / 4096) (at / 4096) n) ∙ off_page a n
+        (ne_eqb (a / 4096) (at / 4096) n) ∙ off_page a n
   ]
 
   each_mode : (a : ℕ) → cond (eqb (a / 4096) (at / 4096)) q.protection ((paged pages).protection a)
       ≡ (paged pages).protection a
   each_mode a = elim (cases_eq (a / 4096) (at / 4096)) [
     | inl e ↦ ap (λ b. cond b q.protection ((paged pages).protection a))
-      (eq-eqb (a / 4096) (at / 4096) e) ∙ protection ∙ sym (mode_had a e)
+        (eq-eqb (a / 4096) (at / 4096) e) ∙ protection ∙ sym (mode_had a e)
     | inr n ↦ ap (λ b. cond b q.protection ((paged pages).protection a))
-      (ne_eqb (a / 4096) (at / 4096) n)
+        (ne_eqb (a / 4096) (at / 4096) n)
   ]
 
   pub bytes_put : (new : ℕ → Option Page) → ((k : ℕ)
@@ -226,23 +234,23 @@ pub piece_inside : (xs ys : List ℕ) (from k j : ℕ) → from ≤ length xs �
 piece_inside xs ys from k j le lt =
     let here : from + j ≡ length (take from xs) + j = omega (arith, length-take-le from xs le) in
     ap (λ i. get_or (put_mid from k xs ys) i 0) here
-      ∙ get_or-append-add (take from xs) (ys ++ post_of from k xs) j 0
-      ∙ get_or_append_left ys (post_of from k xs) 0 j lt
+    ∙ get_or-append-add (take from xs) (ys ++ post_of from k xs) j 0
+    ∙ get_or_append_left ys (post_of from k xs) 0 j lt
 
 pub piece_before : (xs ys : List ℕ) (from k i : ℕ) → i < from → from ≤ length xs
     → get_or (put_mid from k xs ys) i 0 ≡ get_or xs i 0
 piece_before xs ys from k i lt le =
     get_or_append_left (take from xs) (ys ++ post_of from k xs) 0 i
-      (omega (arith, length-take-le from xs le)) ∙ get_or-take from xs i 0 lt
+    (omega (arith, length-take-le from xs le)) ∙ get_or-take from xs i 0 lt
 
 pub piece_after : (xs ys : List ℕ) (from k i : ℕ) → from + k ≤ i → from ≤ length xs → length ys ≡ k
     → get_or (put_mid from k xs ys) i 0 ≡ get_or xs i 0
 piece_after xs ys from k i ge le e =
     let here : i ≡ i + 0 = omega arith in
     ap (λ j. get_or (put_mid from k xs ys) j 0) here
-      ∙ sym (get_or-drop i (put_mid from k xs ys) 0 0)
-      ∙ ap (λ (zs : List ℕ). get_or zs 0 0) (drop-put_mid from k xs ys i ge le e)
-      ∙ get_or-drop i xs 0 0 ∙ sym (ap (λ j. get_or xs j 0) here)
+    ∙ sym (get_or-drop i (put_mid from k xs ys) 0 0)
+    ∙ ap (λ (zs : List ℕ). get_or zs 0 0) (drop-put_mid from k xs ys i ge le e)
+    ∙ get_or-drop i xs 0 0 ∙ sym (ap (λ j. get_or xs j 0) here)
 
 -- ---- a region put after others
 
@@ -281,9 +289,9 @@ module _ (r : Region) (s : Stretch) (ss ss' : List Stretch) (ps ps' : List Page)
       let old = length-append ps (replicate (s.end - s.first) (zero_page protection)) in
       let new = length-replicate (s.end - s.first) (zero_page protection) in
       let size : length ps' ≡ length ps + (s.end - s.first) = ap length added ∙ old
-        ∙ ap (λ n. length ps + n) new in
+      ∙ ap (λ n. length ps + n) new in
       let counted : count_from 0 ss' ≡ count_from 0 ss
-        + (s.end - s.first) = ap (count_from 0) pushed ∙ count_more s 0 ss in
+      + (s.end - s.first) = ap (count_from 0) pushed ∙ count_more s 0 ss in
       omega arith
 
   end_after : 4096 * end_from 0 ss' ≡ r.end
@@ -295,12 +303,17 @@ module _ (r : Region) (s : Stretch) (ss ss' : List Stretch) (ps ps' : List Page)
   pub record IsMapped : Type 0 where
     pub memory : paged (page_numbered ss' ps') ≡ with_region (paged (page_numbered ss ps)) r
     pub holds : (a : ℕ) → has_page (page_numbered ss' ps') a
-      ≡ (covers r a || has_page (page_numbered ss ps) a)
+        ≡ (covers r a || has_page (page_numbered ss ps) a)
     pub ascending : AreLaid 0 0 ss'
     pub counted : length ps' ≡ count_from 0 ss'
     pub end : 4096 * end_from 0 ss' ≡ r.end
 
   -- the pages are those of the memory with the region over what was there
   pub is_mapped : IsMapped
-  is_mapped = record { memory = memory_after; holds = holds_after; ascending = laid_after;
-      counted = count_after; end = end_after }
+  is_mapped = record {
+    memory = memory_after;
+    holds = holds_after;
+    ascending = laid_after;
+    counted = count_after;
+    end = end_after;
+  }

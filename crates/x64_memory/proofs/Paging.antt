@@ -24,21 +24,21 @@ module _ (old new : ℕ → Option Page) (k : ℕ) (p : Page)
       ≡ cond (eqb (a / 4096) k) p.protection (page_mode (old (a / 4096)))
   modes a = elim (cases_eq (a / 4096) k) [
     | inl e ↦ ap page_mode (at_page (a / 4096) e)
-    ∙ sym (ap (λ b. cond b p.protection (page_mode (old (a / 4096)))) (eq-eqb (a / 4096) k e))
+        ∙ sym (ap (λ b. cond b p.protection (page_mode (old (a / 4096)))) (eq-eqb (a / 4096) k e))
     | inr n ↦ ap page_mode (off_page (a / 4096) n)
-    ∙ sym (ap (λ b. cond b p.protection (page_mode (old (a / 4096)))) (ne_eqb (a / 4096) k n))
+        ∙ sym (ap (λ b. cond b p.protection (page_mode (old (a / 4096)))) (ne_eqb (a / 4096) k n))
   ]
 
   bytes : (a : ℕ) → page_byte (new (a / 4096)) (a % 4096)
       ≡ cond (eqb (a / 4096) k) (get_or p.bytes (a % 4096) 0)
-        (page_byte (old (a / 4096)) (a % 4096))
+      (page_byte (old (a / 4096)) (a % 4096))
   bytes a = elim (cases_eq (a / 4096) k) [
     | inl e ↦ ap (λ o. page_byte o (a % 4096)) (at_page (a / 4096) e)
-    ∙ sym (ap (λ b. cond b (get_or p.bytes (a % 4096) 0) (page_byte (old (a / 4096)) (a % 4096)))
-      (eq-eqb (a / 4096) k e))
+        ∙ sym (ap (λ b. cond b (get_or p.bytes (a % 4096) 0) (page_byte (old (a / 4096)) (a % 4096)))
+        (eq-eqb (a / 4096) k e))
     | inr n ↦ ap (λ o. page_byte o (a % 4096)) (off_page (a / 4096) n)
-    ∙ sym (ap (λ b. cond b (get_or p.bytes (a % 4096) 0) (page_byte (old (a / 4096)) (a % 4096)))
-      (ne_eqb (a / 4096) k n))
+        ∙ sym (ap (λ b. cond b (get_or p.bytes (a % 4096) 0) (page_byte (old (a / 4096)) (a % 4096)))
+        (ne_eqb (a / 4096) k n))
   ]
 
   pub page_changed : paged new ≡ with_page (paged old) k p
@@ -48,9 +48,9 @@ module _ (old new : ℕ → Option Page) (k : ℕ) (p : Page)
   pub has_changed : (a : ℕ) → has_page new a ≡ (eqb (a / 4096) k || has_page old a)
   has_changed a = elim (cases_eq (a / 4096) k) [
     | inl e ↦ ap is_some (at_page (a / 4096) e)
-    ∙ sym (ap (λ b. b || has_page old a) (eq-eqb (a / 4096) k e))
+        ∙ sym (ap (λ b. b || has_page old a) (eq-eqb (a / 4096) k e))
     | inr n ↦ ap is_some (off_page (a / 4096) n)
-    ∙ sym (ap (λ b. b || has_page old a) (ne_eqb (a / 4096) k n))
+        ∙ sym (ap (λ b. b || has_page old a) (ne_eqb (a / 4096) k n))
   ]
 
   pub has_kept : (o : Page) → old k ≡ Some o → (a : ℕ) → has_page new a ≡ has_page old a
@@ -98,15 +98,15 @@ module _ (pages : ℕ → Option Page) (p q : Page) (n at v : ℕ) (had : pages 
       ≡ with_number (paged pages).byte n at v a
   in_page a e = elim (cases_lt (a % 4096) (at % 4096)) [
     | inl l ↦ put (a % 4096) ∙ put_before p.bytes (at % 4096) n v (a % 4096) l ∙ sym (old_byte a e)
-    ∙ sym (beyond (paged pages).byte n at v a (below_limit a e) (omega arith))
+        ∙ sym (beyond (paged pages).byte n at v a (below_limit a e) (omega arith))
     | inr g ↦ elim (cases_lt (a % 4096) (at % 4096 + n)) [
       | inl l ↦
           let d : a % 4096 - at % 4096 ≡ distance at a = omega arith in
           put (a % 4096) ∙ put_inside p.bytes (at % 4096) n v (a % 4096) g l
-            ∙ ap (λ j. v / 256 ^ j % 256) d ∙ sym
-              (among (paged pages).byte n at v a (below_limit a e) (omega arith))
+          ∙ ap (λ j. v / 256 ^ j % 256) d ∙ sym
+          (among (paged pages).byte n at v a (below_limit a e) (omega arith))
       | inr h ↦ put (a % 4096) ∙ put_after p.bytes (at % 4096) n v (a % 4096) h ∙ sym (old_byte a e)
-      ∙ sym (beyond (paged pages).byte n at v a (below_limit a e) (omega arith))
+          ∙ sym (beyond (paged pages).byte n at v a (below_limit a e) (omega arith))
     ]
   ]
 
@@ -121,9 +121,9 @@ module _ (pages : ℕ → Option Page) (p q : Page) (n at v : ℕ) (had : pages 
       ((paged pages).byte a) ≡ with_number (paged pages).byte n at v a
   same_byte a = elim (cases_eq (a / 4096) (at / 4096)) [
     | inl e ↦ ap (λ b. cond b (get_or q.bytes (a % 4096) 0) ((paged pages).byte a))
-      (eq-eqb (a / 4096) (at / 4096) e) ∙ in_page a e
+        (eq-eqb (a / 4096) (at / 4096) e) ∙ in_page a e
     | inr ne ↦ ap (λ b. cond b (get_or q.bytes (a % 4096) 0) ((paged pages).byte a))
-      (ne_eqb (a / 4096) (at / 4096) ne) ∙ off a ne
+        (ne_eqb (a / 4096) (at / 4096) ne) ∙ off a ne
   ]
 
   same_mode : q.protection ≡ p.protection → (a : ℕ)
@@ -131,9 +131,9 @@ module _ (pages : ℕ → Option Page) (p q : Page) (n at v : ℕ) (had : pages 
       ≡ (paged pages).protection a
   same_mode m a = elim (cases_eq (a / 4096) (at / 4096)) [
     | inl e ↦ ap (λ b. cond b q.protection ((paged pages).protection a))
-      (eq-eqb (a / 4096) (at / 4096) e) ∙ m ∙ sym (old_mode a e)
+        (eq-eqb (a / 4096) (at / 4096) e) ∙ m ∙ sym (old_mode a e)
     | inr ne ↦ ap (λ b. cond b q.protection ((paged pages).protection a))
-      (ne_eqb (a / 4096) (at / 4096) ne)
+        (ne_eqb (a / 4096) (at / 4096) ne)
   ]
 
   pub number_put : q.protection ≡ p.protection → (new : ℕ → Option Page)
@@ -158,28 +158,28 @@ stretch_none pages at e lt = record {
 
 module _ (pages : ℕ → Option Page) (at : ℕ) (p : Page) (had : pages (at / 4096) ≡ Some p)
     (lt : at < 2 ^ 64) (len : length p.bytes ≡ 4096) (fits : (i : ℕ) → get_or p.bytes i 0 < 256)
-    where
-  left : length (drop (at % 4096) p.bytes) ≡ 4096 - at % 4096
-  left = length-drop (at % 4096) p.bytes ∙ ap (λ n. n - at % 4096) len
+  where
+    left : length (drop (at % 4096) p.bytes) ≡ 4096 - at % 4096
+    left = length-drop (at % 4096) p.bytes ∙ ap (λ n. n - at % 4096) len
 
-  same_page : (i : ℕ) → i < length (drop (at % 4096) p.bytes) → pages ((at + i) / 4096) ≡ Some p
-  same_page i l = let e : (at + i) / 4096 ≡ at / 4096 = omega (arith, left) in ap pages e ∙ had
+    same_page : (i : ℕ) → i < length (drop (at % 4096) p.bytes) → pages ((at + i) / 4096) ≡ Some p
+    same_page i l = let e : (at + i) / 4096 ≡ at / 4096 = omega (arith, left) in ap pages e ∙ had
 
-  same_place : (i : ℕ) → i < length (drop (at % 4096) p.bytes) → (at + i) % 4096 ≡ at % 4096 + i
-  same_place i l = omega (arith, left)
+    same_place : (i : ℕ) → i < length (drop (at % 4096) p.bytes) → (at + i) % 4096 ≡ at % 4096 + i
+    same_place i l = omega (arith, left)
 
-  pub stretch_some : IsRestOfPage (paged pages) at p.protection (drop (at % 4096) p.bytes)
-  unfolding paged
-  stretch_some = record {
-    mode_is = ap page_mode had;
-    modes = λ i l. ap page_mode (same_page i l);
-    bytes_are = λ i l. ap (λ o. page_byte o ((at + i) % 4096)) (same_page i l)
-      ∙ ap (λ j. get_or p.bytes j 0) (same_place i l) ∙ sym (get_or-drop (at % 4096) p.bytes i 0);
-    inside = omega (arith, left);
-    small = λ i. subst (λ (b : ℕ). b < 256) (sym (get_or-drop (at % 4096) p.bytes i 0))
-      (fits (at % 4096 + i));
-    unmapped = λ z. absurd (omega (arith, left));
-  }
+    pub stretch_some : IsRestOfPage (paged pages) at p.protection (drop (at % 4096) p.bytes)
+    unfolding paged
+    stretch_some = record {
+      mode_is = ap page_mode had;
+      modes = λ i l. ap page_mode (same_page i l);
+      bytes_are = λ i l. ap (λ o. page_byte o ((at + i) % 4096)) (same_page i l)
+          ∙ ap (λ j. get_or p.bytes j 0) (same_place i l) ∙ sym (get_or-drop (at % 4096) p.bytes i 0);
+      inside = omega (arith, left);
+      small = λ i. subst (λ (b : ℕ). b < 256) (sym (get_or-drop (at % 4096) p.bytes i 0))
+          (fits (at % 4096 + i));
+      unmapped = λ z. absurd (omega (arith, left));
+    }
 
 -- ---- one byte of a number more
 
@@ -196,22 +196,22 @@ put_step old bytes from i v rest places digit lt j = elim (cases_eq j (from + i)
   | inl e ↦
       let d : i ≡ j - from = omega arith in
       ap (λ k. get_or (set bytes (from + i) (rest % 256)) k 0) e
-        ∙ get_or-set_same bytes (from + i) (rest % 256) 0 lt ∙ ap (λ r. r % 256) digit
-        ∙ ap (λ k. v / 256 ^ k % 256) d ∙ sym
-          (put_inside old from (i + 1) v j (omega arith) (omega arith))
+      ∙ get_or-set_same bytes (from + i) (rest % 256) 0 lt ∙ ap (λ r. r % 256) digit
+      ∙ ap (λ k. v / 256 ^ k % 256) d ∙ sym
+      (put_inside old from (i + 1) v j (omega arith) (omega arith))
   | inr n ↦ get_or-set_other bytes (from + i) j (rest % 256) 0 n ∙ places j
-  ∙ widened n (cases_lt j from)
+      ∙ widened n (cases_lt j from)
 ]
   where
     later : j ≢ from + i → from ≤ j → (j < from + i) ⊎ (from + i ≤ j)
-      → page_with_number old from i v j ≡ page_with_number old from (i + 1) v j
+        → page_with_number old from i v j ≡ page_with_number old from (i + 1) v j
     later n g (inl l) = put_inside old from i v j g l
-      ∙ sym (put_inside old from (i + 1) v j g (omega arith))
+        ∙ sym (put_inside old from (i + 1) v j g (omega arith))
     later n g (inr h) = put_after old from i v j h
-      ∙ sym (put_after old from (i + 1) v j (omega arith))
+        ∙ sym (put_after old from (i + 1) v j (omega arith))
 
     widened : j ≢ from + i → (j < from) ⊎ (from ≤ j)
-      → page_with_number old from i v j ≡ page_with_number old from (i + 1) v j
+        → page_with_number old from i v j ≡ page_with_number old from (i + 1) v j
     widened n (inl l) = put_before old from i v j l ∙ sym (put_before old from (i + 1) v j l)
     widened n (inr g) = later n g (cases_lt j (from + i))
 
@@ -239,25 +239,25 @@ module _ (pages : ℕ → Option Page) (p : Page) (at : ℕ) (r : Rights)
       (record ((paged pages).protection a) { rights = r }) ((paged pages).protection a)
   mode_set a = elim (cases_eq (a / 4096) (at / 4096)) [
     | inl e ↦ ap (λ (m : Protection). cond (eqb (a / 4096) (at / 4096)) (record m { rights = r })
-      ((paged pages).protection a)) (sym (mode_there a e))
+        ((paged pages).protection a)) (sym (mode_there a e))
     | inr n ↦ ap (λ b. cond b (record p.protection { rights = r }) ((paged pages).protection a))
-      (ne_eqb (a / 4096) (at / 4096) n) ∙ sym
-      (ap (λ b. cond b (record ((paged pages).protection a) { rights = r })
-      ((paged pages).protection a)) (ne_eqb (a / 4096) (at / 4096) n))
+        (ne_eqb (a / 4096) (at / 4096) n) ∙ sym
+        (ap (λ b. cond b (record ((paged pages).protection a) { rights = r })
+        ((paged pages).protection a)) (ne_eqb (a / 4096) (at / 4096) n))
   ]
 
   byte_stays : (a : ℕ) → cond (eqb (a / 4096) (at / 4096)) (get_or p.bytes (a % 4096) 0)
       ((paged pages).byte a) ≡ (paged pages).byte a
   byte_stays a = elim (cases_eq (a / 4096) (at / 4096)) [
     | inl e ↦ ap (λ b. cond b (get_or p.bytes (a % 4096) 0) ((paged pages).byte a))
-      (eq-eqb (a / 4096) (at / 4096) e) ∙ sym (byte_there a e)
+        (eq-eqb (a / 4096) (at / 4096) e) ∙ sym (byte_there a e)
     | inr n ↦ ap (λ b. cond b (get_or p.bytes (a % 4096) 0) ((paged pages).byte a))
-      (ne_eqb (a / 4096) (at / 4096) n)
+        (ne_eqb (a / 4096) (at / 4096) n)
   ]
 
   pub rights_set : (new : ℕ → Option Page) → ((k : ℕ)
       → new k ≡ cond (eqb k (at / 4096)) (Some
-        (record p { protection = record p.protection { rights = r } })) (pages k))
+      (record p { protection = record p.protection { rights = r } })) (pages k))
       → paged new ≡ with_rights (paged pages) at (Some r)
   rights_set new has = page_changed pages new (at / 4096)
       (record p { protection = record p.protection { rights = r } }) has

@@ -20,9 +20,9 @@ number_from byte xs at i (suc zero) h le = ap (λ b. b + 256 * 0) (h i (omega ar
 number_from byte xs at i (suc (suc n)) h le =
     let here : next (at + i) ≡ at + suc i = omega arith in
     ap (λ a. byte (at + i) + 256 * number_at byte (suc n) a) here
-      ∙ ap (λ b. b + 256 * number_at byte (suc n) (at + suc i)) (h i (omega arith))
-      ∙ ap (λ v. get_or xs i 0 + 256 * v) (number_from byte xs at (suc i) (suc n)
-        (λ j lt. h j (omega arith)) (omega arith))
+    ∙ ap (λ b. b + 256 * number_at byte (suc n) (at + suc i)) (h i (omega arith))
+    ∙ ap (λ v. get_or xs i 0 + 256 * v) (number_from byte xs at (suc i) (suc n)
+    (λ j lt. h j (omega arith)) (omega arith))
 
 pub number_of_stretch : (m : Memory) (at : ℕ) (protection : Protection) (bytes : List ℕ) (n : ℕ)
     → IsRestOfPage m at protection bytes → n ≤ length bytes
@@ -30,7 +30,7 @@ pub number_of_stretch : (m : Memory) (at : ℕ) (protection : Protection) (bytes
 number_of_stretch m at protection bytes n s le =
     let e : at + 0 ≡ at = omega arith in
     ap (number_at m.byte n) (sym e) ∙ number_from m.byte bytes at 0 n
-      (λ j lt. s.bytes_are j (omega arith)) (let i = s.inside in omega arith)
+    (λ j lt. s.bytes_are j (omega arith)) (let i = s.inside in omega arith)
 
 all_may : (may : ℕ → Bool) (n at : ℕ) → ((j : ℕ) → j < n → may (at + j) ≡ true) → at + n ≤ 2 ^ 64
     → first_refused may n at ≡ None
@@ -43,22 +43,22 @@ all_may may (suc (suc n)) at h le =
     let here : next at ≡ at + 1 = omega arith in
     let first : may at ≡ true = sym (ap may e) ∙ h 0 (omega arith) in
     rw first (ap (first_refused may (suc n)) here
-      ∙ all_may may (suc n) (at + 1) (λ j lt. let f : at + 1 + j ≡ at + suc j = omega arith in
-        ap may f ∙ h (suc j) (omega arith)) (omega arith))
+    ∙ all_may may (suc n) (at + 1) (λ j lt. let f : at + 1 + j ≡ at + suc j = omega arith in
+    ap may f ∙ h (suc j) (omega arith)) (omega arith))
 
 pub readable_stretch : (m : Memory) (at : ℕ) (protection : Protection) (bytes : List ℕ) (n : ℕ)
     → IsRestOfPage m at protection bytes → n ≤ length bytes → is_readable protection.rights ≡ true
     → first_refused (may_read m) n at ≡ None
 readable_stretch m at protection bytes n s le r =
     all_may (may_read m) n at (λ j lt. ap (λ (x : Protection). is_readable x.rights)
-      (s.modes j (omega arith)) ∙ r) (let i = s.inside in omega arith)
+    (s.modes j (omega arith)) ∙ r) (let i = s.inside in omega arith)
 
 pub writable_stretch : (m : Memory) (at : ℕ) (protection : Protection) (bytes : List ℕ) (n : ℕ)
     → IsRestOfPage m at protection bytes → n ≤ length bytes → is_writable protection.rights ≡ true
     → first_refused (may_write m) n at ≡ None
 writable_stretch m at protection bytes n s le r =
     all_may (may_write m) n at (λ j lt. ap (λ (x : Protection). is_writable x.rights)
-      (s.modes j (omega arith)) ∙ r) (let i = s.inside in omega arith)
+    (s.modes j (omega arith)) ∙ r) (let i = s.inside in omega arith)
 
 -- the executable bytes of the rest of a page, and those after it
 executable-step : (m : Memory) (k a : ℕ) → (m.protection a).execute ≡ true
@@ -81,15 +81,15 @@ executable_from m xs at i (suc n) k x b le inside =
     let after : next (at + i) ≡ (at + suc i) % 2 ^ 64 = omega arith in
     let end : (at + (suc i + n)) % 2 ^ 64 ≡ (at + (i + suc n)) % 2 ^ 64 = omega arith in
     let rest = executable_from m xs at (suc i) n k (λ j lt. x j (omega arith))
-      (λ j lt. b j (omega arith)) (omega arith) (omega arith) in
+    (λ j lt. b j (omega arith)) (omega arith) (omega arith) in
     let first : i < length xs = omega arith in
     ap (λ q. executable m q ((at + i) % 2 ^ 64)) count ∙ ap (executable m (suc (n + k))) place
-      ∙ executable-step m (n + k) (at + i) (x i (omega arith))
+    ∙ executable-step m (n + k) (at + i) (x i (omega arith))
     ∙ ap (λ c. c ∷ executable m (n + k) (next (at + i))) (b i (omega arith))
     ∙ ap (λ a. get_or xs i 0 ∷ executable m (n + k) a) after
     ∙ ap (λ (t : List ℕ). get_or xs i 0 ∷ t) rest
     ∙ ap (λ (ys : List ℕ). take (suc n) ys ++ executable m k ((at + (suc i + n)) % 2 ^ 64))
-      (sym (drop-cons xs i 0 first)) ∙ ap (λ a. take (suc n) (drop i xs) ++ executable m k a) end
+    (sym (drop-cons xs i 0 first)) ∙ ap (λ a. take (suc n) (drop i xs) ++ executable m k a) end
 
 pub executable_stretch : (m : Memory) (at : ℕ) (protection : Protection) (bytes : List ℕ) (n k : ℕ)
     → IsRestOfPage m at protection bytes → n ≤ length bytes → protection.execute ≡ true
@@ -98,9 +98,9 @@ executable_stretch m at protection bytes n k s le x lt =
     let place : at ≡ (at + 0) % 2 ^ 64 = omega arith in
     let end : (at + (0 + n)) % 2 ^ 64 ≡ (at + n) % 2 ^ 64 = omega arith in
     ap (executable m (n + k)) place ∙ executable_from m bytes at 0 n k
-      (λ j l. ap (λ (o : Protection). o.execute) (s.modes j (omega arith)) ∙ x)
-      (λ j l. s.bytes_are j (omega arith)) (omega arith) (let i = s.inside in omega arith)
-      ∙ ap (λ a. take n bytes ++ executable m k a) end
+    (λ j l. ap (λ (o : Protection). o.execute) (s.modes j (omega arith)) ∙ x)
+    (λ j l. s.bytes_are j (omega arith)) (omega arith) (let i = s.inside in omega arith)
+    ∙ ap (λ a. take n bytes ++ executable m k a) end
 
 -- ---- what a load and a store answer there
 
@@ -115,16 +115,16 @@ pub load_here : (m : Memory) (at : ℕ) (w : Width) (protection : Protection) (b
     → Err (refused false at) ≡ loaded m at w
 load_here m at w protection bytes s e =
     sym (ap (λ o. access false o (number_at m.byte (bytes_of w) at))
-      (first_refused-here (may_read m) (bytes_of w) at (positive w)
-      (ap (λ (x : Protection). is_readable x.rights) s.mode_is ∙ e)))
+    (first_refused-here (may_read m) (bytes_of w) at (positive w)
+    (ap (λ (x : Protection). is_readable x.rights) s.mode_is ∙ e)))
 
 pub load_all : (m : Memory) (at : ℕ) (w : Width) (protection : Protection) (bytes : List ℕ)
     → IsRestOfPage m at protection bytes → bytes_of w ≤ length bytes
     → is_readable protection.rights ≡ true → Ok (little_number (bytes_of w) bytes) ≡ loaded m at w
 load_all m at w protection bytes s le e =
     ap (λ v. Ok v) (sym (number_of_stretch m at protection bytes (bytes_of w) s le))
-      ∙ sym (ap (λ o. access false o (number_at m.byte (bytes_of w) at))
-        (readable_stretch m at protection bytes (bytes_of w) s le e))
+    ∙ sym (ap (λ o. access false o (number_at m.byte (bytes_of w) at))
+    (readable_stretch m at protection bytes (bytes_of w) s le e))
 
 spread : (o : Option ℕ) (v : ℕ) (r : Result ℕ ℕ) → r ≡ or_number o v → (a : ℕ) → r ≡ Err a
     → Err (refused false a) ≡ access false o v

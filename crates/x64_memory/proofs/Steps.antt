@@ -108,8 +108,8 @@ pub refused_number-later : (m : Memory) (n k at low a : ℕ) → n ≡ k + 1
 refused_number-later m n k at low a e h f =
     let g = good m at low (may_read m at) refl h in
     carried (first_refused (may_read m) k (next at)) (number_at m.byte k (next at)) low (Err a) f a
-      refl (number_at m.byte n at) ∙ ap (λ o. or_number o (number_at m.byte n at))
-      (first_refused-more (may_read m) n k at e g.0)
+    refl (number_at m.byte n at) ∙ ap (λ o. or_number o (number_at m.byte n at))
+    (first_refused-more (may_read m) n k at e g.0)
 
 whole : (o : Option ℕ) (v high w : ℕ) → Ok high ≡ or_number o v → w ≡ w → (o ≡ None) × (high ≡ v)
 whole None v high w e r = (refl, cc)
@@ -121,12 +121,12 @@ pub refused_number-more : (m : Memory) (n k at low high : ℕ) → n ≡ k + 1
 refused_number-more m n k at low high e h f =
     let g = good m at low (may_read m at) refl h in
     let w = whole (first_refused (may_read m) k (next at)) (number_at m.byte k (next at)) high 0 f
-      refl in
+    refl in
     let none : first_refused (may_read m) n at
-      ≡ None = sym (first_refused-more (may_read m) n k at e g.0) ∙ w.0 in
+    ≡ None = sym (first_refused-more (may_read m) n k at e g.0) ∙ w.0 in
     let less : n - 1 ≡ k = omega arith in
     let more : number_at m.byte n at ≡ m.byte at
-      + 256 * number_at m.byte k (next at) = number_at-more m.byte n at (omega arith)
-      ∙ ap (λ j. m.byte at + 256 * number_at m.byte j (next at)) less in
+    + 256 * number_at m.byte k (next at) = number_at-more m.byte n at (omega arith)
+    ∙ ap (λ j. m.byte at + 256 * number_at m.byte j (next at)) less in
     ap Ok (ap (λ b. b + 256 * high) g.1 ∙ ap (λ v. m.byte at + 256 * v) w.1 ∙ sym more)
-      ∙ sym (ap (λ o. or_number o (number_at m.byte n at)) none)
+    ∙ sym (ap (λ o. or_number o (number_at m.byte n at)) none)

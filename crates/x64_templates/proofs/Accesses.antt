@@ -48,13 +48,13 @@ tests_agree reserved f g same (suc n) at e = go (tests_agree reserved f g same n
     (reserved at) refl e
   where
     go : (first_refused (free reserved) n (next at) ≡ None
-      → first_refused f n (next at) ≡ first_refused g n (next at)) → (b : Bool) → reserved at ≡ b
-      → cond (not b) (first_refused (free reserved) n (next at)) (Some at) ≡ None
-      → cond (f at) (first_refused f n (next at)) (Some at)
-      ≡ cond (g at) (first_refused g n (next at)) (Some at)
+        → first_refused f n (next at) ≡ first_refused g n (next at)) → (b : Bool) → reserved at ≡ b
+        → cond (not b) (first_refused (free reserved) n (next at)) (Some at) ≡ None
+        → cond (f at) (first_refused f n (next at)) (Some at)
+        ≡ cond (g at) (first_refused g n (next at)) (Some at)
     go more true r h = absurd cc
     go more false r h = ap (λ (c : Bool). cond c (first_refused f n (next at)) (Some at))
-      (same at r) ∙ ap (λ (o : Option ℕ). cond (g at) o (Some at)) (more h)
+        (same at r) ∙ ap (λ (o : Option ℕ). cond (g at) o (Some at)) (more h)
 
 pub numbers_agree : (reserved : ℕ → Bool) (f g : ℕ → ℕ) → ((a : ℕ) → reserved a ≡ false → f a ≡ g a)
     → (n at : ℕ) → first_refused (free reserved) n at ≡ None → number_at f n at ≡ number_at g n at
@@ -64,12 +64,12 @@ numbers_agree reserved f g same (suc n) at e = go (numbers_agree reserved f g sa
     (reserved at) refl e
   where
     go : (first_refused (free reserved) n (next at) ≡ None
-      → number_at f n (next at) ≡ number_at g n (next at)) → (b : Bool) → reserved at ≡ b
-      → cond (not b) (first_refused (free reserved) n (next at)) (Some at) ≡ None
-      → f at + 256 * number_at f n (next at) ≡ g at + 256 * number_at g n (next at)
+        → number_at f n (next at) ≡ number_at g n (next at)) → (b : Bool) → reserved at ≡ b
+        → cond (not b) (first_refused (free reserved) n (next at)) (Some at) ≡ None
+        → f at + 256 * number_at f n (next at) ≡ g at + 256 * number_at g n (next at)
     go more true r h = absurd cc
     go more false r h = ap (λ (x : ℕ). x + 256 * number_at f n (next at)) (same at r)
-      ∙ ap (λ (x : ℕ). g at + 256 * x) (more h)
+        ∙ ap (λ (x : ℕ). g at + 256 * x) (more h)
 
 -- the byte that is refused is one of those that were asked
 refused_free : (reserved f : ℕ → Bool) (n at b : ℕ) → first_refused (free reserved) n at ≡ None
@@ -80,9 +80,9 @@ refused_free reserved f (suc n) at b e h = go (refused_free reserved f n (next a
     (f at) refl e h
   where
     go : (first_refused (free reserved) n (next at) ≡ None → first_refused f n (next at) ≡ Some b
-      → reserved b ≡ false) → (r t : Bool) → reserved at ≡ r
-      → cond (not r) (first_refused (free reserved) n (next at)) (Some at) ≡ None
-      → cond t (first_refused f n (next at)) (Some at) ≡ Some b → reserved b ≡ false
+        → reserved b ≡ false) → (r t : Bool) → reserved at ≡ r
+        → cond (not r) (first_refused (free reserved) n (next at)) (Some at) ≡ None
+        → cond t (first_refused f n (next at)) (Some at) ≡ Some b → reserved b ≡ false
     go more true t x p q = absurd cc
     go more false true x p q = more p q
     go more false false x p q = let same : at ≡ b = cc in ap reserved (sym same) ∙ x
@@ -153,17 +153,17 @@ load_implemented reserved w v source lt agrees = outer
     (first_refused (free reserved) (bytes_of w) v.rax) refl
   where
     by : (o : Option ℕ) (rip : ℕ) (f : Flags)
-      → first_refused (may_read v.memory) (bytes_of w) v.rax ≡ o
-      → effect (machine v rip f) (load w) ≡ (granted
+        → first_refused (may_read v.memory) (bytes_of w) v.rax ≡ o
+        → effect (machine v rip f) (load w) ≡ (granted
         (access false o (number_at v.memory.byte (bytes_of w) v.rax))
-      >>= λ y. Ok (machine (with_rax v (cut w y)) rip f))
+        >>= λ y. Ok (machine (with_rax v (cut w y)) rip f))
     by o rip f e = load_effect w v rip f lt ∙ ap
-      (λ (p : Option ℕ). granted (access false p (number_at v.memory.byte (bytes_of w) v.rax))
-      >>= λ y. Ok (machine (with_rax v (cut w y)) rip f)) e
+        (λ (p : Option ℕ). granted (access false p (number_at v.memory.byte (bytes_of w) v.rax))
+        >>= λ y. Ok (machine (with_rax v (cut w y)) rip f)) e
 
     inner : first_refused (free reserved) (bytes_of w) v.rax ≡ None → (o : Option ℕ)
-      → first_refused (may_read source) (bytes_of w) v.rax ≡ o
-      → Implements reserved (load w ∷ []) v (meaning.unless_refused false o
+        → first_refused (may_read source) (bytes_of w) v.rax ≡ o
+        → Implements reserved (load w ∷ []) v (meaning.unless_refused false o
         (Gives (low w (number_at source.byte (bytes_of w) v.rax)) source))
     inner e None h = record {
       after = v.memory;
@@ -171,15 +171,15 @@ load_implemented reserved w v source lt agrees = outer
         rcx = v.rcx;
         rdx = v.rdx;
         does = executes_one (load w) v (with_rax v
-          (low w (number_at source.byte (bytes_of w) v.rax))) (λ rip f. (
-          f,
-          by None rip f (tests_agree reserved (may_read v.memory) (may_read source)
-            (modes_agree reserved v.memory source agrees) (bytes_of w) v.rax e ∙ h)
-              ∙ ap (λ (x : ℕ). Ok (machine (with_rax v x) rip f))
-                (cut_is w (number_at v.memory.byte (bytes_of w) v.rax)
-              ∙ ap (low w) (numbers_agree reserved v.memory.byte source.byte agrees.byte
-                (bytes_of w) v.rax e)),
-        ));
+            (low w (number_at source.byte (bytes_of w) v.rax))) (λ rip f. (
+              f,
+              by None rip f (tests_agree reserved (may_read v.memory) (may_read source)
+                  (modes_agree reserved v.memory source agrees) (bytes_of w) v.rax e ∙ h)
+                  ∙ ap (λ (x : ℕ). Ok (machine (with_rax v x) rip f))
+                  (cut_is w (number_at v.memory.byte (bytes_of w) v.rax)
+                  ∙ ap (low w) (numbers_agree reserved v.memory.byte source.byte agrees.byte
+                  (bytes_of w) v.rax e)),
+            ));
       };
       small = low_small w (number_at source.byte (bytes_of w) v.rax);
       agrees = agrees;
@@ -189,12 +189,12 @@ load_implemented reserved w v source lt agrees = outer
     }
     inner e (Some b) h = λ rip f.
         by (Some b) rip f (tests_agree reserved (may_read v.memory) (may_read source)
-          (modes_agree reserved v.memory source agrees) (bytes_of w) v.rax e ∙ h)
+        (modes_agree reserved v.memory source agrees) (bytes_of w) v.rax e ∙ h)
         ∙ ap Err (refusal_is false b (not_guard reserved v.memory source b agrees
-          (refused_free reserved (may_read source) (bytes_of w) v.rax b e h) (in_guard b) refl))
+        (refused_free reserved (may_read source) (bytes_of w) v.rax b e h) (in_guard b) refl))
 
     outer : (o : Option ℕ) → first_refused (free reserved) (bytes_of w) v.rax ≡ o
-      → Implements reserved (load w ∷ []) v (meaning.unless_reserved o
+        → Implements reserved (load w ∷ []) v (meaning.unless_reserved o
         (meaning.unless_refused false (first_refused (may_read source) (bytes_of w) v.rax)
         (Gives (low w (number_at source.byte (bytes_of w) v.rax)) source)))
     outer None e = inner e (first_refused (may_read source) (bytes_of w) v.rax) refl
@@ -206,22 +206,37 @@ abbrev pub store_instr : Width → Instr
 store_instr w = instrs.Move w (places.Memory (above Rax 0)) (operands.Register Rcx)
 
 abbrev stored_view : MachineView → Width → MachineView
-stored_view v w = record { rax = v.rax; rcx = v.rcx; rdx = v.rdx; rest = v.rest;
-    memory = with_bytes v.memory (with_number v.memory.byte (bytes_of w) v.rax (low w v.rcx)) }
+stored_view v w = record {
+  rax = v.rax;
+  rcx = v.rcx;
+  rdx = v.rdx;
+  rest = v.rest;
+  memory = with_bytes v.memory (with_number v.memory.byte (bytes_of w) v.rax (low w v.rcx));
+}
 
 store_by : (w : Width) (v : MachineView) (o : Option ℕ) (rip : ℕ) (f : Flags) → v.rax < 2 ^ 64
     → first_refused (may_write v.memory) (bytes_of w) v.rax ≡ o
     → effect (machine v rip f) (store_instr w)
     ≡ (granted (access {A = Unit {0}} true o tt)
-    >>= λ _. Ok (machine (record { rax = v.rax; rcx = v.rcx; rdx = v.rdx; rest = v.rest;
+    >>= λ _. Ok (machine (record {
+      rax = v.rax;
+      rcx = v.rcx;
+      rdx = v.rdx;
+      rest = v.rest;
       memory = unless_refused o (with_bytes v.memory
-      (with_number v.memory.byte (bytes_of w) v.rax (low w v.rcx))) v.memory }) rip f))
+          (with_number v.memory.byte (bytes_of w) v.rax (low w v.rcx))) v.memory;
+    }) rip f))
 store_by w v o rip f lt e =
     ap (λ (a : ℕ). machines.store (machine v rip f) a w (low w v.rcx)) (address_is v.rax lt)
     ∙ ap (λ (p : Option ℕ). granted (access {A = Unit {0}} true p tt)
-    >>= λ _. Ok (machine (record { rax = v.rax; rcx = v.rcx; rdx = v.rdx; rest = v.rest;
+    >>= λ _. Ok (machine (record {
+      rax = v.rax;
+      rcx = v.rcx;
+      rdx = v.rdx;
+      rest = v.rest;
       memory = unless_refused p (with_bytes v.memory
-      (with_number v.memory.byte (bytes_of w) v.rax (low w v.rcx))) v.memory }) rip f)) e
+          (with_number v.memory.byte (bytes_of w) v.rax (low w v.rcx))) v.memory;
+    }) rip f)) e
 
 same_bytes : (f g : ℕ → ℕ) (n at v a : ℕ) → f a ≡ g a
     → with_number f n at v a ≡ with_number g n at v a
@@ -247,52 +262,55 @@ own_apart reserved n at a lt e own i il is =
 pub store_implemented : (reserved : ℕ → Bool) (w : Width) (v : MachineView) (source : Memory)
     → v.rax < 2 ^ 64 → v.rcx < 2 ^ 64 → Agrees reserved v.memory source
     → Implements reserved (store_instr w ∷ move W64 Rax Rcx ∷ []) v
-      (meaning.store reserved w v.rax v.rcx source)
+    (meaning.store reserved w v.rax v.rcx source)
 store_implemented reserved w v source lt small agrees = outer
     (first_refused (free reserved) (bytes_of w) v.rax) refl
   where
     inner : first_refused (free reserved) (bytes_of w) v.rax ≡ None → (o : Option ℕ)
-      → first_refused (may_write source) (bytes_of w) v.rax ≡ o
-      → Implements reserved (store_instr w ∷ move W64 Rax Rcx ∷ []) v
+        → first_refused (may_write source) (bytes_of w) v.rax ≡ o
+        → Implements reserved (store_instr w ∷ move W64 Rax Rcx ∷ []) v
         (meaning.unless_refused true o (Gives v.rcx
         (with_bytes source (with_number source.byte (bytes_of w) v.rax (low w v.rcx)))))
     inner e None h =
         let t = tests_agree reserved (may_write v.memory) (may_write source)
-          (write_modes_agree reserved v.memory source agrees) (bytes_of w) v.rax e ∙ h in
+        (write_modes_agree reserved v.memory source agrees) (bytes_of w) v.rax e ∙ h in
         record {
           after = with_bytes v.memory (with_number v.memory.byte (bytes_of w) v.rax (low w v.rcx));
           yields = record {
             rcx = v.rcx;
             rdx = v.rdx;
             does = executes_then (store_instr w ∷ []) (move W64 Rax Rcx ∷ []) v (stored_view v w)
-              (with_rax (stored_view v w) v.rcx)
+                (with_rax (stored_view v w) v.rcx)
                 (executes_one (store_instr w) v (stored_view v w)
-                  (λ rip f. (f, store_by w v None rip f lt t)))
+                (λ rip f. (f, store_by w v None rip f lt t)))
                 (executes_one (move W64 Rax Rcx) (stored_view v w)
-                  (with_rax (stored_view v w) v.rcx)
-                  (λ rip f. (f, ap (λ (x : ℕ). Ok (machine (with_rax (stored_view v w) x) rip f))
-                  (let q : low W64 (low W64 v.rcx) ≡ v.rcx = omega arith in q))));
+                (with_rax (stored_view v w) v.rcx)
+                (λ rip f. (
+                  f,
+                  ap (λ (x : ℕ). Ok (machine (with_rax (stored_view v w) x) rip f))
+                      (let q : low W64 (low W64 v.rcx) ≡ v.rcx = omega arith in q),
+                )));
           };
           small = small;
           agrees = record {
             byte = λ a r. same_bytes v.memory.byte source.byte (bytes_of w) v.rax (low w v.rcx) a
-              (agrees.byte a r);
+                (agrees.byte a r);
             protection = agrees.protection;
             guard = agrees.guard;
           };
           protection = refl;
           own = λ a own. untouched v.memory.byte (bytes_of w) v.rax (low w v.rcx) a
-            (own_apart reserved (bytes_of w) v.rax a lt e own) lt;
+              (own_apart reserved (bytes_of w) v.rax a lt e own) lt;
           bytes = λ x a. digits v.memory.byte (bytes_of w) v.rax (low w v.rcx) a (x a);
         }
     inner e (Some b) h = λ rip f.
         store_by w v (Some b) rip f lt (tests_agree reserved (may_write v.memory) (may_write source)
-          (write_modes_agree reserved v.memory source agrees) (bytes_of w) v.rax e ∙ h)
+        (write_modes_agree reserved v.memory source agrees) (bytes_of w) v.rax e ∙ h)
         ∙ ap Err (refusal_is true b (not_guard reserved v.memory source b agrees
-          (refused_free reserved (may_write source) (bytes_of w) v.rax b e h) (in_guard b) refl))
+        (refused_free reserved (may_write source) (bytes_of w) v.rax b e h) (in_guard b) refl))
 
     outer : (o : Option ℕ) → first_refused (free reserved) (bytes_of w) v.rax ≡ o
-      → Implements reserved (store_instr w ∷ move W64 Rax Rcx ∷ []) v
+        → Implements reserved (store_instr w ∷ move W64 Rax Rcx ∷ []) v
         (meaning.unless_reserved o (meaning.unless_refused true
         (first_refused (may_write source) (bytes_of w) v.rax)
         (Gives v.rcx (with_bytes source (with_number source.byte (bytes_of w) v.rax

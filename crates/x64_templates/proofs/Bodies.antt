@@ -24,8 +24,12 @@ pub changes_then : (y : Layout) (n : Counts) (reserved : ℕ → Bool) (sp base 
     → Changes y n reserved sp base a b → Changes y n reserved sp base b c
     → Changes y n reserved sp base a c
 changes_then y n reserved sp base a b c p q =
-    record { protection = q.protection ∙ p.protection; byte = λ x own out. q.byte x own out
-    ∙ p.byte x own out; bytes = λ x. q.bytes (p.bytes x) }
+    record {
+      protection = q.protection ∙ p.protection;
+      byte = λ x own out. q.byte x own out
+          ∙ p.byte x own out;
+      bytes = λ x. q.bytes (p.bytes x);
+    }
 
 pub may_write_same : (m m' : Memory) (a : ℕ) → m'.protection ≡ m.protection
     → may_write m' a ≡ may_write m a
@@ -81,62 +85,64 @@ module _ (y : Layout) (n : Counts) (reserved : ℕ → Bool) (sp base : ℕ)
       ≡ with_slot b.slots x v z
   slot_after m b (Temporary i) v (Temporary j) h is iz lt = elim (cases_eq j i) [
     | inl e ↦ ap (λ (k : ℕ). number_at (with_number m.byte 8 (sp + temporary_at y i) v) 8
-      (sp + temporary_at y k)) e ∙ number_here m (Temporary i) v is lt
-    ∙ sym (ap (λ (c : Bool). cond c v (b.slots (Temporary j))) (eq-eqb j i e))
+        (sp + temporary_at y k)) e ∙ number_here m (Temporary i) v is lt
+        ∙ sym (ap (λ (c : Bool). cond c v (b.slots (Temporary j))) (eq-eqb j i e))
     | inr ne ↦ number_beside m (Temporary i) v (sp + temporary_at y j) is
-      (slot_high y n reserved sp base room (Temporary j) iz)
-      (elim (cases_lt j i) [ inl l ↦ inl (omega arith) | inr g ↦ inr (omega arith) ])
-    ∙ h.slot (Temporary j) iz ∙ sym (ap (λ (c : Bool). cond c v (b.slots (Temporary j)))
-      (ne_eqb j i ne))
+        (slot_high y n reserved sp base room (Temporary j) iz)
+        (elim (cases_lt j i) [ inl l ↦ inl (omega arith) | inr g ↦ inr (omega arith) ])
+        ∙ h.slot (Temporary j) iz ∙ sym (ap (λ (c : Bool). cond c v (b.slots (Temporary j)))
+        (ne_eqb j i ne))
   ]
   slot_after m b (Local i) v (Local j) h is iz lt = elim (cases_eq j i) [
     | inl e ↦ ap (λ (k : ℕ). number_at (with_number m.byte 8 (base + local_at y i) v) 8
-      (base + local_at y k)) e ∙ number_here m (Local i) v is lt
-    ∙ sym (ap (λ (c : Bool). cond c v (b.slots (Local j))) (eq-eqb j i e))
+        (base + local_at y k)) e ∙ number_here m (Local i) v is lt
+        ∙ sym (ap (λ (c : Bool). cond c v (b.slots (Local j))) (eq-eqb j i e))
     | inr ne ↦ number_beside m (Local i) v (base + local_at y j) is
-      (slot_high y n reserved sp base room (Local j) iz)
-      (elim (cases_lt j i) [ inl l ↦ inl (omega arith) | inr g ↦ inr (omega arith) ])
-    ∙ h.slot (Local j) iz ∙ sym (ap (λ (c : Bool). cond c v (b.slots (Local j))) (ne_eqb j i ne))
+        (slot_high y n reserved sp base room (Local j) iz)
+        (elim (cases_lt j i) [ inl l ↦ inl (omega arith) | inr g ↦ inr (omega arith) ])
+        ∙ h.slot (Local j) iz ∙ sym (ap (λ (c : Bool). cond c v (b.slots (Local j))) (ne_eqb j i ne))
   ]
   slot_after m b (Temporary i) v (Local j) h is iz lt =
       number_beside m (Temporary i) v (base + local_at y j) is
-        (slot_high y n reserved sp base room (Local j) iz)
-        (elim room.apart [ inl l ↦ inl (omega arith) | inr r ↦ inr (omega arith) ])
-        ∙ h.slot (Local j) iz
+      (slot_high y n reserved sp base room (Local j) iz)
+      (elim room.apart [ inl l ↦ inl (omega arith) | inr r ↦ inr (omega arith) ])
+      ∙ h.slot (Local j) iz
   slot_after m b (Local i) v (Temporary j) h is iz lt =
       number_beside m (Local i) v (sp + temporary_at y j) is
-        (slot_high y n reserved sp base room (Temporary j) iz)
-        (elim room.apart [ inl l ↦ inr (omega arith) | inr r ↦ inl (omega arith) ])
-        ∙ h.slot (Temporary j) iz
+      (slot_high y n reserved sp base room (Temporary j) iz)
+      (elim room.apart [ inl l ↦ inr (omega arith) | inr r ↦ inl (omega arith) ])
+      ∙ h.slot (Temporary j) iz
 
   small_after : (b : BodyState) (x : Slot) (v : ℕ) (m : Memory) (z : Slot)
       → HoldsBody y n reserved sp base m b → IsSlot n z → v < 2 ^ 64
       → with_slot b.slots x v z < 2 ^ 64
   small_after b (Temporary i) v m (Temporary j) h iz lt = elim (cases_eq j i) [
     | inl e ↦ let q : cond (eqb j i) v (b.slots (Temporary j))
-    ≡ v = ap (λ (c : Bool). cond c v (b.slots (Temporary j))) (eq-eqb j i e) in omega arith
+        ≡ v = ap (λ (c : Bool). cond c v (b.slots (Temporary j))) (eq-eqb j i e) in omega arith
     | inr ne ↦ let q : cond (eqb j i) v (b.slots (Temporary j))
-    ≡ b.slots (Temporary j) = ap (λ (c : Bool). cond c v (b.slots (Temporary j))) (ne_eqb j i ne) in
-      let s = h.small (Temporary j) iz in omega arith
+        ≡ b.slots (Temporary j) = ap (λ (c : Bool). cond c v (b.slots (Temporary j))) (ne_eqb j i ne) in
+        let s = h.small (Temporary j) iz in omega arith
   ]
   small_after b (Local i) v m (Local j) h iz lt = elim (cases_eq j i) [
     | inl e ↦ let q : cond (eqb j i) v (b.slots (Local j))
-    ≡ v = ap (λ (c : Bool). cond c v (b.slots (Local j))) (eq-eqb j i e) in omega arith
+        ≡ v = ap (λ (c : Bool). cond c v (b.slots (Local j))) (eq-eqb j i e) in omega arith
     | inr ne ↦ let q : cond (eqb j i) v (b.slots (Local j))
-    ≡ b.slots (Local j) = ap (λ (c : Bool). cond c v (b.slots (Local j))) (ne_eqb j i ne) in
-      let s = h.small (Local j) iz in omega arith
+        ≡ b.slots (Local j) = ap (λ (c : Bool). cond c v (b.slots (Local j))) (ne_eqb j i ne) in
+        let s = h.small (Local j) iz in omega arith
   ]
   small_after b (Temporary i) v m (Local j) h iz lt = h.small (Local j) iz
   small_after b (Local i) v m (Temporary j) h iz lt = h.small (Temporary j) iz
 
   base_after : (m : Memory) (x : Slot) (v : ℕ) (o : Option ℕ) → IsSlot n x → HasBase y o sp base
       → MemoryKeepsBase o sp base m → MemoryKeepsBase o sp base
-        (with_bytes m (with_number m.byte 8 (slot_at y sp base x) v))
+      (with_bytes m (with_number m.byte 8 (slot_at y sp base x) v))
   base_after m x v None is has keeps = tt
   base_after m (Temporary i) v (Some k) is has keeps =
-      let a = has.0 in let t = room.temporaries in let hi = room.high in
-      (number_beside m (Temporary i) v (sp + k) is (omega arith) (inl (omega arith))
-        ∙ keeps.0, keeps.1)
+      let a = has.0 in let t = room.temporaries in let hi = room.high in (
+        number_beside m (Temporary i) v (sp + k) is (omega arith) (inl (omega arith))
+            ∙ keeps.0,
+        keeps.1,
+      )
   base_after m (Local i) v (Some k) is has keeps =
       let a = has.0 in let c = has.1 in let t = room.temporaries in let hi = room.high in
       (number_beside m (Local i) v (sp + k) is (omega arith) (inl (omega arith)) ∙ keeps.0, keeps.1)
@@ -144,7 +150,7 @@ module _ (y : Layout) (n : Counts) (reserved : ℕ → Bool) (sp base : ℕ)
   pub holds_after : (m : Memory) (b : BodyState) (x : Slot) (v : ℕ)
       → HoldsBody y n reserved sp base m b → IsSlot n x → v < 2 ^ 64
       → HoldsBody y n reserved sp base (with_bytes m (with_number m.byte 8 (slot_at y sp base x) v))
-        (record { slots = with_slot b.slots x v; memory = b.memory })
+      (record { slots = with_slot b.slots x v; memory = b.memory })
   holds_after m b x v h is lt = record {
     slot = λ z iz. slot_after m b x v z h is iz lt;
     small = λ z iz. small_after b x v m z h iz lt;
@@ -161,47 +167,64 @@ module _ (y : Layout) (n : Counts) (reserved : ℕ → Bool) (sp base : ℕ)
 
   pub changes_slot : (m : Memory) (x : Slot) (v : ℕ) → IsSlot n x
       → Changes y n reserved sp base m (with_bytes m (with_number m.byte 8 (slot_at y sp base x) v))
-  changes_slot m x v is = record { protection = refl;
-      byte = λ a own out. beside m x v a is (off_slots a x is out);
-      bytes = λ small a. digits m.byte 8 (slot_at y sp base x) v a (small a) }
+  changes_slot m x v is = record {
+    protection = refl;
+    byte = λ a own out. beside m x v a is (off_slots a x is out);
+    bytes = λ small a. digits m.byte 8 (slot_at y sp base x) v a (small a);
+  }
 
   -- ---- RAX is put into a slot
 
   pub record KeptIn (x : Slot) (v : MachineView) : Type 0 where
     pub rcx : ℕ
-    pub does : Executes (keep y x) v (record { rax = v.rax; rcx = rcx; rdx = v.rdx; rest = v.rest;
-      memory = with_bytes v.memory (with_number v.memory.byte 8 (slot_at y sp base x) v.rax) })
+    pub does : Executes (keep y x) v (record {
+      rax = v.rax;
+      rcx = rcx;
+      rdx = v.rdx;
+      rest = v.rest;
+      memory = with_bytes v.memory (with_number v.memory.byte 8 (slot_at y sp base x) v.rax);
+    })
 
   local_kept : (o : Option ℕ) (i : ℕ) (v : MachineView) (b : BodyState) → i < n.locals
       → sp_of v ≡ sp → HasBase y o sp base → MemoryKeepsBase o sp base v.memory
       → HoldsBody y n reserved sp base v.memory b → v.rax < 2 ^ 64
       → (rcx : ℕ) × Executes (keep_local o (local_at y i)) v
-        (record { rax = v.rax; rcx = rcx; rdx = v.rdx; rest = v.rest;
-        memory = with_bytes v.memory (with_number v.memory.byte 8 (base + local_at y i) v.rax) })
+      (record {
+        rax = v.rax;
+        rcx = rcx;
+        rdx = v.rdx;
+        rest = v.rest;
+        memory = with_bytes v.memory (with_number v.memory.byte 8 (base + local_at y i) v.rax);
+      })
   local_kept None i v b lt at has keeps h small =
       let e : (sp_of v + 0 + local_at y i) % 2 ^ 64
-        ≡ base + local_at y i = ap (λ (s : ℕ). (s + 0 + local_at y i) % 2 ^ 64) (at ∙ sym has)
-        ∙ base_address y n reserved sp base room i lt in
-      (v.rcx, to_sp v (local_at y i) (base + local_at y i) e
-        (may_write_slot y n reserved sp base room v.memory b (Local i) h lt) small)
+      ≡ base + local_at y i = ap (λ (s : ℕ). (s + 0 + local_at y i) % 2 ^ 64) (at ∙ sym has)
+      ∙ base_address y n reserved sp base room i lt in (
+        v.rcx,
+        to_sp v (local_at y i) (base + local_at y i) e
+            (may_write_slot y n reserved sp base room v.memory b (Local i) h lt) small,
+      )
   local_kept (Some k) i v b lt at has keeps h small = (
     base,
     executes_then (fetched Rcx Rsp k ∷ []) (put_back Rcx (local_at y i) ∷ []) v (put false v base)
-      (written (put false v base) (base + local_at y i))
+        (written (put false v base) (base + local_at y i))
         (fetch_base y n reserved sp base room false k v at has keeps)
         (to_rcx (put false v base) (local_at y i) (base + local_at y i)
-          (base_address y n reserved sp base room i lt)
-          (may_write_slot y n reserved sp base room v.memory b (Local i) h lt) small),
+        (base_address y n reserved sp base room i lt)
+        (may_write_slot y n reserved sp base room v.memory b (Local i) h lt) small),
   )
 
   pub keep_does : (x : Slot) (v : MachineView) (b : BodyState) → IsSlot n x → sp_of v ≡ sp
       → HoldsBody y n reserved sp base v.memory b → v.rax < 2 ^ 64 → KeptIn x v
   keep_does (Temporary i) v b lt at h small =
       let e : (sp_of v + 0 + temporary_at y i) % 2 ^ 64
-        ≡ sp + temporary_at y i = ap (λ (s : ℕ). (s + 0 + temporary_at y i) % 2 ^ 64) at
-        ∙ sp_address y n reserved sp base room i lt in
-      record { rcx = v.rcx; does = to_sp v (temporary_at y i) (sp + temporary_at y i) e
-        (may_write_slot y n reserved sp base room v.memory b (Temporary i) h lt) small }
+      ≡ sp + temporary_at y i = ap (λ (s : ℕ). (s + 0 + temporary_at y i) % 2 ^ 64) at
+      ∙ sp_address y n reserved sp base room i lt in
+      record {
+        rcx = v.rcx;
+        does = to_sp v (temporary_at y i) (sp + temporary_at y i) e
+            (may_write_slot y n reserved sp base room v.memory b (Temporary i) h lt) small;
+      }
   keep_does (Local i) v b lt at h small =
       let k = local_kept y.base i v b lt at room.kept_base h.kept_base h small in
       record { rcx = k.0; does = k.1 }
@@ -213,9 +236,11 @@ module _ (y : Layout) (n : Counts) (reserved : ℕ → Bool) (sp base : ℕ)
       → MemoryKeepsBase o sp base m → MemoryKeepsBase o sp base m'
   base_same m m' None same protection has own keeps = tt
   base_same m m' (Some k) same protection has own keeps =
-      let a = has.0 in let t = room.temporaries in let hi = room.high in
-      (same_number m'.byte m.byte 8 (sp + k) (omega arith) (λ x p q. same x (own x p (omega arith)))
-        ∙ keeps.0, λ x p q. may_write_same m m' x protection ∙ keeps.1 x p q)
+      let a = has.0 in let t = room.temporaries in let hi = room.high in (
+        same_number m'.byte m.byte 8 (sp + k) (omega arith) (λ x p q. same x (own x p (omega arith)))
+            ∙ keeps.0,
+        λ x p q. may_write_same m m' x protection ∙ keeps.1 x p q,
+      )
 
   pub holds_same : (m m' source : Memory) (b : BodyState)
       → ((a : ℕ) → reserved a ≡ true → m'.byte a ≡ m.byte a) → m'.protection ≡ m.protection
@@ -223,8 +248,8 @@ module _ (y : Layout) (n : Counts) (reserved : ℕ → Bool) (sp base : ℕ)
       → HoldsBody y n reserved sp base m' (record { slots = b.slots; memory = source })
   holds_same m m' source b same protection agrees h = record {
     slot = λ z iz. same_number m'.byte m.byte 8 (slot_at y sp base z)
-      (slot_high y n reserved sp base room z iz)
-      (λ a p q. same a (h.own a (slot_bytes y n reserved sp base room z a iz p q))) ∙ h.slot z iz;
+        (slot_high y n reserved sp base room z iz)
+        (λ a p q. same a (h.own a (slot_bytes y n reserved sp base room z a iz p q))) ∙ h.slot z iz;
     small = h.small;
     kept_base = base_same m m' y.base same protection room.kept_base h.own_base h.kept_base;
     writable = λ a is. may_write_same m m' a protection ∙ h.writable a is;
@@ -235,5 +260,8 @@ module _ (y : Layout) (n : Counts) (reserved : ℕ → Bool) (sp base : ℕ)
 
   pub changes_same : (m m' : Memory) → ((a : ℕ) → reserved a ≡ true → m'.byte a ≡ m.byte a)
       → m'.protection ≡ m.protection → (IsBytes m → IsBytes m') → Changes y n reserved sp base m m'
-  changes_same m m' same protection bytes = record { protection = protection;
-      byte = λ a own out. same a own; bytes = bytes }
+  changes_same m m' same protection bytes = record {
+    protection = protection;
+    byte = λ a own out. same a own;
+    bytes = bytes;
+  }

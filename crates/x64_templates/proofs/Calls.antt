@@ -44,7 +44,7 @@ loaded_by i v to d at x h e may is lt = executes_one i v (to x) (λ rip f. (
   h rip f
       ∙ ap (λ (a : ℕ). load v.memory a W64 >>= λ y. Ok (machine (to (low W64 y)) rip f)) e
       ∙ ap (λ (o : Answer ℕ). o >>= λ y. Ok (machine (to (low W64 y)) rip f))
-        (load_at v.memory at may)
+      (load_at v.memory at may)
       ∙ ap (λ (y : ℕ). Ok (machine (to y) rip f)) (word_is (number_at v.memory.byte 8 at) x is lt),
 ))
 
@@ -72,8 +72,8 @@ sp_kept_six rest c = get_or-set_other rest 6 1 c 0 not_six
 arguments_do : (p : FramePlace) (first : ℕ) (v : MachineView) (b : BodyState) → Roomy p
     → first + 4 ≤ p.counts.temporaries → sp_of v ≡ p.sp → FrameHolds p v.memory b
     → Executes (arguments_code p.layout first) v
-      (with_four v (b.slots (Temporary first)) (b.slots (Temporary (first + 1)))
-      (b.slots (Temporary (first + 2))) (b.slots (Temporary (first + 3))))
+    (with_four v (b.slots (Temporary first)) (b.slots (Temporary (first + 1)))
+    (b.slots (Temporary (first + 2))) (b.slots (Temporary (first + 3))))
 arguments_do p first v b room le at h =
     let y = p.layout in
     let a0 = b.slots (Temporary first) in
@@ -81,10 +81,10 @@ arguments_do p first v b room le at h =
     let a2 = b.slots (Temporary (first + 2)) in
     let a3 = b.slots (Temporary (first + 3)) in
     let place = λ (i : ℕ) (lt : i < p.counts.temporaries) (sp : ℕ) (is : sp ≡ p.sp). ap
-      (λ (s : ℕ). (s + 0 + temporary_at y i) % 2 ^ 64) is
-      ∙ sp_address y p.counts p.reserved p.sp p.base room i lt in
+    (λ (s : ℕ). (s + 0 + temporary_at y i) % 2 ^ 64) is
+    ∙ sp_address y p.counts p.reserved p.sp p.base room i lt in
     let may = λ (i : ℕ) (lt : i < p.counts.temporaries). may_read_slot y p.counts p.reserved p.sp
-      p.base room v.memory b (Temporary i) h lt in
+    p.base room v.memory b (Temporary i) h lt in
     let l0 : first < p.counts.temporaries = omega arith in
     let l1 : first + 1 < p.counts.temporaries = omega arith in
     let l2 : first + 2 < p.counts.temporaries = omega arith in
@@ -94,34 +94,45 @@ arguments_do p first v b room le at h =
     let i2 = fetched R8 Rsp (temporary_at y (first + 2)) in
     let i3 = fetched R9 Rsp (temporary_at y (first + 3)) in
     let d0 = loaded_by i0 v (λ x. one v x) (temporary_at y first) (p.sp + temporary_at y first) a0
-      (λ rip f. refl) (place first l0 (sp_of v) at) (may first l0) (h.slot (Temporary first) l0)
-      (h.small (Temporary first) l0) in
+    (λ rip f. refl) (place first l0 (sp_of v) at) (may first l0) (h.slot (Temporary first) l0)
+    (h.small (Temporary first) l0) in
     let d1 = loaded_by i1 (one v a0) (λ x. two v a0 x) (temporary_at y (first + 1))
-      (p.sp + temporary_at y (first + 1)) a1 (λ rip f. refl) (place (first + 1) l1 (sp_of v) at)
-      (may (first + 1) l1) (h.slot (Temporary (first + 1)) l1)
-      (h.small (Temporary (first + 1)) l1) in
+    (p.sp + temporary_at y (first + 1)) a1 (λ rip f. refl) (place (first + 1) l1 (sp_of v) at)
+    (may (first + 1) l1) (h.slot (Temporary (first + 1)) l1)
+    (h.small (Temporary (first + 1)) l1) in
     let d2 = loaded_by i2 (two v a0 a1) (λ x. three v a0 a1 x) (temporary_at y (first + 2))
-      (p.sp + temporary_at y (first + 2)) a2 (λ rip f. refl) (place (first + 2) l2 (sp_of v) at)
-      (may (first + 2) l2) (h.slot (Temporary (first + 2)) l2)
-      (h.small (Temporary (first + 2)) l2) in
+    (p.sp + temporary_at y (first + 2)) a2 (λ rip f. refl) (place (first + 2) l2 (sp_of v) at)
+    (may (first + 2) l2) (h.slot (Temporary (first + 2)) l2)
+    (h.small (Temporary (first + 2)) l2) in
     let d3 = loaded_by i3 (three v a0 a1 a2) (λ x. with_four v a0 a1 a2 x)
-      (temporary_at y (first + 3)) (p.sp + temporary_at y (first + 3)) a3 (λ rip f. refl)
-      (place (first + 3) l3 (get_or (set v.rest 5 a2) 1 0) (sp_kept_five v.rest a2 ∙ at))
-      (may (first + 3) l3) (h.slot (Temporary (first + 3)) l3)
-      (h.small (Temporary (first + 3)) l3) in
+    (temporary_at y (first + 3)) (p.sp + temporary_at y (first + 3)) a3 (λ rip f. refl)
+    (place (first + 3) l3 (get_or (set v.rest 5 a2) 1 0) (sp_kept_five v.rest a2 ∙ at))
+    (may (first + 3) l3) (h.slot (Temporary (first + 3)) l3)
+    (h.small (Temporary (first + 3)) l3) in
     executes_then (i0 ∷ []) (i1 ∷ i2 ∷ i3 ∷ []) v (one v a0) (with_four v a0 a1 a2 a3) d0
     (executes_then (i1 ∷ []) (i2 ∷ i3 ∷ []) (one v a0) (two v a0 a1) (with_four v a0 a1 a2 a3) d1
     (executes_then (i2 ∷ []) (i3 ∷ []) (two v a0 a1) (three v a0 a1 a2) (with_four v a0 a1 a2 a3) d2
-      d3))
+    d3))
 
 arguments_fine : (p : FramePlace) (first : ℕ) → Roomy p → first + 4 ≤ p.counts.temporaries
     → Fine (arguments_code p.layout first)
 arguments_fine p first room le =
-    let t = room.temporaries in
-    (near (temporary_at p.layout first) (omega arith), refl, refl,
-      (near (temporary_at p.layout (first + 1)) (omega arith), refl, refl,
-      (near (temporary_at p.layout (first + 2)) (omega arith), refl, refl,
-      (near (temporary_at p.layout (first + 3)) (omega arith), refl, refl, tt))))
+    let t = room.temporaries in (
+      near (temporary_at p.layout first) (omega arith),
+      refl,
+      refl,
+      (
+        near (temporary_at p.layout (first + 1)) (omega arith),
+        refl,
+        refl,
+        (
+          near (temporary_at p.layout (first + 2)) (omega arith),
+          refl,
+          refl,
+          (near (temporary_at p.layout (first + 3)) (omega arith), refl, refl, tt),
+        ),
+      ),
+    )
 
 -- ---- the call itself
 
@@ -133,16 +144,27 @@ call_effect v sp next d to f at below e =
     let high = below.high in
     let spot : (sp_of v + (2 ^ 64 - 8)) % 2 ^ 64 ≡ sp - 8 = omega arith in
     let word : low W64 (sp - 8) ≡ sp - 8 = omega arith in
-    let moved = λ (a : ℕ). let s : State = record { cpu =
-      record { registers = v.rax ∷ v.rcx ∷ v.rdx ∷ set v.rest 1 (low W64 a); rip = next;
-      flags = f }; memory = v.memory } in s in
+    let moved = λ (a : ℕ). let s : State = record {
+      cpu =
+          record {
+            registers = v.rax ∷ v.rcx ∷ v.rdx ∷ set v.rest 1 (low W64 a);
+            rip = next;
+            flags = f;
+          };
+      memory = v.memory;
+    } in s in
     let may = all_may (may_write v.memory) 8 (sp - 8) (omega arith)
-      (λ a p q. below.writable a (omega arith) (omega arith)) in
+    (λ a p q. below.writable a (omega arith) (omega arith)) in
     ap (λ (a : ℕ). store (moved a) a W64 next >>= λ t. Ok (with_rip t ((next + d) % 2 ^ 64))) spot
     ∙ ap (λ (o : Answer State). o >>= λ t. Ok (with_rip t ((next + d) % 2 ^ 64)))
-      (store_at (moved (sp - 8)) (sp - 8) next may)
-    ∙ ap (λ (a : ℕ). Ok (machine (record { rax = v.rax; rcx = v.rcx; rdx = v.rdx;
-      rest = set v.rest 1 a; memory = (pushed v sp next).memory }) ((next + d) % 2 ^ 64) f)) word
+    (store_at (moved (sp - 8)) (sp - 8) next may)
+    ∙ ap (λ (a : ℕ). Ok (machine (record {
+      rax = v.rax;
+      rcx = v.rcx;
+      rdx = v.rdx;
+      rest = set v.rest 1 a;
+      memory = (pushed v sp next).memory;
+    }) ((next + d) % 2 ^ 64) f)) word
     ∙ ap (λ (a : ℕ). Ok (machine (pushed v sp next) a f)) e
 
 pub call_reaches : (v : MachineView) (sp rip to : ℕ) (f : Flags) → sp_of v ≡ sp
@@ -153,7 +175,7 @@ call_reaches v sp rip to f at below n code =
     let next : rip + size i ≡ rip + 5 = ap (λ (k : ℕ). rip + k) (call_size (rip + 5) to) in
     one_reaches i v (pushed v sp (rip + 5)) rip to f f (short (rip + 5) to n) refl code
     (ap (λ (a : ℕ). effect (machine v a f) i) next
-      ∙ call_effect v sp (rip + 5) (distance (rip + 5) to) to f at below (arrives (rip + 5) to n))
+    ∙ call_effect v sp (rip + 5) (distance (rip + 5) to) to f at below (arrives (rip + 5) to n))
 
 pub call_begins : (p : FramePlace) (first : ℕ) (v : MachineView) (rip to : ℕ) (f : Flags)
     (b : BodyState) → Roomy p → first + 4 ≤ p.counts.temporaries → sp_of v ≡ p.sp
@@ -163,13 +185,16 @@ call_begins p first v rip to f b room le at h below n code =
     let args = arguments_code p.layout first in
     let back = return_at p.layout first rip in
     let w = with_four v (b.slots (Temporary first)) (b.slots (Temporary (first + 1)))
-      (b.slots (Temporary (first + 2))) (b.slots (Temporary (first + 3))) in
+    (b.slots (Temporary (first + 2))) (b.slots (Temporary (first + 3))) in
     let parts = code_split v.memory rip args (call back to ∷ []) code in
     let r = runs_view args v w rip f (arguments_fine p first room le) parts.0
-      (arguments_do p first v b room le at h) in
+    (arguments_do p first v b room le at h) in
     let sp = sp_kept_six (set v.rest 5 (b.slots (Temporary (first + 2))))
-      (b.slots (Temporary (first + 3))) ∙ sp_kept_five v.rest (b.slots (Temporary (first + 2)))
-      ∙ at in
+    (b.slots (Temporary (first + 3))) ∙ sp_kept_five v.rest (b.slots (Temporary (first + 2)))
+    ∙ at in
     let c = call_reaches w p.sp (rip + sizes args) to r.left sp below n parts.1 in
-    record { flags = r.left; comes = reaches_then 4 1 (machine v rip f)
-      (machine w (rip + sizes args) r.left) (machine (pushed w p.sp back) to r.left) r.comes c }
+    record {
+      flags = r.left;
+      comes = reaches_then 4 1 (machine v rip f)
+          (machine w (rip + sizes args) r.left) (machine (pushed w p.sp back) to r.left) r.comes c;
+    }

@@ -47,17 +47,17 @@ from_sp true v d at x e may is lt = executes_one (fetched Rax Rsp d) v (put true
   f,
   ap (λ (a : ℕ). load v.memory a W64 >>= λ y. Ok (machine (put true v (low W64 y)) rip f)) e
       ∙ ap (λ (o : Answer ℕ). o >>= λ y. Ok (machine (put true v (low W64 y)) rip f))
-        (load_at v.memory at may)
+      (load_at v.memory at may)
       ∙ ap (λ (y : ℕ). Ok (machine (put true v y) rip f))
-        (word_is (number_at v.memory.byte 8 at) x is lt),
+      (word_is (number_at v.memory.byte 8 at) x is lt),
 ))
 from_sp false v d at x e may is lt = executes_one (fetched Rcx Rsp d) v (put false v x) (λ rip f. (
   f,
   ap (λ (a : ℕ). load v.memory a W64 >>= λ y. Ok (machine (put false v (low W64 y)) rip f)) e
       ∙ ap (λ (o : Answer ℕ). o >>= λ y. Ok (machine (put false v (low W64 y)) rip f))
-        (load_at v.memory at may)
+      (load_at v.memory at may)
       ∙ ap (λ (y : ℕ). Ok (machine (put false v y) rip f))
-        (word_is (number_at v.memory.byte 8 at) x is lt),
+      (word_is (number_at v.memory.byte 8 at) x is lt),
 ))
 
 -- a load from a place above the base in the same register
@@ -66,27 +66,32 @@ from_base : (r : Bool) (v : MachineView) (base d at x : ℕ) → (base + 0 + d) 
     → Executes (fetched (reg r) (reg r) d ∷ []) (put r v base) (put r v x)
 from_base true v base d at x e may is lt = executes_one (fetched Rax Rax d) (put true v base)
     (put true v x) (λ rip f. (
-  f,
-  ap (λ (a : ℕ). load v.memory a W64 >>= λ y. Ok (machine (put true v (low W64 y)) rip f)) e
-      ∙ ap (λ (o : Answer ℕ). o >>= λ y. Ok (machine (put true v (low W64 y)) rip f))
-        (load_at v.memory at may)
-      ∙ ap (λ (y : ℕ). Ok (machine (put true v y) rip f))
-        (word_is (number_at v.memory.byte 8 at) x is lt),
-))
+      f,
+      ap (λ (a : ℕ). load v.memory a W64 >>= λ y. Ok (machine (put true v (low W64 y)) rip f)) e
+          ∙ ap (λ (o : Answer ℕ). o >>= λ y. Ok (machine (put true v (low W64 y)) rip f))
+          (load_at v.memory at may)
+          ∙ ap (λ (y : ℕ). Ok (machine (put true v y) rip f))
+          (word_is (number_at v.memory.byte 8 at) x is lt),
+    ))
 from_base false v base d at x e may is lt = executes_one (fetched Rcx Rcx d) (put false v base)
     (put false v x) (λ rip f. (
-  f,
-  ap (λ (a : ℕ). load v.memory a W64 >>= λ y. Ok (machine (put false v (low W64 y)) rip f)) e
-      ∙ ap (λ (o : Answer ℕ). o >>= λ y. Ok (machine (put false v (low W64 y)) rip f))
-        (load_at v.memory at may)
-      ∙ ap (λ (y : ℕ). Ok (machine (put false v y) rip f))
-        (word_is (number_at v.memory.byte 8 at) x is lt),
-))
+      f,
+      ap (λ (a : ℕ). load v.memory a W64 >>= λ y. Ok (machine (put false v (low W64 y)) rip f)) e
+          ∙ ap (λ (o : Answer ℕ). o >>= λ y. Ok (machine (put false v (low W64 y)) rip f))
+          (load_at v.memory at may)
+          ∙ ap (λ (y : ℕ). Ok (machine (put false v y) rip f))
+          (word_is (number_at v.memory.byte 8 at) x is lt),
+    ))
 
 -- RAX in memory
 abbrev pub written : MachineView → ℕ → MachineView
-written v at = record { rax = v.rax; rcx = v.rcx; rdx = v.rdx; rest = v.rest;
-    memory = with_bytes v.memory (with_number v.memory.byte 8 at v.rax) }
+written v at = record {
+  rax = v.rax;
+  rcx = v.rcx;
+  rdx = v.rdx;
+  rest = v.rest;
+  memory = with_bytes v.memory (with_number v.memory.byte 8 at v.rax);
+}
 
 stores : (v : MachineView) (at rip : ℕ) (f : Flags) → v.rax < 2 ^ 64
     → first_refused (may_write v.memory) 8 at ≡ None
@@ -98,15 +103,21 @@ pub to_sp : (v : MachineView) (d at : ℕ) → (sp_of v + 0 + d) % 2 ^ 64 ≡ at
     → first_refused (may_write v.memory) 8 at ≡ None → v.rax < 2 ^ 64
     → Executes (put_back Rsp d ∷ []) v (written v at)
 to_sp v d at e may lt = executes_one (put_back Rsp d) v (written v at)
-    (λ rip f. (f, ap (λ (a : ℕ). store (machine v rip f) a W64 (low W64 v.rax)) e
-    ∙ stores v at rip f lt may))
+    (λ rip f. (
+      f,
+      ap (λ (a : ℕ). store (machine v rip f) a W64 (low W64 v.rax)) e
+          ∙ stores v at rip f lt may,
+    ))
 
 pub to_rcx : (v : MachineView) (d at : ℕ) → (v.rcx + 0 + d) % 2 ^ 64 ≡ at
     → first_refused (may_write v.memory) 8 at ≡ None → v.rax < 2 ^ 64
     → Executes (put_back Rcx d ∷ []) v (written v at)
 to_rcx v d at e may lt = executes_one (put_back Rcx d) v (written v at)
-    (λ rip f. (f, ap (λ (a : ℕ). store (machine v rip f) a W64 (low W64 v.rax)) e
-    ∙ stores v at rip f lt may))
+    (λ rip f. (
+      f,
+      ap (λ (a : ℕ). store (machine v rip f) a W64 (low W64 v.rax)) e
+          ∙ stores v at rip f lt may,
+    ))
 
 -- ---- the slots of a frame
 
@@ -150,8 +161,8 @@ module _ (y : Layout) (n : Counts) (reserved : ℕ → Bool) (sp base : ℕ)
       let below = has.0 in
       let e : (sp_of v + 0 + b) % 2 ^ 64 ≡ sp + b = omega arith in
       from_sp r v b (sp + b) base e (writable_is_readable v.memory 8 (sp + b)
-        (all_may (may_write v.memory) 8 (sp + b) (omega arith)
-        (λ a p q. keeps.1 a p (omega arith)))) keeps.0 (omega arith)
+      (all_may (may_write v.memory) 8 (sp + b) (omega arith)
+      (λ a p q. keeps.1 a p (omega arith)))) keeps.0 (omega arith)
 
   local_fetched : (r : Bool) (o : Option ℕ) (i : ℕ) (v : MachineView) (b : BodyState) → i < n.locals
       → sp_of v ≡ sp → HasBase y o sp base → MemoryKeepsBase o sp base v.memory
@@ -159,27 +170,27 @@ module _ (y : Layout) (n : Counts) (reserved : ℕ → Bool) (sp base : ℕ)
       → Executes (fetch_local o (reg r) (local_at y i)) v (put r v (b.slots (Local i)))
   local_fetched r None i v b lt at has keeps h =
       let e : (sp_of v + 0 + local_at y i) % 2 ^ 64
-        ≡ base + local_at y i = ap (λ (s : ℕ). (s + 0 + local_at y i) % 2 ^ 64) (at ∙ sym has)
-        ∙ base_address i lt in
+      ≡ base + local_at y i = ap (λ (s : ℕ). (s + 0 + local_at y i) % 2 ^ 64) (at ∙ sym has)
+      ∙ base_address i lt in
       from_sp r v (local_at y i) (base + local_at y i) (b.slots (Local i)) e
-        (may_read_slot v.memory b (Local i) h lt) (h.slot (Local i) lt) (h.small (Local i) lt)
+      (may_read_slot v.memory b (Local i) h lt) (h.slot (Local i) lt) (h.small (Local i) lt)
   local_fetched r (Some k) i v b lt at has keeps h =
       executes_then (fetched (reg r) Rsp k ∷ []) (fetched (reg r) (reg r) (local_at y i) ∷ []) v
-        (put r v base) (put r v (b.slots (Local i)))
+      (put r v base) (put r v (b.slots (Local i)))
       (fetch_base r k v at has keeps)
       (from_base r v base (local_at y i) (base + local_at y i) (b.slots (Local i))
-        (base_address i lt) (may_read_slot v.memory b (Local i) h lt) (h.slot (Local i) lt)
-        (h.small (Local i) lt))
+      (base_address i lt) (may_read_slot v.memory b (Local i) h lt) (h.slot (Local i) lt)
+      (h.small (Local i) lt))
 
   pub fetch_does : (r : Bool) (x : Slot) (v : MachineView) (b : BodyState) → IsSlot n x
       → sp_of v ≡ sp → HoldsBody y n reserved sp base v.memory b
       → Executes (fetch y (reg r) x) v (put r v (b.slots x))
   fetch_does r (Temporary i) v b lt at h =
       let e : (sp_of v + 0 + temporary_at y i) % 2 ^ 64
-        ≡ sp + temporary_at y i = ap (λ (s : ℕ). (s + 0 + temporary_at y i) % 2 ^ 64) at
-        ∙ sp_address i lt in
+      ≡ sp + temporary_at y i = ap (λ (s : ℕ). (s + 0 + temporary_at y i) % 2 ^ 64) at
+      ∙ sp_address i lt in
       from_sp r v (temporary_at y i) (sp + temporary_at y i) (b.slots (Temporary i)) e
-        (may_read_slot v.memory b (Temporary i) h lt) (h.slot (Temporary i) lt)
-        (h.small (Temporary i) lt)
+      (may_read_slot v.memory b (Temporary i) h lt) (h.slot (Temporary i) lt)
+      (h.small (Temporary i) lt)
   fetch_does r (Local i) v b lt at h = local_fetched r y.base i v b lt at room.kept_base h.kept_base
       h

@@ -31,9 +31,9 @@ decoded s i rest spelling h =
     let high = h.placed.high in
     let parts = bytes_split s.memory s.cpu.rip (chosen i) (spelled rest) h.is_there in
     let r = reads s i (chosen i) (spells i spelling) (longest i) parts.0
-      (record { low = low; high = omega arith }) in
+    (record { low = low; high = omega arith }) in
     let rip : (s.cpu.rip + length (chosen i)) % 2 ^ 64
-      ≡ s.cpu.rip + length (chosen i) = omega arith in
+    ≡ s.cpu.rip + length (chosen i) = omega arith in
     record { read = r; does = rw (outside_page s.cpu.rip low, r, rip) refl }
 
 -- the code that is left is there after the step
@@ -44,9 +44,11 @@ rest_is_at s u i rest r h =
     let low = h.placed.low in
     let high = h.placed.high in
     let parts = bytes_split s.memory s.cpu.rip (chosen i) (spelled rest) h.is_there in
-    record { is_there = bytes_kept s.memory u.memory (s.cpu.rip + size i) (spelled rest)
-      r.steps.fixed r.steps.protection parts.1;
-      placed = record { low = omega arith; high = omega arith } }
+    record {
+      is_there = bytes_kept s.memory u.memory (s.cpu.rip + size i) (spelled rest)
+          r.steps.fixed r.steps.protection parts.1;
+      placed = record { low = omega arith; high = omega arith };
+    }
 
 same_state : (u v : State) → ◌≡◌ {A = Answer State} (Ok u) (Ok v) → u ≡ v
 same_state u v e = cc
@@ -87,7 +89,7 @@ memory_stays [] u w spelling keep code r = ap (λ (x : State). x.memory) r
 memory_stays (i ∷ is) u w spelling keep code r =
     let x = stepped i is u r.0 spelling.0 keep.0 code r.1.steps.steps in
     sym (x.memory keep.1) ∙ memory_stays is r.0 w spelling.1 keep.2
-      (next_code i is u r.0 r.1 x.rip code) r.2
+    (next_code i is u r.0 r.1 x.rip code) r.2
 
 -- ---- every turn
 
@@ -115,8 +117,15 @@ module _ (Turn : State → State → Type 0) (code : List Instr) (s w : State)
 
   midst : (done : List Instr) (i : Instr) (left : List Instr) (u : State) → At done (i ∷ left) u
       → IsMidst code s w u
-  midst done i left u at = record { done = done; item = i; left = left; parts = at.parts;
-      rip = at.rip; registers = at.registers; memory = either (i ∷ left) u at.memory }
+  midst done i left u at = record {
+    done = done;
+    item = i;
+    left = left;
+    parts = at.parts;
+    rip = at.rip;
+    registers = at.registers;
+    memory = either (i ∷ left) u at.memory;
+  }
 
   after : (done : List Instr) (i j : Instr) (is : List Instr) (u v : State)
       → keeps_registers i ≡ true → At done (i ∷ j ∷ is) u → Runs u v → Reaches (length (j ∷ is)) v w
@@ -148,15 +157,26 @@ module _ (Turn : State → State → Type 0) (code : List Instr) (s w : State)
   go done (i ∷ []) u flow at r =
       let d = decoded u i [] at.spelling.0 at.is_there in
       turns_first Turn 0 u r.0 r.1.steps.steps
-      (each u r.0 (record { steps = r.1.steps.steps; instruction = i; read = d.read; no_call = flow;
-        from = midst done i [] u at; to = inr r.2 })) tt
+      (each u r.0 (record {
+        steps = r.1.steps.steps;
+        instruction = i;
+        read = d.read;
+        no_call = flow;
+        from = midst done i [] u at;
+        to = inr r.2;
+      })) tt
   go done (i ∷ j ∷ is) u flow at r =
       let d = decoded u i (j ∷ is) at.spelling.0 at.is_there in
       let next = after done i j is u r.0 flow.0 at r.1 r.2 in
       turns_first Turn (length (j ∷ is)) u r.0 r.1.steps.steps
-      (each u r.0 (record { steps = r.1.steps.steps; instruction = i; read = d.read;
-        no_call = calls_nothing i flow.0; from = midst done i (j ∷ is) u at;
-        to = inl (midst (done ++ (i ∷ [])) j is r.0 next) }))
+      (each u r.0 (record {
+        steps = r.1.steps.steps;
+        instruction = i;
+        read = d.read;
+        no_call = calls_nothing i flow.0;
+        from = midst done i (j ∷ is) u at;
+        to = inl (midst (done ++ (i ∷ [])) j is r.0 next);
+      }))
       (go (done ++ (i ∷ [])) (j ∷ is) r.0 flow.1 next r.2)
 
   -- every step of a run over code that flows, and that stores once at most
@@ -164,8 +184,14 @@ module _ (Turn : State → State → Type 0) (code : List Instr) (s w : State)
       → Reaches (length code) s w → AllTurns Turn (length code) s
   unfolding Memories
   all_turns spelling flow once is_there r =
-      go [] code s flow (record { parts = refl; rip = omega arith; registers = refl;
-        spelling = spelling; memory = inl (refl, once); is_there = is_there }) r
+      go [] code s flow (record {
+        parts = refl;
+        rip = omega arith;
+        registers = refl;
+        spelling = spelling;
+        memory = inl (refl, once);
+        is_there = is_there;
+      }) r
 
 -- ---- runs one after another
 

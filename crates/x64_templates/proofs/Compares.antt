@@ -76,23 +76,33 @@ forth : (w : Width) (c : Condition) (r : Bool) (v : MachineView)
     → holds (flags_after w v.rax v.rcx) c ≡ r
     → Yields (compared w Rax Rcx c) v (cond r 1 0) v.memory
 unfolding effects
-forth w c r v e = record { rcx = v.rcx; rdx = v.rdx;
-    does = λ rip f. (flags_after w v.rax v.rcx,
+forth w c r v e = record {
+  rcx = v.rcx;
+  rdx = v.rdx;
+  does = λ rip f. (
+    flags_after w v.rax v.rcx,
     ap (λ (x : ℕ). Ok (machine (after v x) (following (compared w Rax Rcx c) rip)
-    (flags_after w v.rax v.rcx))) (one_or_zero v.rax (holds (flags_after w v.rax v.rcx) c) r e)
-    ∙ ap (λ (a : ℕ). Ok (machine (after v (cond r 1 0)) a (flags_after w v.rax v.rcx)))
-      (following_is (compared w Rax Rcx c) rip)) }
+        (flags_after w v.rax v.rcx))) (one_or_zero v.rax (holds (flags_after w v.rax v.rcx) c) r e)
+        ∙ ap (λ (a : ℕ). Ok (machine (after v (cond r 1 0)) a (flags_after w v.rax v.rcx)))
+        (following_is (compared w Rax Rcx c) rip),
+  );
+}
 
 back : (w : Width) (c : Condition) (r : Bool) (v : MachineView)
     → holds (flags_after w v.rcx v.rax) c ≡ r
     → Yields (compared w Rcx Rax c) v (cond r 1 0) v.memory
 unfolding effects
-back w c r v e = record { rcx = v.rcx; rdx = v.rdx;
-    does = λ rip f. (flags_after w v.rcx v.rax,
+back w c r v e = record {
+  rcx = v.rcx;
+  rdx = v.rdx;
+  does = λ rip f. (
+    flags_after w v.rcx v.rax,
     ap (λ (x : ℕ). Ok (machine (after v x) (following (compared w Rcx Rax c) rip)
-    (flags_after w v.rcx v.rax))) (one_or_zero v.rax (holds (flags_after w v.rcx v.rax) c) r e)
-    ∙ ap (λ (a : ℕ). Ok (machine (after v (cond r 1 0)) a (flags_after w v.rcx v.rax)))
-      (following_is (compared w Rcx Rax c) rip)) }
+        (flags_after w v.rcx v.rax))) (one_or_zero v.rax (holds (flags_after w v.rcx v.rax) c) r e)
+        ∙ ap (λ (a : ℕ). Ok (machine (after v (cond r 1 0)) a (flags_after w v.rcx v.rax)))
+        (following_is (compared w Rcx Rax c) rip),
+  );
+}
 
 pub compares : (r : Relation) (s : Signedness) (z : Size) (v : MachineView)
     → Yields (compare r s (width z)) v (cond (are_related r s (width z) v.rax v.rcx) 1 0) v.memory

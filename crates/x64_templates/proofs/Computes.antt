@@ -46,13 +46,17 @@ pub code_split : (m : Memory) (at : ℕ) (a b : List Instr) → HasCode m at (a 
     → HasCode m at a × HasCode m (at + sizes a) b
 code_split m at a b h =
     let p = bytes_split m at (spelled a) (spelled b)
-      (subst (λ x. IsCodeAt m at x) (spelled_append a b) h.is_there) in
+    (subst (λ x. IsCodeAt m at x) (spelled_append a b) h.is_there) in
     let l = h.placed.low in
     let u = h.placed.high in (
-      record { is_there = p.0; placed = record { low = l; high = omega (arith, sizes_append a b) }
-        },
-      record { is_there = subst (λ k. IsCodeAt m (at + k) (spelled b)) (sizes_spelled a) p.1;
-        placed = record { low = omega arith; high = omega (arith, sizes_append a b) } },
+      record {
+        is_there = p.0;
+        placed = record { low = l; high = omega (arith, sizes_append a b) };
+      },
+      record {
+        is_there = subst (λ k. IsCodeAt m (at + k) (spelled b)) (sizes_spelled a) p.1;
+        placed = record { low = omega arith; high = omega (arith, sizes_append a b) };
+      },
     )
 
 -- ---- an instruction that faults
@@ -69,8 +73,8 @@ step_faults s i bytes code access same enc is_there placed e =
     let short : length bytes ≤ 15 = subst (λ (x : List ℕ). length x ≤ 15) (sym same) (longest i) in
     let f = fetches s.memory bytes 15 s.cpu.rip short is_there (omega arith) in
     let read : leading (executable s.memory 15 s.cpu.rip) ≡ Some (i, length bytes) = ap leading f.1
-      ∙ leading-again i bytes f.0 (subst (λ (x : List ℕ). IsEncoding i x) (sym same)
-        (spells i enc.0)) in
+    ∙ leading-again i bytes f.0 (subst (λ (x : List ℕ). IsEncoding i x) (sym same)
+    (spells i enc.0)) in
     let rip : (s.cpu.rip + length bytes) % 2 ^ 64 ≡ s.cpu.rip + length bytes = omega arith in
     rw (outside_page s.cpu.rip low, read, rip) e
 
@@ -84,7 +88,7 @@ head_faults (i ∷ is) v rip f code access fine c h =
     let l = c.placed.low in
     let u = c.placed.high in
     step_faults (machine v rip f) i (chosen i) code access refl (fine.0, tt) p.0
-      (record { low = l; high = omega arith }) (h (rip + length (chosen i)) f)
+    (record { low = l; high = omega arith }) (h (rip + length (chosen i)) f)
 
 more_faults : (is js : List Instr) (v : MachineView) (code : Code) (access : Option (Bool × ℕ))
     → HeadFaults is v code access → HeadFaults (is ++ js) v code access
@@ -102,8 +106,8 @@ pub runs_view : (is : List Instr) (v w : MachineView) (rip : ℕ) (f : Flags) �
 runs_view is v w rip f fine code d =
     let r = d rip f in
     let went = straight_runs is (machine v rip f) (machine w (rip + sizes is) r.0)
-      (encodable_of is fine) (straight_of is fine) (none_taking is fine) code.is_there code.placed
-      r.1 in
+    (encodable_of is fine) (straight_of is fine) (none_taking is fine) code.is_there code.placed
+    r.1 in
     record { left = r.0; comes = went.ran.comes }
 
 -- ---- both operands are brought to their registers
@@ -117,16 +121,25 @@ record Prepared (o : Operation) (v : MachineView) (a b : ℕ) : Type 0 where
   ready : IsReady o (waiting v a b rdx)
 
 prepared : (o : Operation) (v : MachineView) (a b : ℕ) → Prepared o v a b
-prepared (operations.Pure p) v a b = record { rdx = v.rdx;
-    does = executes_nothing (waiting v a b v.rdx); ready = tt }
+prepared (operations.Pure p) v a b = record {
+  rdx = v.rdx;
+  does = executes_nothing (waiting v a b v.rdx);
+  ready = tt;
+}
 prepared (operations.Divide s z) v a b = let h = half_set s z (waiting v a b v.rdx) in
     record { rdx = h.rdx; does = h.does; ready = h.half }
 prepared (operations.Remainder s z) v a b = let h = half_set s z (waiting v a b v.rdx) in
     record { rdx = h.rdx; does = h.does; ready = h.half }
-prepared (operations.Load w) v a b = record { rdx = v.rdx;
-    does = executes_nothing (waiting v a b v.rdx); ready = tt }
-prepared (operations.Store w) v a b = record { rdx = v.rdx;
-    does = executes_nothing (waiting v a b v.rdx); ready = tt }
+prepared (operations.Load w) v a b = record {
+  rdx = v.rdx;
+  does = executes_nothing (waiting v a b v.rdx);
+  ready = tt;
+}
+prepared (operations.Store w) v a b = record {
+  rdx = v.rdx;
+  does = executes_nothing (waiting v a b v.rdx);
+  ready = tt;
+}
 
 record Fetched (p : FramePlace) (o : Operation) (first second : Slot) (v : MachineView)
     (a b : ℕ) : Type 0 where
@@ -145,10 +158,10 @@ operands_do p o first second v b room f s at h =
     record {
       rdx = q.rdx;
       does = executes_then (fetch y Rax first) (fetch y Rcx second ++ before o) v v1
-        (waiting v (b.slots first) (b.slots second) q.rdx)
+          (waiting v (b.slots first) (b.slots second) q.rdx)
           (fetch_does y p.counts p.reserved p.sp p.base room true first v b f at h)
           (executes_then (fetch y Rcx second) (before o) v1 v2
-            (waiting v (b.slots first) (b.slots second) q.rdx)
+          (waiting v (b.slots first) (b.slots second) q.rdx)
           (fetch_does y p.counts p.reserved p.sp p.base room false second v1 b s at h)
           q.does);
       ready = q.ready;
@@ -174,9 +187,15 @@ operands_run p o first second v rip f b room i j at h code =
     let d = operands_do p o first second v b room i j at h in
     let w = waiting v (b.slots first) (b.slots second) d.rdx in
     let r = runs_view (operands_code p.layout o first second) v w rip f
-      (operands_fine p.layout p.counts p.sp p.base o first second room i j) code d.does in
-    record { stopped = w; left = r.left; comes = r.comes;
-      waits = record { first = refl; second = refl; ready = d.ready }; rest = refl; memory = refl }
+    (operands_fine p.layout p.counts p.sp p.base o first second room i j) code d.does in
+    record {
+      stopped = w;
+      left = r.left;
+      comes = r.comes;
+      waits = record { first = refl; second = refl; ready = d.ready };
+      rest = refl;
+      memory = refl;
+    }
 
 -- ---- the operation is made
 
@@ -186,21 +205,31 @@ pub leads_kept : (p : FramePlace) (code : List Instr) (to : Slot) (v : MachineVi
     → sp_of v ≡ p.sp → FrameHolds p v.memory b → HasCode v.memory at (code ++ keep p.layout to)
     → LeavesResult p.reserved code v x source
     → ReachesBody p (length (code ++ keep p.layout to)) (machine v at f)
-      (at + sizes (code ++ keep p.layout to)) v.rest
-      (record { slots = with_slot b.slots to x; memory = source })
+    (at + sizes (code ++ keep p.layout to)) v.rest
+    (record { slots = with_slot b.slots to x; memory = source })
 leads_kept p code to v at f b x source fine room is sp h is_there l =
     let y = p.layout in
-    let mid : MachineView = record { rax = x; rcx = l.yields.rcx; rdx = l.yields.rdx; rest = v.rest;
-      memory = l.after } in
+    let mid : MachineView = record {
+      rax = x;
+      rcx = l.yields.rcx;
+      rdx = l.yields.rdx;
+      rest = v.rest;
+      memory = l.after;
+    } in
     let body : BodyState = record { slots = b.slots; memory = source } in
     let held = holds_same y p.counts p.reserved p.sp p.base room v.memory l.after source b l.own
-      l.protection l.agrees h in
+    l.protection l.agrees h in
     let k = keep_does y p.counts p.reserved p.sp p.base room to mid body is sp held l.small in
-    let last : MachineView = record { rax = x; rcx = k.rcx; rdx = l.yields.rdx; rest = v.rest;
-      memory = with_bytes l.after (with_number l.after.byte 8 (slot_at y p.sp p.base to) x) } in
+    let last : MachineView = record {
+      rax = x;
+      rcx = k.rcx;
+      rdx = l.yields.rdx;
+      rest = v.rest;
+      memory = with_bytes l.after (with_number l.after.byte 8 (slot_at y p.sp p.base to) x);
+    } in
     let r = runs_view (code ++ keep y to) v last at f
-      (fine_both code (keep y to) fine (keep_fine y p.counts p.sp p.base to room is)) is_there
-      (executes_then code (keep y to) v mid last l.yields.does k.does) in
+    (fine_both code (keep y to) fine (keep_fine y p.counts p.sp p.base to room is)) is_there
+    (executes_then code (keep y to) v mid last l.yields.does k.does) in
     record {
       after = last;
       flags = r.left;
@@ -208,8 +237,8 @@ leads_kept p code to v at f b x source fine room is sp h is_there l =
       rest = refl;
       holds = holds_after y p.counts p.reserved p.sp p.base room l.after body to x held is l.small;
       changes = changes_then y p.counts p.reserved p.sp p.base v.memory l.after last.memory
-        (changes_same y p.counts p.reserved p.sp p.base room v.memory l.after l.own l.protection
-        l.bytes) (changes_slot y p.counts p.reserved p.sp p.base room l.after to x is);
+          (changes_same y p.counts p.reserved p.sp p.base room v.memory l.after l.own l.protection
+          l.bytes) (changes_slot y p.counts p.reserved p.sp p.base room l.after to x is);
     }
 
 finish_by : (p : FramePlace) (o : Operation) (to : Slot) (v : MachineView) (at : ℕ) (f : Flags)
@@ -236,8 +265,8 @@ finish_run p o to v at f b x y room is lx ly waits sp h code =
     let w = works p.reserved o v b.memory (omega arith) (omega arith) waits.ready h.source in
     finish_by p o to v at f b (performed p.reserved o x y b.memory) room is sp h code
     (subst (λ c. Implements p.reserved (work o) v (performed p.reserved o c y b.memory)) ex
-      (subst (λ c. Implements p.reserved (work o) v (performed p.reserved o v.rax c b.memory)) ey
-      w))
+    (subst (λ c. Implements p.reserved (work o) v (performed p.reserved o v.rax c b.memory)) ey
+    w))
 
 -- an operation that gives a number has been made: the number is in RAX, and not yet in its slot
 pub record Worked (p : FramePlace) (o : Operation) (v : MachineView) (at : ℕ) (f : Flags) (x : ℕ)
@@ -245,8 +274,13 @@ pub record Worked (p : FramePlace) (o : Operation) (v : MachineView) (at : ℕ) 
   pub result : LeavesResult p.reserved (work o) v x source
   pub left : Flags
   pub comes : Reaches (length (work o)) (machine v at f)
-      (machine (record { rax = x; rcx = result.yields.rcx; rdx = result.yields.rdx; rest = v.rest;
-      memory = result.after }) (at + sizes (work o)) left)
+      (machine (record {
+        rax = x;
+        rcx = result.yields.rcx;
+        rdx = result.yields.rdx;
+        rest = v.rest;
+        memory = result.after;
+      }) (at + sizes (work o)) left)
 
 pub work_run : (p : FramePlace) (o : Operation) (v : MachineView) (at : ℕ) (f : Flags)
     (b : BodyState) (x y value : ℕ) (source : Memory) → x < 2 ^ 64 → y < 2 ^ 64
@@ -258,11 +292,16 @@ work_run p o v at f b x y value source lx ly waits h code gives =
     let w = works p.reserved o v b.memory (omega arith) (omega arith) waits.ready h.source in
     let l : LeavesResult p.reserved (work o) v value source =
     subst (Implements p.reserved (work o) v) gives
-      (subst (λ c. Implements p.reserved (work o) v (performed p.reserved o c y b.memory)) ex
-      (subst (λ c. Implements p.reserved (work o) v (performed p.reserved o v.rax c b.memory)) ey
-      w)) in
-    let r = runs_view (work o) v (record { rax = value; rcx = l.yields.rcx; rdx = l.yields.rdx;
-      rest = v.rest; memory = l.after }) at f (work_fine o) code l.yields.does in
+    (subst (λ c. Implements p.reserved (work o) v (performed p.reserved o c y b.memory)) ex
+    (subst (λ c. Implements p.reserved (work o) v (performed p.reserved o v.rax c b.memory)) ey
+    w)) in
+    let r = runs_view (work o) v (record {
+      rax = value;
+      rcx = l.yields.rcx;
+      rdx = l.yields.rdx;
+      rest = v.rest;
+      memory = l.after;
+    }) at f (work_fine o) code l.yields.does in
     record { result = l; left = r.left; comes = r.comes }
 
 -- ---- a whole operation
@@ -276,30 +315,32 @@ follows_after p m n s t to others b c same g = record {
   comes = reaches_then m n s t (machine g.after to g.flags) c g.comes;
   rest = g.rest;
   holds = g.holds;
-  changes = record { protection = g.changes.protection ∙ ap (λ (m : Memory). m.protection) same;
-      byte = λ a own out. g.changes.byte a own out ∙ ap (λ (m : Memory). m.byte a) same;
-      bytes = λ x. g.changes.bytes (subst IsBytes (sym same) x) };
+  changes = record {
+    protection = g.changes.protection ∙ ap (λ (m : Memory). m.protection) same;
+    byte = λ a own out. g.changes.byte a own out ∙ ap (λ (m : Memory). m.byte a) same;
+    bytes = λ x. g.changes.bytes (subst IsBytes (sym same) x);
+  };
 }
 
 compute_by : (p : FramePlace) (to : Slot) (o : Operation) (first second : Slot) (v : MachineView)
     (rip : ℕ) (f : Flags) (b : BodyState) (outcome : OperationResult)
     → (g : Begun p o first second v rip f b) → Finished p o to g.stopped
-      (rip + sizes (operands_code p.layout o first second)) g.left b outcome
+    (rip + sizes (operands_code p.layout o first second)) g.left b outcome
     → Computed p to o first second v rip f b (kept to b.slots outcome)
 compute_by p to o first second v rip f b (Gives x m) g fin =
     let ops = operands_code p.layout o first second in
     let rest = finish_code p.layout o to in
     let c : BodyState = record { slots = with_slot b.slots to x; memory = m } in
     let whole = follows_after p (length ops) (length rest) (machine v rip f)
-      (machine g.stopped (rip + sizes ops) g.left) (rip + sizes ops + sizes rest) g.stopped.rest c
-      g.comes g.memory fin in
+    (machine g.stopped (rip + sizes ops) g.left) (rip + sizes ops + sizes rest) g.stopped.rest c
+    g.comes g.memory fin in
     let turns : length ops + length rest ≡ length (ops ++ rest) = sym (length-append ops rest) in
     let place : rip + sizes ops + sizes rest ≡ rip
-      + sizes (ops ++ rest) = omega (arith, sizes_append ops rest) in
+    + sizes (ops ++ rest) = omega (arith, sizes_append ops rest) in
     subst (λ k. ReachesBody p k (machine v rip f) (rip + sizes (ops ++ rest)) v.rest c) turns
     (subst (λ a. ReachesBody p (length ops + length rest) (machine v rip f) a v.rest c) place
     (subst (λ r. ReachesBody p (length ops + length rest) (machine v rip f)
-      (rip + sizes ops + sizes rest) r c) g.rest whole))
+    (rip + sizes ops + sizes rest) r c) g.rest whole))
 compute_by p to o first second v rip f b (Raises code access) g fin = record {
   stopped = g.stopped;
   left = g.left;
@@ -316,19 +357,19 @@ pub compute_run : (p : FramePlace) (to : Slot) (o : Operation) (first second : S
     → IsThere p first → IsThere p second → sp_of v ≡ p.sp → FrameHolds p v.memory b
     → HasCode v.memory rip (compute_code p.layout to o first second)
     → Computed p to o first second v rip f b (step p.reserved
-      (instructions.Compute to o first second) b)
+    (instructions.Compute to o first second) b)
 compute_run p to o first second v rip f b room it ifst isnd at h code =
     let ops = operands_code p.layout o first second in
     let parts = code_split v.memory rip ops (finish_code p.layout o to) code in
     let g = operands_run p o first second v rip f b room ifst isnd at h parts.0 in
     compute_by p to o first second v rip f b (performed p.reserved o (b.slots first)
-      (b.slots second) b.memory) g
+    (b.slots second) b.memory) g
     (finish_run p o to g.stopped (rip + sizes ops) g.left b (b.slots first) (b.slots second) room it
-      (h.small first ifst) (h.small second isnd) g.waits
+    (h.small first ifst) (h.small second isnd) g.waits
     (ap (λ (r : List ℕ). get_or r 1 0) g.rest ∙ at)
     (subst (λ (m : Memory). FrameHolds p m b) (sym g.memory) h)
     (subst (λ (m : Memory). HasCode m (rip + sizes ops) (finish_code p.layout o to)) (sym g.memory)
-      parts.1))
+    parts.1))
 
 -- ---- every state with 16 registers is one of a view
 
@@ -343,8 +384,11 @@ seen_by (a ∷ []) s e n = absurd (omega arith)
 seen_by (a ∷ b ∷ []) s e n = absurd (omega arith)
 seen_by (a ∷ b ∷ c ∷ rest) s e n = record {
   view = record { rax = a; rcx = b; rdx = c; rest = rest; memory = s.memory };
-  is = ap (λ (r : List ℕ). let t : State = record { cpu =
-      record { registers = r; rip = s.cpu.rip; flags = s.cpu.flags }; memory = s.memory } in t) e;
+  is = ap (λ (r : List ℕ). let t : State = record {
+    cpu =
+        record { registers = r; rip = s.cpu.rip; flags = s.cpu.flags };
+    memory = s.memory;
+  } in t) e;
   others = omega arith;
 }
 

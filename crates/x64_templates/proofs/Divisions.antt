@@ -66,8 +66,8 @@ double w a h lt e = elim (cases_lt a (half w)) [
       let z : h ≡ 0 = e ∙ ap (λ (b : Bool). cond b 0 (limit w - 1)) t in
       let s : ltb a (limit w * half w) ≡ true = lt-ltb a (limit w * half w) (below_double w a l) in
       ap (signed_double w) (joined_is w a h z)
-        ∙ ap (λ (b : Bool). cond b (pos a) (pos a -ℤ pos (limit w * limit w))) s
-        ∙ sym (signed_low w a l)
+      ∙ ap (λ (b : Bool). cond b (pos a) (pos a -ℤ pos (limit w * limit w))) s
+      ∙ sym (signed_low w a l)
   | inr g ↦
       let t : ltb a (half w) ≡ false = le-ltb a (half w) g in
       let z : h ≡ limit w - 1 = e ∙ ap (λ (b : Bool). cond b 0 (limit w - 1)) t in
@@ -75,7 +75,7 @@ double w a h lt e = elim (cases_lt a (half w)) [
       let n : joined w h a ≡ m = ap (λ (x : ℕ). x * limit w + a) z in
       let s : ltb m (limit w * half w) ≡ false = le-ltb m (limit w * half w) (above_double w a g) in
       ap (signed_double w) n ∙ ap (λ (b : Bool). cond b (pos m) (pos m -ℤ pos (limit w * limit w)))
-        s ∙ less_double w a lt ∙ sym (signed_high w a g lt)
+      s ∙ less_double w a lt ∙ sym (signed_high w a g lt)
 ]
 
 -- what the sign of RAX makes of the two halves
@@ -90,26 +90,26 @@ abbrev Quotients : Signedness → Size → MachineView → Type 0
 Quotients Signed z v = (rip : ℕ) (f : Flags) → effect (machine v rip f)
     (instrs.Divide (division Signed) (width z) (places.Register Rcx))
     ≡ with_quotient (machine v rip f) (width z)
-      (wrapped_both (width z) (divided_signed (width z) (signed (width z) v.rax)
-      (signed (width z) v.rcx)))
+    (wrapped_both (width z) (divided_signed (width z) (signed (width z) v.rax)
+    (signed (width z) v.rcx)))
 Quotients Unsigned z v = (rip : ℕ) (f : Flags)
     → effect (machine v rip f) (instrs.Divide (division Unsigned) (width z) (places.Register Rcx))
     ≡ with_quotient (machine v rip f) (width z)
-      (divided_unsigned (width z) (low (width z) v.rax) (low (width z) v.rcx))
+    (divided_unsigned (width z) (low (width z) v.rax) (low (width z) v.rcx))
 
 quotients : (s : Signedness) (z : Size) (v : MachineView)
     → low (width z) v.rdx ≡ high_of s (width z) v.rax → Quotients s z v
 quotients Signed z v e = λ rip f.
     ap (λ (d : ℤ). with_quotient (machine v rip f) (width z)
-      (wrapped_both (width z) (divided_signed (width z) d
-      (signed (width z) (low (width z) v.rcx))))) (double_is z v.rax (low (width z) v.rdx) e)
+    (wrapped_both (width z) (divided_signed (width z) d
+    (signed (width z) (low (width z) v.rcx))))) (double_is z v.rax (low (width z) v.rdx) e)
     ∙ ap (λ (d : ℤ). with_quotient (machine v rip f) (width z)
-      (wrapped_both (width z) (divided_signed (width z) (signed (width z) v.rax) d)))
-      (signed_twice (width z) v.rcx)
+    (wrapped_both (width z) (divided_signed (width z) (signed (width z) v.rax) d)))
+    (signed_twice (width z) v.rcx)
 quotients Unsigned z v e = λ rip f.
     ap (λ (n : ℕ). with_quotient (machine v rip f) (width z)
-      (divided_unsigned (width z) n (low (width z) v.rcx)))
-      (joined_is (width z) (low (width z) v.rax) (low (width z) v.rdx) e)
+    (divided_unsigned (width z) n (low (width z) v.rcx)))
+    (joined_is (width z) (low (width z) v.rax) (low (width z) v.rdx) e)
 
 abbrev pub by_rcx : Signedness → Size → Instr
 by_rcx s z = instrs.Divide (division s) (width z) (places.Register Rcx)
@@ -122,17 +122,26 @@ both_given : (s : Signedness) (z : Size) (v : MachineView) (q r : ℕ) → q < l
     → effect (machine v rip f) (by_rcx s z) ≡ with_quotient (machine v rip f) (width z) (Ok (q, r)))
     → Executes (by_rcx s z ∷ []) v (divided_view v q r)
 both_given s Int v q r lq lr h = executes_one (by_rcx s Int) v (divided_view v q r)
-    (λ rip f. (f, h rip f ∙ ap (λ (a : ℕ). Ok (machine (divided_view v a (low W32 r)) rip f))
-    (low_is W32 q lq) ∙ ap (λ (a : ℕ). Ok (machine (divided_view v q a) rip f)) (low_is W32 r lr)))
+    (λ rip f. (
+      f,
+      h rip f ∙ ap (λ (a : ℕ). Ok (machine (divided_view v a (low W32 r)) rip f))
+          (low_is W32 q lq) ∙ ap (λ (a : ℕ). Ok (machine (divided_view v q a) rip f)) (low_is W32 r lr),
+    ))
 both_given s Long v q r lq lr h = executes_one (by_rcx s Long) v (divided_view v q r)
-    (λ rip f. (f, h rip f ∙ ap (λ (a : ℕ). Ok (machine (divided_view v a (low W64 r)) rip f))
-    (low_is W64 q lq) ∙ ap (λ (a : ℕ). Ok (machine (divided_view v q a) rip f)) (low_is W64 r lr)))
+    (λ rip f. (
+      f,
+      h rip f ∙ ap (λ (a : ℕ). Ok (machine (divided_view v a (low W64 r)) rip f))
+          (low_is W64 q lq) ∙ ap (λ (a : ℕ). Ok (machine (divided_view v q a) rip f)) (low_is W64 r lr),
+    ))
 
 moved : (v : MachineView) (q r : ℕ) → r < 2 ^ 64
     → Executes (move W64 Rax Rdx ∷ []) (divided_view v q r) (divided_view v r r)
 moved v q r lt = executes_one (move W64 Rax Rdx) (divided_view v q r) (divided_view v r r)
-    (λ rip f. (f, ap (λ (a : ℕ). Ok (machine (divided_view v a r) rip f))
-    (let e : low W64 (low W64 r) ≡ r = omega arith in e)))
+    (λ rip f. (
+      f,
+      ap (λ (a : ℕ). Ok (machine (divided_view v a r) rip f))
+          (let e : low W64 (low W64 r) ≡ r = omega arith in e),
+    ))
 
 quotient_leads : (reserved : ℕ → Bool) (s : Signedness) (z : Size) (v : MachineView)
     (source : Memory) (q r : ℕ) → q < limit (width z) → r < limit (width z)
@@ -156,9 +165,13 @@ remainder_leads : (reserved : ℕ → Bool) (s : Signedness) (z : Size) (v : Mac
     → LeavesResult reserved (by_rcx s z ∷ move W64 Rax Rdx ∷ []) v r source
 remainder_leads reserved s z v source q r lq lr h agrees = record {
   after = v.memory;
-  yields = record { rcx = v.rcx; rdx = r; does = executes_then (by_rcx s z ∷ [])
-      (move W64 Rax Rdx ∷ []) v (divided_view v q r) (divided_view v r r)
-      (both_given s z v q r lq lr h) (moved v q r (of_size z r lr)) };
+  yields = record {
+    rcx = v.rcx;
+    rdx = r;
+    does = executes_then (by_rcx s z ∷ [])
+        (move W64 Rax Rdx ∷ []) v (divided_view v q r) (divided_view v r r)
+        (both_given s z v q r lq lr h) (moved v q r (of_size z r lr));
+  };
   small = of_size z r lr;
   agrees = agrees;
   protection = refl;
@@ -171,7 +184,7 @@ signed_quotient : (reserved : ℕ → Bool) (z : Size) (v : MachineView) (source
     → effect (machine v rip f) (by_rcx Signed z)
     ≡ with_quotient (machine v rip f) (width z) (wrapped_both (width z) d))
     → Agrees reserved v.memory source → Implements reserved (by_rcx Signed z ∷ []) v
-      (signed_part (λ x. x.0) (width z) source d)
+    (signed_part (λ x. x.0) (width z) source d)
 signed_quotient reserved z v source (Ok x) h agrees = quotient_leads reserved Signed z v source
     (wrapped (width z) x.0) (wrapped (width z) x.1) (wrapped_below (width z) x.0)
     (wrapped_below (width z) x.1) h agrees
@@ -183,7 +196,7 @@ signed_remainder : (reserved : ℕ → Bool) (z : Size) (v : MachineView) (sourc
     → effect (machine v rip f) (by_rcx Signed z)
     ≡ with_quotient (machine v rip f) (width z) (wrapped_both (width z) d))
     → Agrees reserved v.memory source → Implements reserved
-      (by_rcx Signed z ∷ move W64 Rax Rdx ∷ []) v (signed_part (λ x. x.1) (width z) source d)
+    (by_rcx Signed z ∷ move W64 Rax Rdx ∷ []) v (signed_part (λ x. x.1) (width z) source d)
 signed_remainder reserved z v source (Ok x) h agrees = remainder_leads reserved Signed z v source
     (wrapped (width z) x.0) (wrapped (width z) x.1) (wrapped_below (width z) x.0)
     (wrapped_below (width z) x.1) h agrees
@@ -196,7 +209,7 @@ Small w x = (x.0 < limit w) × (x.1 < limit w)
 
 small_unsigned : (w : Width) (a b : ℕ) (x : ℕ × ℕ) (zero large : Bool) → a < limit w
     → ◌≡◌ {A = Result (ℕ × ℕ) DivFault} (cond zero (Err faults.Zero)
-      (cond large (Ok (a / b, a % b)) (Err faults.Overflow))) (Ok x) → Small w x
+    (cond large (Ok (a / b, a % b)) (Err faults.Overflow))) (Ok x) → Small w x
 small_unsigned w a b x true large lt e = absurd cc
 small_unsigned w a b x false true lt e =
     let q : a / b ≡ x.0 = ap (λ (r : Result (ℕ × ℕ) DivFault). first_of r) e in
@@ -229,7 +242,7 @@ unsigned_remainder : (reserved : ℕ → Bool) (z : Size) (v : MachineView) (sou
     → ((rip : ℕ) (f : Flags) → effect (machine v rip f) (by_rcx Unsigned z)
     ≡ with_quotient (machine v rip f) (width z) d) → Agrees reserved v.memory source
     → Implements reserved (by_rcx Unsigned z ∷ move W64 Rax Rdx ∷ []) v
-      (unsigned_part (λ x. x.1) source d)
+    (unsigned_part (λ x. x.1) source d)
 unsigned_remainder reserved z v source (Ok x) small h agrees = let s = small x refl in
     remainder_leads reserved Unsigned z v source x.0 x.1 s.0 s.1 h agrees
 unsigned_remainder reserved z v source (Err faults.Zero) small h agrees = h
@@ -243,7 +256,7 @@ fits_unsigned w a b x e = small_unsigned w (low w a) (low w b) x (eqb (low w b) 
 pub quotient_implemented : (reserved : ℕ → Bool) (s : Signedness) (z : Size) (v : MachineView)
     (source : Memory) → low (width z) v.rdx ≡ high_of s (width z) v.rax
     → Agrees reserved v.memory source → Implements reserved (by_rcx s z ∷ []) v
-      (quotient s (width z) v.rax v.rcx source)
+    (quotient s (width z) v.rax v.rcx source)
 quotient_implemented reserved Signed z v source e agrees = signed_quotient reserved z v source
     (divided_signed (width z) (signed (width z) v.rax) (signed (width z) v.rcx))
     (quotients Signed z v e) agrees
@@ -254,7 +267,7 @@ quotient_implemented reserved Unsigned z v source e agrees = unsigned_quotient r
 pub remainder_implemented : (reserved : ℕ → Bool) (s : Signedness) (z : Size) (v : MachineView)
     (source : Memory) → low (width z) v.rdx ≡ high_of s (width z) v.rax
     → Agrees reserved v.memory source → Implements reserved (by_rcx s z ∷ move W64 Rax Rdx ∷ []) v
-      (remainder s (width z) v.rax v.rcx source)
+    (remainder s (width z) v.rax v.rcx source)
 remainder_implemented reserved Signed z v source e agrees = signed_remainder reserved z v source
     (divided_signed (width z) (signed (width z) v.rax) (signed (width z) v.rcx))
     (quotients Signed z v e) agrees
@@ -284,15 +297,31 @@ half_low W64 true = refl
 half_low W64 false = refl
 
 pub half_set : (s : Signedness) (z : Size) (v : MachineView) → HalfSet s z v
-half_set Unsigned Int v = record { rdx = 0; does = executes_one (high_half Unsigned W32) v
-    (with_rdx v 0) (λ rip f. (f, refl)); half = refl }
-half_set Unsigned Long v = record { rdx = 0; does = executes_one (high_half Unsigned W64) v
-    (with_rdx v 0) (λ rip f. (f, refl)); half = refl }
+half_set Unsigned Int v = record {
+  rdx = 0;
+  does = executes_one (high_half Unsigned W32) v
+      (with_rdx v 0) (λ rip f. (f, refl));
+  half = refl;
+}
+half_set Unsigned Long v = record {
+  rdx = 0;
+  does = executes_one (high_half Unsigned W64) v
+      (with_rdx v 0) (λ rip f. (f, refl));
+  half = refl;
+}
 half_set Signed Int v =
     let h : ℕ = cond (ltb (low W32 v.rax) (half W32)) 0 (limit W32 - 1) in
-    record { rdx = low W32 h; does = executes_one (high_half Signed W32) v (with_rdx v (low W32 h))
-      (λ rip f. (f, refl)); half = twice W32 h ∙ half_low W32 (ltb (low W32 v.rax) (half W32)) }
+    record {
+      rdx = low W32 h;
+      does = executes_one (high_half Signed W32) v (with_rdx v (low W32 h))
+          (λ rip f. (f, refl));
+      half = twice W32 h ∙ half_low W32 (ltb (low W32 v.rax) (half W32));
+    }
 half_set Signed Long v =
     let h : ℕ = cond (ltb (low W64 v.rax) (half W64)) 0 (limit W64 - 1) in
-    record { rdx = low W64 h; does = executes_one (high_half Signed W64) v (with_rdx v (low W64 h))
-      (λ rip f. (f, refl)); half = twice W64 h ∙ half_low W64 (ltb (low W64 v.rax) (half W64)) }
+    record {
+      rdx = low W64 h;
+      does = executes_one (high_half Signed W64) v (with_rdx v (low W64 h))
+          (λ rip f. (f, refl));
+      half = twice W64 h ∙ half_low W64 (ltb (low W64 v.rax) (half W64));
+    }

@@ -130,11 +130,19 @@ compare_fine : (r : Relation) (s : Signedness) (w : Width) → Fine (compare r s
 compare_fine relations.Equal s w = (refl, refl, refl, (refl, refl, refl, (refl, refl, refl, tt)))
 compare_fine relations.NotEqual s w = (refl, refl, refl, (refl, refl, refl, (refl, refl, refl, tt)))
 compare_fine relations.Less s w = (refl, refl, refl, (refl, refl, refl, (refl, refl, refl, tt)))
-compare_fine relations.LessOrEqual s w = (refl, refl, refl,
-    (refl, refl, refl, (refl, refl, refl, tt)))
+compare_fine relations.LessOrEqual s w = (
+  refl,
+  refl,
+  refl,
+  (refl, refl, refl, (refl, refl, refl, tt)),
+)
 compare_fine relations.Greater s w = (refl, refl, refl, (refl, refl, refl, (refl, refl, refl, tt)))
-compare_fine relations.GreaterOrEqual s w = (refl, refl, refl,
-    (refl, refl, refl, (refl, refl, refl, tt)))
+compare_fine relations.GreaterOrEqual s w = (
+  refl,
+  refl,
+  refl,
+  (refl, refl, refl, (refl, refl, refl, tt)),
+)
 
 pure_fine : (p : Pure) → Fine (pure_code p)
 pure_fine (pures.Constant v) = (number_fine v, refl, refl, tt)

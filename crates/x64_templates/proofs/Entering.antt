@@ -32,10 +32,13 @@ parameter_fine p i count arguments m room lc ll stack =
     let small : local_at y i < 2 ^ 31 = omega arith in
     elim (cases_lt i 4) [
       | inl lt ↦ subst (λ c. Fine (cond c in_register on_stack)) (sym (lt-ltb i 4 lt))
-        (near (local_at y i) small, refl, refl, tt)
-      | inr ge ↦ subst (λ c. Fine (cond c in_register on_stack)) (sym (le-ltb i 4 ge))
-        (near (stack_parameter y i) (stack.near i lc), refl, refl,
-        (near (local_at y i) small, refl, refl, tt))
+          (near (local_at y i) small, refl, refl, tt)
+      | inr ge ↦ subst (λ c. Fine (cond c in_register on_stack)) (sym (le-ltb i 4 ge)) (
+        near (stack_parameter y i) (stack.near i lc),
+        refl,
+        refl,
+        (near (local_at y i) small, refl, refl, tt),
+      )
     ]
 
 pub parameters_fine : (p : FramePlace) (i n count : ℕ) (arguments : ℕ → ℕ) (m : Memory) → Roomy p
@@ -62,18 +65,29 @@ pub parameters_run : (p : FramePlace) (count : ℕ) (arguments : ℕ → ℕ) (v
     → sp_of v ≡ p.sp → FrameHolds p v.memory b → InRegisters v arguments
     → OnStack p v.memory count arguments → HasCode v.memory rip (parameters_code p.layout 0 count)
     → ReachesBody p (length (parameters_code p.layout 0 count)) (machine v rip f)
-      (rip + sizes (parameters_code p.layout 0 count)) v.rest
-      (record { slots = with_arguments b.slots arguments 0 count; memory = b.memory })
+    (rip + sizes (parameters_code p.layout 0 count)) v.rest
+    (record { slots = with_arguments b.slots arguments 0 count; memory = b.memory })
 parameters_run p count arguments v rip f b room fn le at h regs stack code =
     let params = parameters_code p.layout 0 count in
     let k = parameters_do p 0 count count v b arguments room fn (omega arith) (omega arith) at h
-      regs stack in
-    let last : MachineView = record { rax = k.rax; rcx = v.rcx; rdx = v.rdx; rest = v.rest;
-      memory = k.memory } in
+    regs stack in
+    let last : MachineView = record {
+      rax = k.rax;
+      rcx = v.rcx;
+      rdx = v.rdx;
+      rest = v.rest;
+      memory = k.memory;
+    } in
     let r = runs_view params v last rip f (parameters_fine p 0 count count arguments v.memory room
-      (omega arith) (omega arith) stack) code k.does in
-    record { after = last; flags = r.left; comes = r.comes; rest = refl; holds = k.holds;
-      changes = k.changes }
+    (omega arith) (omega arith) stack) code k.does in
+    record {
+      after = last;
+      flags = r.left;
+      comes = r.comes;
+      rest = refl;
+      holds = k.holds;
+      changes = k.changes;
+    }
 
 -- a function begins
 -- a body is entered, and then reached
@@ -95,9 +109,12 @@ pub function_enters : (p : FramePlace) (count : ℕ) (arguments : ℕ → ℕ) (
     → FreshFrame p v.memory source → InRegisters v arguments → OnStack p v.memory count arguments
     → HasCode v.memory rip (function_entry p.layout count)
     → EntersBody p (length (function_entry p.layout count)) (machine v rip f)
-      (rip + sizes (function_entry p.layout count)) (with_sp v.rest p.sp)
-      (record { slots = with_arguments (body_in_memory p.layout p.sp p.base v.memory source).slots
-      arguments 0 count; memory = source })
+    (rip + sizes (function_entry p.layout count)) (with_sp v.rest p.sp)
+    (record {
+      slots = with_arguments (body_in_memory p.layout p.sp p.base v.memory source).slots
+          arguments 0 count;
+      memory = source;
+    })
 function_enters p count arguments v source rip f room fn le n at small bare regs stack code =
     let y = p.layout in
     let enter = enter_code y.frame in
@@ -105,26 +122,31 @@ function_enters p count arguments v source rip f room fn le n at small bare regs
     let parts = code_split v.memory rip enter params code in
     let hi = room.high in
     let e = enter_run v (p.sp + y.frame) y.frame rip f at (omega arith) (omega arith) small
-      parts.0 in
+    parts.0 in
     let back : p.sp + y.frame - y.frame ≡ p.sp = omega arith in
     let w = moved v p.sp in
     let there = rip + sizes enter in
     let first = subst (λ s. Enters 1 (machine v rip f) (machine (moved v s) there e.flags)) back
-      e.comes in
+    e.comes in
     let b = body_in_memory y p.sp p.base v.memory source in
-    let c : BodyState = record { slots = with_arguments b.slots arguments 0 count;
-      memory = source } in
-    let regs' : InRegisters w arguments = record { first = regs.first; second = regs.second;
+    let c : BodyState = record {
+      slots = with_arguments b.slots arguments 0 count;
+      memory = source;
+    } in
+    let regs' : InRegisters w arguments = record {
+      first = regs.first;
+      second = regs.second;
       third = not_sp 5 (λ h. absurd (omega arith)) v.rest p.sp ∙ regs.third;
-      fourth = not_sp 6 (λ h. absurd (omega arith)) v.rest p.sp ∙ regs.fourth } in
+      fourth = not_sp 6 (λ h. absurd (omega arith)) v.rest p.sp ∙ regs.fourth;
+    } in
     let k = parameters_run p count arguments w there e.flags b room fn le (sp_moved v p.sp n)
-      (fresh_holds p v.memory source bare) regs' stack parts.1 in
+    (fresh_holds p v.memory source bare) regs' stack parts.1 in
     let place : there + sizes params ≡ rip + sizes (function_entry y count) = omega
-      (arith, sizes_append enter params) in
+    (arith, sizes_append enter params) in
     let turns : 1 + length params ≡ length (function_entry y count) = sym
-      (length-append enter params) in
+    (length-append enter params) in
     subst (λ t. EntersBody p t (machine v rip f) (rip + sizes (function_entry y count))
-      (with_sp v.rest p.sp) c) turns
+    (with_sp v.rest p.sp) c) turns
     (subst (λ a. EntersBody p (1 + length params) (machine v rip f) a (with_sp v.rest p.sp) c) place
     (entered_then p 1 (length params) (machine v rip f) (machine w there e.flags)
-      (there + sizes params) (with_sp v.rest p.sp) c first refl k))
+    (there + sizes params) (with_sp v.rest p.sp) c first refl k))

@@ -29,7 +29,7 @@ number_small m (suc n) at h =
     let r = number_small m n (next at) h in
     let e : 256 ^ suc n ≡ 256 ^ n * 256 = pow-suc 256 n in
     subst (λ p. m.byte at + 256 * number_at m.byte n (next at) < p) (sym e)
-      (digit_more (m.byte at) (256 ^ n) (number_at m.byte n (next at)) (h at) r)
+    (digit_more (m.byte at) (256 ^ n) (number_at m.byte n (next at)) (h at) r)
 
 -- wherever a frame has its room, it holds a body
 pub holds_body_in_memory : (y : Layout) (n : Counts) (reserved : ℕ → Bool) (sp base : ℕ)
@@ -38,16 +38,16 @@ pub holds_body_in_memory : (y : Layout) (n : Counts) (reserved : ℕ → Bool) (
     → ((a : ℕ) → InTemporaries y n sp a ⊎ InLocals y n base a → reserved a ≡ true)
     → KeepsReserved y.base sp reserved → Agrees reserved m source
     → HoldsBody y n reserved sp base m (body_in_memory y sp base m source)
-holds_body_in_memory y n reserved sp base m source bytes base_kept writable own own_base
-    agrees = record {
-  slot = λ x is. refl;
-  small = λ x is. number_small m 8 (slot_at y sp base x) bytes;
-  kept_base = base_kept;
-  writable = writable;
-  own = own;
-  own_base = own_base;
-  source = agrees;
-}
+holds_body_in_memory y n reserved sp base m source bytes base_kept writable own own_base agrees =
+    record {
+      slot = λ x is. refl;
+      small = λ x is. number_small m 8 (slot_at y sp base x) bytes;
+      kept_base = base_kept;
+      writable = writable;
+      own = own;
+      own_base = own_base;
+      source = agrees;
+    }
 
 -- ---- the return address of a call
 
@@ -58,8 +58,11 @@ beside m sp back a le high out = untouched m.byte 8 (sp - 8) back a
 
 pub pushed_outlasts : (reserved : ℕ → Bool) (v : MachineView) (sp back : ℕ) → HasBelow v.memory sp 8
     → Outlasts reserved sp v.memory (pushed v sp back).memory
-pushed_outlasts reserved v sp back below = record { byte = λ a own up. beside v.memory sp back a
-    below.enough below.high (inr up); protection = λ a own. refl }
+pushed_outlasts reserved v sp back below = record {
+  byte = λ a own up. beside v.memory sp back a
+      below.enough below.high (inr up);
+  protection = λ a own. refl;
+}
 
 free_beside : (reserved : ℕ → Bool) (sp a : ℕ) → ((x : ℕ) → sp ≤ x + 8 → x < sp → reserved x ≡ true)
     → reserved a ≡ false → (a + 8 < sp) ⊎ (sp ≤ a)
@@ -93,9 +96,9 @@ pushed_back v sp back below small =
     let high = below.high in
     record {
       number = stored_is_loaded v.memory.byte 8 (sp - 8) back (omega arith) (omega arith)
-        ∙ (let q : back % 256 ^ 8 ≡ back = omega arith in q);
+          ∙ (let q : back % 256 ^ 8 ≡ back = omega arith in q);
       readable = λ a p q. readable (v.memory.protection a).rights
-        (below.writable a (omega arith) (omega arith));
+          (below.writable a (omega arith) (omega arith));
       small = small;
     }
 

@@ -41,8 +41,11 @@ pub record Within (lo hi : ℕ) (old new : Memory) : Type 0 where
 
 pub within_then : (lo hi : ℕ) (a b c : Memory) → Within lo hi a b → Within lo hi b c
     → Within lo hi a c
-within_then lo hi a b c p q = record { byte = λ x out. q.byte x out ∙ p.byte x out;
-    protection = q.protection ∙ p.protection; bytes = λ h. q.bytes (p.bytes h) }
+within_then lo hi a b c p q = record {
+  byte = λ x out. q.byte x out ∙ p.byte x out;
+  protection = q.protection ∙ p.protection;
+  bytes = λ h. q.bytes (p.bytes h);
+}
 
 cell_beside : (m : Memory) (at x a : ℕ) → at + 8 < 2 ^ 63 → (a < at) ⊎ (at + 8 ≤ a)
     → with_number m.byte 8 at x a ≡ m.byte a
@@ -63,8 +66,11 @@ pub within_keeps_code : (lo hi : ℕ) (m m' : Memory) (at : ℕ) (code : List In
     → ((a : ℕ) → lo ≤ a → a < hi → may_write m a ≡ true) → Within lo hi m m' → HasCode m at code
     → HasCode m' at code
 within_keeps_code lo hi m m' at code writable w
-    h = record { is_there = bytes_kept m m' at (spelled code) (λ a fixed. w.byte a (off a fixed))
-    w.protection h.is_there; placed = h.placed }
+    h = record {
+      is_there = bytes_kept m m' at (spelled code) (λ a fixed. w.byte a (off a fixed))
+          w.protection h.is_there;
+      placed = h.placed;
+    }
   where
     off : (a : ℕ) → may_write m a ≡ false → (a < lo) ⊎ (hi ≤ a)
     off a fixed = elim (cases_lt a lo) [
@@ -85,19 +91,23 @@ pub funclet_holds : (y yf : Layout) (n nf : Counts) (reserved : ℕ → Bool) (s
     → ((a : ℕ) → sp ≤ a → a < sp + frame → may_write m a ≡ true)
     → ((a : ℕ) → sp ≤ a → a < sp + frame → reserved a ≡ true) → MemoryKeepsBase y.base sp base m'
     → KeepsReserved y.base sp reserved → HoldsBody y n reserved sp base m'
-      (record { slots = joined b.slots (body_in_memory y sp base m' b.memory).slots;
-      memory = b.memory })
+    (record {
+      slots = joined b.slots (body_in_memory y sp base m' b.memory).slots;
+      memory = b.memory;
+    })
 funclet_holds y yf n nf reserved sp spf base frame m m' b room h ly ln bytes w below inside writable
     own keeps kept_own =
     shares yf y nf n reserved spf sp base m' b ly ln (w.bytes bytes)
-      (holds_through yf nf reserved spf base room m m' b.memory b outlasts agrees h) keeps kept_own
+    (holds_through yf nf reserved spf base room m m' b.memory b outlasts agrees h) keeps kept_own
     (λ a t. let lo = t.0 in let hi = t.1 in ap (λ (f : ℕ → Protection). is_writable (f a).rights)
-      w.protection ∙ writable a (omega arith) (omega arith))
+    w.protection ∙ writable a (omega arith) (omega arith))
     (λ a t. let lo = t.0 in let hi = t.1 in own a (omega arith) (omega arith))
   where
     outlasts : Outlasts reserved spf m m'
-    outlasts = record { byte = λ a o up. w.byte a (inr (let z : sp + frame ≤ a = omega arith in z));
-      protection = λ a o. ap (λ (f : ℕ → Protection). f a) w.protection }
+    outlasts = record {
+      byte = λ a o up. w.byte a (inr (let z : sp + frame ≤ a = omega arith in z));
+      protection = λ a o. ap (λ (f : ℕ → Protection). f a) w.protection;
+    }
 
     outside : (a : ℕ) → reserved a ≡ false → (a < sp) ⊎ (sp + frame ≤ a)
     outside a r = elim (cases_lt a sp) [
@@ -109,9 +119,11 @@ funclet_holds y yf n nf reserved sp spf base frame m m' b room h ly ln bytes w b
     ]
 
     agrees : Agrees reserved m' b.memory
-    agrees = record { byte = λ a r. w.byte a (outside a r) ∙ h.source.byte a r;
+    agrees = record {
+      byte = λ a r. w.byte a (outside a r) ∙ h.source.byte a r;
       protection = λ a r. ap (λ (f : ℕ → Protection). f a) w.protection ∙ h.source.protection a r;
-      guard = h.source.guard }
+      guard = h.source.guard;
+    }
 
 -- ---- a filter begins: it keeps its base and its pointers
 
@@ -124,14 +136,14 @@ abbrev filter_view : MachineView → ℕ → ℕ → ℕ → ℕ → ℕ → Mac
 filter_view v sp b base d x = kept_at (kept_at (moved v sp) (sp + b) base) (sp + d) x
 
 pub record FilterEntered (v : MachineView) (sp frame b base d x rip to : ℕ) (f : Flags) : Type 0
-    where
-  pub after : MachineView
-  pub flags : Flags
-  pub comes : Enters 3 (machine v rip f) (machine after to flags)
-  pub lowered : sp_of after ≡ sp
-  pub keeps : MemoryKeepsBase (Some b) sp base after.memory
-  pub pointers : MayRead after.memory 8 (sp + d) x
-  pub within : Within sp (sp + frame) v.memory after.memory
+  where
+    pub after : MachineView
+    pub flags : Flags
+    pub comes : Enters 3 (machine v rip f) (machine after to flags)
+    pub lowered : sp_of after ≡ sp
+    pub keeps : MemoryKeepsBase (Some b) sp base after.memory
+    pub pointers : MayRead after.memory 8 (sp + d) x
+    pub within : Within sp (sp + frame) v.memory after.memory
 
 pub filter_enters : (y : Layout) (v : MachineView) (sp b base x rip : ℕ) (f : Flags)
     → length v.rest ≡ 13 → sp_of v ≡ sp + y.frame → sp + y.frame < 2 ^ 62 → y.frame < 2 ^ 31
@@ -144,44 +156,52 @@ filter_enters y v sp b base x rip f n at high lf lb lp apart is small isx smallx
     let first = funclet_entry y.frame b in
     let last = keep_register Rcx y.pointers ∷ [] in
     let parts = code_split v.memory rip first last code in
-    let c1 : HasCell v.memory (sp + b) = record { high = omega arith;
-      writable = λ a p q. writable a (omega arith) (omega arith) } in
+    let c1 : HasCell v.memory (sp + b) = record {
+      high = omega arith;
+      writable = λ a p q. writable a (omega arith) (omega arith);
+    } in
     let u = moved v sp in
     let w = kept_at u (sp + b) base in
     let e = funclet_enters v sp y.frame b base rip f n at (omega arith) lf (omega arith) is small c1
-      parts.0 in
+    parts.0 in
     let w1 = within_cell u sp (sp + y.frame) (sp + b) base (omega arith) (omega arith)
-      (omega arith) in
+    (omega arith) in
     let c2 : HasCell w.memory (sp + y.pointers) =
-      record { high = omega arith; writable = λ a p q. writable a (omega arith) (omega arith) } in
+    record { high = omega arith; writable = λ a p q. writable a (omega arith) (omega arith) } in
     let r = pointers_kept w sp y.pointers x (rip + sizes first) e.flags (sp_moved v sp n) isx smallx
-      (omega arith) c2 (within_keeps_code sp (sp + y.frame) v.memory w.memory (rip + sizes first)
-      last writable (record { byte = w1.byte; protection = w1.protection; bytes = w1.bytes })
-      parts.1) in
+    (omega arith) c2 (within_keeps_code sp (sp + y.frame) v.memory w.memory (rip + sizes first)
+    last writable (record { byte = w1.byte; protection = w1.protection; bytes = w1.bytes })
+    parts.1) in
     let w2 = within_cell w sp (sp + y.frame) (sp + y.pointers) x (omega arith) (omega arith)
-      (omega arith) in
+    (omega arith) in
     let k = keeps_of_cell u sp b base (record { high = c1.high; writable = c1.writable }) small in
     let place : rip + sizes first + sizes last
-      ≡ rip + sizes (filter_entry y b) = omega (arith, sizes_append first last) in
+    ≡ rip + sizes (filter_entry y b) = omega (arith, sizes_append first last) in
     record {
       after = filter_view v sp b base y.pointers x;
       flags = r.left;
       comes = subst (λ a. Enters 3 (machine v rip f)
-        (machine (filter_view v sp b base y.pointers x) a r.left)) place
-        (enters_then 2 1 (machine v rip f) (machine w (rip + sizes first) e.flags)
-        (machine (filter_view v sp b base y.pointers x) (rip + sizes first + sizes last) r.left)
-        e.comes r.comes);
+          (machine (filter_view v sp b base y.pointers x) a r.left)) place
+          (enters_then 2 1 (machine v rip f) (machine w (rip + sizes first) e.flags)
+          (machine (filter_view v sp b base y.pointers x) (rip + sizes first + sizes last) r.left)
+          e.comes r.comes);
       lowered = sp_moved v sp n;
-      keeps = (same_number (filter_view v sp b base y.pointers x).memory.byte w.memory.byte 8
-        (sp + b) (omega arith) (λ a p q. cell_beside w.memory (sp + y.pointers) x a (omega arith)
-        (elim apart [ inl l ↦ inl (omega arith) | inr g ↦ inr (omega arith) ])) ∙ k.0, k.1);
+      keeps = (
+        same_number (filter_view v sp b base y.pointers x).memory.byte w.memory.byte 8
+            (sp + b) (omega arith) (λ a p q. cell_beside w.memory (sp + y.pointers) x a (omega arith)
+            (elim apart [ inl l ↦ inl (omega arith) | inr g ↦ inr (omega arith) ])) ∙ k.0,
+        k.1,
+      );
       pointers = record {
         high = omega arith;
         readable = λ a p q. readable (v.memory.protection a).rights
-          (writable a (omega arith) (omega arith));
+            (writable a (omega arith) (omega arith));
         number = stored_is_loaded w.memory.byte 8 (sp + y.pointers) x (omega arith) (omega arith)
-          ∙ (let q : x % 256 ^ 8 ≡ x = omega arith in q);
+            ∙ (let q : x % 256 ^ 8 ≡ x = omega arith in q);
       };
-      within = record { byte = λ a out. w2.byte a out ∙ w1.byte a out; protection = refl;
-        bytes = λ h. w2.bytes (w1.bytes h) };
+      within = record {
+        byte = λ a out. w2.byte a out ∙ w1.byte a out;
+        protection = refl;
+        bytes = λ h. w2.bytes (w1.bytes h);
+      };
     }

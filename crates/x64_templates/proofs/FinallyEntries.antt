@@ -70,37 +70,39 @@ finally_enters p yf nf spf b flag c v rip f k there n at is code =
     let parts = code_split v.memory rip first last code in
     let u = moved v p.sp in
     let w = kept_at u (p.sp + b) p.base in
-    let cell : HasCell v.memory (p.sp + b) = record { high = omega arith;
-      writable = λ a x z. k.writable a (omega arith) (omega arith) } in
+    let cell : HasCell v.memory (p.sp + b) = record {
+      high = omega arith;
+      writable = λ a x z. k.writable a (omega arith) (omega arith);
+    } in
     let e = funclet_enters v p.sp y.frame b p.base rip f n at (omega arith) sm (omega arith) is
-      (omega arith) cell parts.0 in
+    (omega arith) cell parts.0 in
     let w1 = within_cell u p.sp (p.sp + y.frame) (p.sp + b) p.base (omega arith) (omega arith)
-      (omega arith) in
+    (omega arith) in
     let within : Within p.sp (p.sp + y.frame) v.memory
-      w.memory = record { byte = w1.byte; protection = w1.protection; bytes = w1.bytes } in
+    w.memory = record { byte = w1.byte; protection = w1.protection; bytes = w1.bytes } in
     let keeps = keeps_of_cell u p.sp b p.base
-      (record { high = cell.high; writable = cell.writable }) (omega arith) in
+    (record { high = cell.high; writable = cell.writable }) (omega arith) in
     let own_b : KeepsReserved (Some b) p.sp p.reserved = λ a x z. k.own a (omega arith)
-      (omega arith) in
+    (omega arith) in
     let held = funclet_holds y yf p.counts nf p.reserved p.sp spf p.base y.frame v.memory w.memory c
-      k.function_room k.function_holds k.locals k.count k.bytes within k.below k.inside k.writable
-      k.own (subst (λ o. MemoryKeepsBase o p.sp p.base w.memory) (sym k.kept) keeps)
-      (subst (λ o. KeepsReserved o p.sp p.reserved) (sym k.kept) own_b) in
+    k.function_room k.function_holds k.locals k.count k.bytes within k.below k.inside k.writable
+    k.own (subst (λ o. MemoryKeepsBase o p.sp p.base w.memory) (sym k.kept) keeps)
+    (subst (λ o. KeepsReserved o p.sp p.reserved) (sym k.kept) own_b) in
     let temps = (body_in_memory y p.sp p.base w.memory c.memory).slots in
     let body : BodyState = record { slots = joined c.slots temps; memory = c.memory } in
     let r = flag_run p flag w (rip + sizes first) e.flags body k.room there (sp_moved v p.sp n) held
-      (within_keeps_code p.sp (p.sp + y.frame) v.memory w.memory (rip + sizes first) last k.writable
-      within parts.1) in
+    (within_keeps_code p.sp (p.sp + y.frame) v.memory w.memory (rip + sizes first) last k.writable
+    within parts.1) in
     let place : rip + sizes first + sizes last
-      ≡ rip + sizes (finally_entry y b flag) = omega (arith, sizes_append first last) in
+    ≡ rip + sizes (finally_entry y b flag) = omega (arith, sizes_append first last) in
     record {
       turns = 2 + length last;
       after = r.after;
       flags = r.flags;
       temporaries = temps;
       comes = subst (λ a. Enters (2 + length last) (machine v rip f) (machine r.after a r.flags))
-        place (enters_then 2 (length last) (machine v rip f) (machine w (rip + sizes first) e.flags)
-        (machine r.after (rip + sizes first + sizes last) r.flags) e.comes r.comes);
+          place (enters_then 2 (length last) (machine v rip f) (machine w (rip + sizes first) e.flags)
+          (machine r.after (rip + sizes first + sizes last) r.flags) e.comes r.comes);
       rest = r.rest;
       holds = r.holds;
     }

@@ -154,24 +154,36 @@ field_nothing (ExceptionInformation k) = (refl, refl, tt)
 -- ---- pieces of templates
 
 nothing_flows : (code : List Instr) → Fine code → StoresNothing code → IsFlow code
-nothing_flows code fine nothing = record { spelling = encodable_of code fine;
-    flow = flows code (nothing_keeps code nothing); once = nothing_once code nothing }
+nothing_flows code fine nothing = record {
+  spelling = encodable_of code fine;
+  flow = flows code (nothing_keeps code nothing);
+  once = nothing_once code nothing;
+}
 
 pub work_flow : (o : Operation) → IsFlow (work o)
-work_flow o = record { spelling = encodable_of (work o) (work_fine o);
-    flow = flows (work o) (work_keeps o); once = work_once o }
+work_flow o = record {
+  spelling = encodable_of (work o) (work_fine o);
+  flow = flows (work o) (work_keeps o);
+  once = work_once o;
+}
 
 pub separator_flow : IsFlow separator_code
 separator_flow = record { spelling = (refl, tt); flow = refl; once = inr tt }
 
 pub jump_flow : (at to : ℕ) → IsNear (at + 5) to → IsFlow (jump_code at to)
-jump_flow at to near_by = record { spelling = (short (at + 5) to near_by, tt); flow = refl;
-    once = inr tt }
+jump_flow at to near_by = record {
+  spelling = (short (at + 5) to near_by, tt);
+  flow = refl;
+  once = inr tt;
+}
 
 module _ (y : Layout) (n : Counts) (sp base : ℕ) (room : SlotsHaveRoom y n sp base) where
   pub keep_flow : (to : Slot) → IsSlot n to → IsFlow (keep y to)
-  keep_flow to is = record { spelling = encodable_of (keep y to) (keep_fine y n sp base to room is);
-      flow = flows (keep y to) (keep_keeps y to); once = keep_once y to }
+  keep_flow to is = record {
+    spelling = encodable_of (keep y to) (keep_fine y n sp base to room is);
+    flow = flows (keep y to) (keep_keeps y to);
+    once = keep_once y to;
+  }
 
   pub operands_flow : (o : Operation) (first second : Slot) → IsSlot n first → IsSlot n second
       → IsFlow (operands_code y o first second)
@@ -182,14 +194,18 @@ module _ (y : Layout) (n : Counts) (sp base : ℕ) (room : SlotsHaveRoom y n sp 
       → y.pointers < 2 ^ 31 → IsFlow (information_code y to field)
   information_flow to field is isf small =
       let loads = fetched Rax Rsp y.pointers ∷ fetched Rax Rax 0 ∷ field_load field ∷ [] in
-      let fine : Fine loads = (near y.pointers small, refl, refl,
-        (refl, refl, refl, field_fine field isf)) in
+      let fine : Fine loads = (
+        near y.pointers small,
+        refl,
+        refl,
+        (refl, refl, refl, field_fine field isf),
+      ) in
       let nothing : StoresNothing loads = (refl, refl, (refl, refl, field_nothing field)) in
       record {
         spelling = encodable_of (loads ++ keep y to)
-          (fine_both loads (keep y to) fine (keep_fine y n sp base to room is));
+            (fine_both loads (keep y to) fine (keep_fine y n sp base to room is));
         flow = flows (loads ++ keep y to) (keeps_both loads (keep y to)
-          (nothing_keeps loads nothing) (keep_keeps y to));
+            (nothing_keeps loads nothing) (keep_keeps y to));
         once = once_after loads (keep y to) nothing (keep_once y to);
       }
 
@@ -200,12 +216,12 @@ module _ (y : Layout) (n : Counts) (sp base : ℕ) (room : SlotsHaveRoom y n sp 
       let branch = jump_equal (at + sizes (test_code y slot) + 6) to in
       record {
         spelling = spelled_then first (compare_zero ∷ branch ∷ [])
-          (encodable_of first (fetch_fine y n sp base true slot room is))
-          (refl, (short (at + sizes (test_code y slot) + 6) to near_by, tt));
+            (encodable_of first (fetch_fine y n sp base true slot room is))
+            (refl, (short (at + sizes (test_code y slot) + 6) to near_by, tt));
         flow = flows_to first compare_zero (branch ∷ [])
-          (nothing_keeps first (fetch_nothing y true slot)) (refl, refl);
+            (nothing_keeps first (fetch_nothing y true slot)) (refl, refl);
         once = once_after first (compare_zero ∷ branch ∷ []) (fetch_nothing y true slot)
-          (inl (refl, inr tt));
+            (inl (refl, inr tt));
       }
     where
       spelled_then : (a b : List Instr) → Encodable a → Encodable b → Encodable (a ++ b)

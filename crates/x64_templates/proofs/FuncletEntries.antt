@@ -38,7 +38,7 @@ pub funclet_enters : (v : MachineView) (sp frame b base rip : ℕ) (f : Flags) �
     → sp_of v ≡ sp + frame → sp + frame < 2 ^ 63 → frame < 2 ^ 31 → b < 2 ^ 31 → v.rdx ≡ base
     → base < 2 ^ 64 → HasCell v.memory (sp + b) → HasCode v.memory rip (funclet_entry frame b)
     → FuncletEntered 2 v (kept_at (moved v sp) (sp + b) base) rip
-      (rip + sizes (funclet_entry frame b)) f
+    (rip + sizes (funclet_entry frame b)) f
 funclet_enters v sp frame b base rip f n at high lf lb is small cell code =
     let enter = enter_code frame in
     let parts = code_split v.memory rip enter (keep_base b) code in
@@ -47,15 +47,18 @@ funclet_enters v sp frame b base rip f n at high lf lb is small cell code =
     let w = moved v sp in
     let there = rip + sizes enter in
     let first = subst (λ s. Enters 1 (machine v rip f) (machine (moved v s) there e.flags)) back
-      e.comes in
+    e.comes in
     let u = kept_at w (sp + b) base in
     let r = runs_view (keep_base b) w u there e.flags (near b lb, refl, refl, tt) parts.1
-      (base_kept w sp b base (sp_moved v sp n) is small cell) in
+    (base_kept w sp b base (sp_moved v sp n) is small cell) in
     let place : there + sizes (keep_base b) ≡ rip
-      + sizes (funclet_entry frame b) = omega (arith, sizes_append enter (keep_base b)) in
-    record { flags = r.left; comes = subst (λ a. Enters 2 (machine v rip f) (machine u a r.left))
-      place (enters_then 1 1 (machine v rip f) (machine w there e.flags)
-      (machine u (there + sizes (keep_base b)) r.left) first r.comes) }
+    + sizes (funclet_entry frame b) = omega (arith, sizes_append enter (keep_base b)) in
+    record {
+      flags = r.left;
+      comes = subst (λ a. Enters 2 (machine v rip f) (machine u a r.left))
+          place (enters_then 1 1 (machine v rip f) (machine w there e.flags)
+          (machine u (there + sizes (keep_base b)) r.left) first r.comes);
+    }
 
 -- inside another block, which keeps the base so far above its own RSP
 abbrev pub nested_funclet_entry : ℕ → ℕ → ℕ → List Instr
@@ -67,7 +70,7 @@ pub nested_funclet_enters : (v : MachineView) (sp frame b base parent_sp parent 
     → parent_sp + (parent + 8) < 2 ^ 63 → base < 2 ^ 64 → HasCell v.memory (sp + b)
     → HasCode v.memory rip (nested_funclet_entry frame parent b)
     → FuncletEntered 3 v (kept_at (put true (moved v sp) base) (sp + b) base) rip
-      (rip + sizes (nested_funclet_entry frame parent b)) f
+    (rip + sizes (nested_funclet_entry frame parent b)) f
 nested_funclet_enters v sp frame b base parent_sp parent rip f n at high lf lb lp is keeps ph small
     cell code =
     let enter = enter_code frame in
@@ -78,16 +81,23 @@ nested_funclet_enters v sp frame b base parent_sp parent rip f n at high lf lb l
     let w = moved v sp in
     let there = rip + sizes enter in
     let first = subst (λ s. Enters 1 (machine v rip f) (machine (moved v s) there e.flags)) back
-      e.comes in
+    e.comes in
     let u = kept_at (put true w base) (sp + b) base in
-    let r = runs_view rest w u there e.flags (near parent lp, refl, refl,
-      (near b lb, refl, refl, tt)) parts.1 (parents_base_kept w sp b base parent_sp parent
-      (sp_moved v sp n) is keeps ph small cell) in
+    let r = runs_view rest w u there e.flags (
+      near parent lp,
+      refl,
+      refl,
+      (near b lb, refl, refl, tt),
+    ) parts.1 (parents_base_kept w sp b base parent_sp parent
+    (sp_moved v sp n) is keeps ph small cell) in
     let place : there + sizes rest ≡ rip + sizes (nested_funclet_entry frame parent b) = omega
-      (arith, sizes_append enter rest) in
-    record { flags = r.left; comes = subst (λ a. Enters 3 (machine v rip f) (machine u a r.left))
-      place (enters_then 1 2 (machine v rip f) (machine w there e.flags)
-      (machine u (there + sizes rest) r.left) first r.comes) }
+    (arith, sizes_append enter rest) in
+    record {
+      flags = r.left;
+      comes = subst (λ a. Enters 3 (machine v rip f) (machine u a r.left))
+          place (enters_then 1 2 (machine v rip f) (machine w there e.flags)
+          (machine u (there + sizes rest) r.left) first r.comes);
+    }
 
 -- a filter keeps RCX, the address of its EXCEPTION_POINTERS
 pub pointers_kept : (v : MachineView) (sp d x rip : ℕ) (f : Flags) → sp_of v ≡ sp → v.rcx ≡ x
@@ -97,10 +107,10 @@ pub pointers_kept : (v : MachineView) (sp d x rip : ℕ) (f : Flags) → sp_of v
 pointers_kept v sp d x rip f at is small near_d cell code =
     let h = cell.high in
     let may = all_may (may_write v.memory) 8 (sp + d) (omega arith)
-      (λ a p q. cell.writable a p q) in
+    (λ a p q. cell.writable a p q) in
     let r = runs_view (keep_register Rcx d ∷ []) v (kept_at v (sp + d) x) rip f
-      (near d near_d, refl, refl, tt) code (keeps_register Rcx v d (sp + d) x is
-      (let e : (sp_of v + 0 + d) % 2 ^ 64 ≡ sp + d = omega arith in e) may small) in
+    (near d near_d, refl, refl, tt) code (keeps_register Rcx v d (sp + d) x is
+    (let e : (sp_of v + 0 + d) % 2 ^ 64 ≡ sp + d = omega arith in e) may small) in
     r
 
 -- a `__finally` block keeps ECX, its flag, in a local of the activation
@@ -108,18 +118,21 @@ pub flag_run : (p : FramePlace) (flag : Slot) (v : MachineView) (rip : ℕ) (f :
     (b : BodyState) → Roomy p → IsThere p flag → sp_of v ≡ p.sp → FrameHolds p v.memory b
     → HasCode v.memory rip ((move W32 Rax Rcx ∷ []) ++ keep p.layout flag)
     → ReachesBody p (length ((move W32 Rax Rcx ∷ []) ++ keep p.layout flag)) (machine v rip f)
-      (rip + sizes ((move W32 Rax Rcx ∷ []) ++ keep p.layout flag)) v.rest
-      (record { slots = with_slot b.slots flag (low W32 v.rcx); memory = b.memory })
+    (rip + sizes ((move W32 Rax Rcx ∷ []) ++ keep p.layout flag)) v.rest
+    (record { slots = with_slot b.slots flag (low W32 v.rcx); memory = b.memory })
 flag_run p flag v rip f b room is at h code =
     let i = move W32 Rax Rcx in
     let q : low W32 (low W32 v.rcx) ≡ low W32 v.rcx = omega arith in
     leads_kept p (i ∷ []) flag v rip f b (low W32 v.rcx) b.memory (refl, refl, refl, tt) room is at
-      h code
+    h code
     (record {
       after = v.memory;
-      yields = record { rcx = v.rcx; rdx = v.rdx;
+      yields = record {
+        rcx = v.rcx;
+        rdx = v.rdx;
         does = executes_one i v (put true v (low W32 v.rcx))
-        (λ r g. (g, ap (λ (x : ℕ). Ok (machine (put true v x) r g)) q)) };
+            (λ r g. (g, ap (λ (x : ℕ). Ok (machine (put true v x) r g)) q));
+      };
       small = (let s : low W32 v.rcx < 2 ^ 64 = omega arith in s);
       agrees = h.source;
       protection = refl;

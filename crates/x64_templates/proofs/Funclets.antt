@@ -45,8 +45,10 @@ cell_may m at c = let h = c.high in all_may (may_write m) 8 at (omega arith)
 
 pub keeps_of_cell : (v : MachineView) (sp b base : ℕ) → HasCell v.memory (sp + b) → base < 2 ^ 64
     → MemoryKeepsBase (Some b) sp base (kept_at v (sp + b) base).memory
-keeps_of_cell v sp b base c lt = (kept_number v (sp + b) base c.high lt,
-    λ a p q. c.writable a p (omega arith))
+keeps_of_cell v sp b base c lt = (
+  kept_number v (sp + b) base c.high lt,
+  λ a p q. c.writable a p (omega arith),
+)
 
 -- RDX is the base
 pub base_kept : (v : MachineView) (sp b base : ℕ) → sp_of v ≡ sp → v.rdx ≡ base → base < 2 ^ 64
@@ -66,20 +68,20 @@ parents_base_kept v sp b base parent_sp parent at is keeps high lt c =
     let from = parent_sp + parent in
     let e : (v.rdx + 0 + parent) % 2 ^ 64 ≡ from = omega arith in
     let may = writable_is_readable v.memory 8 from
-      (all_may (may_write v.memory) 8 from (omega arith) (λ a p q. keeps.1 a p (omega arith))) in
+    (all_may (may_write v.memory) 8 from (omega arith) (λ a p q. keeps.1 a p (omega arith))) in
     executes_then (fetched Rax Rdx parent ∷ []) (keep_register Rax b ∷ []) v w
-      (kept_at w (sp + b) base)
+    (kept_at w (sp + b) base)
     (executes_one (fetched Rax Rdx parent) v w (λ rip f. (
       f,
       ap (λ (a : ℕ). load v.memory a W64 >>= λ x. Ok (machine (put true v (low W64 x)) rip f)) e
           ∙ ap (λ (o : Answer ℕ). o >>= λ x. Ok (machine (put true v (low W64 x)) rip f))
-            (load_at v.memory from may)
+          (load_at v.memory from may)
           ∙ ap (λ (x : ℕ). Ok (machine (put true v x) rip f))
-            (word_is (number_at v.memory.byte 8 from) base keeps.0 lt),
+          (word_is (number_at v.memory.byte 8 from) base keeps.0 lt),
     )))
     (keeps_register Rax w b (sp + b) base refl
-      (let q : (sp_of v + 0 + b) % 2 ^ 64 ≡ sp + b = omega arith in q)
-      (cell_may v.memory (sp + b) c) lt)
+    (let q : (sp_of v + 0 + b) % 2 ^ 64 ≡ sp + b = omega arith in q)
+    (cell_may v.memory (sp + b) c) lt)
 
 -- ---- from the function's body to the block's: its locals, and the temporaries in the block's own frame
 
@@ -89,13 +91,16 @@ pub shares : (y y' : Layout) (n n' : Counts) (reserved : ℕ → Bool) (sp sp' b
     → KeepsReserved y'.base sp' reserved → ((a : ℕ) → InTemporaries y' n' sp' a
     → may_write m a ≡ true) → ((a : ℕ) → InTemporaries y' n' sp' a → reserved a ≡ true)
     → HoldsBody y' n' reserved sp' base m (record
-      { slots = joined b.slots (body_in_memory y' sp' base m b.memory).slots; memory = b.memory })
+    { slots = joined b.slots (body_in_memory y' sp' base m b.memory).slots; memory = b.memory })
 shares y y' n n' reserved sp sp' base m b ly ln bytes h keeps kept_own writable own = record {
   slot = slots;
   small = smalls;
   kept_base = keeps;
-  writable = λ a is. elim is [ inl t ↦ writable a t | inr l ↦ h.writable a
-      (inr (p_of l.0, q_of l.1)) ];
+  writable = λ a is. elim is [
+    | inl t ↦ writable a t
+    | inr l ↦ h.writable a
+        (inr (p_of l.0, q_of l.1))
+  ];
   own = λ a is. elim is [ inl t ↦ own a t | inr l ↦ h.own a (inr (p_of l.0, q_of l.1)) ];
   own_base = kept_own;
   source = h.source;
@@ -108,13 +113,13 @@ shares y y' n n' reserved sp sp' base m b ly ln bytes h keeps kept_own writable 
     q_of lt = omega arith
 
     slots : (x : Slot) → IsSlot n' x → number_at m.byte 8 (slot_at y' sp' base x)
-      ≡ joined b.slots (body_in_memory y' sp' base m b.memory).slots x
+        ≡ joined b.slots (body_in_memory y' sp' base m b.memory).slots x
     slots (Local i) is = ap (λ (l : ℕ). number_at m.byte 8 (base + (l + 8 * i))) ly
-      ∙ h.slot (Local i) (let q : i < n.locals = omega arith in q)
+        ∙ h.slot (Local i) (let q : i < n.locals = omega arith in q)
     slots (Temporary i) is = refl
 
     smalls : (x : Slot) → IsSlot n' x → joined b.slots (body_in_memory y' sp' base m b.memory).slots
-      x < 2 ^ 64
+        x < 2 ^ 64
     smalls (Local i) is = h.small (Local i) (let q : i < n.locals = omega arith in q)
     smalls (Temporary i) is = number_small m 8 (slot_at y' sp' base (Temporary i)) bytes
 
@@ -126,13 +131,16 @@ pub shares_back : (y y' : Layout) (n n' : Counts) (reserved : ℕ → Bool) (sp 
     → ((a : ℕ) → InTemporaries y n sp a → m'.byte a ≡ m.byte a)
     → ((a : ℕ) → InTemporaries y n sp a → m'.protection a ≡ m.protection a)
     → HoldsBody y n reserved sp base m' (record
-      { slots = joined c.slots b.slots; memory = c.memory })
+    { slots = joined c.slots b.slots; memory = c.memory })
 shares_back y y' n n' reserved sp sp' base m m' b c high ly ln h g keeps bytes modes = record {
   slot = slots;
   small = smalls;
   kept_base = keeps;
-  writable = λ a is. elim is [ inl t ↦ ap (λ (x : Protection). is_writable x.rights) (modes a t)
-      ∙ h.writable a (inl t) | inr l ↦ g.writable a (inr (p_of l.0, q_of l.1)) ];
+  writable = λ a is. elim is [
+    | inl t ↦ ap (λ (x : Protection). is_writable x.rights) (modes a t)
+        ∙ h.writable a (inl t)
+    | inr l ↦ g.writable a (inr (p_of l.0, q_of l.1))
+  ];
   own = h.own;
   own_base = h.own_base;
   source = g.source;
@@ -145,11 +153,11 @@ shares_back y y' n n' reserved sp sp' base m m' b c high ly ln h g keeps bytes m
     q_of lt = omega arith
 
     slots : (x : Slot) → IsSlot n x → number_at m'.byte 8 (slot_at y sp base x)
-      ≡ joined c.slots b.slots x
+        ≡ joined c.slots b.slots x
     slots (Local i) is = ap (λ (l : ℕ). number_at m'.byte 8 (base + (l + 8 * i))) (sym ly)
-      ∙ g.slot (Local i) (let q : i < n'.locals = omega arith in q)
+        ∙ g.slot (Local i) (let q : i < n'.locals = omega arith in q)
     slots (Temporary i) is = same_number m'.byte m.byte 8 (slot_at y sp base (Temporary i))
-      (omega arith) (λ a p q. bytes a (omega arith, omega arith)) ∙ h.slot (Temporary i) is
+        (omega arith) (λ a p q. bytes a (omega arith, omega arith)) ∙ h.slot (Temporary i) is
 
     smalls : (x : Slot) → IsSlot n x → joined c.slots b.slots x < 2 ^ 64
     smalls (Local i) is = g.small (Local i) (let q : i < n'.locals = omega arith in q)

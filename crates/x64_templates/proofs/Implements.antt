@@ -18,7 +18,7 @@ use Rattle.x64_templates.proofs.Accesses.{load_implemented, store_implemented}
 
 pure_works : (reserved : ℕ → Bool) (p : Pure) (v : MachineView) (source : Memory) → v.rax < 2 ^ 64
     → Agrees reserved v.memory source → Implements reserved (work (operations.Pure p)) v
-      (performed reserved (operations.Pure p) v.rax v.rcx source)
+    (performed reserved (operations.Pure p) v.rax v.rcx source)
 pure_works reserved p v source lt agrees = record {
   after = v.memory;
   yields = pure_gives p v;

@@ -48,10 +48,10 @@ loads_long from v at x i h e r lt = executes_one i v (put true v x) (λ rip f. (
   h rip f
       ∙ ap (λ (a : ℕ). load v.memory a W64 >>= λ y. Ok (machine (put true v (low W64 y)) rip f)) e
       ∙ ap (λ (o : Answer ℕ). o >>= λ y. Ok (machine (put true v (low W64 y)) rip f))
-        (load_any v.memory at W64 (reads_may v.memory 8 at x r (omega arith)))
+      (load_any v.memory at W64 (reads_may v.memory 8 at x r (omega arith)))
       ∙ ap (λ (y : ℕ). Ok (machine (put true v (low W64 y)) rip f)) r.number
       ∙ ap (λ (y : ℕ). Ok (machine (put true v y) rip f))
-        (let q : low W64 x ≡ x = omega arith in q),
+      (let q : low W64 x ≡ x = omega arith in q),
 ))
 
 loads_int : (from : ℕ) (v : MachineView) (at x : ℕ) (i : Instr)
@@ -63,7 +63,7 @@ loads_int from v at x i h e r = executes_one i v (put true v (low W32 x)) (λ ri
   h rip f
       ∙ ap (λ (a : ℕ). load v.memory a W32 >>= λ y. Ok (machine (put true v (low W32 y)) rip f)) e
       ∙ ap (λ (o : Answer ℕ). o >>= λ y. Ok (machine (put true v (low W32 y)) rip f))
-        (load_any v.memory at W32 (reads_may v.memory 4 at x r (omega arith)))
+      (load_any v.memory at W32 (reads_may v.memory 4 at x r (omega arith)))
       ∙ ap (λ (y : ℕ). Ok (machine (put true v (low W32 y)) rip f)) r.number,
 ))
 
@@ -88,7 +88,7 @@ field_does (ExceptionInformation k) v e x is lt r =
     let q : x ≡ low W64 x = omega arith in
     subst (λ y. Executes (field_load (ExceptionInformation k) ∷ []) v (put true v y)) q
     (loads_long ((v.rax + 0 + (32 + 8 * k)) % 2 ^ 64) v (e + (32 + 8 * k)) x
-      (field_load (ExceptionInformation k)) (λ rip f. refl) (omega arith) r lt)
+    (field_load (ExceptionInformation k)) (λ rip f. refl) (omega arith) r lt)
 
 pub field_fine : (field : Field) → IsField field → Fine (field_load field ∷ [])
 field_fine ExceptionCode is = (refl, refl, refl, tt)
@@ -108,8 +108,8 @@ pub information_run : (p : FramePlace) (to : Slot) (field : Field) (v : MachineV
     → HasException v.memory (p.sp + p.layout.pointers) field x
     → HasCode v.memory at (information_code p.layout to field)
     → ReachesBody p (length (information_code p.layout to field)) (machine v at f)
-      (at + sizes (information_code p.layout to field)) v.rest
-      (record { slots = with_slot b.slots to (field_number field x); memory = b.memory })
+    (at + sizes (information_code p.layout to field)) v.rest
+    (record { slots = with_slot b.slots to (field_number field x); memory = b.memory })
 information_run p to field v at f b x room is isf near_p sp h lt e code =
     let y = p.layout in
     let i0 = fetched Rax Rsp y.pointers in
@@ -124,16 +124,26 @@ information_run p to field v at f b x room is isf near_p sp h lt e code =
     let s0 : (sp_of v + 0 + y.pointers) % 2 ^ 64 ≡ p.sp + y.pointers = omega arith in
     let s1 : (e.pointers + 0 + 0) % 2 ^ 64 ≡ e.pointers = omega arith in
     let d0 : Executes (i0 ∷ []) v v1 = loads_long ((sp_of v + 0 + y.pointers) % 2 ^ 64) v
-      (p.sp + y.pointers) e.pointers i0 (λ rip g. refl) s0 e.keeps (omega arith) in
+    (p.sp + y.pointers) e.pointers i0 (λ rip g. refl) s0 e.keeps (omega arith) in
     let d1 : Executes (i1 ∷ []) v1 v2 = loads_long ((e.pointers + 0 + 0) % 2 ^ 64) v1 e.pointers
-      e.exception i1 (λ rip g. refl) s1 e.leads (omega arith) in
+    e.exception i1 (λ rip g. refl) s1 e.leads (omega arith) in
     let d2 : Executes (i2 ∷ []) v2 v3 = field_does field v2 e.exception x refl lt e.holds in
     let d = executes_then (i0 ∷ []) (i1 ∷ i2 ∷ []) v v1 v3 d0
-      (executes_then (i1 ∷ []) (i2 ∷ []) v1 v2 v3 d1 d2) in
-    let fine : Fine (i0 ∷ i1 ∷ i2 ∷ []) = (near y.pointers near_p, refl, refl,
-      (refl, refl, refl, field_fine field isf)) in
+    (executes_then (i1 ∷ []) (i2 ∷ []) v1 v2 v3 d1 d2) in
+    let fine : Fine (i0 ∷ i1 ∷ i2 ∷ []) = (
+      near y.pointers near_p,
+      refl,
+      refl,
+      (refl, refl, refl, field_fine field isf),
+    ) in
     leads_kept p (i0 ∷ i1 ∷ i2 ∷ []) to v at f b (field_number field x) b.memory fine room is sp h
-      code
-    (record { after = v.memory; yields = record { rcx = v.rcx; rdx = v.rdx; does = d };
-      small = small_field field x; agrees = h.source; protection = refl; own = λ a o. refl;
-      bytes = λ z. z })
+    code
+    (record {
+      after = v.memory;
+      yields = record { rcx = v.rcx; rdx = v.rdx; does = d };
+      small = small_field field x;
+      agrees = h.source;
+      protection = refl;
+      own = λ a o. refl;
+      bytes = λ z. z;
+    })

@@ -40,8 +40,11 @@ keep_some y (Local i) = keep_local_some y.base (local_at y i)
 compute_some : (y : Layout) (to : Slot) (o : Operation) (first second : Slot)
     → 1 ≤ length (compute_code y to o first second)
 compute_some y to o first second = let k = keep_some y to in
-    omega (arith, length-append (operands_code y o first second) (finish_code y o to),
-    length-append (work o) (keep y to))
+    omega (
+      arith,
+      length-append (operands_code y o first second) (finish_code y o to),
+      length-append (work o) (keep y to),
+    )
 
 -- ---- by the outcome
 
@@ -49,15 +52,15 @@ compute_done : (p : FramePlace) (k : Links) (to : Slot) (o : Operation) (first s
     (v : MachineView) (here : ℕ) (f : Flags) (b : BodyState) (outcome : OperationResult)
     → Computed p to o first second v here f b (kept to b.slots outcome)
     → InstructionDone p k v here f b (instructions.Compute to o first second)
-      (kept to b.slots outcome)
+    (kept to b.slots outcome)
 compute_done p k to o first second v here f b (Gives x m) g =
     record {
       least = compute_some p.layout to o first second;
       most = let l = compute_length p.layout to o first second in omega arith;
       follows = subst (λ n. ReachesBody p (length (compute_code p.layout to o first second))
-        (machine v here f) (here + n) v.rest (record
-        { slots = with_slot b.slots to x; memory = m }))
-        (template_sizes nowhere p.layout here (instructions.Compute to o first second)) g;
+          (machine v here f) (here + n) v.rest (record
+          { slots = with_slot b.slots to x; memory = m }))
+          (template_sizes nowhere p.layout here (instructions.Compute to o first second)) g;
     }
 compute_done p k to o first second v here f b (Raises code access) g = g
 compute_done p k to o first second v here f b (Undefined a) g = tt
@@ -67,35 +70,47 @@ branch_done : (p : FramePlace) (k : Links) (slot : Slot) (label : ℕ) (v : Mach
     (length (jump_if_zero_code p.layout slot here (k.label label))) (machine v here f)
     (cond z (k.label label) (here + sizes (test_code p.layout slot) + 6)) v.rest b
     → InstructionDone p k v here f b (instructions.JumpIfZero slot label)
-      (cond z (JumpsTo b label) (Next b))
+    (cond z (JumpsTo b label) (Next b))
 branch_done p k slot label v here f b true g =
     let l = fetch_length p.layout Rax slot in
     record {
-      least = omega (arith, length-append (fetch p.layout Rax slot)
-        (compare_zero ∷ jump_equal (here + sizes (test_code p.layout slot) + 6) (k.label label)
-        ∷ []));
-      most = omega (arith, length-append (fetch p.layout Rax slot)
-        (compare_zero ∷ jump_equal (here + sizes (test_code p.layout slot) + 6) (k.label label)
-        ∷ []));
+      least = omega (
+        arith,
+        length-append (fetch p.layout Rax slot)
+            (compare_zero ∷ jump_equal (here + sizes (test_code p.layout slot) + 6) (k.label label)
+            ∷ []),
+      );
+      most = omega (
+        arith,
+        length-append (fetch p.layout Rax slot)
+            (compare_zero ∷ jump_equal (here + sizes (test_code p.layout slot) + 6) (k.label label)
+            ∷ []),
+      );
       follows = g;
     }
 branch_done p k slot label v here f b false g =
     let l = fetch_length p.layout Rax slot in
     let e : sizes (test_code p.layout slot) + 6
-      ≡ template_size p.layout (instructions.JumpIfZero slot label) = sym
-        (jump_if_zero_size p.layout slot here (k.label label))
-      ∙ template_sizes k p.layout here (instructions.JumpIfZero slot label) in
+    ≡ template_size p.layout (instructions.JumpIfZero slot label) = sym
+    (jump_if_zero_size p.layout slot here (k.label label))
+    ∙ template_sizes k p.layout here (instructions.JumpIfZero slot label) in
     let z : here + sizes (test_code p.layout slot) + 6
-      ≡ here + template_size p.layout (instructions.JumpIfZero slot label) = omega arith in
+    ≡ here + template_size p.layout (instructions.JumpIfZero slot label) = omega arith in
     record {
-      least = omega (arith, length-append (fetch p.layout Rax slot)
-        (compare_zero ∷ jump_equal (here + sizes (test_code p.layout slot) + 6) (k.label label)
-        ∷ []));
-      most = omega (arith, length-append (fetch p.layout Rax slot)
-        (compare_zero ∷ jump_equal (here + sizes (test_code p.layout slot) + 6) (k.label label)
-        ∷ []));
+      least = omega (
+        arith,
+        length-append (fetch p.layout Rax slot)
+            (compare_zero ∷ jump_equal (here + sizes (test_code p.layout slot) + 6) (k.label label)
+            ∷ []),
+      );
+      most = omega (
+        arith,
+        length-append (fetch p.layout Rax slot)
+            (compare_zero ∷ jump_equal (here + sizes (test_code p.layout slot) + 6) (k.label label)
+            ∷ []),
+      );
       follows = subst (λ a. ReachesBody p (length
-        (jump_if_zero_code p.layout slot here (k.label label))) (machine v here f) a v.rest b) z g;
+          (jump_if_zero_code p.layout slot here (k.label label))) (machine v here f) a v.rest b) z g;
     }
 
 -- the labels that an instruction goes to are near to the end of its template
@@ -116,34 +131,39 @@ pub instruction_run : (p : FramePlace) (k : Links) (instruction : Instruction) (
     → LabelsNear k p.layout here instruction → sp_of v ≡ p.sp → FrameHolds p v.memory b
     → HasCode v.memory here (template k p.layout here instruction)
     → InstructionDone p k v here f b instruction (step p.reserved instruction b)
-instruction_run p k (instructions.Compute to o first second) v here f b room has near at h
-    code = compute_done p k to o first second v here f b
+instruction_run p k (instructions.Compute to o first second) v here f b room has near at h code =
+    compute_done p k to o first second v here f b
     (performed p.reserved o (b.slots first) (b.slots second) b.memory)
     (compute_run p to o first second v here f b room has.0 has.1 has.2 at h code)
 instruction_run p k (instructions.Jump label) v here f b room has near at h code =
-    record { least = omega arith; most = omega arith;
+    record {
+      least = omega arith;
+      most = omega arith;
       follows = jump_run p v here (k.label label) f b
-      (subst (λ a. IsNear a (k.label label)) (sym (jump_template p.layout here label)) near) h code
-      }
+          (subst (λ a. IsNear a (k.label label)) (sym (jump_template p.layout here label)) near) h code;
+    }
 instruction_run p k (instructions.JumpIfZero slot label) v here f b room has near at h code =
     let e : sizes (test_code p.layout slot) + 6
-      ≡ template_size p.layout (instructions.JumpIfZero slot label) = sym
-        (jump_if_zero_size p.layout slot here (k.label label))
-      ∙ template_sizes k p.layout here (instructions.JumpIfZero slot label) in
+    ≡ template_size p.layout (instructions.JumpIfZero slot label) = sym
+    (jump_if_zero_size p.layout slot here (k.label label))
+    ∙ template_sizes k p.layout here (instructions.JumpIfZero slot label) in
     let z : here + template_size p.layout (instructions.JumpIfZero slot label)
-      ≡ here + sizes (test_code p.layout slot) + 6 = omega arith in
+    ≡ here + sizes (test_code p.layout slot) + 6 = omega arith in
     branch_done p k slot label v here f b (eqb (b.slots slot) 0)
-      (jump_if_zero_comes p slot v here (k.label label) f b (eqb (b.slots slot) 0) refl room has at
-      (subst (λ a. IsNear a (k.label label)) z near) h code)
+    (jump_if_zero_comes p slot v here (k.label label) f b (eqb (b.slots slot) 0) refl room has at
+    (subst (λ a. IsNear a (k.label label)) z near) h code)
 instruction_run p k instructions.Separator v here f b room has near at h code =
-    record { least = omega arith; most = omega arith;
+    record {
+      least = omega arith;
+      most = omega arith;
       follows = subst (λ n. ReachesBody p 1 (machine v here f) (here + n) v.rest b)
-      (template_sizes k p.layout here instructions.Separator) (separator_run p v here f b h code) }
+          (template_sizes k p.layout here instructions.Separator) (separator_run p v here f b h code);
+    }
 instruction_run p k (instructions.Information to field) v here f b room has near at h code = tt
 instruction_run p k (instructions.Landing to) v here f b room has near at h code = tt
 instruction_run p k (instructions.Call function first count) v here f b room has near at h code = tt
-instruction_run p k (instructions.CallBuiltIn function first) v here f b room has near at h
-    code = tt
+instruction_run p k (instructions.CallBuiltIn function first) v here f b room has near at h code =
+    tt
 instruction_run p k (instructions.CallFinally funclet) v here f b room has near at h code = tt
 instruction_run p k (instructions.LocalUnwind label) v here f b room has near at h code = tt
 instruction_run p k (instructions.Return from) v here f b room has near at h code = tt
@@ -169,23 +189,23 @@ pub labels_near : (k : Links) (y : Layout) (start : ℕ) (body : List Instructio
     ≤ body_size y body → LabelsNear k y (start + offset_of y body number) instruction
 labels_near k y start body number (instructions.Jump label) is high small le =
     let near = inside start (body_size y body)
-      (offset_of y body number + template_size y (instructions.Jump label)) (offset_of y body label)
-      high small le (body_most y body label) in
+    (offset_of y body number + template_size y (instructions.Jump label)) (offset_of y body label)
+    high small le (body_most y body label) in
     let z : start + (offset_of y body number + template_size y (instructions.Jump label))
-      ≡ start + offset_of y body number + template_size y (instructions.Jump label) = omega arith in
+    ≡ start + offset_of y body number + template_size y (instructions.Jump label) = omega arith in
     subst (λ a. IsNear a (k.label label)) z (subst
-      (IsNear (start + (offset_of y body number + template_size y (instructions.Jump label))))
-      (sym (is label)) near)
+    (IsNear (start + (offset_of y body number + template_size y (instructions.Jump label))))
+    (sym (is label)) near)
 labels_near k y start body number (instructions.JumpIfZero slot label) is high small le =
     let near = inside start (body_size y body)
-      (offset_of y body number + template_size y (instructions.JumpIfZero slot label))
-      (offset_of y body label) high small le (body_most y body label) in
+    (offset_of y body number + template_size y (instructions.JumpIfZero slot label))
+    (offset_of y body label) high small le (body_most y body label) in
     let z : start + (offset_of y body number + template_size y (instructions.JumpIfZero slot label))
-      ≡ start + offset_of y body number + template_size y
-        (instructions.JumpIfZero slot label) = omega arith in
+    ≡ start + offset_of y body number + template_size y
+    (instructions.JumpIfZero slot label) = omega arith in
     subst (λ a. IsNear a (k.label label)) z (subst
-      (IsNear (start + (offset_of y body number
-      + template_size y (instructions.JumpIfZero slot label)))) (sym (is label)) near)
+    (IsNear (start + (offset_of y body number
+    + template_size y (instructions.JumpIfZero slot label)))) (sym (is label)) near)
 labels_near k y start body number instruction is high small le = tt
 
 -- the instruction of a number in a body
@@ -196,8 +216,8 @@ pub body_instruction_run : (p : FramePlace) (k : Links) (start : ℕ) (body : Li
     → HasSlots p.counts (get_or body number instructions.Separator) → sp_of v ≡ p.sp
     → FrameHolds p v.memory b → HasCode v.memory start (code_from k p.layout start body)
     → InstructionDone p k v (start + offset_of p.layout body number) f b
-      (get_or body number instructions.Separator)
-      (step p.reserved (get_or body number instructions.Separator) b)
+    (get_or body number instructions.Separator)
+    (step p.reserved (get_or body number instructions.Separator) b)
 body_instruction_run p k start body number v f b room is small high lt has at h code =
     let y = p.layout in
     let instruction = get_or body number instructions.Separator in
@@ -205,5 +225,5 @@ body_instruction_run p k start body number v f b room is small high lt has at h 
     let next = offset_next y body number instructions.Separator lt in
     let most = body_most y body (suc number) in
     instruction_run p k instruction v here f b room has
-      (labels_near k y start body number instruction is high small (omega arith)) at h
-      (template_placed k y v.memory start body number instructions.Separator code lt)
+    (labels_near k y start body number instruction is high small (omega arith)) at h
+    (template_placed k y v.memory start body number instructions.Separator code lt)

@@ -41,7 +41,7 @@ one_reaches i v w rip at f g enc inside code e =
     let l = code.placed.low in
     let h = code.placed.high in
     (one_runs i (machine v rip f) (machine w at g) (enc, tt) inside p.0
-      (record { low = l; high = omega arith }) e).comes
+    (record { low = l; high = omega arith }) e).comes
 
 pub one_enters : (i : Instr) (v w : MachineView) (rip at : ℕ) (f g : Flags) → is_encodable i ≡ true
     → HasCode v.memory rip (i ∷ []) → effect (machine v (rip + size i) f) i ≡ Ok (machine w at g)
@@ -51,7 +51,7 @@ one_enters i v w rip at f g enc code e =
     let l = code.placed.low in
     let h = code.placed.high in
     one_enters_frame i (machine v rip f) (machine w at g) (enc, tt) p.0
-      (record { low = l; high = omega arith }) e
+    (record { low = l; high = omega arith }) e
 
 stays : (p : FramePlace) (turns : ℕ) (v w : MachineView) (rip at : ℕ) (f g : Flags) (b : BodyState)
     → Reaches turns (machine v rip f) (machine w at g) → w.rest ≡ v.rest → w.memory ≡ v.memory
@@ -62,9 +62,11 @@ stays p turns v w rip at f g b comes rest same h = record {
   comes = comes;
   rest = rest;
   holds = subst (λ (m : Memory). FrameHolds p m b) (sym same) h;
-  changes = record { protection = ap (λ (m : Memory). m.protection) same;
-      byte = λ a own out. ap (λ (m : Memory). m.byte a) same;
-      bytes = λ x. subst IsBytes (sym same) x };
+  changes = record {
+    protection = ap (λ (m : Memory). m.protection) same;
+    byte = λ a own out. ap (λ (m : Memory). m.byte a) same;
+    bytes = λ x. subst IsBytes (sym same) x;
+  };
 }
 
 jump_size : (d : ℕ) → size (instrs.Jump (Relative d)) ≡ 5
@@ -79,10 +81,10 @@ pub jump_run : (p : FramePlace) (v : MachineView) (rip to : ℕ) (f : Flags) (b 
 jump_run p v rip to f b near h code =
     let i = jump (rip + 5) to in
     let e : (rip + size i + distance (rip + 5) to) % 2 ^ 64
-      ≡ to = ap (λ (n : ℕ). (rip + n + distance (rip + 5) to) % 2 ^ 64)
-        (jump_size (distance (rip + 5) to)) ∙ arrives (rip + 5) to near in
+    ≡ to = ap (λ (n : ℕ). (rip + n + distance (rip + 5) to) % 2 ^ 64)
+    (jump_size (distance (rip + 5) to)) ∙ arrives (rip + 5) to near in
     stays p 1 v v rip to f f b (one_reaches i v v rip to f f (short (rip + 5) to near) refl code
-      (ap (λ (a : ℕ). Ok (machine v a f)) e)) refl refl h
+    (ap (λ (a : ℕ). Ok (machine v a f)) e)) refl refl h
 
 pub separator_run : (p : FramePlace) (v : MachineView) (rip : ℕ) (f : Flags) (b : BodyState)
     → FrameHolds p v.memory b → HasCode v.memory rip separator_code
@@ -91,8 +93,8 @@ separator_run p v rip f b h code =
     let i = instrs.NoOperation in
     let z : rip + size i ≡ rip + (size i + 0) = omega arith in
     stays p 1 v v rip (rip + (size i + 0)) f f b
-      (one_reaches i v v rip (rip + (size i + 0)) f f refl refl code
-      (ap (λ (a : ℕ). Ok (machine v a f)) z)) refl refl h
+    (one_reaches i v v rip (rip + (size i + 0)) f f refl refl code
+    (ap (λ (a : ℕ). Ok (machine v a f)) z)) refl refl h
 
 -- ---- a jump where a slot holds 0
 
@@ -114,11 +116,17 @@ branch_effect : (v : MachineView) (next d : ℕ) (f : Flags) (z : Bool) → f.ze
     → effect (machine v next f) (instrs.JumpIf conditions.Equal d)
     ≡ Ok (machine v (cond z ((next + d) % 2 ^ 64) next) f)
 branch_effect v next d f true e = ap (λ (t : Bool).
-    let u : State = record { cpu = cond t (machine v ((next + d) % 2 ^ 64) f).cpu
-    (machine v next f).cpu; memory = v.memory } in Ok u) e
+    let u : State = record {
+      cpu = cond t (machine v ((next + d) % 2 ^ 64) f).cpu
+          (machine v next f).cpu;
+      memory = v.memory;
+    } in Ok u) e
 branch_effect v next d f false e = ap (λ (t : Bool).
-    let u : State = record { cpu = cond t (machine v ((next + d) % 2 ^ 64) f).cpu
-    (machine v next f).cpu; memory = v.memory } in Ok u) e
+    let u : State = record {
+      cpu = cond t (machine v ((next + d) % 2 ^ 64) f).cpu
+          (machine v next f).cpu;
+      memory = v.memory;
+    } in Ok u) e
 
 branch_comes : (v : MachineView) (rip to : ℕ) (f : Flags) (z : Bool) → f.zero ≡ z
     → IsNear (rip + 6) to → HasCode v.memory rip (jump_equal (rip + 6) to ∷ [])
@@ -142,7 +150,7 @@ pub jump_if_zero_comes : (p : FramePlace) (slot : Slot) (v : MachineView) (rip t
     → sp_of v ≡ p.sp → IsNear (rip + sizes (test_code p.layout slot) + 6) to
     → FrameHolds p v.memory b → HasCode v.memory rip (jump_if_zero_code p.layout slot rip to)
     → ReachesBody p (length (jump_if_zero_code p.layout slot rip to)) (machine v rip f)
-      (cond z to (rip + sizes (test_code p.layout slot) + 6)) v.rest b
+    (cond z to (rip + sizes (test_code p.layout slot) + 6)) v.rest b
 jump_if_zero_comes p slot v rip to f b z e room is at near h code =
     let y = p.layout in
     let first = fetch y Rax slot in
@@ -151,24 +159,24 @@ jump_if_zero_comes p slot v rip to f b z e room is at near h code =
     let w = put true v (b.slots slot) in
     let parts = code_split v.memory rip first (compare_zero ∷ branch ∷ []) code in
     let parts' = code_split v.memory (rip + sizes first) (compare_zero ∷ []) (branch ∷ [])
-      parts.1 in
+    parts.1 in
     let r = runs_view first v w rip f (fetch_fine y p.counts p.sp p.base true slot room is) parts.0
-      (fetch_does y p.counts p.reserved p.sp p.base room true slot v b is at h) in
+    (fetch_does y p.counts p.reserved p.sp p.base room true slot v b is at h) in
     let t = test_comes w (rip + sizes first) r.left parts'.0 in
     let mid : rip + sizes first + size compare_zero
-      ≡ there = omega (arith, sizes_append first (compare_zero ∷ [])) in
+    ≡ there = omega (arith, sizes_append first (compare_zero ∷ [])) in
     let mid' : rip + sizes first + sizes (compare_zero ∷ [])
-      ≡ there = omega (arith, sizes_append first (compare_zero ∷ [])) in
+    ≡ there = omega (arith, sizes_append first (compare_zero ∷ [])) in
     let g = zero_flags w in
     let c = branch_comes w there to g z (zero_holds w (h.small slot is) ∙ e) near
-      (subst (λ a. HasCode v.memory a (branch ∷ [])) mid' parts'.1) in
+    (subst (λ a. HasCode v.memory a (branch ∷ [])) mid' parts'.1) in
     let turns : length first + (1 + 1) ≡ length (first ++ (compare_zero ∷ branch ∷ [])) = sym
-      (length-append first (compare_zero ∷ branch ∷ [])) in
+    (length-append first (compare_zero ∷ branch ∷ [])) in
     subst (λ k. ReachesBody p k (machine v rip f) (cond z to (there + 6)) v.rest b) turns
     (stays p (length first + (1 + 1)) v w rip (cond z to (there + 6)) f g b
     (three_then (length first) 1 1 (machine v rip f) (machine w (rip + sizes first) r.left)
-      (machine w there g) (machine w (cond z to (there + 6)) g) r.comes
-      (subst (λ a. Reaches 1 (machine w (rip + sizes first) r.left) (machine w a g)) mid t) c)
+    (machine w there g) (machine w (cond z to (there + 6)) g) r.comes
+    (subst (λ a. Reaches 1 (machine w (rip + sizes first) r.left) (machine w a g)) mid t) c)
     refl refl h)
 
 -- what a jump that depends on a slot comes to, by what it means
@@ -184,7 +192,7 @@ branch_by : (p : FramePlace) (slot : Slot) (label : ℕ) (v : MachineView) (rip 
     (b : BodyState) (z : Bool) → ReachesBody p (length (jump_if_zero_code p.layout slot rip to))
     (machine v rip f) (cond z to (rip + sizes (test_code p.layout slot) + 6)) v.rest b
     → Branched p slot (rip + sizes (test_code p.layout slot) + 6) to v rip f
-      (cond z (JumpsTo b label) (Next b))
+    (cond z (JumpsTo b label) (Next b))
 branch_by p slot label v rip to f b true g = g
 branch_by p slot label v rip to f b false g = g
 
@@ -193,7 +201,7 @@ pub jump_if_zero_run : (p : FramePlace) (slot : Slot) (label : ℕ) (v : Machine
     → IsNear (rip + sizes (test_code p.layout slot) + 6) to → FrameHolds p v.memory b
     → HasCode v.memory rip (jump_if_zero_code p.layout slot rip to)
     → Branched p slot (rip + sizes (test_code p.layout slot) + 6) to v rip f
-      (step p.reserved (instructions.JumpIfZero slot label) b)
+    (step p.reserved (instructions.JumpIfZero slot label) b)
 jump_if_zero_run p slot label v rip to f b room is at near h code = branch_by p slot label v rip to
     f b (eqb (b.slots slot) 0) (jump_if_zero_comes p slot v rip to f b (eqb (b.slots slot) 0) refl
     room is at near h code)

@@ -65,9 +65,9 @@ kept_set xs n v h =
     let l = λ (k : ℕ) (a : 3 ≤ k) (b : k < 8). index_other xs n k v (low_apart n k h a b) in
     let u = λ (k : ℕ) (a : 12 ≤ k). index_other xs n k v (high_apart n k h a) in
     λ j. l 4 (omega arith) (omega arith) j ∷ l 3 (omega arith) (omega arith) j
-      ∷ l 5 (omega arith) (omega arith) j ∷ l 6 (omega arith) (omega arith) j
-      ∷ l 7 (omega arith) (omega arith) j ∷ u 12 (omega arith) j ∷ u 13 (omega arith) j
-      ∷ u 14 (omega arith) j ∷ u 15 (omega arith) j ∷ []
+    ∷ l 5 (omega arith) (omega arith) j ∷ l 6 (omega arith) (omega arith) j
+    ∷ l 7 (omega arith) (omega arith) j ∷ u 12 (omega arith) j ∷ u 13 (omega arith) j
+    ∷ u 14 (omega arith) j ∷ u 15 (omega arith) j ∷ []
 
 kept_register : (w : Width) (c : Cpu) (r : Reg) (v : ℕ) → is_volatile r ≡ true
     → kept_of (with_register w c r v).registers ≡ kept_of c.registers
@@ -100,7 +100,7 @@ store_keeps : (s : State) (at : ℕ) (w : Width) (v : ℕ) (t : State) → store
     → Keeps false s t
 store_keeps s at w v t e =
     let b = bound (granted (stored s.memory at w))
-      (λ _. Ok (record s { memory = after_store s.memory at w v })) t e in
+    (λ _. Ok (record s { memory = after_store s.memory at w v })) t e in
     let u : State = record s { memory = after_store s.memory at w v } in
     let is : u ≡ t = cc in
     subst (Keeps false s) is (record { registers = refl; rip = refl; memory = λ z. absurd cc })
@@ -116,20 +116,20 @@ change_keeps : (s : State) (o : Operation) (w : Width) (to : RegisterOrMemory) (
     → Keeps (is_register to) s t
 change_keeps s o w to from t q e =
     let b = bound (operand s w from) (λ b. may_change s w to >>= λ _. read s w to
-      >>= λ a. write (with_flags s (computed o w a b).1) w to (computed o w a b).0) t e in
+    >>= λ a. write (with_flags s (computed o w a b).1) w to (computed o w a b).0) t e in
     let m = bound (may_change s w to) (λ _. read s w to
-      >>= λ a. write (with_flags s (computed o w a b.0).1) w to (computed o w a b.0).0) t b.1 in
+    >>= λ a. write (with_flags s (computed o w a b.0).1) w to (computed o w a b.0).0) t b.1 in
     let a = bound (read s w to) (λ a. write (with_flags s (computed o w a b.0).1) w to
-      (computed o w a b.0).0) t m.1 in
+    (computed o w a b.0).0) t m.1 in
     let k = write_keeps (with_flags s (computed o w a.0 b.0).1) w to (computed o w a.0 b.0).0 t q
-      a.1 in
+    a.1 in
     record { registers = k.registers; rip = k.rip; memory = k.memory }
 
 compare_keeps : (x : Bool) (s : State) (o : Operation) (w : Width) (first : RegisterOrMemory)
     (second : Operand) (t : State) → compare s o w first second ≡ Ok t → Keeps x s t
 compare_keeps x s o w first second t e =
     let b = bound (operand s w second) (λ b. read s w first
-      >>= λ a. Ok (with_flags s (computed o w a b).1)) t e in
+    >>= λ a. Ok (with_flags s (computed o w a b).1)) t e in
     let a = bound (read s w first) (λ a. Ok (with_flags s (computed o w a b.0).1)) t b.1 in
     same x s (record s.cpu { flags = (computed o w a.0 b.0).1 }) t refl refl a.1
 
@@ -142,52 +142,52 @@ divided_keeps : (s : State) (w : Width) (r : Result (ℕ × ℕ) DivFault) (t : 
     → with_quotient s w r ≡ Ok t → Keeps true s t
 divided_keeps s w (Ok x) t e =
     same true s (with_register w (with_register w s.cpu Rax x.0) Rdx x.1) t
-      (kept_register w (with_register w s.cpu Rax x.0) Rdx x.1 refl
-      ∙ kept_register w s.cpu Rax x.0 refl) refl e
+    (kept_register w (with_register w s.cpu Rax x.0) Rdx x.1 refl
+    ∙ kept_register w s.cpu Rax x.0 refl) refl e
 divided_keeps s w (Err z) t e = absurd cc
 
 unary_keeps : (s : State) (o : Unary) (w : Width) (to : RegisterOrMemory) (t : State)
     → is_volatile_or_memory to ≡ true → unary s o w to ≡ Ok t → Keeps (is_register to) s t
 unary_keeps s o w to t q e =
     let m = bound (may_change s w to) (λ _. read s w to
-      >>= λ a. write (with_flags s (unary_of o w a s.cpu.flags).1) w to
-        (unary_of o w a s.cpu.flags).0) t e in
+    >>= λ a. write (with_flags s (unary_of o w a s.cpu.flags).1) w to
+    (unary_of o w a s.cpu.flags).0) t e in
     let a = bound (read s w to) (λ a. write (with_flags s (unary_of o w a s.cpu.flags).1) w to
-      (unary_of o w a s.cpu.flags).0) t m.1 in
+    (unary_of o w a s.cpu.flags).0) t m.1 in
     let k = write_keeps (with_flags s (unary_of o w a.0 s.cpu.flags).1) w to
-      (unary_of o w a.0 s.cpu.flags).0 t q a.1 in
+    (unary_of o w a.0 s.cpu.flags).0 t q a.1 in
     record { registers = k.registers; rip = k.rip; memory = k.memory }
 
 shift_keeps : (s : State) (d : Direction) (w : Width) (to : RegisterOrMemory) (n : ℕ) (t : State)
     → is_volatile_or_memory to ≡ true → shift_by s d w to n ≡ Ok t → Keeps (is_register to) s t
 shift_keeps s d w to n t q e =
     let m = bound (may_change s w to) (λ _. read s w to
-      >>= λ a. write (with_flags s (shift_flags d w a n s.cpu.flags)) w to (shifted d w a n)) t e in
+    >>= λ a. write (with_flags s (shift_flags d w a n s.cpu.flags)) w to (shifted d w a n)) t e in
     let a = bound (read s w to) (λ a. write (with_flags s (shift_flags d w a n s.cpu.flags)) w to
-      (shifted d w a n)) t m.1 in
+    (shifted d w a n)) t m.1 in
     let k = write_keeps (with_flags s (shift_flags d w a.0 n s.cpu.flags)) w to (shifted d w a.0 n)
-      t q a.1 in
+    t q a.1 in
     record { registers = k.registers; rip = k.rip; memory = k.memory }
 
 multiply_keeps : (s : State) (w : Width) (to : Reg) (from : RegisterOrMemory) (t : State)
     → is_volatile to ≡ true → multiply s w to from ≡ Ok t → Keeps true s t
 multiply_keeps s w to from t q e =
     let after = λ (b : ℕ). let p = multiplied w (low w (register s.cpu to)) b s.cpu.flags in
-      record (with_register w s.cpu to p.0) { flags = p.1 } in
+    record (with_register w s.cpu to p.0) { flags = p.1 } in
     let b = bound (read s w from) (λ b. let u : State =
-      record { cpu = after b; memory = s.memory } in Ok u) t e in
+    record { cpu = after b; memory = s.memory } in Ok u) t e in
     same true s (after b.0) t (let p = multiplied w (low w (register s.cpu to)) b.0 s.cpu.flags in
-      kept_register w s.cpu to p.0 q) refl b.1
+    kept_register w s.cpu to p.0 q) refl b.1
 
 multiply_by_keeps : (s : State) (w : Width) (to : Reg) (from : RegisterOrMemory) (v : ℕ) (t : State)
     → is_volatile to ≡ true → multiply_by s w to from v ≡ Ok t → Keeps true s t
 multiply_by_keeps s w to from v t q e =
     let after = λ (a : ℕ). let p = multiplied w a (low w v) s.cpu.flags in
-      record (with_register w s.cpu to p.0) { flags = p.1 } in
+    record (with_register w s.cpu to p.0) { flags = p.1 } in
     let b = bound (read s w from) (λ a. let u : State =
-      record { cpu = after a; memory = s.memory } in Ok u) t e in
+    record { cpu = after a; memory = s.memory } in Ok u) t e in
     same true s (after b.0) t (let p = multiplied w b.0 (low w v) s.cpu.flags in
-      kept_register w s.cpu to p.0 q) refl b.1
+    kept_register w s.cpu to p.0 q) refl b.1
 
 pub keeps : (i : Instr) (s t : State) → keeps_registers i ≡ true → effect s i ≡ Ok t
     → Keeps (stores_nothing i) s t
@@ -210,7 +210,7 @@ keeps (instrs.Unary o w to) s t q e = unary_keeps s o w to t q e
 keeps (instrs.Divide d w by) s t q e =
     let high = low w (register s.cpu Rdx) in
     let b = bound (read s w by) (λ v. with_quotient s w
-      (divided d w (joined w high (low w (register s.cpu Rax))) v)) t e in
+    (divided d w (joined w high (low w (register s.cpu Rax))) v)) t e in
     divided_keeps s w (divided d w (joined w high (low w (register s.cpu Rax))) b.0) t b.1
 keeps (instrs.ExtendRax w) s t q e = same true s (with_register w s.cpu Rdx (sign_of_rax w s.cpu)) t
     (kept_register w s.cpu Rdx (sign_of_rax w s.cpu) refl) refl e

@@ -64,9 +64,13 @@ pub record EnteredLarge (v : MachineView) (sp frame rip : ℕ) (f : Flags) : Typ
   pub flags : Flags
   pub eleventh : ℕ
   pub comes : Reaches 8 (machine v rip f) (machine
-      (record { rax = frame; rcx = v.rcx; rdx = v.rdx;
-      rest = with_sp (set v.rest 8 eleventh) (sp - frame);
-      memory = (pushed v sp (rip + 10)).memory }) (rip + sizes (enter_large frame rip 0)) flags)
+      (record {
+        rax = frame;
+        rcx = v.rcx;
+        rdx = v.rdx;
+        rest = with_sp (set v.rest 8 eleventh) (sp - frame);
+        memory = (pushed v sp (rip + 10)).memory;
+      }) (rip + sizes (enter_large frame rip 0)) flags)
 
 -- sets of two different registers, and of one of them again, are as one of each
 one_of_each : (r : List ℕ) (a b c d e : ℕ) → length r ≡ 13
@@ -84,14 +88,14 @@ one_of_each (x0 ∷ x1 ∷ x2 ∷ x3 ∷ x4 ∷ x5 ∷ x6 ∷ x7 ∷ x8 ∷ r) a
 
 lower_by_rax : (v : MachineView) (n sp next : ℕ) (f : Flags) → sp_of v ≡ sp → v.rax ≡ n → n ≤ sp
     → sp < 2 ^ 64 → effect (machine v next f)
-      (instrs.Arithmetic arithmetic.Sub W64 (places.Register Rsp) (operands.Register Rax))
+    (instrs.Arithmetic arithmetic.Sub W64 (places.Register Rsp) (operands.Register Rax))
     ≡ Ok (machine (moved v (sp - n)) next (subtracted W64 (low W64 (sp_of v)) (low W64 v.rax)).1)
 unfolding subtracted
 lower_by_rax v n sp next f e rax le high =
     ap (λ (a : ℕ). Ok (machine (moved v a) next
-      (subtracted W64 (low W64 (sp_of v)) (low W64 v.rax)).1))
-      (let q : low W64 (low W64 (low W64 (sp_of v) + (2 ^ 64 - low W64 v.rax)))
-      ≡ sp - n = omega arith in q)
+    (subtracted W64 (low W64 (sp_of v)) (low W64 v.rax)).1))
+    (let q : low W64 (low W64 (low W64 (sp_of v) + (2 ^ 64 - low W64 v.rax)))
+    ≡ sp - n = omega arith in q)
 
 pub enter_large_run : (v : MachineView) (sp frame rip check : ℕ) (f : Flags) → length v.rest ≡ 13
     → sp_of v ≡ sp → HasBelow v.memory sp 8 → Touchable v.memory sp frame → frame < 2 ^ 31
@@ -107,7 +111,7 @@ enter_large_run v sp frame rip check f len at below touch small near high leaf c
     let p = code_split v.memory rip (i ∷ []) (j ∷ k ∷ []) code in
     let e1 : rip + sizes (i ∷ []) ≡ rip + 5 = omega arith in
     let q = code_split v.memory (rip + 5) (j ∷ []) (k ∷ [])
-      (subst (λ a. HasCode v.memory a (j ∷ k ∷ [])) e1 p.1) in
+    (subst (λ a. HasCode v.memory a (j ∷ k ∷ [])) e1 p.1) in
     let e2 : rip + 5 + sizes (j ∷ []) ≡ rip + 10 = omega arith in
     let tail = subst (λ a. HasCode v.memory a (k ∷ [])) e2 q.1 in
     let e3 : rip + 5 + 5 ≡ rip + 10 = omega arith in
@@ -117,43 +121,53 @@ enter_large_run v sp frame rip check f len at below touch small near high leaf c
     let fits : ltb frame (2 ^ 32) ≡ true = lt-ltb frame (2 ^ 32) (omega arith) in
     let r1 : rip + size i ≡ rip + 5 = omega arith in
     let first : Reaches 1 (machine v rip f) (machine v1 (rip + 5) f) = one_reaches i v v1 rip
-      (rip + 5) f f fits refl p.0
+    (rip + 5) f f fits refl p.0
     (ap (λ (a : ℕ). Ok (machine (put true v a) (rip + size i) f)) word
-      ∙ ap (λ (a : ℕ). Ok (machine v1 a f)) r1) in
+    ∙ ap (λ (a : ℕ). Ok (machine v1 a f)) r1) in
     let second = subst (λ a. Reaches 1 (machine v1 (rip + 5) f) (machine (pushed v1 sp a) check f))
-      e3 (call_reaches v1 sp (rip + 5) check f at below (subst (λ a. IsNear a check) (sym e3) near)
-      (subst (λ a. HasCode v.memory (rip + 5) (call a check ∷ [])) (sym e3) q.0)) in
+    e3 (call_reaches v1 sp (rip + 5) check f at below (subst (λ a. IsNear a check) (sym e3) near)
+    (subst (λ a. HasCode v.memory (rip + 5) (call a check ∷ [])) (sym e3) q.0)) in
     let sp2 : sp_of v2 ≡ sp - 8 = get_or-set_same v.rest 1 (sp - 8) 0 (omega arith) in
     let third = check_run v2 sp frame (rip + 10) check f (length-set v.rest 1 (sp - 8) ∙ len) refl
-      sp2 (record { enough = e; more = mo; high = hi; first = touch.first; last = touch.last })
-      (pushed_back v1 sp (rip + 10) below (omega arith))
-      (pushed_keeps_code v1 sp (rip + 10) check check_stack below leaf) in
+    sp2 (record { enough = e; more = mo; high = hi; first = touch.first; last = touch.last })
+    (pushed_back v1 sp (rip + 10) below (omega arith))
+    (pushed_keeps_code v1 sp (rip + 10) check check_stack below leaf) in
     let v3 = moved (with_eleventh (with_eleventh v2 sp) (sp - frame)) sp in
     let sp3 : sp_of v3 ≡ sp = get_or-set_same
-      (set (set (set v.rest 1 (sp - 8)) 8 sp) 8 (sp - frame)) 1 sp 0
-      (let a = length-set v.rest 1 (sp - 8) in let b = length-set (set v.rest 1 (sp - 8)) 8 sp in
-      let c = length-set (set (set v.rest 1 (sp - 8)) 8 sp) 8 (sp - frame) in omega arith) in
+    (set (set (set v.rest 1 (sp - 8)) 8 sp) 8 (sp - frame)) 1 sp 0
+    (let a = length-set v.rest 1 (sp - 8) in let b = length-set (set v.rest 1 (sp - 8)) 8 sp in
+    let c = length-set (set (set v.rest 1 (sp - 8)) 8 sp) 8 (sp - frame) in omega arith) in
     let g = (subtracted W64 (low W64 (sp_of v3)) (low W64 v3.rax)).1 in
     let v4 = moved v3 (sp - frame) in
     let last = one_reaches k v3 v4 (rip + 10) (rip + 10 + size k) third.0 g refl refl
-      (pushed_keeps_code v1 sp (rip + 10) (rip + 10) (k ∷ []) below tail)
-      (lower_by_rax v3 frame sp (rip + 10 + size k) third.0 sp3 refl e (omega arith)) in
+    (pushed_keeps_code v1 sp (rip + 10) (rip + 10) (k ∷ []) below tail)
+    (lower_by_rax v3 frame sp (rip + 10 + size k) third.0 sp3 refl e (omega arith)) in
     let end : rip + 10 + size k ≡ rip + sizes (enter_large frame rip 0) = let s0 = call_size
-      (rip + 10) 0 in omega arith in
+    (rip + 10) 0 in omega arith in
     let flat = one_of_each v.rest (sp - 8) sp (sp - frame) sp (sp - frame) len in
     let all = reaches_then 1 7 (machine v rip f) (machine v1 (rip + 5) f)
-      (machine v4 (rip + 10 + size k) g) first
+    (machine v4 (rip + 10 + size k) g) first
     (reaches_then 1 6 (machine v1 (rip + 5) f) (machine v2 check f)
-      (machine v4 (rip + 10 + size k) g) second
+    (machine v4 (rip + 10 + size k) g) second
     (reaches_then 5 1 (machine v2 check f) (machine v3 (rip + 10) third.0)
-      (machine v4 (rip + 10 + size k) g) third.1 last)) in
+    (machine v4 (rip + 10 + size k) g) third.1 last)) in
     record {
       flags = g;
       eleventh = sp - frame;
       comes = subst (λ a. Reaches 8 (machine v rip f)
-        (machine (record { rax = frame; rcx = v.rcx; rdx = v.rdx;
-        rest = with_sp (set v.rest 8 (sp - frame)) (sp - frame); memory = v2.memory }) a g)) end
+          (machine (record {
+            rax = frame;
+            rcx = v.rcx;
+            rdx = v.rdx;
+            rest = with_sp (set v.rest 8 (sp - frame)) (sp - frame);
+            memory = v2.memory;
+          }) a g)) end
           (subst (λ (r : List ℕ). Reaches 8 (machine v rip f)
-            (machine (record { rax = frame; rcx = v.rcx; rdx = v.rdx; rest = r;
-            memory = v2.memory }) (rip + 10 + size k) g)) flat all);
+          (machine (record {
+            rax = frame;
+            rcx = v.rcx;
+            rdx = v.rdx;
+            rest = r;
+            memory = v2.memory;
+          }) (rip + 10 + size k) g)) flat all);
     }

@@ -76,10 +76,12 @@ pub large_function_enters : (p : FramePlace) (count : ℕ) (arguments : ℕ → 
     → rip + 10 < 2 ^ 48 → HasCode v.memory check check_stack
     → HasCode v.memory rip (enter_large p.layout.frame rip check
     ++ parameters_code p.layout 0 count) → LargeEntered p v rip
-      (rip + sizes (enter_large p.layout.frame rip check ++ parameters_code p.layout 0 count)) f
-      (record { slots = with_arguments (body_in_memory p.layout p.sp p.base
-      (pushed v (p.sp + p.layout.frame) (rip + 10)).memory source).slots arguments 0 count;
-      memory = source })
+    (rip + sizes (enter_large p.layout.frame rip check ++ parameters_code p.layout 0 count)) f
+    (record {
+      slots = with_arguments (body_in_memory p.layout p.sp p.base
+          (pushed v (p.sp + p.layout.frame) (rip + 10)).memory source).slots arguments 0 count;
+      memory = source;
+    })
 large_function_enters p count arguments v source rip check f room fn none le n at small below own
     touch bare regs stack near high leaf code =
     let y = p.layout in
@@ -88,39 +90,53 @@ large_function_enters p count arguments v source rip check f room fn none le n a
     let params = parameters_code y 0 count in
     let parts = code_split v.memory rip enter params code in
     let e = enter_large_run v top y.frame rip check f n at below touch small near high leaf
-      parts.0 in
+    parts.0 in
     let same : sizes (enter_large y.frame rip 0) ≡ sizes enter = let a = call_size (rip + 10) 0 in
-      let b = call_size (rip + 10) check in omega arith in
+    let b = call_size (rip + 10) check in omega arith in
     let back : top - y.frame ≡ p.sp = omega arith in
     let m = (pushed v top (rip + 10)).memory in
-    let w : MachineView = record { rax = y.frame; rcx = v.rcx; rdx = v.rdx;
-      rest = with_sp (set v.rest 8 e.eleventh) p.sp; memory = m } in
+    let w : MachineView = record {
+      rax = y.frame;
+      rcx = v.rcx;
+      rdx = v.rdx;
+      rest = with_sp (set v.rest 8 e.eleventh) p.sp;
+      memory = m;
+    } in
     let there = rip + sizes enter in
     let first = subst (λ k. Reaches 8 (machine v rip f) (machine w (rip + k) e.flags)) same
     (subst (λ s. Reaches 8 (machine v rip f) (machine
-      (record { rax = y.frame; rcx = v.rcx; rdx = v.rdx; rest = with_sp (set v.rest 8 e.eleventh) s;
-      memory = m }) (rip + sizes (enter_large y.frame rip 0)) e.flags)) back e.comes) in
+    (record {
+      rax = y.frame;
+      rcx = v.rcx;
+      rdx = v.rdx;
+      rest = with_sp (set v.rest 8 e.eleventh) s;
+      memory = m;
+    }) (rip + sizes (enter_large y.frame rip 0)) e.flags)) back e.comes) in
     let sp_w : sp_of w ≡ p.sp = get_or-set_same (set v.rest 8 e.eleventh) 1 p.sp 0
-      (let l = length-set v.rest 8 e.eleventh in omega arith) in
+    (let l = length-set v.rest 8 e.eleventh in omega arith) in
     let b = body_in_memory y p.sp p.base m source in
-    let regs' : InRegisters w arguments = record { first = regs.first; second = regs.second;
+    let regs' : InRegisters w arguments = record {
+      first = regs.first;
+      second = regs.second;
       third = other_two 5 (λ h. absurd (omega arith)) (λ h. absurd (omega arith)) v.rest e.eleventh
-      p.sp ∙ regs.third; fourth = other_two 6 (λ h. absurd (omega arith))
-      (λ h. absurd (omega arith)) v.rest e.eleventh p.sp ∙ regs.fourth } in
+          p.sp ∙ regs.third;
+      fourth = other_two 6 (λ h. absurd (omega arith))
+          (λ h. absurd (omega arith)) v.rest e.eleventh p.sp ∙ regs.fourth;
+    } in
     let k = parameters_run p count arguments w there e.flags b room fn le sp_w
-      (fresh_holds p m source (bare_pushed p v source top (rip + 10) none below own bare)) regs'
-      (stack_pushed p v (rip + 10) count arguments room below stack)
-      (pushed_keeps_code v top (rip + 10) there params below parts.1) in
+    (fresh_holds p m source (bare_pushed p v source top (rip + 10) none below own bare)) regs'
+    (stack_pushed p v (rip + 10) count arguments room below stack)
+    (pushed_keeps_code v top (rip + 10) there params below parts.1) in
     let place : there + sizes params ≡ rip + sizes (enter ++ params) = omega
-      (arith, sizes_append enter params) in
+    (arith, sizes_append enter params) in
     record {
       turns = 8 + length params;
       after = k.after;
       flags = k.flags;
       eleventh = e.eleventh;
       comes = subst (λ a. Reaches (8 + length params) (machine v rip f) (machine k.after a k.flags))
-        place (reaches_then 8 (length params) (machine v rip f) (machine w there e.flags)
-        (machine k.after (there + sizes params) k.flags) first k.comes);
+          place (reaches_then 8 (length params) (machine v rip f) (machine w there e.flags)
+          (machine k.after (there + sizes params) k.flags) first k.comes);
       rest = k.rest;
       holds = k.holds;
     }

@@ -53,7 +53,7 @@ same s c t r e =
     let u : State = record { cpu = c; memory = s.memory } in
     let at : u ≡ t = cc in
     subst (Kept s.memory s.cpu.rip) at (record
-      { left = record { protection = refl; byte = λ a fix. refl }; rip = r })
+    { left = record { protection = refl; byte = λ a fix. refl }; rip = r })
 
 -- ---- stores
 
@@ -65,12 +65,12 @@ allowed may (suc n) at i lt e il = go (λ r j jl. allowed may n (next at) j (ome
     (may at) refl e
   where
     go : (first_refused may n (next at) ≡ None → (j : ℕ) → j < n
-      → may ((next at + j) % 2 ^ 64) ≡ true) → (b : Bool) → may at ≡ b
-      → cond b (first_refused may n (next at)) (Some at) ≡ None → may ((at + i) % 2 ^ 64) ≡ true
+        → may ((next at + j) % 2 ^ 64) ≡ true) → (b : Bool) → may at ≡ b
+        → cond b (first_refused may n (next at)) (Some at) ≡ None → may ((at + i) % 2 ^ 64) ≡ true
     go more true h r = elim (cases_eq i 0) [
       | inl z ↦ let q : (at + i) % 2 ^ 64 ≡ at = omega arith in ap may q ∙ h
       | inr p ↦ let q : (at + i) % 2 ^ 64 ≡ (next at + (i - 1)) % 2 ^ 64 = omega arith in ap may q
-      ∙ more r (i - 1) (omega arith)
+          ∙ more r (i - 1) (omega arith)
     ]
     go more false h r = absurd cc
 
@@ -86,18 +86,26 @@ stored_kept : (s : State) (at : ℕ) (w : Width) (v : ℕ) (t : State) → at < 
 stored_kept s at w v t lt e = go (first_refused (may_write s.memory) (bytes_of w) at) refl e
   where
     go : (o : Option ℕ) → first_refused (may_write s.memory) (bytes_of w) at ≡ o
-      → (granted (access {A = Unit {0}} true o tt)
-      >>= λ _. Ok (record s { memory = unless_refused o
-        (with_bytes s.memory (with_number s.memory.byte (bytes_of w) at v)) s.memory })) ≡ Ok t
-      → Kept s.memory s.cpu.rip t
+        → (granted (access {A = Unit {0}} true o tt)
+        >>= λ _. Ok (record s {
+          memory = unless_refused o
+              (with_bytes s.memory (with_number s.memory.byte (bytes_of w) at v)) s.memory;
+        })) ≡ Ok t
+        → Kept s.memory s.cpu.rip t
     go None f h =
-        let u : State = record { cpu = s.cpu;
-          memory = with_bytes s.memory (with_number s.memory.byte (bytes_of w) at v) } in
+        let u : State = record {
+          cpu = s.cpu;
+          memory = with_bytes s.memory (with_number s.memory.byte (bytes_of w) at v);
+        } in
         let at' : u ≡ t = cc in
-        subst (Kept s.memory s.cpu.rip) at' (record
-          { left = record { protection = refl;
-          byte = λ a fix. untouched s.memory.byte (bytes_of w) at v a
-          (fixed_apart s.memory (bytes_of w) at a lt f fix) lt }; rip = refl })
+        subst (Kept s.memory s.cpu.rip) at' (record {
+          left = record {
+            protection = refl;
+            byte = λ a fix. untouched s.memory.byte (bytes_of w) at v a
+                (fixed_apart s.memory (bytes_of w) at a lt f fix) lt;
+          };
+          rip = refl;
+        })
     go (Some b) f h = absurd cc
 
 written : (s : State) (w : Width) (p : RegisterOrMemory) (v : ℕ) (t : State) → write s w p v ≡ Ok t
@@ -113,11 +121,15 @@ pushed s v t e =
 popped : (s : State) (x : ℕ × State) → pop s ≡ Ok x → Kept s.memory s.cpu.rip x.1
 popped s x e =
     let b = bound (load s.memory (register s.cpu Rsp) W64)
-      (λ v. Ok (v, record s { cpu = with_register W64 s.cpu Rsp ((register s.cpu Rsp + 8) % 2 ^ 64)
-      })) x e in
+    (λ v. Ok (
+      v,
+      record s {
+        cpu = with_register W64 s.cpu Rsp ((register s.cpu Rsp + 8) % 2 ^ 64);
+      },
+    )) x e in
     let f : ◌≡◌ {A = Answer State} (Ok (record s
-      { cpu = with_register W64 s.cpu Rsp ((register s.cpu Rsp + 8) % 2 ^ 64) })) (Ok x.1) = ap
-      (λ (r : Answer (ℕ × State)). r >>= λ y. Ok y.1) b.2 in
+    { cpu = with_register W64 s.cpu Rsp ((register s.cpu Rsp + 8) % 2 ^ 64) })) (Ok x.1) = ap
+    (λ (r : Answer (ℕ × State)). r >>= λ y. Ok y.1) b.2 in
     same s (with_register W64 s.cpu Rsp ((register s.cpu Rsp + 8) % 2 ^ 64)) x.1 refl f
 
 -- ---- instructions
@@ -126,7 +138,7 @@ compare_kept : (s : State) (o : Operation) (w : Width) (first : RegisterOrMemory
     (t : State) → compare s o w first second ≡ Ok t → Kept s.memory s.cpu.rip t
 compare_kept s o w first second t e =
     let b = bound (operand s w second) (λ b. read s w first
-      >>= λ a. Ok (with_flags s (computed o w a b).1)) t e in
+    >>= λ a. Ok (with_flags s (computed o w a b).1)) t e in
     let a = bound (read s w first) (λ a. Ok (with_flags s (computed o w a b.0).1)) t b.2 in
     same s (record s.cpu { flags = (computed o w a.0 b.0).1 }) t refl a.2
 
@@ -134,11 +146,11 @@ change_kept : (s : State) (o : Operation) (w : Width) (to : RegisterOrMemory) (f
     (t : State) → change s o w to from ≡ Ok t → Kept s.memory s.cpu.rip t
 change_kept s o w to from t e =
     let b = bound (operand s w from) (λ b. may_change s w to >>= λ _. read s w to
-      >>= λ a. write (with_flags s (computed o w a b).1) w to (computed o w a b).0) t e in
+    >>= λ a. write (with_flags s (computed o w a b).1) w to (computed o w a b).0) t e in
     let m = bound (may_change s w to) (λ _. read s w to
-      >>= λ a. write (with_flags s (computed o w a b.0).1) w to (computed o w a b.0).0) t b.2 in
+    >>= λ a. write (with_flags s (computed o w a b.0).1) w to (computed o w a b.0).0) t b.2 in
     let a = bound (read s w to) (λ a. write (with_flags s (computed o w a b.0).1) w to
-      (computed o w a b.0).0) t m.2 in
+    (computed o w a b.0).0) t m.2 in
     written (with_flags s (computed o w a.0 b.0).1) w to (computed o w a.0 b.0).0 t a.2
 
 either_kept : (c : Bool) (s : State) (x y : Answer State) (t : State)
@@ -166,8 +178,10 @@ went : (i : Instr) (s u : State) (a : ℕ) (t : State) → is_straight i ≡ fal
     → ◌≡◌ {A = Answer State} (Ok (with_rip u a)) (Ok t) → Leaves i s t
 went i s u a t fix k e =
     let at : with_rip u a ≡ t = cc in
-    record { left = subst (Left s.memory) at (record { protection = k.protection; byte = k.byte });
-      rip = λ h. let f : true ≡ false = sym h ∙ fix in absurd cc }
+    record {
+      left = subst (Left s.memory) at (record { protection = k.protection; byte = k.byte });
+      rip = λ h. let f : true ≡ false = sym h ∙ fix in absurd cc;
+    }
 
 unchanged : (s : State) → Left s.memory s
 unchanged s = record { protection = refl; byte = λ a fix. refl }
@@ -182,7 +196,7 @@ call_left : (i : Instr) (s : State) (to : Target) (t : State) → is_straight i 
     → Leaves i s t
 call_left i s to t fix e =
     let b = bound (target_of s to) (λ target. push s s.cpu.rip
-      >>= λ after. Ok (with_rip after target)) t e in
+    >>= λ after. Ok (with_rip after target)) t e in
     let p = bound (push s s.cpu.rip) (λ after. Ok (with_rip after b.0)) t b.2 in
     went i s p.0 b.0 t fix (pushed s s.cpu.rip p.0 p.1).left p.2
 
@@ -196,44 +210,44 @@ shift_kept : (s : State) (d : Direction) (w : Width) (to : RegisterOrMemory) (n 
     → shift_by s d w to n ≡ Ok t → Kept s.memory s.cpu.rip t
 shift_kept s d w to n t e =
     let m = bound (may_change s w to) (λ _. read s w to
-      >>= λ a. write (with_flags s (shift_flags d w a n s.cpu.flags)) w to (shifted d w a n)) t e in
+    >>= λ a. write (with_flags s (shift_flags d w a n s.cpu.flags)) w to (shifted d w a n)) t e in
     let a = bound (read s w to) (λ a. write (with_flags s (shift_flags d w a n s.cpu.flags)) w to
-      (shifted d w a n)) t m.2 in
+    (shifted d w a n)) t m.2 in
     written (with_flags s (shift_flags d w a.0 n s.cpu.flags)) w to (shifted d w a.0 n) t a.2
 
 unary_kept : (s : State) (o : Unary) (w : Width) (to : RegisterOrMemory) (t : State)
     → unary s o w to ≡ Ok t → Kept s.memory s.cpu.rip t
 unary_kept s o w to t e =
     let m = bound (may_change s w to) (λ _. read s w to
-      >>= λ a. write (with_flags s (unary_of o w a s.cpu.flags).1) w to
-        (unary_of o w a s.cpu.flags).0) t e in
+    >>= λ a. write (with_flags s (unary_of o w a s.cpu.flags).1) w to
+    (unary_of o w a s.cpu.flags).0) t e in
     let a = bound (read s w to) (λ a. write (with_flags s (unary_of o w a s.cpu.flags).1) w to
-      (unary_of o w a s.cpu.flags).0) t m.2 in
+    (unary_of o w a s.cpu.flags).0) t m.2 in
     written (with_flags s (unary_of o w a.0 s.cpu.flags).1) w to (unary_of o w a.0 s.cpu.flags).0 t
-      a.2
+    a.2
 
 multiply_kept : (s : State) (w : Width) (to : Reg) (from : RegisterOrMemory) (t : State)
     → multiply s w to from ≡ Ok t → Kept s.memory s.cpu.rip t
 multiply_kept s w to from t e =
     let after = λ (b : ℕ). let p = multiplied w (low w (register s.cpu to)) b s.cpu.flags in
-      record (with_register w s.cpu to p.0) { flags = p.1 } in
+    record (with_register w s.cpu to p.0) { flags = p.1 } in
     let b = bound (read s w from) (λ b. let u : State =
-      record { cpu = after b; memory = s.memory } in Ok u) t e in
+    record { cpu = after b; memory = s.memory } in Ok u) t e in
     same s (after b.0) t refl b.2
 
 multiply_by_kept : (s : State) (w : Width) (to : Reg) (from : RegisterOrMemory) (v : ℕ) (t : State)
     → multiply_by s w to from v ≡ Ok t → Kept s.memory s.cpu.rip t
 multiply_by_kept s w to from v t e =
     let after = λ (a : ℕ). let p = multiplied w a (low w v) s.cpu.flags in
-      record (with_register w s.cpu to p.0) { flags = p.1 } in
+    record (with_register w s.cpu to p.0) { flags = p.1 } in
     let b = bound (read s w from) (λ a. let u : State =
-      record { cpu = after a; memory = s.memory } in Ok u) t e in
+    record { cpu = after a; memory = s.memory } in Ok u) t e in
     same s (after b.0) t refl b.2
 
 pub leaves : (i : Instr) (s t : State) → effect s i ≡ Ok t → Leaves i s t
 leaves (instrs.Move w to from) s t e =
     let b = bound (operand s w from) (λ v. write s w to v) t e in
-      of_kept (instrs.Move w to from) s t (written s w to b.0 t b.2)
+    of_kept (instrs.Move w to from) s t (written s w to b.0 t b.2)
 leaves (instrs.Extend x w to narrow from) s t e =
     let after = λ (v : ℕ). with_register w s.cpu to (widened x w narrow v) in
     let b = bound (read s narrow from) (λ v. Ok (record s { cpu = after v })) t e in
@@ -253,9 +267,9 @@ leaves (instrs.Unary o w to) s t e = of_kept (instrs.Unary o w to) s t (unary_ke
 leaves (instrs.Divide d w by) s t e =
     let high = low w (register s.cpu Rdx) in
     let b = bound (read s w by) (λ v. with_quotient s w
-      (divided d w (joined w high (low w (register s.cpu Rax))) v)) t e in
+    (divided d w (joined w high (low w (register s.cpu Rax))) v)) t e in
     of_kept (instrs.Divide d w by) s t (divided_kept s w
-      (divided d w (joined w high (low w (register s.cpu Rax))) b.0) t b.2)
+    (divided d w (joined w high (low w (register s.cpu Rax))) b.0) t b.2)
 leaves (instrs.ExtendRax w) s t e = of_kept (instrs.ExtendRax w) s t
     (same s (with_register w s.cpu Rdx (sign_of_rax w s.cpu)) t refl e)
 leaves (instrs.Shift d w to by) s t e = of_kept (instrs.Shift d w to by) s t
@@ -265,8 +279,10 @@ leaves (instrs.Set c to) s t e = of_kept (instrs.Set c to) s t
 leaves (instrs.JumpIf c d) s t e =
     let u : State = record s { cpu = jumped s.cpu c d } in
     let at : u ≡ t = cc in
-    record { left = subst (Left s.memory) at (record { protection = refl; byte = λ a fix. refl });
-      rip = λ h. absurd cc }
+    record {
+      left = subst (Left s.memory) at (record { protection = refl; byte = λ a fix. refl });
+      rip = λ h. absurd cc;
+    }
 leaves (instrs.Jump to) s t e = jump_left (instrs.Jump to) s to t refl e
 leaves (instrs.Call to) s t e = call_left (instrs.Call to) s to t refl e
 leaves (instrs.Push r) s t e = of_kept (instrs.Push r) s t (pushed s (register s.cpu r) t e)
@@ -278,7 +294,7 @@ leaves (instrs.Pop r) s t e =
       left = record {
         protection = l.left.protection ∙ k.left.protection;
         byte = λ a fix. l.left.byte a (ap (λ (f : ℕ → Protection). is_writable (f a).rights)
-          k.left.protection ∙ fix) ∙ k.left.byte a fix;
+            k.left.protection ∙ fix) ∙ k.left.byte a fix;
       };
       rip = l.rip ∙ k.rip;
     })

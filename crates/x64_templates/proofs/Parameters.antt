@@ -29,8 +29,13 @@ use Rattle.x64_templates.proofs.Calls.{word_is}
 -- ---- a register is kept in memory
 
 abbrev pub kept_at : MachineView → ℕ → ℕ → MachineView
-kept_at v at x = record { rax = v.rax; rcx = v.rcx; rdx = v.rdx; rest = v.rest;
-    memory = with_bytes v.memory (with_number v.memory.byte 8 at x) }
+kept_at v at x = record {
+  rax = v.rax;
+  rcx = v.rcx;
+  rdx = v.rdx;
+  rest = v.rest;
+  memory = with_bytes v.memory (with_number v.memory.byte 8 at x);
+}
 
 abbrev pub held_by : MachineView → Reg → ℕ
 held_by v r = slice_index (v.rax ∷ v.rcx ∷ v.rdx ∷ v.rest) (number r)
@@ -40,11 +45,11 @@ pub keeps_register : (r : Reg) (v : MachineView) (d at x : ℕ) → held_by v r 
     → Executes (keep_register r d ∷ []) v (kept_at v at x)
 keeps_register r v d at x is e may lt = executes_one (keep_register r d) v (kept_at v at x)
     (λ rip f. (
-  f,
-  ap (λ (a : ℕ). store (machine v rip f) a W64 (low W64 (held_by v r))) e
-      ∙ ap (store (machine v rip f) at W64) (word_is (held_by v r) x is lt)
-      ∙ store_at (machine v rip f) at x may,
-))
+      f,
+      ap (λ (a : ℕ). store (machine v rip f) a W64 (low W64 (held_by v r))) e
+          ∙ ap (store (machine v rip f) at W64) (word_is (held_by v r) x is lt)
+          ∙ store_at (machine v rip f) at x may,
+    ))
 
 -- ---- one parameter
 
@@ -59,9 +64,14 @@ register_holds v arguments (suc (suc (suc (suc i)))) lt h = absurd (omega arith)
 pub record Kept (p : FramePlace) (i : ℕ) (v : MachineView) (x : ℕ) : Type 0 where
   pub rax : ℕ
   pub does : Executes (parameter_code p.layout i) v
-      (record { rax = rax; rcx = v.rcx; rdx = v.rdx; rest = v.rest;
-      memory = with_bytes v.memory (with_number v.memory.byte 8
-      (slot_at p.layout p.sp p.base (Local i)) x) })
+      (record {
+        rax = rax;
+        rcx = v.rcx;
+        rdx = v.rdx;
+        rest = v.rest;
+        memory = with_bytes v.memory (with_number v.memory.byte 8
+            (slot_at p.layout p.sp p.base (Local i)) x);
+      })
 
 local_address : (p : FramePlace) (i sp : ℕ) → Roomy p → IsFunctionFrame p → i < p.counts.locals
     → sp ≡ p.sp → (sp + 0 + local_at p.layout i) % 2 ^ 64 ≡ slot_at p.layout p.sp p.base (Local i)
@@ -83,27 +93,27 @@ parameter_does p i count v b arguments room fn lc ll at h regs stack =
       | inl lt ↦ record {
         rax = v.rax;
         does = subst (λ c. Executes (cond c in_register on_stack) v (kept_at v to (arguments i)))
-          (sym (lt-ltb i 4 lt)) (keeps_register (parameter_register i) v (local_at y i) to
-          (arguments i) (register_holds v arguments i lt regs) e may (stack.small i lc));
+            (sym (lt-ltb i 4 lt)) (keeps_register (parameter_register i) v (local_at y i) to
+            (arguments i) (register_holds v arguments i lt regs) e may (stack.small i lc));
       }
       | inr ge ↦
           let w = put true v (arguments i) in
           let hi = room.high in
           let near = stack.near i lc in
           let spot : (sp_of v + 0 + stack_parameter y i) % 2 ^ 64
-            ≡ p.sp + stack_parameter y i = omega arith in
+          ≡ p.sp + stack_parameter y i = omega arith in
           let read = all_may (may_read v.memory) 8 (p.sp + stack_parameter y i) (omega arith)
-            (λ a x z. stack.readable i a ge lc x z) in
+          (λ a x z. stack.readable i a ge lc x z) in
           record {
             rax = arguments i;
             does = subst (λ c. Executes (cond c in_register on_stack) v
-              (kept_at w to (arguments i))) (sym (le-ltb i 4 ge))
+                (kept_at w to (arguments i))) (sym (le-ltb i 4 ge))
                 (executes_then (fetched Rax Rsp (stack_parameter y i) ∷ [])
-                  (keep_register Rax (local_at y i) ∷ []) v w (kept_at w to (arguments i))
+                (keep_register Rax (local_at y i) ∷ []) v w (kept_at w to (arguments i))
                 (from_sp true v (stack_parameter y i) (p.sp + stack_parameter y i) (arguments i)
-                  spot read (stack.number i ge lc) (stack.small i lc))
+                spot read (stack.number i ge lc) (stack.small i lc))
                 (keeps_register Rax w (local_at y i) to (arguments i) refl e may
-                  (stack.small i lc)));
+                (stack.small i lc)));
           }
     ]
 
@@ -115,15 +125,20 @@ pub record AllKept (p : FramePlace) (i n : ℕ) (v : MachineView) (b : BodyState
   pub memory : Memory
   pub does : Executes (parameters_code p.layout i n) v
       (record { rax = rax; rcx = v.rcx; rdx = v.rdx; rest = v.rest; memory = memory })
-  pub holds : FrameHolds p memory (record { slots = with_arguments b.slots arguments i n;
-      memory = b.memory })
+  pub holds : FrameHolds p memory (record {
+    slots = with_arguments b.slots arguments i n;
+    memory = b.memory;
+  })
   pub changes : ChangesOwn p v.memory memory
 
 above_slots : (p : FramePlace) (i a : ℕ) → IsFunctionFrame p → p.sp + stack_parameter p.layout i ≤ a
     → InTemporaries p.layout p.counts p.sp a ⊎ InLocals p.layout p.counts p.base a → ⊥
 above_slots p i a fn le is = let b = fn.base in let t = fn.temporaries in let l = fn.locals in
-    elim is [ inl x ↦ (let u = x.1 in absurd (omega arith)) | inr
-    x ↦ (let u = x.1 in absurd (omega arith)) ]
+    elim is [
+      | inl x ↦ (let u = x.1 in absurd (omega arith))
+      | inr
+          x ↦ (let u = x.1 in absurd (omega arith))
+    ]
 
 still_on_stack : (p : FramePlace) (m m' : Memory) (count : ℕ) (arguments : ℕ → ℕ) → Roomy p
     → IsFunctionFrame p → ChangesOwn p m m' → OnStack p m count arguments
@@ -143,9 +158,14 @@ pub parameters_do : (p : FramePlace) (i n count : ℕ) (v : MachineView) (b : Bo
     (arguments : ℕ → ℕ) → Roomy p → IsFunctionFrame p → i + n ≤ count → i + n ≤ p.counts.locals
     → sp_of v ≡ p.sp → FrameHolds p v.memory b → InRegisters v arguments
     → OnStack p v.memory count arguments → AllKept p i n v b arguments
-parameters_do p i zero count v b arguments room fn lc ll at h regs
-    stack = record { rax = v.rax; memory = v.memory; does = executes_nothing v; holds = h;
-    changes = record { protection = refl; byte = λ a own out. refl; bytes = λ x. x } }
+parameters_do p i zero count v b arguments room fn lc ll at h regs stack =
+    record {
+      rax = v.rax;
+      memory = v.memory;
+      does = executes_nothing v;
+      holds = h;
+      changes = record { protection = refl; byte = λ a own out. refl; bytes = λ x. x };
+    }
 parameters_do p i (suc n) count v b arguments room fn lc ll at h regs stack =
     let y = p.layout in
     let il : i < p.counts.locals = omega arith in
@@ -153,20 +173,29 @@ parameters_do p i (suc n) count v b arguments room fn lc ll at h regs stack =
     let x = arguments i in
     let lt = stack.small i (let q : i < count = omega arith in q) in
     let m = with_bytes v.memory (with_number v.memory.byte 8 (slot_at y p.sp p.base (Local i)) x) in
-    let w : MachineView = record { rax = k.rax; rcx = v.rcx; rdx = v.rdx; rest = v.rest;
-      memory = m } in
+    let w : MachineView = record {
+      rax = k.rax;
+      rcx = v.rcx;
+      rdx = v.rdx;
+      rest = v.rest;
+      memory = m;
+    } in
     let c : BodyState = record { slots = with_slot b.slots (Local i) x; memory = b.memory } in
     let ch = changes_slot y p.counts p.reserved p.sp p.base room v.memory (Local i) x il in
     let hold = holds_after y p.counts p.reserved p.sp p.base room v.memory b (Local i) x h il lt in
     let r = parameters_do p (i + 1) n count w c arguments room fn (omega arith) (omega arith) at
-      hold (record { first = regs.first; second = regs.second; third = regs.third;
-      fourth = regs.fourth }) (still_on_stack p v.memory m count arguments room fn ch stack) in
+    hold (record {
+      first = regs.first;
+      second = regs.second;
+      third = regs.third;
+      fourth = regs.fourth;
+    }) (still_on_stack p v.memory m count arguments room fn ch stack) in
     record {
       rax = r.rax;
       memory = r.memory;
       does = executes_then (parameter_code y i) (parameters_code y (i + 1) n) v w
-        (record { rax = r.rax; rcx = v.rcx; rdx = v.rdx; rest = v.rest; memory = r.memory }) k.does
-        r.does;
+          (record { rax = r.rax; rcx = v.rcx; rdx = v.rdx; rest = v.rest; memory = r.memory }) k.does
+          r.does;
       holds = r.holds;
       changes = changes_then y p.counts p.reserved p.sp p.base v.memory m r.memory ch r.changes;
     }

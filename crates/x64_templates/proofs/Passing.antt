@@ -44,10 +44,10 @@ passed_in_registers p first v rip b n =
       first = ap (λ (i : ℕ). b.slots (Temporary i)) zero_more;
       second = refl;
       third = get_or-set_other (set (set v.rest 5 a2) 6 a3) 1 5 (p.sp - 8) 0 one_five
-        ∙ get_or-set_other (set v.rest 5 a2) 6 5 a3 0 six_apart
-        ∙ get_or-set_same v.rest 5 a2 0 (omega arith);
+          ∙ get_or-set_other (set v.rest 5 a2) 6 5 a3 0 six_apart
+          ∙ get_or-set_same v.rest 5 a2 0 (omega arith);
       fourth = get_or-set_other (set (set v.rest 5 a2) 6 a3) 1 6 (p.sp - 8) 0 one_six
-        ∙ get_or-set_same (set v.rest 5 a2) 6 a3 0 (omega arith);
+          ∙ get_or-set_same (set v.rest 5 a2) 6 a3 0 (omega arith);
     }
 
 readable : (r : Rights) → is_writable r ≡ true → is_readable r ≡ true
@@ -61,12 +61,12 @@ pub passed_on_stack : (p q : FramePlace) (first count : ℕ) (v : MachineView) (
     → q.reserved ≡ p.reserved → count ≤ p.counts.temporaries + 4 → first + 4 ≤ p.counts.temporaries
     → q.layout.frame + (8 * count + 16) < 2 ^ 31 → FrameHolds p v.memory b
     → HasBelow v.memory p.sp 8 → OnStack q (called_view p first v rip b).memory count
-      (passed b.slots first)
+    (passed b.slots first)
 passed_on_stack p q first count v rip b room home sp same few le near h below = record {
   number = λ i ge lt. at_place i ge ∙ apart i ge lt
       ∙ h.slot (Temporary (i - 4)) (let z : i - 4 < p.counts.temporaries = omega arith in z)
       ∙ sym (ap (λ (c : Bool). cond c (b.slots (Temporary (first + i)))
-        (b.slots (Temporary (i - 4)))) (le-ltb i 4 ge));
+      (b.slots (Temporary (i - 4)))) (le-ltb i 4 ge));
   readable = λ i a ge lt x y. readable (v.memory.protection a).rights
       (h.writable a (inl (inside i a ge lt x y)));
   own = λ i a ge lt x y. ap (λ (r : ℕ → Bool). r a) same ∙ h.own a (inl (inside i a ge lt x y));
@@ -75,34 +75,34 @@ passed_on_stack p q first count v rip b room home sp same few le near h below = 
 }
   where
     at_place : (i : ℕ) → 4 ≤ i → number_at (called_view p first v rip b).memory.byte 8
-      (q.sp + stack_parameter q.layout i) ≡ number_at (called_view p first v rip b).memory.byte 8
-      (p.sp + temporary_at p.layout (i - 4))
+        (q.sp + stack_parameter q.layout i) ≡ number_at (called_view p first v rip b).memory.byte 8
+        (p.sp + temporary_at p.layout (i - 4))
     at_place i ge = ap (number_at (called_view p first v rip b).memory.byte 8)
-      (let z : q.sp + stack_parameter q.layout i
-      ≡ p.sp + temporary_at p.layout (i - 4) = omega arith in z)
+        (let z : q.sp + stack_parameter q.layout i
+        ≡ p.sp + temporary_at p.layout (i - 4) = omega arith in z)
 
     apart : (i : ℕ) → 4 ≤ i → i < count → number_at (called_view p first v rip b).memory.byte 8
-      (p.sp + temporary_at p.layout (i - 4)) ≡ number_at v.memory.byte 8
-      (p.sp + temporary_at p.layout (i - 4))
+        (p.sp + temporary_at p.layout (i - 4)) ≡ number_at v.memory.byte 8
+        (p.sp + temporary_at p.layout (i - 4))
     apart i ge lt = let t = room.temporaries in let hi = room.high in
-      same_number (called_view p first v rip b).memory.byte v.memory.byte 8
-      (p.sp + temporary_at p.layout (i - 4)) (omega arith)
-      (λ a x y. beside v.memory p.sp (return_at p.layout first rip) a below.enough below.high
-      (inr (omega arith)))
+        same_number (called_view p first v rip b).memory.byte v.memory.byte 8
+        (p.sp + temporary_at p.layout (i - 4)) (omega arith)
+        (λ a x y. beside v.memory p.sp (return_at p.layout first rip) a below.enough below.high
+        (inr (omega arith)))
 
     inside : (i a : ℕ) → 4 ≤ i → i < count → q.sp + stack_parameter q.layout i ≤ a
-      → a < q.sp + stack_parameter q.layout i + 8
-      → (p.sp + p.layout.temporaries ≤ a) × (a
-      < p.sp + (p.layout.temporaries + 8 * p.counts.temporaries))
+        → a < q.sp + stack_parameter q.layout i + 8
+        → (p.sp + p.layout.temporaries ≤ a) × (a
+        < p.sp + (p.layout.temporaries + 8 * p.counts.temporaries))
     inside i a ge lt x y = (omega arith, omega arith)
 
     smalls : (i : ℕ) → i < count → passed b.slots first i < 2 ^ 64
     smalls i lt = by (ltb i 4) refl
       where
         by : (c : Bool) → ltb i 4 ≡ c → cond c (b.slots (Temporary (first + i)))
-          (b.slots (Temporary (i - 4))) < 2 ^ 64
+            (b.slots (Temporary (i - 4))) < 2 ^ 64
         by true e = let z = ltb-true i 4 e in
-          h.small (Temporary (first + i)) (let q' : first + i
-          < p.counts.temporaries = omega arith in q')
+            h.small (Temporary (first + i)) (let q' : first + i
+            < p.counts.temporaries = omega arith in q')
         by false e = let z = ltb-false i 4 e in
-          h.small (Temporary (i - 4)) (let q' : i - 4 < p.counts.temporaries = omega arith in q')
+            h.small (Temporary (i - 4)) (let q' : i - 4 < p.counts.temporaries = omega arith in q')

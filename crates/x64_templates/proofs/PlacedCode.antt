@@ -28,8 +28,8 @@ all_may may zero at lt h = refl
 all_may may (suc n) at lt h =
     let e : next at ≡ at + 1 = omega arith in
     ap (λ b. cond b (first_refused may n (next at)) (Some at)) (h at (omega arith) (omega arith))
-      ∙ ap (first_refused may n) e ∙ all_may may n (at + 1) (omega arith)
-        (λ a p q. h a (omega arith) (omega arith))
+    ∙ ap (first_refused may n) e ∙ all_may may n (at + 1) (omega arith)
+    (λ a p q. h a (omega arith) (omega arith))
 
 -- equal bytes make equal numbers
 pub same_number : (f g : ℕ → ℕ) (n at : ℕ) → at + n < 2 ^ 64
@@ -39,17 +39,21 @@ same_number f g zero at lt h = refl
 same_number f g (suc n) at lt h =
     let e : next at ≡ at + 1 = omega arith in
     let rest = ap (number_at f n) e ∙ same_number f g n (at + 1) (omega arith)
-      (λ a p q. h a (omega arith) (omega arith)) ∙ sym (ap (number_at g n) e) in
+    (λ a p q. h a (omega arith) (omega arith)) ∙ sym (ap (number_at g n) e) in
     ap (λ x. x + 256 * number_at f n (next at)) (h at (omega arith) (omega arith))
-      ∙ ap (λ x. g at + 256 * x) rest
+    ∙ ap (λ x. g at + 256 * x) rest
 
 pub store_at : (s : State) (at v : ℕ) → first_refused (may_write s.memory) 8 at ≡ None
-    → store s at W64 v ≡ Ok (record s { memory = with_bytes s.memory
-      (with_number s.memory.byte 8 at v) })
+    → store s at W64 v ≡ Ok (record s {
+      memory = with_bytes s.memory
+          (with_number s.memory.byte 8 at v);
+    })
 store_at s at v h =
     ap (λ (o : Option ℕ). granted (access true o tt)
-      >>= λ _. Ok (record s { memory = unless_refused o
-        (with_bytes s.memory (with_number s.memory.byte 8 at v)) s.memory })) h
+    >>= λ _. Ok (record s {
+      memory = unless_refused o
+          (with_bytes s.memory (with_number s.memory.byte 8 at v)) s.memory;
+    })) h
 
 pub load_at : (m : Memory) (at : ℕ) → first_refused (may_read m) 8 at ≡ None
     → load m at W64 ≡ Ok (number_at m.byte 8 at)
@@ -65,10 +69,12 @@ fetches m [] n at le h lt = (executable m n at, refl)
 fetches m (b ∷ bytes) zero at le h lt = absurd (omega arith)
 fetches m (b ∷ bytes) (suc n) at le h lt =
     let e : next at ≡ at + 1 = omega arith in
-    let rest = fetches m bytes n (at + 1) (omega arith) h.1 (omega arith) in
-    (rest.0, ap (λ (c : Bool). cond c (m.byte at ∷ executable m n (next at)) []) h.0.executes
-      ∙ ap (λ (x : ℕ). x ∷ executable m n (next at)) h.0.byte
-      ∙ ap (λ (a : ℕ). b ∷ executable m n a) e ∙ ap (λ (t : List ℕ). b ∷ t) rest.1)
+    let rest = fetches m bytes n (at + 1) (omega arith) h.1 (omega arith) in (
+      rest.0,
+      ap (λ (c : Bool). cond c (m.byte at ∷ executable m n (next at)) []) h.0.executes
+          ∙ ap (λ (x : ℕ). x ∷ executable m n (next at)) h.0.byte
+          ∙ ap (λ (a : ℕ). b ∷ executable m n a) e ∙ ap (λ (t : List ℕ). b ∷ t) rest.1,
+    )
 
 -- code is where it was, where bytes that may not be written are what they were
 pub bytes_kept : (m m' : Memory) (at : ℕ) (bytes : List ℕ)
@@ -109,7 +115,7 @@ pub leading-again : (i : Instr) (bytes more : List ℕ) → IsEncoding i bytes
     → leading (bytes ++ more) ≡ Some (i, length bytes)
 leading-again i bytes more h =
     let n : length (bytes ++ more) - length more
-      ≡ length bytes = omega (arith, length-append bytes more) in
+    ≡ length bytes = omega (arith, length-append bytes more) in
     rw (tables.again i bytes more h, n) refl
 
 pub thunk_encodable : (away : ℕ) → away < 2 ^ 31 → is_encodable (thunk away) ≡ true

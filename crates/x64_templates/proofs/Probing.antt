@@ -29,8 +29,13 @@ use Rattle.x64_templates.proofs.Information.{load_any}
 
 -- R11 is ninth of the registers from RBX on
 abbrev pub with_eleventh : MachineView → ℕ → MachineView
-with_eleventh v x = record { rax = v.rax; rcx = v.rcx; rdx = v.rdx; rest = set v.rest 8 x;
-    memory = v.memory }
+with_eleventh v x = record {
+  rax = v.rax;
+  rcx = v.rcx;
+  rdx = v.rdx;
+  rest = set v.rest 8 x;
+  memory = v.memory;
+}
 
 not_eleventh : let eleventh : ℕ = 8 in let sp : ℕ = 1 in sp ≢ eleventh
 not_eleventh h = absurd (omega arith)
@@ -42,17 +47,17 @@ sp_beside rest x = get_or-set_other rest 8 1 x 0 not_eleventh
 touches : (v : MachineView) (addr at : ℕ) (i : Instr)
     → ((rip : ℕ) (f : Flags) → effect (machine v rip f) i
     ≡ (load v.memory addr W8 >>= λ x. Ok (with_flags (machine v rip f)
-      (computed arithmetic.And W8 x (low W8 v.rax)).1))) → addr ≡ at → at < 2 ^ 63
+    (computed arithmetic.And W8 x (low W8 v.rax)).1))) → addr ≡ at → at < 2 ^ 63
     → may_read v.memory at ≡ true → Executes (i ∷ []) v v
 touches v addr at i h e lt may = executes_one i v v (λ rip f. (
   (computed arithmetic.And W8 (number_at v.memory.byte 1 at) (low W8 v.rax)).1,
   h rip f
       ∙ ap (λ (a : ℕ). load v.memory a W8 >>= λ x. Ok
-        (with_flags (machine v rip f) (computed arithmetic.And W8 x (low W8 v.rax)).1)) e
+      (with_flags (machine v rip f) (computed arithmetic.And W8 x (low W8 v.rax)).1)) e
       ∙ ap (λ (o : Answer ℕ). o >>= λ x. Ok (with_flags (machine v rip f)
-        (computed arithmetic.And W8 x (low W8 v.rax)).1))
-        (load_any v.memory at W8 (all_may (may_read v.memory) 1 at (omega arith)
-        (λ a p q. let z : at ≡ a = omega arith in ap (may_read v.memory) (sym z) ∙ may))),
+      (computed arithmetic.And W8 x (low W8 v.rax)).1))
+      (load_any v.memory at W8 (all_may (may_read v.memory) 1 at (omega arith)
+      (λ a p q. let z : at ≡ a = omega arith in ap (may_read v.memory) (sym z) ∙ may))),
 ))
 
 abbrev touch_first : Instr
@@ -102,17 +107,17 @@ check_does v sp n len rax at t =
     let top : get_or (set v.rest 8 sp) 8 0 ≡ sp = get_or-set_same v.rest 8 sp 0 (omega arith) in
     let len1 = length-set v.rest 8 sp in
     let bottom : get_or (set (set v.rest 8 sp) 8 (sp - n)) 8 0
-      ≡ sp - n = get_or-set_same (set v.rest 8 sp) 8 (sp - n) 0 (omega arith) in
+    ≡ sp - n = get_or-set_same (set v.rest 8 sp) 8 (sp - n) 0 (omega arith) in
     let a4 : (get_or (set (set v.rest 8 sp) 8 (sp - n)) 8 0 + 0 + 0) % 2 ^ 64
-      ≡ sp - n = omega arith in
+    ≡ sp - n = omega arith in
     let d1 : Executes (touch_first ∷ []) v v = touches v ((sp_of v + 0 + first_touch) % 2 ^ 64)
-      (sp - 4096) touch_first (λ rip f. refl) a1 (omega arith) t.first in
+    (sp - 4096) touch_first (λ rip f. refl) a1 (omega arith) t.first in
     let d2 : Executes (to_eleventh ∷ []) v v1 = executes_one to_eleventh v v1
-      (λ rip f. (f, ap (λ (x : ℕ). Ok (machine (with_eleventh v x) rip f)) a2)) in
+    (λ rip f. (f, ap (λ (x : ℕ). Ok (machine (with_eleventh v x) rip f)) a2)) in
     let d3 : Executes (lower_eleventh ∷ []) v1 v2 = lowered v1 sp n top rax e (omega arith) in
     let d4 : Executes (touch_last ∷ []) v2 v2 = touches v2
-      ((get_or (set (set v.rest 8 sp) 8 (sp - n)) 8 0 + 0 + 0) % 2 ^ 64) (sp - n) touch_last
-      (λ rip f. refl) a4 (omega arith) t.last in
+    ((get_or (set (set v.rest 8 sp) 8 (sp - n)) 8 0 + 0 + 0) % 2 ^ 64) (sp - n) touch_last
+    (λ rip f. refl) a4 (omega arith) t.last in
     executes_then (touch_first ∷ []) (to_eleventh ∷ lower_eleventh ∷ touch_last ∷ []) v v v2 d1
     (executes_then (to_eleventh ∷ []) (lower_eleventh ∷ touch_last ∷ []) v v1 v2 d2
     (executes_then (lower_eleventh ∷ []) (touch_last ∷ []) v1 v2 v2 d3 d4))
@@ -133,8 +138,10 @@ check_run v sp n back rip f len rax at t b code =
     let sp_w : sp_of w ≡ sp - 8 = sp_beside (set v.rest 8 sp) (sp - n) ∙ sp_beside v.rest sp ∙ at in
     let up : sp - 8 + 8 ≡ sp = omega arith in
     let last = one_reaches instrs.Return w (moved w (sp - 8 + 8)) (rip + sizes is) back r.left
-      r.left refl refl parts.1 (return_effect w (sp - 8) back (rip + sizes is + size instrs.Return)
-      r.left sp_w (omega arith) b) in
-    (r.left, subst (λ x. Reaches 5 (machine v rip f) (machine (moved w x) back r.left)) up
-      (reaches_then 4 1 (machine v rip f) (machine w (rip + sizes is) r.left)
-      (machine (moved w (sp - 8 + 8)) back r.left) r.comes last))
+    r.left refl refl parts.1 (return_effect w (sp - 8) back (rip + sizes is + size instrs.Return)
+    r.left sp_w (omega arith) b) in (
+      r.left,
+      subst (λ x. Reaches 5 (machine v rip f) (machine (moved w x) back r.left)) up
+          (reaches_then 4 1 (machine v rip f) (machine w (rip + sizes is) r.left)
+          (machine (moved w (sp - 8 + 8)) back r.left) r.comes last),
+    )

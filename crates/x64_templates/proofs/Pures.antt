@@ -31,9 +31,12 @@ with_rax v x = record { rax = x; rcx = v.rcx; rdx = v.rdx; rest = v.rest; memory
 pub gives : (i : Instr) (v : MachineView) (y x : ℕ) → y ≡ x
     → ((rip : ℕ) (f : Flags) → (g : Flags) × (effect (machine v rip f) i
     ≡ Ok (machine (with_rax v y) rip g))) → Yields (i ∷ []) v x v.memory
-gives i v y x e h = record { rcx = v.rcx; rdx = v.rdx;
-    does = executes_one i v (with_rax v x) (λ rip f. let r = h rip f in
-    (r.0, r.1 ∙ ap (λ (z : ℕ). Ok (machine (with_rax v z) rip r.0)) e)) }
+gives i v y x e h = record {
+  rcx = v.rcx;
+  rdx = v.rdx;
+  does = executes_one i v (with_rax v x) (λ rip f. let r = h rip f in
+      (r.0, r.1 ∙ ap (λ (z : ℕ). Ok (machine (with_rax v z) rip r.0)) e));
+}
 
 abbrev Pured : Pure → MachineView → Type 0
 Pured p v = Yields (pure_code p) v (result_of p v.rax v.rcx) v.memory
@@ -147,27 +150,27 @@ rights : (s : Signedness) (z : Size) (v : MachineView) → Pured (pures.ShiftRig
 rights Unsigned Int v =
     let r = λ (c : ℕ). shifted_right Unsigned W32 (low W32 v.rax) c in
     gives _ v (low W32 (r (low W8 v.rcx % 32))) (r (v.rcx % 32))
-      (low_quotient 32 W32 (low W32 v.rax) (2 ^ (low W8 v.rcx % 32)) refl (omega arith)
-      ∙ ap r (int_count v.rcx)) (λ rip f. (_, refl))
+    (low_quotient 32 W32 (low W32 v.rax) (2 ^ (low W8 v.rcx % 32)) refl (omega arith)
+    ∙ ap r (int_count v.rcx)) (λ rip f. (_, refl))
 rights Unsigned Long v =
     let r = λ (c : ℕ). shifted_right Unsigned W64 (low W64 v.rax) c in
     gives _ v (low W64 (r (low W8 v.rcx % 64))) (r (v.rcx % 64))
-      (low_quotient 64 W64 (low W64 v.rax) (2 ^ (low W8 v.rcx % 64)) refl (omega arith)
-      ∙ ap r (long_count v.rcx)) (λ rip f. (_, refl))
+    (low_quotient 64 W64 (low W64 v.rax) (2 ^ (low W8 v.rcx % 64)) refl (omega arith)
+    ∙ ap r (long_count v.rcx)) (λ rip f. (_, refl))
 rights Signed Int v =
     let a = low W32 v.rax in
     let r = λ (c : ℕ). shifted_right Signed W32 a c in
     let c = low W8 v.rcx % 32 in
     gives _ v (low W32 (r c)) (r (v.rcx % 32))
-      (low_arithmetic 32 W32 a (2 ^ c) (limit W32 - limit W32 / 2 ^ c) (ltb a (half W32)) refl
-      (omega arith) ∙ ap r (int_count v.rcx)) (λ rip f. (_, refl))
+    (low_arithmetic 32 W32 a (2 ^ c) (limit W32 - limit W32 / 2 ^ c) (ltb a (half W32)) refl
+    (omega arith) ∙ ap r (int_count v.rcx)) (λ rip f. (_, refl))
 rights Signed Long v =
     let a = low W64 v.rax in
     let r = λ (c : ℕ). shifted_right Signed W64 a c in
     let c = low W8 v.rcx % 64 in
     gives _ v (low W64 (r c)) (r (v.rcx % 64))
-      (low_arithmetic 64 W64 a (2 ^ c) (limit W64 - limit W64 / 2 ^ c) (ltb a (half W64)) refl
-      (omega arith) ∙ ap r (long_count v.rcx)) (λ rip f. (_, refl))
+    (low_arithmetic 64 W64 a (2 ^ c) (limit W64 - limit W64 / 2 ^ c) (ltb a (half W64)) refl
+    (omega arith) ∙ ap r (long_count v.rcx)) (λ rip f. (_, refl))
 
 -- ---- extensions
 

@@ -58,9 +58,16 @@ template_quiet k y n sp base at (instructions.Compute to o first second) room ha
     (fine_both (operands_code y o first second) (finish_code y o to)
     (operands_fine y n sp base o first second room has.1 has.2)
     (finish_fine y n sp base o to room has.0))
-template_quiet k y n sp base at (instructions.Information to field) room has
-    plain = (refl, (refl, (field_quiet field,
-    quiet_of (keep y to) (keep_fine y n sp base to room has))))
+template_quiet k y n sp base at (instructions.Information to field) room has plain = (
+  refl,
+  (
+    refl,
+    (
+      field_quiet field,
+      quiet_of (keep y to) (keep_fine y n sp base to room has),
+    ),
+  ),
+)
 template_quiet k y n sp base at (instructions.Jump label) room has plain = (refl, tt)
 template_quiet k y n sp base at (instructions.JumpIfZero slot label) room has plain = quiet_both
     (fetch y Rax slot) (compare_zero ∷ jump_equal (at + sizes (test_code y slot) + 6)
@@ -71,16 +78,18 @@ template_quiet k y n sp base at (instructions.Landing to) room has plain = quiet
 template_quiet k y n sp base at (instructions.Call function first count) room has plain =
     let passing = passing_code y first 4 (count - 4) in
     quiet_both passing (call_code y (Temporary first) first (at + sizes passing)
-      (k.function function)) (passing_quiet y first 4 (count - 4))
-      (call_quiet y n sp base (Temporary first) first (at + sizes passing) (k.function function)
-      room (let few = has.0 in omega arith))
-template_quiet k y n sp base at (instructions.CallBuiltIn function first) room has
-    plain = (refl, call_quiet y n sp base (Temporary first) first (at + 5) (k.known function) room
-    (omega arith))
-template_quiet k y n sp base at (instructions.CallFinally funclet) room has
-    plain = (refl, (refl, (refl, tt)))
-template_quiet k y n sp base at (instructions.LocalUnwind label) room has
-    plain = (refl, (refl, (refl, tt)))
+    (k.function function)) (passing_quiet y first 4 (count - 4))
+    (call_quiet y n sp base (Temporary first) first (at + sizes passing) (k.function function)
+    room (let few = has.0 in omega arith))
+template_quiet k y n sp base at (instructions.CallBuiltIn function first) room has plain = (
+  refl,
+  call_quiet y n sp base (Temporary first) first (at + 5) (k.known function) room
+      (omega arith),
+)
+template_quiet k y n sp base at (instructions.CallFinally funclet) room has plain =
+    (refl, (refl, (refl, tt)))
+template_quiet k y n sp base at (instructions.LocalUnwind label) room has plain =
+    (refl, (refl, (refl, tt)))
 template_quiet k y n sp base at instructions.Separator room has plain = (refl, tt)
 template_quiet k y n sp base at (instructions.Return from) room has plain = absurd (plain tt)
 
@@ -92,7 +101,7 @@ far d le lt =
     let e : ltb d 128 ≡ false = le-ltb d 128 le in
     let f : leb (2 ^ 64 - 128) d ≡ false = lt-leb (2 ^ 64 - 128) d (omega arith) in
     ap (λ (b : Bool). b || (leb (2 ^ 64 - 128) d && ltb d (2 ^ 64))) e
-      ∙ ap (λ (b : Bool). b && ltb d (2 ^ 64)) f
+    ∙ ap (λ (b : Bool). b && ltb d (2 ^ 64)) f
 
 pub fetched_size : (d : ℕ) → 128 ≤ d → d < 2 ^ 31 → size (fetched Rax Rsp d) ≡ 8
 unfolding size modrm

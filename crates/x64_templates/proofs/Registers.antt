@@ -91,12 +91,16 @@ stored_kept : (s : State) (at : ℕ) (w : Width) (v : ℕ) (t : State) → store
 stored_kept s at w v t e = go (first_refused (may_write s.memory) (bytes_of w) at) e
   where
     go : (o : Option ℕ) → (granted (access {A = Unit {0}} true o tt)
-      >>= λ _. Ok (record s { memory = unless_refused o
-        (with_bytes s.memory (with_number s.memory.byte (bytes_of w) at v)) s.memory })) ≡ Ok t
-      → Registers s t
+        >>= λ _. Ok (record s {
+          memory = unless_refused o
+              (with_bytes s.memory (with_number s.memory.byte (bytes_of w) at v)) s.memory;
+        })) ≡ Ok t
+        → Registers s t
     go None h =
-        let u : State = record { cpu = s.cpu;
-          memory = with_bytes s.memory (with_number s.memory.byte (bytes_of w) at v) } in
+        let u : State = record {
+          cpu = s.cpu;
+          memory = with_bytes s.memory (with_number s.memory.byte (bytes_of w) at v);
+        } in
         let at' : u ≡ t = cc in
         subst (Registers s) at' (record { count = refl; small = λ h. h })
     go (Some b) h = absurd cc
@@ -118,13 +122,17 @@ pushed s v t e =
 popped : (s : State) (x : ℕ × State) → pop s ≡ Ok x → Registers s x.1
 popped s x e =
     let b = bound (load s.memory (register s.cpu Rsp) W64)
-      (λ v. Ok (v, record s { cpu = with_register W64 s.cpu Rsp ((register s.cpu Rsp + 8) % 2 ^ 64)
-      })) x e in
+    (λ v. Ok (
+      v,
+      record s {
+        cpu = with_register W64 s.cpu Rsp ((register s.cpu Rsp + 8) % 2 ^ 64);
+      },
+    )) x e in
     let f : ◌≡◌ {A = Answer State} (Ok (record s
-      { cpu = with_register W64 s.cpu Rsp ((register s.cpu Rsp + 8) % 2 ^ 64) })) (Ok x.1) = ap
-      (λ (r : Answer (ℕ × State)). r >>= λ y. Ok y.1) b.2 in
+    { cpu = with_register W64 s.cpu Rsp ((register s.cpu Rsp + 8) % 2 ^ 64) })) (Ok x.1) = ap
+    (λ (r : Answer (ℕ × State)). r >>= λ y. Ok y.1) b.2 in
     same s (with_register W64 s.cpu Rsp ((register s.cpu Rsp + 8) % 2 ^ 64)) x.1
-      (sets_one W64 s.cpu Rsp ((register s.cpu Rsp + 8) % 2 ^ 64)) f
+    (sets_one W64 s.cpu Rsp ((register s.cpu Rsp + 8) % 2 ^ 64)) f
 
 -- ---- instructions
 
@@ -132,7 +140,7 @@ compare_kept : (s : State) (o : Operation) (w : Width) (first : RegisterOrMemory
     (t : State) → compare s o w first second ≡ Ok t → Registers s t
 compare_kept s o w first second t e =
     let b = bound (operand s w second) (λ b. read s w first
-      >>= λ a. Ok (with_flags s (computed o w a b).1)) t e in
+    >>= λ a. Ok (with_flags s (computed o w a b).1)) t e in
     let a = bound (read s w first) (λ a. Ok (with_flags s (computed o w a b.0).1)) t b.2 in
     same s (record s.cpu { flags = (computed o w a.0 b.0).1 }) t (sets_none s.cpu.registers) a.2
 
@@ -140,13 +148,13 @@ change_kept : (s : State) (o : Operation) (w : Width) (to : RegisterOrMemory) (f
     (t : State) → change s o w to from ≡ Ok t → Registers s t
 change_kept s o w to from t e =
     let b = bound (operand s w from) (λ b. may_change s w to >>= λ _. read s w to
-      >>= λ a. write (with_flags s (computed o w a b).1) w to (computed o w a b).0) t e in
+    >>= λ a. write (with_flags s (computed o w a b).1) w to (computed o w a b).0) t e in
     let m = bound (may_change s w to) (λ _. read s w to
-      >>= λ a. write (with_flags s (computed o w a b.0).1) w to (computed o w a b.0).0) t b.2 in
+    >>= λ a. write (with_flags s (computed o w a b.0).1) w to (computed o w a b.0).0) t b.2 in
     let a = bound (read s w to) (λ a. write (with_flags s (computed o w a b.0).1) w to
-      (computed o w a b.0).0) t m.2 in
+    (computed o w a b.0).0) t m.2 in
     let r = written (with_flags s (computed o w a.0 b.0).1) w to (computed o w a.0 b.0).0 t a.2 in
-      record { count = r.count; small = r.small }
+    record { count = r.count; small = r.small }
 
 either_kept : (c : Bool) (s : State) (x y : Answer State) (t : State) → (x ≡ Ok t → Registers s t)
     → (y ≡ Ok t → Registers s t) → cond c x y ≡ Ok t → Registers s t
@@ -181,7 +189,7 @@ call_left : (s : State) (to : Target) (t : State)
     → Registers s t
 call_left s to t e =
     let b = bound (target_of s to) (λ target. push s s.cpu.rip
-      >>= λ after. Ok (with_rip after target)) t e in
+    >>= λ after. Ok (with_rip after target)) t e in
     let p = bound (push s s.cpu.rip) (λ after. Ok (with_rip after b.0)) t b.2 in
     went s p.0 b.0 t (pushed s s.cpu.rip p.0 p.1) p.2
 
@@ -194,42 +202,42 @@ shift_kept : (s : State) (d : Direction) (w : Width) (to : RegisterOrMemory) (n 
     → shift_by s d w to n ≡ Ok t → Registers s t
 shift_kept s d w to n t e =
     let m = bound (may_change s w to) (λ _. read s w to
-      >>= λ a. write (with_flags s (shift_flags d w a n s.cpu.flags)) w to (shifted d w a n)) t e in
+    >>= λ a. write (with_flags s (shift_flags d w a n s.cpu.flags)) w to (shifted d w a n)) t e in
     let a = bound (read s w to) (λ a. write (with_flags s (shift_flags d w a n s.cpu.flags)) w to
-      (shifted d w a n)) t m.2 in
+    (shifted d w a n)) t m.2 in
     let r = written (with_flags s (shift_flags d w a.0 n s.cpu.flags)) w to (shifted d w a.0 n) t
-      a.2 in record { count = r.count; small = r.small }
+    a.2 in record { count = r.count; small = r.small }
 
 unary_kept : (s : State) (o : Unary) (w : Width) (to : RegisterOrMemory) (t : State)
     → unary s o w to ≡ Ok t → Registers s t
 unary_kept s o w to t e =
     let m = bound (may_change s w to) (λ _. read s w to
-      >>= λ a. write (with_flags s (unary_of o w a s.cpu.flags).1) w to
-        (unary_of o w a s.cpu.flags).0) t e in
+    >>= λ a. write (with_flags s (unary_of o w a s.cpu.flags).1) w to
+    (unary_of o w a s.cpu.flags).0) t e in
     let a = bound (read s w to) (λ a. write (with_flags s (unary_of o w a s.cpu.flags).1) w to
-      (unary_of o w a s.cpu.flags).0) t m.2 in
+    (unary_of o w a s.cpu.flags).0) t m.2 in
     let r = written (with_flags s (unary_of o w a.0 s.cpu.flags).1) w to
-      (unary_of o w a.0 s.cpu.flags).0 t a.2 in record { count = r.count; small = r.small }
+    (unary_of o w a.0 s.cpu.flags).0 t a.2 in record { count = r.count; small = r.small }
 
 multiply_kept : (s : State) (w : Width) (to : Reg) (from : RegisterOrMemory) (t : State)
     → multiply s w to from ≡ Ok t → Registers s t
 multiply_kept s w to from t e =
     let after = λ (b : ℕ). let p = multiplied w (low w (register s.cpu to)) b s.cpu.flags in
-      record (with_register w s.cpu to p.0) { flags = p.1 } in
+    record (with_register w s.cpu to p.0) { flags = p.1 } in
     let b = bound (read s w from) (λ b. let u : State =
-      record { cpu = after b; memory = s.memory } in Ok u) t e in
+    record { cpu = after b; memory = s.memory } in Ok u) t e in
     same s (after b.0) t (let q = multiplied w (low w (register s.cpu to)) b.0 s.cpu.flags in
-      sets_one w s.cpu to q.0) b.2
+    sets_one w s.cpu to q.0) b.2
 
 multiply_by_kept : (s : State) (w : Width) (to : Reg) (from : RegisterOrMemory) (v : ℕ) (t : State)
     → multiply_by s w to from v ≡ Ok t → Registers s t
 multiply_by_kept s w to from v t e =
     let after = λ (a : ℕ). let p = multiplied w a (low w v) s.cpu.flags in
-      record (with_register w s.cpu to p.0) { flags = p.1 } in
+    record (with_register w s.cpu to p.0) { flags = p.1 } in
     let b = bound (read s w from) (λ a. let u : State =
-      record { cpu = after a; memory = s.memory } in Ok u) t e in
+    record { cpu = after a; memory = s.memory } in Ok u) t e in
     same s (after b.0) t (let q = multiplied w b.0 (low w v) s.cpu.flags in sets_one w s.cpu to q.0)
-      b.2
+    b.2
 
 jumped_registers : (b : Bool) (c : Cpu) (a : ℕ)
     → (cond b (record c { rip = a }) c).registers ≡ c.registers
@@ -257,7 +265,7 @@ registers_stay (instrs.Unary o w to) s t e = (unary_kept s o w to t e)
 registers_stay (instrs.Divide d w by) s t e =
     let high = low w (register s.cpu Rdx) in
     let b = bound (read s w by) (λ v. with_quotient s w
-      (divided d w (joined w high (low w (register s.cpu Rax))) v)) t e in
+    (divided d w (joined w high (low w (register s.cpu Rax))) v)) t e in
     (divided_kept s w (divided d w (joined w high (low w (register s.cpu Rax))) b.0) t b.2)
 registers_stay (instrs.ExtendRax w) s t e = (same s
     (with_register w s.cpu Rdx (sign_of_rax w s.cpu)) t (sets_one w s.cpu Rdx (sign_of_rax w s.cpu))
@@ -277,7 +285,7 @@ registers_stay (instrs.Pop r) s t e =
     let b = bound (pop s) (λ x. Ok (record x.1 { cpu = with_register W64 x.1.cpu r x.0 })) t e in
     let k = popped s b.0 b.1 in
     let l = same b.0.1 (with_register W64 b.0.1.cpu r b.0.0) t (sets_one W64 b.0.1.cpu r b.0.0)
-      b.2 in
+    b.2 in
     record { count = l.count ∙ k.count; small = λ h. l.small (k.small h) }
 registers_stay instrs.Return s t e = return_left s t e
 registers_stay instrs.NoOperation s t e = (same s s.cpu t (sets_none s.cpu.registers) e)

@@ -34,8 +34,8 @@ refused : (p : FramePlace) (k : Links) (instruction : Instruction) (to first sec
     → instruction ≡ instructions.Compute to o first second → s ≡ Faults code access
     → InstructionDone p k v here f b instruction s
     → ReachesFault (length (operands_code p.layout o first second)) v here f
-      (here + sizes (operands_code p.layout o first second)) o (b.slots first) (b.slots second) code
-      access
+    (here + sizes (operands_code p.layout o first second)) o (b.slots first) (b.slots second) code
+    access
 refused p k instruction to first second o v here f b s code access is e done = subst
     (λ t. InstructionDone p k v here f b (instructions.Compute to o first second) t) e
     (subst (λ l. InstructionDone p k v here f b l s) is done)
@@ -53,8 +53,8 @@ pub body_faults : (p : FramePlace) (k : Links) (start : ℕ) (body : List Instru
     → get_or body last instructions.Separator ≡ instructions.Compute to o first second
     → step p.reserved (instructions.Compute to o first second) c ≡ Faults code access
     → FaultsAfter p n v (start + offset_of p.layout body number) f
-      (start + offset_of p.layout body last + sizes (operands_code p.layout o first second)) o
-      (c.slots first) (c.slots second) code access c
+    (start + offset_of p.layout body last + sizes (operands_code p.layout o first second)) o
+    (c.slots first) (c.slots second) code access c
 body_faults p k start body n number v f b last c to first second o code access room l at h runs lt
     is e =
     let g = body_runs p k start body n room number v f b last c l at h runs in
@@ -63,11 +63,11 @@ body_faults p k start body n number v f b last c to first second o code access r
     let l' = linked_stays p k v.memory w.memory start body b g.follows.changes h l in
     let at' = ap (λ (r : List ℕ). get_or r 1 0) g.follows.rest ∙ at in
     let done = body_instruction_run p k start body last w g.follows.flags c room l'.labels l'.small
-      l'.high lt (l'.slots last lt) at' g.follows.holds l'.code in
+    l'.high lt (l'.slots last lt) at' g.follows.holds l'.code in
     let instruction = get_or body last instructions.Separator in
     let r = refused p k instruction to first second o w here g.follows.flags c
-      (step p.reserved instruction c) code access is
-      (ap (λ (x : Instruction). step p.reserved x c) is ∙ e) done in
+    (step p.reserved instruction c) code access is
+    (ap (λ (x : Instruction). step p.reserved x c) is ∙ e) done in
     let few = few_operands p.layout to o first second in
     let least = g.least in
     let most = g.most in
@@ -78,9 +78,9 @@ body_faults p k start body n number v f b last c to first second o code access r
       stopped = r.stopped;
       left = r.left;
       comes = reaches_then g.turns (length (operands_code p.layout o first second))
-        (machine v (start + offset_of p.layout body number) f) (machine w here g.follows.flags)
-        (machine r.stopped (here + sizes (operands_code p.layout o first second)) r.left)
-        g.follows.comes r.comes;
+          (machine v (start + offset_of p.layout body number) f) (machine w here g.follows.flags)
+          (machine r.stopped (here + sizes (operands_code p.layout o first second)) r.left)
+          g.follows.comes r.comes;
       waits = r.waits;
       rest = r.rest ∙ g.follows.rest;
       holds = subst (λ m. FrameHolds p m c) (sym r.memory) g.follows.holds;
@@ -104,25 +104,25 @@ pub body_retries : (p : FramePlace) (k : Links) (start : ℕ) (body : List Instr
     → get_or body number instructions.Separator ≡ instructions.Compute to o first second
     → x < 2 ^ 64 → y < 2 ^ 64 → HasOperands o x y v → sp_of v ≡ p.sp → FrameHolds p v.memory b
     → Retried p (start + offset_of p.layout body (suc number)) to o v
-      (start + offset_of p.layout body number + sizes (operands_code p.layout o first second)) f b
-      (performed p.reserved o x y b.memory)
+    (start + offset_of p.layout body number + sizes (operands_code p.layout o first second)) f b
+    (performed p.reserved o x y b.memory)
 body_retries p k start body number v f b to first second o x y room l lt is lx ly waits at h =
     let here = start + offset_of p.layout body number in
     let ops = operands_code p.layout o first second in
     let fin = finish_code p.layout o to in
     let is_there = template_placed k p.layout v.memory start body number instructions.Separator
-      l.code lt in
+    l.code lt in
     let code : HasCode v.memory here (ops ++ fin) = subst
-      (λ instruction. HasCode v.memory here (template k p.layout here instruction)) is is_there in
+    (λ instruction. HasCode v.memory here (template k p.layout here instruction)) is is_there in
     let parts = code_split v.memory here ops fin code in
     let has : HasSlots p.counts (instructions.Compute to o first second) = subst
-      (λ instruction. HasSlots p.counts instruction) is (l.slots number lt) in
+    (λ instruction. HasSlots p.counts instruction) is (l.slots number lt) in
     let g = finish_run p o to v (here + sizes ops) f b x y room has.0 lx ly waits at h parts.1 in
     let s : sizes (ops ++ fin) ≡ template_size p.layout
-      (get_or body number instructions.Separator) = template_sizes k p.layout here
-      (instructions.Compute to o first second) ∙ sym (ap (template_size p.layout) is) in
+    (get_or body number instructions.Separator) = template_sizes k p.layout here
+    (instructions.Compute to o first second) ∙ sym (ap (template_size p.layout) is) in
     let o' = offset_next p.layout body number instructions.Separator lt in
     let next : here + sizes ops + sizes fin ≡ start
-      + offset_of p.layout body (suc number) = omega (arith, sizes_append ops fin) in
+    + offset_of p.layout body (suc number) = omega (arith, sizes_append ops fin) in
     retried_by p (start + offset_of p.layout body (suc number)) to o v (here + sizes ops) f b
-      (performed p.reserved o x y b.memory) next g
+    (performed p.reserved o x y b.memory) next g

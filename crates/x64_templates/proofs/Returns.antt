@@ -58,19 +58,21 @@ module _ (y : Layout) (n : Counts) (reserved : ℕ → Bool) (sp base : ℕ)
       → KeepsReserved o sp reserved → MemoryKeepsBase o sp base m → MemoryKeepsBase o sp base m'
   base_through m m' None out has own keeps = tt
   base_through m m' (Some k) out has own keeps =
-      let a = has.0 in let t = room.temporaries in let hi = room.high in
-      (same_number m'.byte m.byte 8 (sp + k) (omega arith)
-        (λ x p q. out.byte x (own x p (omega arith)) (omega arith))
-        ∙ keeps.0, λ x p q. mode_write m m' x (out.protection x (own x p q)) ∙ keeps.1 x p q)
+      let a = has.0 in let t = room.temporaries in let hi = room.high in (
+        same_number m'.byte m.byte 8 (sp + k) (omega arith)
+            (λ x p q. out.byte x (own x p (omega arith)) (omega arith))
+            ∙ keeps.0,
+        λ x p q. mode_write m m' x (out.protection x (own x p q)) ∙ keeps.1 x p q,
+      )
 
   pub holds_through : (m m' source : Memory) (b : BodyState) → Outlasts reserved sp m m'
       → Agrees reserved m' source → HoldsBody y n reserved sp base m b
       → HoldsBody y n reserved sp base m' (record { slots = b.slots; memory = source })
   holds_through m m' source b out agrees h = record {
     slot = λ z iz. let up = slot_above z in same_number m'.byte m.byte 8 (slot_at y sp base z)
-      (slot_high y n reserved sp base room z iz)
-      (λ a p q. out.byte a (h.own a (slot_bytes y n reserved sp base room z a iz p q))
-      (omega arith)) ∙ h.slot z iz;
+        (slot_high y n reserved sp base room z iz)
+        (λ a p q. out.byte a (h.own a (slot_bytes y n reserved sp base room z a iz p q))
+        (omega arith)) ∙ h.slot z iz;
     small = h.small;
     kept_base = base_through m m' y.base out room.kept_base h.own_base h.kept_base;
     writable = λ a is. mode_write m m' a (out.protection a (h.own a is)) ∙ h.writable a is;
@@ -84,13 +86,23 @@ module _ (y : Layout) (n : Counts) (reserved : ℕ → Bool) (sp base : ℕ)
 pub call_ends : (p : FramePlace) (to : Slot) (v : MachineView) (at : ℕ) (f : Flags) (b : BodyState)
     → Roomy p → IsThere p to → v.rax < 2 ^ 64 → sp_of v ≡ p.sp → FrameHolds p v.memory b
     → HasCode v.memory at (keep p.layout to) → ReachesBody p (length (keep p.layout to))
-      (machine v at f) (at + sizes (keep p.layout to)) v.rest
-      (record { slots = with_slot b.slots to v.rax; memory = b.memory })
+    (machine v at f) (at + sizes (keep p.layout to)) v.rest
+    (record { slots = with_slot b.slots to v.rax; memory = b.memory })
 call_ends p to v at f b room is small sp h code =
     leads_kept p [] to v at f b v.rax b.memory tt room is sp h code
-    (record { after = v.memory; yields = record { rcx = v.rcx; rdx = v.rdx;
-      does = executes_nothing v }; small = small; agrees = h.source; protection = refl;
-      own = λ a o. refl; bytes = λ x. x })
+    (record {
+      after = v.memory;
+      yields = record {
+        rcx = v.rcx;
+        rdx = v.rdx;
+        does = executes_nothing v;
+      };
+      small = small;
+      agrees = h.source;
+      protection = refl;
+      own = λ a o. refl;
+      bytes = λ x. x;
+    })
 
 -- ---- RSP is moved
 
@@ -99,7 +111,7 @@ sp_moved v sp e = get_or-set_same v.rest 1 sp 0 (omega arith)
 
 raise_effect : (v : MachineView) (n sp next : ℕ) (f : Flags) → sp_of v ≡ sp → n < 2 ^ 31
     → sp + n < 2 ^ 64 → effect (machine v next f)
-      (instrs.Arithmetic arithmetic.Add W64 (places.Register Rsp) (operands.Immediate n))
+    (instrs.Arithmetic arithmetic.Add W64 (places.Register Rsp) (operands.Immediate n))
     ≡ Ok (machine (moved v (sp + n)) next (added W64 (low W64 (sp_of v)) (low W64 n)).1)
 unfolding added
 raise_effect v n sp next f e lt high =
@@ -108,13 +120,13 @@ raise_effect v n sp next f e lt high =
 
 lower_effect : (v : MachineView) (n sp next : ℕ) (f : Flags) → sp_of v ≡ sp → n ≤ sp → sp < 2 ^ 64
     → effect (machine v next f) (instrs.Arithmetic arithmetic.Sub W64 (places.Register Rsp)
-      (operands.Immediate n)) ≡ Ok (machine (moved v (sp - n)) next
-      (subtracted W64 (low W64 (sp_of v)) (low W64 n)).1)
+    (operands.Immediate n)) ≡ Ok (machine (moved v (sp - n)) next
+    (subtracted W64 (low W64 (sp_of v)) (low W64 n)).1)
 unfolding subtracted
 lower_effect v n sp next f e le high =
     let q : low W64 (low W64 (low W64 (sp_of v) + (2 ^ 64 - low W64 n))) ≡ sp - n = omega arith in
     ap (λ (a : ℕ). Ok (machine (moved v a) next (subtracted W64 (low W64 (sp_of v)) (low W64 n)).1))
-      q
+    q
 
 -- a body begins: its frame lies below the return address
 pub record FrameMade (v : MachineView) (sp frame rip : ℕ) (f : Flags) : Type 0 where
@@ -129,10 +141,13 @@ enter_run v sp frame rip f at le high lt code =
     let i = instrs.Arithmetic arithmetic.Sub W64 (places.Register Rsp) (operands.Immediate frame) in
     let g = (subtracted W64 (low W64 (sp_of v)) (low W64 frame)).1 in
     let z : rip + size i ≡ rip + (size i + 0) = omega arith in
-    record { flags = g; comes = subst (λ a. Enters 1 (machine v rip f)
-      (machine (moved v (sp - frame)) a g)) z
-      (one_enters i v (moved v (sp - frame)) rip (rip + size i) f g (near frame lt) code
-      (lower_effect v frame sp (rip + size i) f at le high)) }
+    record {
+      flags = g;
+      comes = subst (λ a. Enters 1 (machine v rip f)
+          (machine (moved v (sp - frame)) a g)) z
+          (one_enters i v (moved v (sp - frame)) rip (rip + size i) f g (near frame lt) code
+          (lower_effect v frame sp (rip + size i) f at le high));
+    }
 
 -- a return: to the address at RSP, which rises by 8
 pub return_effect : (v : MachineView) (sp back next : ℕ) (f : Flags) → sp_of v ≡ sp
@@ -158,12 +173,12 @@ epilogue_run : (v : MachineView) (sp frame back rip : ℕ) (f : Flags) → lengt
     → sp_of v ≡ sp → frame < 2 ^ 31 → sp < 2 ^ 47 → HasBack v.memory (sp + frame) back
     → HasCode v.memory rip (epilogue frame) → (flags : Flags)
     × Reaches (length (epilogue frame)) (machine v rip f)
-      (machine (moved v (sp + frame + 8)) back flags)
+    (machine (moved v (sp + frame + 8)) back flags)
 epilogue_run v sp zero back rip f n at lt high b code =
     let z : sp + 0 ≡ sp = omega arith in
     let last = one_reaches instrs.Return v (moved v (sp + 8)) rip back f f refl refl code
-      (return_effect v sp back (rip + size instrs.Return) f at (omega arith)
-      (subst (λ a. HasBack v.memory a back) z b)) in
+    (return_effect v sp back (rip + size instrs.Return) f at (omega arith)
+    (subst (λ a. HasBack v.memory a back) z b)) in
     (f, subst (λ a. Reaches 1 (machine v rip f) (machine (moved v (a + 8)) back f)) (sym z) last)
 epilogue_run v sp (suc m) back rip f n at lt high b code =
     let frame : ℕ = suc m in
@@ -173,15 +188,17 @@ epilogue_run v sp (suc m) back rip f n at lt high b code =
     let z : rip + size i ≡ rip + (size i + 0) = omega arith in
     let up = moved v (sp + frame) in
     let first = subst (λ a. Reaches 1 (machine v rip f) (machine up a g)) z
-      (one_reaches i v up rip (rip + size i) f g (near frame lt) refl parts.0
-      (raise_effect v frame sp (rip + size i) f at lt (omega arith))) in
+    (one_reaches i v up rip (rip + size i) f g (near frame lt) refl parts.0
+    (raise_effect v frame sp (rip + size i) f at lt (omega arith))) in
     let second = one_reaches instrs.Return up (moved up (sp + frame + 8)) (rip + sizes (i ∷ []))
-      back g g refl refl parts.1 (return_effect up (sp + frame) back
-      (rip + sizes (i ∷ []) + size instrs.Return) g (sp_moved v (sp + frame) n) (omega arith) b) in
-    (g, subst (λ w. Reaches 2 (machine v rip f) (machine w back g))
-      (moved_twice v (sp + frame) (sp + frame + 8))
-      (reaches_then 1 1 (machine v rip f) (machine up (rip + sizes (i ∷ [])) g)
-      (machine (moved up (sp + frame + 8)) back g) first second))
+    back g g refl refl parts.1 (return_effect up (sp + frame) back
+    (rip + sizes (i ∷ []) + size instrs.Return) g (sp_moved v (sp + frame) n) (omega arith) b) in (
+      g,
+      subst (λ w. Reaches 2 (machine v rip f) (machine w back g))
+          (moved_twice v (sp + frame) (sp + frame + 8))
+          (reaches_then 1 1 (machine v rip f) (machine up (rip + sizes (i ∷ [])) g)
+          (machine (moved up (sp + frame + 8)) back g) first second),
+    )
 
 pub return_run : (p : FramePlace) (from : Slot) (v : MachineView) (back rip : ℕ) (f : Flags)
     (b : BodyState) → Roomy p → IsThere p from → length v.rest ≡ 13 → sp_of v ≡ p.sp
@@ -189,20 +206,23 @@ pub return_run : (p : FramePlace) (from : Slot) (v : MachineView) (back rip : �
     → HasBack v.memory (p.sp + p.layout.frame) back
     → HasCode v.memory rip (return_code p.layout from)
     → Returned (length (return_code p.layout from)) v (p.sp + p.layout.frame + 8) back
-      (b.slots from) rip f
+    (b.slots from) rip f
 return_run p from v back rip f b room is n at lt h has code =
     let y = p.layout in
     let first = fetch y Rax from in
     let w = put true v (b.slots from) in
     let parts = code_split v.memory rip first (epilogue y.frame) code in
     let r = runs_view first v w rip f (fetch_fine y p.counts p.sp p.base true from room is) parts.0
-      (fetch_does y p.counts p.reserved p.sp p.base room true from v b is at h) in
+    (fetch_does y p.counts p.reserved p.sp p.base room true from v b is at h) in
     let e = epilogue_run w p.sp y.frame back (rip + sizes first) r.left n at lt room.high has
-      parts.1 in
+    parts.1 in
     let turns : length first + length (epilogue y.frame)
-      ≡ length (return_code y from) = sym (length-append first (epilogue y.frame)) in
-    record { flags = e.0; comes = subst (λ k. Reaches k (machine v rip f)
-      (machine (moved w (p.sp + y.frame + 8)) back e.0)) turns
-      (reaches_then (length first) (length (epilogue y.frame)) (machine v rip f)
-      (machine w (rip + sizes first) r.left) (machine (moved w (p.sp + y.frame + 8)) back e.0)
-      r.comes e.1) }
+    ≡ length (return_code y from) = sym (length-append first (epilogue y.frame)) in
+    record {
+      flags = e.0;
+      comes = subst (λ k. Reaches k (machine v rip f)
+          (machine (moved w (p.sp + y.frame + 8)) back e.0)) turns
+          (reaches_then (length first) (length (epilogue y.frame)) (machine v rip f)
+          (machine w (rip + sizes first) r.left) (machine (moved w (p.sp + y.frame + 8)) back e.0)
+          r.comes e.1);
+    }

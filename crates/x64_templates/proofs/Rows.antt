@@ -21,8 +21,13 @@ function_layout : Layout
 function_layout = record { base = None; pointers = 0; locals = 256; temporaries = 128; frame = 312 }
 
 block_layout : Layout
-block_layout = record { base = Some 32; pointers = 40; locals = 256; temporaries = 128;
-    frame = 152 }
+block_layout = record {
+  base = Some 32;
+  pointers = 40;
+  locals = 256;
+  temporaries = 128;
+  frame = 152;
+}
 
 -- mov rax,[rsp+256] ; mov rcx,[rsp+128] ; add eax,ecx ; mov [rsp+264],rax
 sum_of_slots : spelled (compute_code function_layout (Local 1) (operations.Pure (pures.Add Int))

@@ -29,7 +29,7 @@ thunk_effect : (v : MachineView) (next away slot service : ℕ) (f : Flags)
 thunk_effect v next away slot service f e high readable bound =
     ap (λ (a : ℕ). load v.memory a W64 >>= λ target. Ok (machine v target f)) e
     ∙ ap (λ (o : Answer ℕ). o >>= λ target. Ok (machine v target f))
-      (load_at v.memory slot (all_may (may_read v.memory) 8 slot high readable))
+    (load_at v.memory slot (all_may (may_read v.memory) 8 slot high readable))
     ∙ ap (λ (a : ℕ). Ok (machine v a f)) bound
 
 pub thunk_reaches : (v : MachineView) (at service : ℕ) (f : Flags) → HasThunk v.memory at service
@@ -40,7 +40,7 @@ thunk_reaches v at service f h =
     let s = thunk_size h.away in
     one_reaches (thunk h.away) v v at service f f (thunk_encodable h.away near) refl h.code
     (thunk_effect v (at + size (thunk h.away)) h.away (at + 6 + h.away) service f (omega arith)
-      (omega arith) h.readable h.bound)
+    (omega arith) h.readable h.bound)
 
 -- a thunk outlasts a return address that is put on the stack
 pub pushed_thunk : (v : MachineView) (sp back at service : ℕ) → HasBelow v.memory sp 8
@@ -55,6 +55,6 @@ pushed_thunk v sp back at service below h =
       readable = h.readable;
       fixed = h.fixed;
       bound = same_number (pushed v sp back).memory.byte v.memory.byte 8 (at + 6 + h.away)
-        (omega arith) (λ a p q. beside v.memory sp back a below.enough below.high
-        (fixed_beside v sp a below (h.fixed a p q))) ∙ h.bound;
+          (omega arith) (λ a p q. beside v.memory sp back a below.enough below.high
+          (fixed_beside v sp a below (h.fixed a p q))) ∙ h.bound;
     }

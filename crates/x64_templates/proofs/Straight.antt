@@ -43,8 +43,10 @@ left_then m t u a b = record {
 }
 
 pub ran_then : (m n : ℕ) (s t u : State) → Ran m s t → Ran n t u → Ran (m + n) s u
-ran_then m n s t u a b = record { comes = reaches_then m n s t u a.comes b.comes;
-    left = left_then s.memory t u a.left b.left }
+ran_then m n s t u a b = record {
+  comes = reaches_then m n s t u a.comes b.comes;
+  left = left_then s.memory t u a.left b.left;
+}
 
 -- one instruction, of whatever kind
 pub one_steps : (i : Instr) (s t : State) → Encodable (i ∷ [])
@@ -96,9 +98,10 @@ pub record Went (is : List Instr) (s t : State) : Type 0 where
   pub rip : t.cpu.rip ≡ s.cpu.rip + sizes is
 
 went_nowhere : (s t : State) → s ≡ t → Went [] s t
-went_nowhere s t e = subst (Went [] s) e (record
-    { ran = record { comes = no_turns s s refl; left = nothing_left s };
-    rip = let z : s.cpu.rip ≡ s.cpu.rip + 0 = omega arith in z })
+went_nowhere s t e = subst (Went [] s) e (record {
+  ran = record { comes = no_turns s s refl; left = nothing_left s };
+  rip = let z : s.cpu.rip ≡ s.cpu.rip + 0 = omega arith in z;
+})
 
 next_rip : (a b c n m : ℕ) → b ≡ a + n → c ≡ b + m → c ≡ a + (n + m)
 next_rip a b c n m p q = omega arith
@@ -114,23 +117,23 @@ straight_runs (i ∷ is) s t enc str inside is_there placed e =
     let l = leaves i (with_rip s next) b.0 b.1 in
     let parts = bytes_split s.memory s.cpu.rip (chosen i) (spelled is) is_there in
     let first = one_runs i s b.0 (enc.0, tt) inside.0 parts.0
-      (let q : IsPlaced (s.cpu.rip + 0) (s.cpu.rip + 0 + length (chosen i)) = within s.cpu.rip
-      (length (chosen i) + sizes is) 0 (length (chosen i)) placed
-      (let le : 0 + length (chosen i) ≤ length (chosen i) + sizes is = omega arith in le) in
-      let z : s.cpu.rip + 0 ≡ s.cpu.rip = omega arith in
-      subst (λ a. IsPlaced a (a + length (chosen i))) z q) b.1 in
+    (let q : IsPlaced (s.cpu.rip + 0) (s.cpu.rip + 0 + length (chosen i)) = within s.cpu.rip
+    (length (chosen i) + sizes is) 0 (length (chosen i)) placed
+    (let le : 0 + length (chosen i) ≤ length (chosen i) + sizes is = omega arith in le) in
+    let z : s.cpu.rip + 0 ≡ s.cpu.rip = omega arith in
+    subst (λ a. IsPlaced a (a + length (chosen i))) z q) b.1 in
     let at : b.0.cpu.rip ≡ next = l.rip str.0 in
     let there = bytes_kept s.memory b.0.memory next (spelled is) (λ a fix. first.left.byte a fix)
-      first.left.protection parts.1 in
+    first.left.protection parts.1 in
     let rest = straight_runs is b.0 t enc.1 str.1 inside.1
-      (subst (λ a. IsCodeAt b.0.memory a (spelled is)) (sym at) there)
-      (subst (λ a. IsPlaced a (a + sizes is)) (sym at)
-      (within s.cpu.rip (length (chosen i) + sizes is) (length (chosen i)) (sizes is) placed
-      (let le : length (chosen i) + sizes is ≤ length (chosen i) + sizes is = omega arith in le)))
-      b.2 in
+    (subst (λ a. IsCodeAt b.0.memory a (spelled is)) (sym at) there)
+    (subst (λ a. IsPlaced a (a + sizes is)) (sym at)
+    (within s.cpu.rip (length (chosen i) + sizes is) (length (chosen i)) (sizes is) placed
+    (let le : length (chosen i) + sizes is ≤ length (chosen i) + sizes is = omega arith in le)))
+    b.2 in
     record {
       ran = subst (λ n. Ran n s t) (let one : 1 + length is ≡ suc (length is) = omega arith in one)
-        (ran_then 1 (length is) s b.0 t first rest.ran);
+          (ran_then 1 (length is) s b.0 t first rest.ran);
       rip = next_rip s.cpu.rip b.0.cpu.rip t.cpu.rip (length (chosen i)) (sizes is) at rest.rip;
     }
 
@@ -153,31 +156,38 @@ effects_append [] js s = refl
 effects_append (i ∷ is) js s =
     let x = effect (with_rip s (s.cpu.rip + size i)) i in
     bind_same x (effects (is ++ js)) (λ u. effects is u >>= effects js)
-      (λ u. effects_append is js u) ∙ bind_assoc x (effects is) (effects js)
+    (λ u. effects_append is js u) ∙ bind_assoc x (effects is) (effects js)
 
 -- ---- views
 
 pub executes_nothing : (v : MachineView) → Executes [] v v
 unfolding effects
-executes_nothing v rip f = (f, ap (λ (a : ℕ). Ok (machine v a f))
-    (let z : rip ≡ rip + 0 = omega arith in z))
+executes_nothing v rip f = (
+  f,
+  ap (λ (a : ℕ). Ok (machine v a f))
+      (let z : rip ≡ rip + 0 = omega arith in z),
+)
 
 pub executes_one : (i : Instr) (v w : MachineView)
     → ((rip : ℕ) (f : Flags) → (g : Flags) × (effect (machine v rip f) i ≡ Ok (machine w rip g)))
     → Executes (i ∷ []) v w
 unfolding effects
 executes_one i v w h rip f =
-    let r = h (rip + size i) f in
-    (r.0, ap (λ (x : Answer State). x >>= effects []) r.1
-      ∙ ap (λ (a : ℕ). Ok (machine w a r.0)) (let z : rip + size i
-      ≡ rip + (size i + 0) = omega arith in z))
+    let r = h (rip + size i) f in (
+      r.0,
+      ap (λ (x : Answer State). x >>= effects []) r.1
+          ∙ ap (λ (a : ℕ). Ok (machine w a r.0)) (let z : rip + size i
+          ≡ rip + (size i + 0) = omega arith in z),
+    )
 
 pub executes_then : (is js : List Instr) (u v w : MachineView) → Executes is u v → Executes js v w
     → Executes (is ++ js) u w
 executes_then is js u v w p q rip f =
     let a = p rip f in
-    let b = q (rip + sizes is) a.0 in
-    (b.0, effects_append is js (machine u rip f) ∙ ap (λ (x : Answer State). x >>= effects js) a.1
-      ∙ b.1 ∙ ap (λ (r : ℕ). Ok (machine w r b.0))
-        (let z : rip + sizes is + sizes js ≡ rip
-      + sizes (is ++ js) = omega (arith, sizes_append is js) in z))
+    let b = q (rip + sizes is) a.0 in (
+      b.0,
+      effects_append is js (machine u rip f) ∙ ap (λ (x : Answer State). x >>= effects js) a.1
+          ∙ b.1 ∙ ap (λ (r : ℕ). Ok (machine w r b.0))
+          (let z : rip + sizes is + sizes js ≡ rip
+          + sizes (is ++ js) = omega (arith, sizes_append is js) in z),
+    )

@@ -35,8 +35,8 @@ bytes_stay : (p : FramePlace) (m m' : Memory) (b : BodyState) (at : ℕ) (bytes 
 bytes_stay p m m' b at [] c h own s = tt
 bytes_stay p m m' b at (x ∷ bytes) c h own s =
     let off = λ (is : InTemporaries p.layout p.counts p.sp at
-      ⊎ InLocals p.layout p.counts p.base at). let q : true ≡ false = sym (h.writable at is)
-      ∙ s.0.fixed in let z : ⊥ = absurd cc in z in (
+    ⊎ InLocals p.layout p.counts p.base at). let q : true ≡ false = sym (h.writable at is)
+    ∙ s.0.fixed in let z : ⊥ = absurd cc in z in (
       record {
         byte = c.byte at (own at (omega arith) (omega arith)) off ∙ s.0.byte;
         executes = ap (λ (f : ℕ → Protection). (f at).execute) c.protection ∙ s.0.executes;
@@ -50,8 +50,11 @@ pub code_stays : (p : FramePlace) (m m' : Memory) (b : BodyState) (at : ℕ) (co
     → p.reserved a ≡ true) → HasCode m at code → HasCode m' at code
 code_stays p m m' b at code c h own s =
     let e = sizes_spelled code in
-    record { is_there = bytes_stay p m m' b at (spelled code) c h (λ a l u. own a l (omega arith))
-      s.is_there; placed = s.placed }
+    record {
+      is_there = bytes_stay p m m' b at (spelled code) c h (λ a l u. own a l (omega arith))
+          s.is_there;
+      placed = s.placed;
+    }
 
 pub linked_stays : (p : FramePlace) (k : Links) (m m' : Memory) (start : ℕ)
     (body : List Instruction) (b : BodyState) → ChangesOwn p m m' → FrameHolds p m b
@@ -60,7 +63,7 @@ linked_stays p k m m' start body b c h l =
     let e = body_sizes k p.layout start body in
     record {
       code = code_stays p m m' b start (code_from k p.layout start body) c h
-        (λ a lo hi. l.own a lo (omega arith)) l.code;
+          (λ a lo hi. l.own a lo (omega arith)) l.code;
       labels = l.labels;
       small = l.small;
       high = l.high;
@@ -107,8 +110,12 @@ made_then : (p : FramePlace) (m n : ℕ) (v : MachineView) (at : ℕ) (f : Flags
     → RunsAllTo p (suc n) (machine v at f) to v.rest c
 made_then p m n v at f mid to b c g r =
     let l1 = g.least in let m1 = g.most in let l2 = r.least in let m2 = r.most in
-    record { turns = m + r.turns; least = omega arith; most = omega arith;
-      follows = follows_then p m r.turns (machine v at f) mid to v.rest b c g.follows r.follows }
+    record {
+      turns = m + r.turns;
+      least = omega arith;
+      most = omega arith;
+      follows = follows_then p m r.turns (machine v at f) mid to v.rest b c g.follows r.follows;
+    }
 
 -- ---- the body
 
@@ -117,7 +124,7 @@ Runs p k start body n = (number : ℕ) (v : MachineView) (f : Flags) (b : BodySt
     (c : BodyState) → IsLinked p k v.memory start body → sp_of v ≡ p.sp → FrameHolds p v.memory b
     → run p.reserved body n number b ≡ Some (last, c)
     → RunsAllTo p n (machine v (start + offset_of p.layout body number) f)
-      (start + offset_of p.layout body last) v.rest c
+    (start + offset_of p.layout body last) v.rest c
 
 same_point : (x y : ℕ) (b c : BodyState) → ◌≡◌ {A = Option BodyPoint} (Some (x, b)) (Some (y, c))
     → (x ≡ y) × (b ≡ c)
@@ -139,65 +146,68 @@ after_line : (p : FramePlace) (k : Links) (start : ℕ) (body : List Instruction
     → InstructionDone p k v (start + offset_of p.layout body number) f b instruction s
     → continued (run p.reserved body n) number s ≡ Some (last, c)
     → RunsAllTo p (suc n) (machine v (start + offset_of p.layout body number) f)
-      (start + offset_of p.layout body last) v.rest c
+    (start + offset_of p.layout body last) v.rest c
 after_line p k start body n number v f b last c instruction (Next d) rec l at h lt is done e =
     let y = p.layout in
     let here = start + offset_of y body number in
     let next : here + template_size y instruction
-      ≡ start + offset_of y body (number + 1) = step_to (number + 1) (omega arith) in
+    ≡ start + offset_of y body (number + 1) = step_to (number + 1) (omega arith) in
     let turns = length (template k y here instruction) in
     let g : RunsTo p turns (machine v here f) (start + offset_of y body (number + 1)) v.rest
-      d = subst (λ a. RunsTo p turns (machine v here f) a v.rest d) next done in
+    d = subst (λ a. RunsTo p turns (machine v here f) a v.rest d) next done in
     go turns g e
   where
     step_to : (j : ℕ) → j ≡ suc number → start + offset_of p.layout body number
-      + template_size p.layout instruction ≡ start + offset_of p.layout body j
+        + template_size p.layout instruction ≡ start + offset_of p.layout body j
     step_to j q =
         let o = offset_next p.layout body number instructions.Separator lt in
         let t : template_size p.layout instruction
-          ≡ template_size p.layout (get_or body number instructions.Separator) = ap
-            (template_size p.layout) is in
+        ≡ template_size p.layout (get_or body number instructions.Separator) = ap
+        (template_size p.layout) is in
         let z : offset_of p.layout body j ≡ offset_of p.layout body (suc number) = ap
-          (offset_of p.layout body) q in
+        (offset_of p.layout body) q in
         omega arith
 
     go : (m : ℕ) → (g : RunsTo p m (machine v (start + offset_of p.layout body number) f)
-      (start + offset_of p.layout body (number + 1)) v.rest d)
-      → run p.reserved body n (number + 1) d ≡ Some (last, c)
-      → RunsAllTo p (suc n) (machine v (start + offset_of p.layout body number) f)
+        (start + offset_of p.layout body (number + 1)) v.rest d)
+        → run p.reserved body n (number + 1) d ≡ Some (last, c)
+        → RunsAllTo p (suc n) (machine v (start + offset_of p.layout body number) f)
         (start + offset_of p.layout body last) v.rest c
     go m g e = made_then p m n v (start + offset_of p.layout body number) f
-      (start + offset_of p.layout body (number + 1)) (start + offset_of p.layout body last) d c g
+        (start + offset_of p.layout body (number + 1)) (start + offset_of p.layout body last) d c g
         (subst (λ r. RunsAllTo p n (machine g.follows.after
-          (start + offset_of p.layout body (number + 1)) g.follows.flags)
-          (start + offset_of p.layout body last) r c) g.follows.rest
+        (start + offset_of p.layout body (number + 1)) g.follows.flags)
+        (start + offset_of p.layout body last) r c) g.follows.rest
         (rec (number + 1) g.follows.after g.follows.flags d last c
-          (linked_stays p k v.memory g.follows.after.memory start body b g.follows.changes h l)
-          (ap (λ (r : List ℕ). get_or r 1 0) g.follows.rest ∙ at) g.follows.holds e))
+        (linked_stays p k v.memory g.follows.after.memory start body b g.follows.changes h l)
+        (ap (λ (r : List ℕ). get_or r 1 0) g.follows.rest ∙ at) g.follows.holds e))
 after_line p k start body n number v f b last c instruction (JumpsTo d label) rec l at h lt is done
     e =
     let turns = length (template k p.layout (start + offset_of p.layout body number) instruction) in
     go turns (subst (λ a. RunsTo p turns (machine v (start + offset_of p.layout body number) f) a
-      v.rest d) (l.labels label) done) e
+    v.rest d) (l.labels label) done) e
   where
     go : (m : ℕ) → (g : RunsTo p m (machine v (start + offset_of p.layout body number) f)
-      (start + offset_of p.layout body label) v.rest d)
-      → run p.reserved body n label d ≡ Some (last, c)
-      → RunsAllTo p (suc n) (machine v (start + offset_of p.layout body number) f)
+        (start + offset_of p.layout body label) v.rest d)
+        → run p.reserved body n label d ≡ Some (last, c)
+        → RunsAllTo p (suc n) (machine v (start + offset_of p.layout body number) f)
         (start + offset_of p.layout body last) v.rest c
     go m g e = made_then p m n v (start + offset_of p.layout body number) f
-      (start + offset_of p.layout body label) (start + offset_of p.layout body last) d c g
+        (start + offset_of p.layout body label) (start + offset_of p.layout body last) d c g
         (subst (λ r. RunsAllTo p n (machine g.follows.after (start + offset_of p.layout body label)
-          g.follows.flags) (start + offset_of p.layout body last) r c) g.follows.rest
+        g.follows.flags) (start + offset_of p.layout body last) r c) g.follows.rest
         (rec label g.follows.after g.follows.flags d last c
-          (linked_stays p k v.memory g.follows.after.memory start body b g.follows.changes h l)
-          (ap (λ (r : List ℕ). get_or r 1 0) g.follows.rest ∙ at) g.follows.holds e))
+        (linked_stays p k v.memory g.follows.after.memory start body b g.follows.changes h l)
+        (ap (λ (r : List ℕ). get_or r 1 0) g.follows.rest ∙ at) g.follows.holds e))
 after_line p k start body n number v f b last c instruction (Faults code access) rec l at h lt is
-    done e = absurd cc
+    done e =
+    absurd cc
 after_line p k start body n number v f b last c instruction (ReservedAccess a) rec l at h lt is done
-    e = absurd cc
+    e =
+    absurd cc
 after_line p k start body n number v f b last c instruction NeedsDispatcher rec l at h lt is done
-    e = absurd cc
+    e =
+    absurd cc
 
 -- n instructions of a body take n to 16 n turns, and lead where they lead
 pub body_runs : (p : FramePlace) (k : Links) (start : ℕ) (body : List Instruction) (n : ℕ) → Roomy p
@@ -205,14 +215,14 @@ pub body_runs : (p : FramePlace) (k : Links) (start : ℕ) (body : List Instruct
     → IsLinked p k v.memory start body → sp_of v ≡ p.sp → FrameHolds p v.memory b
     → run p.reserved body n number b ≡ Some (last, c)
     → RunsAllTo p n (machine v (start + offset_of p.layout body number) f)
-      (start + offset_of p.layout body last) v.rest c
+    (start + offset_of p.layout body last) v.rest c
 unfolding run
 body_runs p k start body zero room number v f b last c l at h e =
     let q = same_point number last b c e in
     subst (λ x. RunsAllTo p 0 (machine v (start + offset_of p.layout body number) f)
-      (start + offset_of p.layout body x) v.rest c) q.0
+    (start + offset_of p.layout body x) v.rest c) q.0
     (subst (λ d. RunsAllTo p 0 (machine v (start + offset_of p.layout body number) f)
-      (start + offset_of p.layout body number) v.rest d) q.1
+    (start + offset_of p.layout body number) v.rest d) q.1
     (nothing_made p v (start + offset_of p.layout body number) f b h))
 body_runs p k start body (suc n) room number v f b last c l at h e =
     let instruction = get_or body number instructions.Separator in
@@ -220,16 +230,16 @@ body_runs p k start body (suc n) room number v f b last c l at h e =
     elim (cases_lt number (length body)) [
       | inl lt ↦
           let there : continued (run p.reserved body n) number s
-            ≡ Some (last, c) = sym (ap (λ (t : Bool). cond t
-              (continued (run p.reserved body n) number s) None) (lt-ltb number (length body) lt))
-            ∙ e in
+          ≡ Some (last, c) = sym (ap (λ (t : Bool). cond t
+          (continued (run p.reserved body n) number s) None) (lt-ltb number (length body) lt))
+          ∙ e in
           after_line p k start body n number v f b last c instruction s
-            (body_runs p k start body n room) l at h lt refl
+          (body_runs p k start body n room) l at h lt refl
           (body_instruction_run p k start body number v f b room l.labels l.small l.high lt
-            (l.slots number lt) at h l.code) there
+          (l.slots number lt) at h l.code) there
       | inr ge ↦
           let never : ◌≡◌ {A = Option BodyPoint} None (Some (last, c)) = sym
-            (ap (λ (t : Bool). cond t (continued (run p.reserved body n) number s) None)
-            (le-ltb number (length body) ge)) ∙ e in
+          (ap (λ (t : Bool). cond t (continued (run p.reserved body n) number s) None)
+          (le-ltb number (length body) ge)) ∙ e in
           absurd cc
     ]

@@ -39,7 +39,7 @@ finally_do v sp at lt =
     executes_then (i ∷ []) (move W64 Rdx Rsp ∷ []) v (with_two v 0 v.rdx) (with_two v 0 sp)
     (executes_one i v (with_two v 0 v.rdx) (λ rip f. (f, refl)))
     (executes_one (move W64 Rdx Rsp) (with_two v 0 v.rdx) (with_two v 0 sp)
-      (λ rip f. (f, ap (λ (a : ℕ). Ok (machine (with_two v 0 a) rip f)) (word sp (sp_of v) at lt))))
+    (λ rip f. (f, ap (λ (a : ℕ). Ok (machine (with_two v 0 a) rip f)) (word sp (sp_of v) at lt))))
 
 finally_fine : Fine finally_arguments
 finally_fine = (refl, refl, refl, (refl, refl, refl, tt))
@@ -57,10 +57,13 @@ finally_begins v sp rip to f at below n code =
     let parts = code_split v.memory rip finally_arguments (call back to ∷ []) code in
     let w = with_two v 0 sp in
     let r = runs_view finally_arguments v w rip f finally_fine parts.0
-      (finally_do v sp at below.high) in
-    record { flags = r.left; comes = reaches_then 2 1 (machine v rip f)
-      (machine w (rip + sizes finally_arguments) r.left) (machine (pushed w sp back) to r.left)
-      r.comes (call_reaches w sp (rip + sizes finally_arguments) to r.left at below n parts.1) }
+    (finally_do v sp at below.high) in
+    record {
+      flags = r.left;
+      comes = reaches_then 2 1 (machine v rip f)
+          (machine w (rip + sizes finally_arguments) r.left) (machine (pushed w sp back) to r.left)
+          r.comes (call_reaches w sp (rip + sizes finally_arguments) to r.left at below n parts.1);
+    }
 
 -- ---- a local unwind: RCX is the base of the frame, RDX the target
 
@@ -79,7 +82,7 @@ address_effect v next to f n =
     let plain : (next + 0 + distance next to) % 2 ^ 64 ≡ to = omega arith in
     let q : low W64 to ≡ to = omega arith in
     ap (λ (x : ℕ). Ok (machine (with_two v v.rcx (low W64 x)) next f)) plain
-      ∙ ap (λ (x : ℕ). Ok (machine (with_two v v.rcx x) next f)) q
+    ∙ ap (λ (x : ℕ). Ok (machine (with_two v v.rcx x) next f)) q
 
 pub local_unwind_begins : (v : MachineView) (sp rip target to : ℕ) (f : Flags) → sp_of v ≡ sp
     → HasBelow v.memory sp 8 → IsNear (rip + 10) target → IsNear (rip + 15) to
@@ -102,17 +105,17 @@ local_unwind_begins v sp rip target to f at below nt nc code =
     let v1 = with_two v sp v.rdx in
     let v2 = with_two v sp target in
     let first : Reaches 1 (machine v rip f) (machine v1 (rip + 3) f) = one_reaches i v v1 rip
-      (rip + 3) f f refl refl p.0
+    (rip + 3) f f refl refl p.0
     (ap (λ (a : ℕ). Ok (machine (with_two v a v.rdx) (rip + size i) f))
-      (word sp (sp_of v) at below.high) ∙ ap (λ (a : ℕ). Ok (machine v1 a f)) r1) in
+    (word sp (sp_of v) at below.high) ∙ ap (λ (a : ℕ). Ok (machine v1 a f)) r1) in
     let second : Reaches 1 (machine v1 (rip + 3) f) (machine v2 (rip + 10) f) = one_reaches j v1 v2
-      (rip + 3) (rip + 10) f f (short (rip + 10) target nt) refl q.0
+    (rip + 3) (rip + 10) f f (short (rip + 10) target nt) refl q.0
     (ap (λ (a : ℕ). effect (machine v1 a f) j) r2 ∙ address_effect v1 (rip + 10) target f nt) in
     let third = call_reaches v2 sp (rip + 10) to f at below (subst (λ a. IsNear a to) (sym e3) nc)
-      (subst (λ a. HasCode v.memory (rip + 10) (call a to ∷ [])) (sym e3)
-      (subst (λ a. HasCode v.memory a (k ∷ [])) e2 q.1)) in
+    (subst (λ a. HasCode v.memory (rip + 10) (call a to ∷ [])) (sym e3)
+    (subst (λ a. HasCode v.memory a (k ∷ [])) e2 q.1)) in
     subst (λ a. Reaches 3 (machine v rip f) (machine (pushed v2 sp a) to f)) e3
     (reaches_then 1 2 (machine v rip f) (machine v1 (rip + 3) f)
-      (machine (pushed v2 sp (rip + 10 + 5)) to f) first
+    (machine (pushed v2 sp (rip + 10 + 5)) to f) first
     (reaches_then 1 1 (machine v1 (rip + 3) f) (machine v2 (rip + 10) f)
-      (machine (pushed v2 sp (rip + 10 + 5)) to f) second third))
+    (machine (pushed v2 sp (rip + 10 + 5)) to f) second third))

@@ -14,37 +14,77 @@ abbrev counts : Counts
 counts = record { locals = 4; temporaries = 16 }
 
 abbrev function_place : FramePlace
-function_place = record { layout = record { base = None; pointers = 0; locals = 160;
-    temporaries = 32; frame = 200 }; counts = counts; reserved = λ a. true; sp = 0x707FF000;
-    base = 0x707FF000 }
+function_place = record {
+  layout = record {
+    base = None;
+    pointers = 0;
+    locals = 160;
+    temporaries = 32;
+    frame = 200;
+  };
+  counts = counts;
+  reserved = λ a. true;
+  sp = 0x707FF000;
+  base = 0x707FF000;
+}
 
 -- a block, one page below, keeps the base 24 above its RSP
 abbrev block_place : FramePlace
-block_place = record { layout = record { base = Some 24; pointers = 16; locals = 160;
-    temporaries = 32; frame = 200 }; counts = counts; reserved = λ a. true; sp = 0x707FE000;
-    base = 0x707FF000 }
+block_place = record {
+  layout = record {
+    base = Some 24;
+    pointers = 16;
+    locals = 160;
+    temporaries = 32;
+    frame = 200;
+  };
+  counts = counts;
+  reserved = λ a. true;
+  sp = 0x707FE000;
+  base = 0x707FF000;
+}
 
 function_room : Roomy function_place
-function_room = record { temporaries = omega arith; locals = omega arith; high = omega arith;
-    base_high = omega arith; apart = inr (omega arith); kept_base = refl }
+function_room = record {
+  temporaries = omega arith;
+  locals = omega arith;
+  high = omega arith;
+  base_high = omega arith;
+  apart = inr (omega arith);
+  kept_base = refl;
+}
 
 block_room : Roomy block_place
-block_room = record { temporaries = omega arith; locals = omega arith; high = omega arith;
-    base_high = omega arith; apart = inr (omega arith); kept_base = (omega arith, omega arith) }
+block_room = record {
+  temporaries = omega arith;
+  locals = omega arith;
+  high = omega arith;
+  base_high = omega arith;
+  apart = inr (omega arith);
+  kept_base = (omega arith, omega arith);
+}
 
 function_is : IsFunctionFrame function_place
 function_is = record { base = refl; temporaries = omega arith; locals = omega arith }
 
 abbrev plain_memory : Memory
-plain_memory = record { protection = λ a. record { rights = ReadWrite; execute = false };
-    byte = λ a. 0 }
+plain_memory = record {
+  protection = λ a. record { rights = ReadWrite; execute = false };
+  byte = λ a. 0;
+}
 
 plain_agrees : Agrees (λ a. true) plain_memory plain_memory
 plain_agrees = record { byte = λ a r. refl; protection = λ a r. refl; guard = λ a g. refl }
 
 function_bare : FreshFrame function_place plain_memory plain_memory
-function_bare = record { bytes = λ a. (let z : 0 < 256 = omega arith in z); writable = λ a is. refl;
-    own = λ a is. refl; base = tt; own_base = tt; agrees = plain_agrees }
+function_bare = record {
+  bytes = λ a. (let z : 0 < 256 = omega arith in z);
+  writable = λ a is. refl;
+  own = λ a is. refl;
+  base = tt;
+  own_base = tt;
+  agrees = plain_agrees;
+}
 
 function_holds : FrameHolds function_place plain_memory
     (body_in_memory function_place.layout function_place.sp function_place.base plain_memory

@@ -10,9 +10,11 @@ invariant_of-result c =
     let text = c.args.text.now in
     let xs = map external_declaration c.args.xs.now in
     let p = c.in_ok-program.program in
-    record { sound = seen_is_sound text xs (program_of p.functions.items p.main p.globals.items)
-      c.requires (nothing_broken text xs p.worst c.in_ok-program.ensures.faults c.in-None.is)
-      c.in_ok-program.ensures.program }
+    record {
+      sound = seen_is_sound text xs (program_of p.functions.items p.main p.globals.items)
+          c.requires (nothing_broken text xs p.worst c.in_ok-program.ensures.faults c.in-None.is)
+          c.in_ok-program.ensures.program;
+    }
 
 pub returns-in-Some-clause-refused : goal.returns-in-Some-clause-refused
 returns-in-Some-clause-refused c = least_broken c.args.text.now

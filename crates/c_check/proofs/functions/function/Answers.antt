@@ -12,13 +12,18 @@ returns c =
     let name = c.in_ok-from_slice.ensures.items ∙ c.spelled.ensures in
     let parameters = c.in_ok-sizes_of-2.ensures in
     let locals = c.in_ok-rest_of.ensures ∙ ap (drop (length c.args.list.now))
-      c.deref.ensures.value in
+    c.deref.ensures.value in
     let returns = c.result_size.ensures in
     function_added c.args.progress.now _ text (block_of c.args.file.now.entries) c.args.returns
-      c.args.name c.args.list.now (trees.statements (map trees.statement c.args.body.now)) _ _ _
-      c.body.new.walk
+    c.args.name c.args.list.now (trees.statements (map trees.statement c.args.body.now)) _ _ _
+    c.body.new.walk
     (map checked.statement c.in_ok-made.made.items) _ c.in_ok-block.ensures.block
-      c.in_ok-sizes_of.ensures refl c.in_ok-block.ensures.faults c.in_ok-made.ensures
-    (λ i. record { name = name i; parameters = parameters i; locals = locals i; returns = returns i;
-      body = checked.statements (map checked.statement c.in_ok-made.made.items) })
+    c.in_ok-sizes_of.ensures refl c.in_ok-block.ensures.faults c.in_ok-made.ensures
+    (λ i. record {
+      name = name i;
+      parameters = parameters i;
+      locals = locals i;
+      returns = returns i;
+      body = checked.statements (map checked.statement c.in_ok-made.made.items);
+    })
     c.in_ok-push.ensures.items refl refl

@@ -9,7 +9,7 @@ loop-i-preserved c =
     let list = c.args.list.now in
     let below : c.loop-i.i < length list = omega arith in
     parameters_on c.args.text.now list c.loop-i.i _ (block_of c.loop-i.block.entries)
-      (block_of c.parameter.new.block.entries) (least_of c.args.worst.now) (least_of c.loop-i.worst)
-      (least_of c.parameter.new.worst)
+    (block_of c.parameter.new.block.entries) (least_of c.args.worst.now) (least_of c.loop-i.worst)
+    (least_of c.parameter.new.worst)
     (next_at list c.loop-i.i _ below) c.in_ok-parameter.ensures.block
-      c.in_ok-parameter.ensures.faults c.loop-i.invariant
+    c.in_ok-parameter.ensures.faults c.loop-i.invariant

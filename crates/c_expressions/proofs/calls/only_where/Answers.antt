@@ -8,5 +8,5 @@ use Rattle.c_types.specs.Views.{typed_node}
 pub returns-clause-faults : goal.returns-clause-faults
 returns-clause-faults c = λ first fs p.
     refused_kept first (least_of c.args.worst.now) (least_of c.add.new.self) c.args.allowed
-      c.args.at c.args.fault fs (record { found = option_map typed_node c.args.found; faults = fs })
+    c.args.at c.args.fault fs (record { found = option_map typed_node c.args.found; faults = fs })
     c.if-allowed.false p c.add.ensures

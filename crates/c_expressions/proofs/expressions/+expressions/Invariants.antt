@@ -12,12 +12,12 @@ abbrev pub invariant-pass_all-loop-e : goal.invariant-pass_all-loop-e
 invariant-pass_all-loop-e l =
     (l.i ≡ l.e-index)
     × StillToPass (names_of l.context) (least_of l.initial.worst)
-      (pass_all (map wanted l.wants) (resolved_all (names_of l.context) l.given))
-      (option_map (λ v. map nodes.expression v.items) l.passed) (least_of l.worst)
-      (drop l.e-index l.wants) (drop l.e-index l.given)
+    (pass_all (map wanted l.wants) (resolved_all (names_of l.context) l.given))
+    (option_map (λ v. map nodes.expression v.items) l.passed) (least_of l.worst)
+    (drop l.e-index l.wants) (drop l.e-index l.given)
 
 abbrev pub invariant-resolve_all-loop-e : goal.invariant-resolve_all-loop-e
 invariant-resolve_all-loop-e l =
     kept (least_of l.initial.worst) (faults_of (resolved_all (names_of l.context) l.given))
-      ≡ kept (least_of l.worst) (faults_of (resolved_all (names_of l.context)
-        (drop l.e-index l.given)))
+    ≡ kept (least_of l.worst) (faults_of (resolved_all (names_of l.context)
+    (drop l.e-index l.given)))

@@ -15,8 +15,8 @@ returns-clause-faults c = λ first fs p.
     let s = names_of c.args.context.now in
     let e = expression c.args.target.now in
     refused_kept first (least_of c.args.worst.now) (least_of c.add.new.self) (is_lvalue s e)
-      (start e) NotLvalue fs (assigning c.args.operator c.args.at fs
-      (option_map typed_node c.args.a) (option_map typed_node c.args.b))
+    (start e) NotLvalue fs (assigning c.args.operator c.args.at fs
+    (option_map typed_node c.args.a) (option_map typed_node c.args.b))
     (sym c.is_lvalue.ensures ∙ c.if-is_lvalue.false) p
-      (c.add.ensures ∙ ap (λ k. kept (least_of c.args.worst.now) (fault_at k NotLvalue))
-      c.start.ensures)
+    (c.add.ensures ∙ ap (λ k. kept (least_of c.args.worst.now) (fault_at k NotLvalue))
+    c.start.ensures)

@@ -16,16 +16,16 @@ returns-clause-faults c = λ first fs p.
     let s = names_of c.args.context.now in
     let e = expression c.args.operand.now in
     refused_kept first (least_of c.args.worst.now) (least_of c.add.new.self)
-      (operand_is_lvalue c.args.operator s e) (start e) NotLvalue fs
-      (rule_1 c.args.at (unary_of c.args.operator) fs (option_map typed_node c.args.a))
+    (operand_is_lvalue c.args.operator s e) (start e) NotLvalue fs
+    (rule_1 c.args.at (unary_of c.args.operator) fs (option_map typed_node c.args.a))
     (sym c.operand_is_lvalue.ensures ∙ c.if-operand_is_lvalue.false) p
-      (c.add.ensures ∙ ap (λ k. kept (least_of c.args.worst.now) (fault_at k NotLvalue))
-      c.start.ensures)
+    (c.add.ensures ∙ ap (λ k. kept (least_of c.args.worst.now) (fault_at k NotLvalue))
+    c.start.ensures)
 
 pub returns-then-operand_is_lvalue-clause-found : goal.returns-then-operand_is_lvalue-clause-found
 returns-then-operand_is_lvalue-clause-found c =
     let e = expression c.args.operand.now in
     IfOk-weaker c.unary.result _ _
     (λ r h. λ fs. h fs ∙ ap (λ b. (given_that b (start e) NotLvalue fs
-      (rule_1 c.args.at (unary_of c.args.operator) fs (option_map typed_node c.args.a))).found)
-      (sym c.if-operand_is_lvalue.true ∙ c.operand_is_lvalue.ensures)) c.unary.ensures.found
+    (rule_1 c.args.at (unary_of c.args.operator) fs (option_map typed_node c.args.a))).found)
+    (sym c.if-operand_is_lvalue.true ∙ c.operand_is_lvalue.ensures)) c.unary.ensures.found

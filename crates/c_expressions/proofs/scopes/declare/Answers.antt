@@ -6,5 +6,5 @@ use Rattle.c_expressions.specs.Views.{block_of}
 pub returns : goal.returns
 returns c =
     ap block_of c.in_ok-insert.ensures.entries
-      ∙ declared_new c.args.block.now.entries c.args.name c.args.meaning
-        (sym c.is_taken.ensures ∙ c.if-is_taken.false)
+    ∙ declared_new c.args.block.now.entries c.args.name c.args.meaning
+    (sym c.is_taken.ensures ∙ c.if-is_taken.false)

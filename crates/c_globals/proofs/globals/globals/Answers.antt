@@ -14,4 +14,4 @@ pub returns : goal.returns
 returns c =
     let past : length c.args.list.now ≤ c.loop-g.g-index = omega (arith, c.loop-g-test.false) in
     globals_end c.args.text.now c.args.base c.args.list.now c.loop-g.g-index c.args.file.now
-      c.loop-g.file past c.loop-g.invariant
+    c.loop-g.file past c.loop-g.invariant

@@ -13,8 +13,8 @@ returns c =
     let of : CType = record { base = c.args.base; pointers = l.pointers } in
     let block = c.args.block.now.entries in
     declared_local (environment c.args.env.now) c.args.base l c.args.walk.now _ _ _ _ block _
-      c.count_of-number.ensures
+    c.count_of-number.ensures
     (c.in_ok-declare.ensures ∙ ap (λ k. with_name (block_of block) k
-      (LocalVariable c.count_of-number.result of)) c.spelled.ensures)
+    (LocalVariable c.count_of-number.result of)) c.spelled.ensures)
     (c.in_ok-push.ensures.items ∙ ap (λ k. c.args.walk.now.sizes.items ++ k ∷ []) c.size_of.ensures)
-      refl c.check_local.ensures c.in_ok-value.ensures
+    refl c.check_local.ensures c.in_ok-value.ensures

@@ -7,4 +7,4 @@ abbrev pub invariant-loop-local : goal.invariant-loop-local
 invariant-loop-local l =
     let a = environment l.env in
     StillToDeclare a l.base (rest_of a l.base l.locals l.initial.block.entries l.initial.walk)
-      l.initial.walk l.made.items (drop l.local-index l.locals) l.block.entries l.walk
+    l.initial.walk l.made.items (drop l.local-index l.locals) l.block.entries l.walk

@@ -9,6 +9,6 @@ pub returns : goal.returns
 returns c =
     let x = expression c.args.e.now in
     ruled_at c.args.worst.now _ _ _ (resolved_at (environment c.args.env.now)
-      (block_of c.args.block.now.entries) x) c.to_type.result (definitions.to_type c.args.t)
-      c.start.result (start x) c.start.ensures c.in_ok-found.ensures.found
-      c.in_ok-found.ensures.faults c.to_type.ensures
+    (block_of c.args.block.now.entries) x) c.to_type.result (definitions.to_type c.args.t)
+    c.start.result (start x) c.start.ensures c.in_ok-found.ensures.found
+    c.in_ok-found.ensures.faults c.to_type.ensures

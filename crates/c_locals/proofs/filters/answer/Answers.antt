@@ -9,6 +9,6 @@ pub returns : goal.returns
 returns c =
     let x = expression c.args.e.now in
     ruled_at c.args.worst.now _ _ _ (filter_resolved_at (environment c.args.env.now)
-      (block_of c.args.block.now.entries) x) c.to_answer.result definitions.to_answer c.start.result
-      (start x) c.start.ensures c.in_ok-found.ensures.found c.in_ok-found.ensures.faults
-      c.to_answer.ensures
+    (block_of c.args.block.now.entries) x) c.to_answer.result definitions.to_answer c.start.result
+    (start x) c.start.ensures c.in_ok-found.ensures.found c.in_ok-found.ensures.faults
+    c.to_answer.ensures

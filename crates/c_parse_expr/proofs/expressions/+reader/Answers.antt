@@ -49,8 +49,8 @@ expression-returns-in_err-following-clause-refused t c =
     let low = c.loop-alloc.invariant.0 in
     rw (p.1, p.2) (placed_so c.in_err-following.field-0.0 _ _ _ _ _ _ _
     (step_wraps c.args.level c.args.room (expression c.loop-alloc.left.expr) c.args.text.now
-      c.args.tokens.now c.loop-alloc.left.rest.now c.loop-alloc.invariant.1 c.loop-alloc.invariant.2
-      (omega arith) (omega arith))
+    c.args.tokens.now c.loop-alloc.left.rest.now c.loop-alloc.invariant.1 c.loop-alloc.invariant.2
+    (omega arith) (omega arith))
     c.in_err-following.ensures.refused)
 
 pub expression-loop-alloc-preserved : goal.expression-loop-alloc-preserved
@@ -66,7 +66,7 @@ expression-loop-alloc-preserved t c =
     let rest : c.in_ok-left-2.left.rest.now ≡ mid = c.in_ok-left-2.ensures.rest in
     let found = c.in_ok-following.ensures.found in
     let d : Derives text c.args.level (steps.apply left s) ts mid = continues text c.args.level left
-      s ts c.loop-alloc.left.rest.now mid c.loop-alloc.invariant.1 (omega arith) found in
+    s ts c.loop-alloc.left.rest.now mid c.loop-alloc.invariant.1 (omega arith) found in
     let h = applied_height left s in
     let k = ap height made in
     let a = c.loop-alloc.left.exact in
@@ -76,8 +76,8 @@ expression-loop-alloc-preserved t c =
     let fits = c.in_ok-following.ensures.fits in (
       omega arith,
       subst (λ (x : Expression). Derives text c.args.level x ts c.in_ok-left-2.left.rest.now)
-        (sym made) (subst (λ (z : List Token). Derives text c.args.level (steps.apply left s) ts z)
-        (sym rest) d),
+          (sym made) (subst (λ (z : List Token). Derives text c.args.level (steps.apply left s) ts z)
+          (sym rest) d),
       subst (λ (x : Expression). Closes x c.in_ok-left-2.left.rest.now) (sym made) (subst (λ (z : List Token). Closes (steps.apply left s) z) (sym rest) found.closes),
     )
 
@@ -91,8 +91,8 @@ pub enclosed-returns-in_err-inner-clause-refused : goal.enclosed-returns-in_err-
 enclosed-returns-in_err-inner-clause-refused t c =
     let p = err_from_is_err_and c.from_residual.result c.from_residual.ensures.1 in
     rw (p.1, p.2) (placed_so c.in_err-inner.field-0.0 _ _ _ _ _ _ _
-      (enclosed_wraps c.args.close c.args.room c.args.text.now c.args.tokens.now c.requires.close)
-      c.in_err-inner.ensures.refused)
+    (enclosed_wraps c.args.close c.args.room c.args.text.now c.args.tokens.now c.requires.close)
+    c.in_err-inner.ensures.refused)
 
 pub enclosed-returns-in-None-clause-refused : goal.enclosed-returns-in-None-clause-refused
 enclosed-returns-in-None-clause-refused t c =
@@ -100,25 +100,25 @@ enclosed-returns-in-None-clause-refused t c =
     let low = c.in_ok-inner.ensures.low in
     placed_as _ _ _ _ _ _ c.unexpected.ensures
     (unclosed c.args.close c.args.room (expression c.in_ok-inner.inner.expr) c.args.text.now
-      c.args.tokens.now c.in_ok-inner.inner.rest.now c.requires.close c.in_ok-inner.ensures.found
-      c.in_ok-inner.ensures.stops c.in-None.ensures.none (omega arith))
+    c.args.tokens.now c.in_ok-inner.inner.rest.now c.requires.close c.in_ok-inner.ensures.found
+    c.in_ok-inner.ensures.stops c.in-None.ensures.none (omega arith))
 
 -- ---- steps
 
 pub step-returns-in_default-clause-refused : goal.step-returns-in_default-clause-refused
 step-returns-in_default-clause-refused t c =
     placed_as _ _ _ _ _ _ c.unexpected.ensures
-      (signless c.args.room (expression c.args.operand.now.expr)
-      (follows c.args.operand.now.rest.now) c.args.text.now c.args.operand.now.rest.now
-      c.in_default.ensures.none)
+    (signless c.args.room (expression c.args.operand.now.expr)
+    (follows c.args.operand.now.rest.now) c.args.text.now c.args.operand.now.rest.now
+    c.in_default.ensures.none)
 
 pub step-returns-in_default-operation_of-clause-refused : goal.step-returns-in_default-operation_of-clause-refused
 step-returns-in_default-operation_of-clause-refused t c =
     placed_as _ _ _ _ _ _ c.unexpected-in_default-operation_of.ensures
     (no_operator_there c.args.room (expression c.args.operand.now.expr)
-      (follows c.args.operand.now.rest.now) c.in-Some.punctuator c.in-Some.at c.args.text.now
-      c.args.operand.now.rest.now c.in-Some.rest.now c.in-Some.ensures.found
-      (sym c.in_default-operation_of.ensures))
+    (follows c.args.operand.now.rest.now) c.in-Some.punctuator c.in-Some.at c.args.text.now
+    c.args.operand.now.rest.now c.in-Some.rest.now c.in-Some.ensures.found
+    (sym c.in_default-operation_of.ensures))
 
 pub step-returns-then-bound-rank-clause-refused : goal.step-returns-then-bound-rank-clause-refused
 step-returns-then-bound-rank-clause-refused t c =
@@ -128,8 +128,8 @@ step-returns-then-bound-rank-clause-refused t c =
     let n = c.if-bound-rank.true in
     placed_as _ _ _ _ _ _ c.unexpected-then-bound-rank.ensures
     (loose_there c.args.room e (follows c.args.operand.now.rest.now) c.in-Some.punctuator
-      c.in-Some-operation_of.operation c.in-Some.at c.args.text.now c.args.operand.now.rest.now
-      c.in-Some.rest.now c.in-Some.ensures.found (sym c.in-Some-operation_of.ensures) (omega arith))
+    c.in-Some-operation_of.operation c.in-Some.at c.args.text.now c.args.operand.now.rest.now
+    c.in-Some.rest.now c.in-Some.ensures.found (sym c.in-Some-operation_of.ensures) (omega arith))
 
 pub step-returns-then-room-operand-clause-refused : goal.step-returns-then-room-operand-clause-refused
 step-returns-then-room-operand-clause-refused t c =
@@ -141,8 +141,8 @@ step-returns-then-room-operand-clause-refused t c =
     let x = c.args.operand.now.exact in
     placed_as _ _ _ _ _ _ c.too_deep.ensures
     (high_there c.args.room e c.in-Some.punctuator c.in-Some-operation_of.operation c.in-Some.at
-      c.args.text.now c.args.operand.now.rest.now c.in-Some.rest.now c.in-Some.ensures.found
-      (sym c.in-Some-operation_of.ensures) (omega arith) (omega arith))
+    c.args.text.now c.args.operand.now.rest.now c.in-Some.rest.now c.in-Some.ensures.found
+    (sym c.in-Some-operation_of.ensures) (omega arith) (omega arith))
 
 pub step-returns-clause-found : goal.step-returns-clause-found
 step-returns-clause-found t c =
@@ -153,8 +153,8 @@ step-returns-clause-found t c =
     let n = c.if-bound-rank.false in
     IfOk-weaker c.operated.result _ _
     (λ x h. is_step text e c.in-Some-operation_of.operation c.in-Some.punctuator c.in-Some.at
-      (code_steps.step x.step) c.args.operand.now.rest.now c.in-Some.rest.now x.rest.now
-      (sym c.in-Some-operation_of.ensures) (omega arith) c.in-Some.ensures.found h)
+    (code_steps.step x.step) c.args.operand.now.rest.now c.in-Some.rest.now x.rest.now
+    (sym c.in-Some-operation_of.ensures) (omega arith) c.in-Some.ensures.found h)
     c.operated.ensures.found
 
 pub step-returns-clause-refused : goal.step-returns-clause-refused
@@ -168,17 +168,17 @@ step-returns-clause-refused t c =
     let x = c.args.operand.now.exact in
     IfErr-weaker c.operated.result _ _
     (λ y h. placed_so y _ _ _ _ _ _ _ (after_punctuator_wraps c.args.room e c.in-Some.punctuator
-      c.in-Some-operation_of.operation c.in-Some.at text c.args.operand.now.rest.now
-      c.in-Some.rest.now c.in-Some.ensures.found (sym c.in-Some-operation_of.ensures) (omega arith)
-      (omega arith)) h)
+    c.in-Some-operation_of.operation c.in-Some.at text c.args.operand.now.rest.now
+    c.in-Some.rest.now c.in-Some.ensures.found (sym c.in-Some-operation_of.ensures) (omega arith)
+    (omega arith)) h)
     c.operated.ensures.refused
 
 pub chosen-returns-in_err-first-clause-refused : goal.chosen-returns-in_err-first-clause-refused
 chosen-returns-in_err-first-clause-refused t c =
     let p = err_from_is_err_and c.from_residual.result c.from_residual.ensures.1 in
     rw (p.1, p.2) (placed_so c.in_err-first.field-0.0 _ _ _ _ _ _ _
-      (first_branch_wraps c.args.room c.args.at c.args.text.now c.args.tokens.now)
-      c.in_err-first.ensures.refused)
+    (first_branch_wraps c.args.room c.args.at c.args.text.now c.args.tokens.now)
+    c.in_err-first.ensures.refused)
 
 pub chosen-returns-in_err-second-clause-refused : goal.chosen-returns-in_err-second-clause-refused
 chosen-returns-in_err-second-clause-refused t c =
@@ -187,7 +187,7 @@ chosen-returns-in_err-second-clause-refused t c =
     let low = c.in_ok-first.ensures.low in
     rw (p.1, p.2) (placed_so c.in_err-second.field-0.0 _ _ _ _ _ _ _
     (second_branch_wraps c.args.room c.args.at (expression c.in_ok-first.first.expr) c.args.text.now
-      c.args.tokens.now c.in_ok-first.first.rest.now c.in_ok-first.ensures.found (omega arith))
+    c.args.tokens.now c.in_ok-first.first.rest.now c.in_ok-first.ensures.found (omega arith))
     c.in_err-second.ensures.refused)
 
 pub operated-returns-in_err-inner-in-Index-clause-refused : goal.operated-returns-in_err-inner-in-Index-clause-refused
@@ -195,8 +195,8 @@ operated-returns-in_err-inner-in-Index-clause-refused t c =
     let p = err_from_is_err_and c.from_residual.result c.from_residual.ensures.1 in
     let e = c.in_err-inner-in-Index.field-0.0 in
     rw (p.1, p.2) (subst (λ (o : Operation). IsPlacedRefusal e (NoneAfterPunctuator c.args.room o)
-      (HasAfterPunctuator c.args.room o c.args.at) c.args.text.now c.args.tokens.now)
-      (sym c.in-Index.is)
+    (HasAfterPunctuator c.args.room o c.args.at) c.args.text.now c.args.tokens.now)
+    (sym c.in-Index.is)
     (placed_so e _ _ _ _ _ _ _ (index_wraps c.args.room c.args.at c.args.text.now c.args.tokens.now) c.in_err-inner-in-Index.ensures.refused))
 
 pub operated-returns-in_err-value-in-Infix-clause-refused : goal.operated-returns-in_err-value-in-Infix-clause-refused
@@ -206,11 +206,11 @@ operated-returns-in_err-value-in-Infix-clause-refused t c =
     let e = k.field-0.0 in
     let p = err_from_is_err_and c.from_residual-in_err-value-in-Infix.result c.from_residual-in_err-value-in-Infix.ensures.1 in
     let h = subst (λ (l : ℕ). IsPlacedRefusal e (NoExpression l c.args.room)
-      (HasExpression l c.args.room) c.args.text.now c.args.tokens.now) c.right.ensures
-      k.ensures.refused in
+    (HasExpression l c.args.room) c.args.text.now c.args.tokens.now) c.right.ensures
+    k.ensures.refused in
     rw (p.1, p.2) (subst (λ (o : Operation). IsPlacedRefusal e (NoneAfterPunctuator c.args.room o)
-      (HasAfterPunctuator c.args.room o c.args.at) c.args.text.now c.args.tokens.now)
-      (sym c.in-Infix.is)
+    (HasAfterPunctuator c.args.room o c.args.at) c.args.text.now c.args.tokens.now)
+    (sym c.in-Infix.is)
     (placed_so e _ _ _ _ _ _ _ (right_wraps c.args.room op c.args.at c.args.text.now c.args.tokens.now) h))
 
 pub operated-returns-in_ok-right-in-Infix-clause-found : goal.operated-returns-in_ok-right-in-Infix-clause-found
@@ -235,22 +235,25 @@ pub operand-returns-in-None-clause-refused : goal.operand-returns-in-None-clause
 operand-returns-in-None-clause-refused t c =
     placed_as _ _ _ _ _ _ c.unexpected.ensures
     (wrapped _ _ _ _ 0 _ _ _ _ (information_wraps c.args.level c.args.room c.args.text.now
-      c.args.tokens.now c.in_default.ensures.none c.in_default-name.ensures.none
-      c.in-None.ensures.none) c.departure.ensures)
+    c.args.tokens.now c.in_default.ensures.none c.in_default-name.ensures.none
+    c.in-None.ensures.none) c.departure.ensures)
 
 pub named-returns-in_err-found-in-Some-clause-refused : goal.named-returns-in_err-found-in-Some-clause-refused
 named-returns-in_err-found-in-Some-clause-refused t c =
     let p = err_from_is_err_and c.from_residual.result c.from_residual.ensures.1 in
     rw (p.1, p.2) (placed_so c.in_err-found-in-Some.field-0.0 _ _ _ _ _ _ _
     (call_wraps c.args.level c.args.room c.args.name c.args.text.now c.args.tokens.now
-      c.args.rest.now c.in-Some.rest.now c.requires.name c.in-Some.ensures.found)
-      c.in_err-found-in-Some.ensures.refused)
+    c.args.rest.now c.in-Some.rest.now c.requires.name c.in-Some.ensures.found)
+    c.in_err-found-in-Some.ensures.refused)
 
 pub named-returns-in-None-clause-found : goal.named-returns-in-None-clause-found
 named-returns-in-None-clause-found t c =
-    rw c.variable.ensures (record { derives =
-      record { fits = omega arith; spells = c.requires.name }; head = tt;
-      closes = no_parenthesis c.args.rest.now c.in-None.ensures.none })
+    rw c.variable.ensures (record {
+      derives =
+          record { fits = omega arith; spells = c.requires.name };
+      head = tt;
+      closes = no_parenthesis c.args.rest.now c.in-None.ensures.none;
+    })
 
 pub named-returns-in_ok-found-in-Some-clause-found :
     goal.named-returns-in_ok-found-in-Some-clause-found
@@ -273,26 +276,26 @@ named-returns-in_ok-found-in-Some-clause-found t c =
 pub signed-returns-then-not-opens-clause-refused : goal.signed-returns-then-not-opens-clause-refused
 signed-returns-then-not-opens-clause-refused t c =
     placed_as _ _ _ _ _ _ c.unexpected.ensures
-      (no_operand_there c.args.level c.args.room c.args.punctuator c.args.at c.args.text.now
-      c.args.tokens.now c.args.rest.now c.requires.punctuator
-      (c.opens.ensures.never c.if-not-opens.true))
+    (no_operand_there c.args.level c.args.room c.args.punctuator c.args.at c.args.text.now
+    c.args.tokens.now c.args.rest.now c.requires.punctuator
+    (c.opens.ensures.never c.if-not-opens.true))
 
 pub signed-returns-then-room-eq0-clause-refused : goal.signed-returns-then-room-eq0-clause-refused
 signed-returns-then-room-eq0-clause-refused t c =
     let o = c.opens.ensures.opens c.if-not-opens.false in
     subst (λ (z : ℕ). IsPlacedRefusal c.too_deep.result (NoOperand c.args.level z)
-      (HasExpression c.args.level z) c.args.text.now c.args.tokens.now) (sym c.if-room-eq0.true)
+    (HasExpression c.args.level z) c.args.text.now c.args.tokens.now) (sym c.if-room-eq0.true)
     (placed_as _ _ _ _ _ _ c.too_deep.ensures
-      (no_room_there c.args.level c.args.punctuator c.args.at c.args.text.now c.args.tokens.now
-      c.args.rest.now c.requires.level c.requires.punctuator o))
+    (no_room_there c.args.level c.args.punctuator c.args.at c.args.text.now c.args.tokens.now
+    c.args.rest.now c.requires.level c.requires.punctuator o))
 
 pub signed-returns-in_err-inner-clause-refused : goal.signed-returns-in_err-inner-clause-refused
 signed-returns-in_err-inner-clause-refused t c =
     let p = err_from_is_err_and c.from_residual.result c.from_residual.ensures.1 in
     rw (p.1, p.2) (placed_so c.in_err-inner.field-0.0 _ _ _ _ _ _ _
     (prefix_wraps c.args.level c.args.room c.args.punctuator c.in-Some.operator c.args.at
-      c.args.text.now c.args.tokens.now c.args.rest.now c.requires.level
-      (positive c.args.room c.if-room-eq0.false) c.requires.punctuator (sym c.in-Some.ensures))
+    c.args.text.now c.args.tokens.now c.args.rest.now c.requires.level
+    (positive c.args.room c.if-room-eq0.false) c.requires.punctuator (sym c.in-Some.ensures))
     c.in_err-inner.ensures.refused)
 
 pub signed-returns-in_err-inner-2-clause-refused : goal.signed-returns-in_err-inner-2-clause-refused
@@ -300,9 +303,9 @@ signed-returns-in_err-inner-2-clause-refused t c =
     let p = err_from_is_err_and c.from_residual-in_err-inner-2.result c.from_residual-in_err-inner-2.ensures.1 in
     rw (p.1, p.2) (placed_so c.in_err-inner-2.field-0.0 _ _ _ _ _ _ _
     (unary_wraps c.args.level c.args.room c.args.punctuator c.in-Some-unary_of.operator c.args.at
-      c.args.text.now c.args.tokens.now c.args.rest.now c.requires.level
-      (positive c.args.room c.if-room-eq0.false) c.requires.punctuator
-      (sym c.in-Some-unary_of.ensures))
+    c.args.text.now c.args.tokens.now c.args.rest.now c.requires.level
+    (positive c.args.room c.if-room-eq0.false) c.requires.punctuator
+    (sym c.in-Some-unary_of.ensures))
     c.in_err-inner-2.ensures.refused)
 
 pub signed-returns-in-Some-clause-found : goal.signed-returns-in-Some-clause-found
@@ -347,8 +350,8 @@ parenthesised-returns-in_default-clause-refused t c =
     let m = c.if-level-eq-UNARY.false in
     placed_as _ _ _ _ _ _ c.unexpected.ensures
     (cast_unclosed c.args.level c.args.room c.args.at c.in-Some.to c.args.text.now c.args.tokens.now
-      c.args.rest.now c.in-Some.rest.now (omega arith) c.requires.punctuator c.in-Some.ensures.found
-      c.in-Some.ensures.far c.in_default.ensures.none)
+    c.args.rest.now c.in-Some.rest.now (omega arith) c.requires.punctuator c.in-Some.ensures.found
+    c.in-Some.ensures.far c.in_default.ensures.none)
 
 pub parenthesised-returns-in_err-inner-in-Some-clause-refused : goal.parenthesised-returns-in_err-inner-in-Some-clause-refused
 parenthesised-returns-in_err-inner-in-Some-clause-refused t c =
@@ -357,9 +360,9 @@ parenthesised-returns-in_err-inner-in-Some-clause-refused t c =
     let m = c.if-level-eq-UNARY.false in
     rw (p.1, p.2) (placed_so c.in_err-inner-in-Some.field-0.0 _ _ _ _ _ _ _
     (cast_wraps c.args.level c.args.room c.args.at c.in-Some.to c.args.text.now c.args.tokens.now
-      c.args.rest.now c.in-Some.rest.now c.in-Some-after.rest.now (omega arith)
-      c.requires.punctuator c.in-Some.ensures.found c.in-Some.ensures.far
-      c.in-Some-after.ensures.found)
+    c.args.rest.now c.in-Some.rest.now c.in-Some-after.rest.now (omega arith)
+    c.requires.punctuator c.in-Some.ensures.found c.in-Some.ensures.far
+    c.in-Some-after.ensures.found)
     c.in_err-inner-in-Some.ensures.refused)
 
 pub parenthesised-returns-in_ok-operand-in-Some-clause-found :
@@ -397,8 +400,8 @@ pub grouped-returns-in_err-inner-clause-refused : goal.grouped-returns-in_err-in
 grouped-returns-in_err-inner-clause-refused t c =
     let p = err_from_is_err_and c.from_residual.result c.from_residual.ensures.1 in
     rw (p.1, p.2) (placed_so c.in_err-inner.field-0.0 _ _ _ _ _ _ _
-      (group_wraps c.args.level c.args.room c.args.at c.args.text.now c.args.tokens.now
-      c.args.rest.now c.requires.punctuator c.requires.base) c.in_err-inner.ensures.refused)
+    (group_wraps c.args.level c.args.room c.args.at c.args.text.now c.args.tokens.now
+    c.args.rest.now c.requires.punctuator c.requires.base) c.in_err-inner.ensures.refused)
 
 pub grouped-returns-clause-found : goal.grouped-returns-clause-found
 grouped-returns-clause-found t c =
@@ -431,9 +434,9 @@ pub arguments-returns-in_err-first-clause-refused : goal.arguments-returns-in_er
 arguments-returns-in_err-first-clause-refused t c =
     let p = err_from_is_err_and c.from_residual.result c.from_residual.ensures.1 in
     rw (p.1, p.2) (placed_so c.in_err-first.field-0.0 _ _ _ _ _ _ _
-      (first_wraps c.args.room c.args.text.now c.args.tokens.now
-      (positive c.args.room c.if-room-eq0.false) c.in_default.ensures.none)
-      c.in_err-first.ensures.refused)
+    (first_wraps c.args.room c.args.text.now c.args.tokens.now
+    (positive c.args.room c.if-room-eq0.false) c.in_default.ensures.none)
+    c.in_err-first.ensures.refused)
 
 pub arguments-returns-in_err-next-clause-refused : goal.arguments-returns-in_err-next-clause-refused
 arguments-returns-in_err-next-clause-refused t c =
@@ -443,18 +446,18 @@ arguments-returns-in_err-next-clause-refused t c =
     let b = i.exact in
     rw (p.1, p.2) (placed_so c.in_err-next.field-0.0 _ _ _ _ _ _ _
     (next_wraps c.args.room (map expression c.loop-following.exprs.items) c.args.text.now
-      c.args.tokens.now c.loop-following.rest.now c.in-Some-after.following.now
-      (positive c.args.room i.some_room) i.listed i.stops c.in-Some-after.ensures.found
-      (omega arith))
+    c.args.tokens.now c.loop-following.rest.now c.in-Some-after.following.now
+    (positive c.args.room i.some_room) i.listed i.stops c.in-Some-after.ensures.found
+    (omega arith))
     c.in_err-next.ensures.refused)
 
 pub arguments-loop-following-smaller : goal.arguments-loop-following-smaller
 arguments-loop-following-smaller t c =
     let a = shorter.expression c.args.text.now (expression c.in_ok-next.next.expr)
-      c.in-Some-after.following.now c.in_ok-next.next.rest.now c.in_ok-next.ensures.found.spells in
+    c.in-Some-after.following.now c.in_ok-next.next.rest.now c.in_ok-next.ensures.found.spells in
     let b = punctuator_shorter punctuators.Comma c.in-Some-after.ensures.found.0
-      c.loop-following.rest.now c.in-Some-after.following.now c.in-Some-after.ensures.found.1 in
-      omega arith
+    c.loop-following.rest.now c.in-Some-after.following.now c.in-Some-after.ensures.found.1 in
+    omega arith
 
 pub arguments-loop-following-preserved : goal.arguments-loop-following-preserved
 arguments-loop-following-preserved t c =
@@ -475,16 +478,16 @@ arguments-loop-following-preserved t c =
       exact = omega arith;
       listed = subst (λ (z : List Expression). AreListed c.args.text.now z c.args.tokens.now c.in_ok-next.next.rest.now) (sym q)
           (listed_after c.args.text.now (map expression old) e c.args.tokens.now
-            c.loop-following.rest.now c.in-Some-after.following.now c.in_ok-next.next.rest.now
-            i.listed c.in-Some-after.ensures.found c.in_ok-next.ensures.found);
+          c.loop-following.rest.now c.in-Some-after.following.now c.in_ok-next.next.rest.now
+          i.listed c.in-Some-after.ensures.found c.in_ok-next.ensures.found);
       stops = c.in_ok-next.ensures.stops;
     }
 
 pub arguments-returns-in-Some-after-2-clause-found : goal.arguments-returns-in-Some-after-2-clause-found
 arguments-returns-in-Some-after-2-clause-found t c =
     listed_spelled c.args.text.now (map expression c.loop-following.exprs.items) c.args.tokens.now
-      c.loop-following.rest.now c.in-Some-after-2.rest.now c.loop-following.invariant.listed
-      c.in-Some-after-2.ensures.found
+    c.loop-following.rest.now c.in-Some-after-2.rest.now c.loop-following.invariant.listed
+    c.in-Some-after-2.ensures.found
 
 pub arguments-returns-clause-refused : goal.arguments-returns-clause-refused
 arguments-returns-clause-refused t c =
@@ -493,5 +496,5 @@ arguments-returns-clause-refused t c =
     let b = i.exact in
     placed_as _ _ _ _ _ _ c.unexpected.ensures
     (stuck_there c.args.room (map expression c.loop-following.exprs.items) c.args.text.now
-      c.args.tokens.now c.loop-following.rest.now i.listed i.stops c.in-None.ensures.none
-      c.in_default-after.ensures.none (omega arith))
+    c.args.tokens.now c.loop-following.rest.now i.listed i.stops c.in-None.ensures.none
+    c.in_default-after.ensures.none (omega arith))

@@ -16,15 +16,15 @@ pub returns-in-Keyword-clause-begins : goal.returns-in-Keyword-clause-begins
 returns-in-Keyword-clause-begins c = λ h start end rest.
     let q : c.in-Keyword.keyword ≡ keywords.GetExceptionInformation = search rules in
     subst (λ (k : Kind). CanBeginExpression (token k start end ∷ rest)) (sym c.in-Keyword.is)
-      (subst (λ (k : Keyword). CanBeginExpression (token (kinds.Keyword k) start end ∷ rest))
-      (sym q) (keyword_begins start end rest))
+    (subst (λ (k : Keyword). CanBeginExpression (token (kinds.Keyword k) start end ∷ rest))
+    (sym q) (keyword_begins start end rest))
 
 pub returns-in-Keyword-clause-never : goal.returns-in-Keyword-clause-never
 returns-in-Keyword-clause-never c = λ h start end rest.
     let q : c.in-Keyword.keyword ≡ keywords.GetExceptionInformation → ⊥ = search rules in
     subst (λ (k : Kind). NeverBegins (token k start end ∷ rest)) (sym c.in-Keyword.is)
-      (never_kind (kinds.Keyword c.in-Keyword.keyword) start end rest
-      (other_keyword c.in-Keyword.keyword q))
+    (never_kind (kinds.Keyword c.in-Keyword.keyword) start end rest
+    (other_keyword c.in-Keyword.keyword q))
 
 pub returns-in-Reserved-clause-never : goal.returns-in-Reserved-clause-never
 returns-in-Reserved-clause-never c = λ h start end rest. subst

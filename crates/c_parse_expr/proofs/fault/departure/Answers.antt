@@ -10,14 +10,14 @@ returns-in_default c = keyword_gone c.args.text.now c.args.tokens.now c.in_defau
 pub returns-in_default-after : goal.returns-in_default-after
 returns-in_default-after c =
     wrapped _ _ _ _ 0 _ _ _ _ (keyword_there c.args.text.now c.in-Some.field-0-0 c.args.tokens.now
-      c.in-Some.open.now c.in-Some.ensures.found)
+    c.in-Some.open.now c.in-Some.ensures.found)
     (punctuator_gone punctuators.OpenParenthesis from_closing c.args.text.now c.in-Some.open.now
     c.in_default-after.ensures.none)
 
 pub returns-in_default-after-2 : goal.returns-in_default-after-2
 returns-in_default-after-2 c =
     wrapped _ _ _ _ 0 _ _ _ _ (keyword_there c.args.text.now c.in-Some.field-0-0 c.args.tokens.now
-      c.in-Some.open.now c.in-Some.ensures.found)
+    c.in-Some.open.now c.in-Some.ensures.found)
     (wrapped _ _ _ _ 0 _ _ _ _
     (punctuator_there punctuators.OpenParenthesis from_closing c.args.text.now c.in-Some.open.now
     c.in-Some-after.close.now c.in-Some-after.ensures.found)
@@ -27,7 +27,7 @@ returns-in_default-after-2 c =
 pub returns-in_default-after-3 : goal.returns-in_default-after-3
 returns-in_default-after-3 c =
     wrapped _ _ _ _ 0 _ _ _ _ (keyword_there c.args.text.now c.in-Some.field-0-0 c.args.tokens.now
-      c.in-Some.open.now c.in-Some.ensures.found)
+    c.in-Some.open.now c.in-Some.ensures.found)
     (wrapped _ _ _ _ 0 _ _ _ _
     (punctuator_there punctuators.OpenParenthesis from_closing c.args.text.now c.in-Some.open.now
     c.in-Some-after.close.now c.in-Some-after.ensures.found)
@@ -40,7 +40,7 @@ returns-in_default-after-3 c =
 pub returns-in_default-after_word : goal.returns-in_default-after_word
 returns-in_default-after_word c =
     wrapped _ _ _ _ 0 _ _ _ _ (keyword_there c.args.text.now c.in-Some.field-0-0 c.args.tokens.now
-      c.in-Some.open.now c.in-Some.ensures.found)
+    c.in-Some.open.now c.in-Some.ensures.found)
     (wrapped _ _ _ _ 0 _ _ _ _
     (punctuator_there punctuators.OpenParenthesis from_closing c.args.text.now c.in-Some.open.now
     c.in-Some-after.close.now c.in-Some-after.ensures.found)
@@ -51,12 +51,12 @@ returns-in_default-after_word c =
     (punctuator_there punctuators.Arrow from_record c.args.text.now c.in-Some-after-2.arrow.now
     c.in-Some-after-3.record.now c.in-Some-after-3.ensures.found)
     (record_gone (Mark punctuators.Arrow ∷ []) c.args.text.now c.in-Some-after-3.record.now
-      c.in_default-after_word.ensures.none))))
+    c.in_default-after_word.ensures.none))))
 
 pub returns-in-None : goal.returns-in-None
 returns-in-None c =
     wrapped _ _ _ _ 0 _ _ _ _ (keyword_there c.args.text.now c.in-Some.field-0-0 c.args.tokens.now
-      c.in-Some.open.now c.in-Some.ensures.found)
+    c.in-Some.open.now c.in-Some.ensures.found)
     (wrapped _ _ _ _ 0 _ _ _ _
     (punctuator_there punctuators.OpenParenthesis from_closing c.args.text.now c.in-Some.open.now
     c.in-Some-after.close.now c.in-Some-after.ensures.found)
@@ -67,10 +67,10 @@ returns-in-None c =
     (punctuator_there punctuators.Arrow from_record c.args.text.now c.in-Some-after-2.arrow.now
     c.in-Some-after-3.record.now c.in-Some-after-3.ensures.found)
     (wrapped _ _ _ _ 0 _ _ _ _ (record_there (Mark punctuators.Arrow ∷ []) c.args.text.now
-      c.in-Some-after-3.record.now c.in-Some-after_word.following.now
-      c.in-Some-after_word.ensures.found)
+    c.in-Some-after-3.record.now c.in-Some-after_word.following.now
+    c.in-Some-after_word.ensures.found)
     (punctuator_gone punctuators.Arrow ([]) c.args.text.now c.in-Some-after_word.following.now
-      c.in-None.ensures.none)))))
+    c.in-None.ensures.none)))))
 
 pub field_departure-requires : goal.field_departure-requires
 field_departure-requires c = λ field end h. c.requires c.in-Some.field-0-0 field end
@@ -95,7 +95,7 @@ field_departure-requires c = λ field end h. c.requires c.in-Some.field-0-0 fiel
 pub returns-in-Some-after-4 : goal.returns-in-Some-after-4
 returns-in-Some-after-4 c =
     wrapped _ _ _ _ 0 _ _ _ _ (keyword_there c.args.text.now c.in-Some.field-0-0 c.args.tokens.now
-      c.in-Some.open.now c.in-Some.ensures.found)
+    c.in-Some.open.now c.in-Some.ensures.found)
     (wrapped _ _ _ _ 0 _ _ _ _
     (punctuator_there punctuators.OpenParenthesis from_closing c.args.text.now c.in-Some.open.now
     c.in-Some-after.close.now c.in-Some-after.ensures.found)
@@ -106,10 +106,10 @@ returns-in-Some-after-4 c =
     (punctuator_there punctuators.Arrow from_record c.args.text.now c.in-Some-after-2.arrow.now
     c.in-Some-after-3.record.now c.in-Some-after-3.ensures.found)
     (wrapped _ _ _ _ 0 _ _ _ _ (record_there (Mark punctuators.Arrow ∷ []) c.args.text.now
-      c.in-Some-after-3.record.now c.in-Some-after_word.following.now
-      c.in-Some-after_word.ensures.found)
+    c.in-Some-after-3.record.now c.in-Some-after_word.following.now
+    c.in-Some-after_word.ensures.found)
     (wrapped _ _ _ _ 0 _ _ _ _ (punctuator_there punctuators.Arrow ([]) c.args.text.now
-      c.in-Some-after_word.following.now c.in-Some-after-4.field.now
-      c.in-Some-after-4.ensures.found)
+    c.in-Some-after_word.following.now c.in-Some-after-4.field.now
+    c.in-Some-after-4.ensures.found)
     (wrapped _ _ _ _ 0 _ _ _ _ (field_there c.args.text.now c.in-Some-after-4.field.now)
-      c.field_departure.ensures))))))
+    c.field_departure.ensures))))))

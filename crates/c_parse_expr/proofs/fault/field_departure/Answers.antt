@@ -12,7 +12,7 @@ returns-in_default-after c = no_bracket_there c.args.text.now c.args.tokens.now
 pub returns-in-Some-integer : goal.returns-in-Some-integer
 returns-in-Some-integer c =
     no_close_there c.args.text.now c.args.tokens.now c.in-Some.bracket.now c.in-Some-after.index.now
-      c.in-Some-integer.rest.now c.in-Some-integer.field-0-0 c.in-Some-integer.field-0-1 c.requires
+    c.in-Some-integer.rest.now c.in-Some-integer.field-0-0 c.in-Some-integer.field-0-1 c.requires
     c.in-Some.ensures.found c.in-Some-after.ensures.found c.in-Some-integer.ensures.found
 
 pub returns-in-None : goal.returns-in-None

@@ -9,7 +9,7 @@ returns-then-is_some-clause-opens c = λ h.
     elim c.if-eq.branch [
       | then-eq w ↦ Parenthesis (search rules)
       | else-eq w ↦ operates_by c.args.punctuator
-        (sym (w.value-is ∙ w.is_some.ensures ∙ ap is_some w.unary_of.ensures) ∙ c.if-is_some.true)
+          (sym (w.value-is ∙ w.is_some.ensures ∙ ap is_some w.unary_of.ensures) ∙ c.if-is_some.true)
     ]
 
 pub returns-else-is_some-clause-opens : goal.returns-else-is_some-clause-opens

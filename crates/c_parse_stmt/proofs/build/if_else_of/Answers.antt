@@ -14,8 +14,8 @@ unfolding roll-Stmt Carrier.roll
 returns-in-Ok-clause-made c =
     let k = c.in-Ok in
     ap statement (rolls-If c.args.at c.args.condition k.then (Some k.otherwise))
-      ∙ fold-roll-Stmt Statement node (If_F c.args.at c.args.condition k.then (Some k.otherwise))
-      ∙ ap (λ (s : Stmt). IfElse c.args.at (expression c.args.condition) (statement s)
-        (statement k.otherwise.value)) k.ensures.first
-      ∙ ap (λ (s : Stmt). IfElse c.args.at (expression c.args.condition) (statement c.args.then)
-        (statement s)) k.ensures.second
+    ∙ fold-roll-Stmt Statement node (If_F c.args.at c.args.condition k.then (Some k.otherwise))
+    ∙ ap (λ (s : Stmt). IfElse c.args.at (expression c.args.condition) (statement s)
+    (statement k.otherwise.value)) k.ensures.first
+    ∙ ap (λ (s : Stmt). IfElse c.args.at (expression c.args.condition) (statement c.args.then)
+    (statement s)) k.ensures.second

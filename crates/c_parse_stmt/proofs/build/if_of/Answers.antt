@@ -14,5 +14,5 @@ unfolding roll-Stmt Carrier.roll
 returns-in-Ok-clause-made c =
     let k = c.in-Ok in
     ap statement (rolls-If c.args.at c.args.condition k.then None)
-      ∙ fold-roll-Stmt Statement node (If_F c.args.at c.args.condition k.then None)
-      ∙ ap (λ (s : Stmt). If c.args.at (expression c.args.condition) (statement s)) k.ensures.ok
+    ∙ fold-roll-Stmt Statement node (If_F c.args.at c.args.condition k.then None)
+    ∙ ap (λ (s : Stmt). If c.args.at (expression c.args.condition) (statement s)) k.ensures.ok

@@ -9,24 +9,24 @@ use Rattle.c_parse_stmt.proofs.endings.except_clause.Goals as goal
 pub returns-then-room-eq0-clause-refused : goal.returns-then-room-eq0-clause-refused
 returns-then-room-eq0-clause-refused c =
     λ following k whole body ts g. except_too_deep c.args.room c.args.at whole c.args.left body
-      c.args.text.now ts following c.args.tokens.now c.if-room-eq0.true g k
+    c.args.text.now ts following c.args.tokens.now c.if-room-eq0.true g k
 
 pub returns-in_err-filter-clause-refused : goal.returns-in_err-filter-clause-refused
 returns-in_err-filter-clause-refused c =
     let p = err_from_is_err_and c.from_residual.result c.from_residual.ensures.1 in
     rw (p.1, p.2) (λ following k whole body ts g. placed c.in_err-filter.field-0.0 _ _ _ _
-      c.args.text.now c.args.tokens.now ts (filter_fails c.args.room c.args.at whole c.args.left
-      body c.args.text.now ts following c.args.tokens.now (omega arith) g k)
-      c.in_err-filter.ensures.refused)
+    c.args.text.now c.args.tokens.now ts (filter_fails c.args.room c.args.at whole c.args.left
+    body c.args.text.now ts following c.args.tokens.now (omega arith) g k)
+    c.in_err-filter.ensures.refused)
 
 pub returns-in-Err-clause-refused : goal.returns-in-Err-clause-refused
 returns-in-Err-clause-refused c =
     let f = c.in_ok-filter in
     λ following k whole body ts g. placed c.in-Err.refusal _ _ _ _ c.args.text.now f.following.now
-      ts (except_open c.args.room c.args.at whole c.args.left
-      (left_of c.args.left.locals f.funclets) body (expression f.filter) c.args.text.now ts
-      following c.args.tokens.now f.following.now (omega arith) g k f.ensures.found f.ensures.low
-      f.ensures.taken refl) c.in-Err.ensures.refused
+    ts (except_open c.args.room c.args.at whole c.args.left
+    (left_of c.args.left.locals f.funclets) body (expression f.filter) c.args.text.now ts
+    following c.args.tokens.now f.following.now (omega arith) g k f.ensures.found f.ensures.low
+    f.ensures.taken refl) c.in-Err.ensures.refused
 
 pub returns-in-Ok-clause-found : goal.returns-in-Ok-clause-found
 returns-in-Ok-clause-found c =

@@ -13,4 +13,4 @@ returns-in-Some-word-clause-refused c = refused_so c.finally_clause.result _ _
 pub returns-in-None-clause-refused : goal.returns-in-None-clause-refused
 returns-in-None-clause-refused c =
     rw c.unexpected.ensures (λ whole body ts g. unguarded_fails c.args.room whole c.args.left body
-      c.args.text.now ts c.args.tokens.now g c.in_default.ensures.none c.in-None.ensures.none)
+    c.args.text.now ts c.args.tokens.now g c.in_default.ensures.none c.in-None.ensures.none)

@@ -12,8 +12,8 @@ pub returns-in_err-parsed-in-Some-clause-refused : goal.returns-in_err-parsed-in
 returns-in_err-parsed-in-Some-clause-refused c =
     let p = err_from_is_err_and c.from_residual.result c.from_residual.ensures.1 in
     rw (p.1, p.2) (placed_so c.in_err-parsed-in-Some.field-0.0 _ _ _ _ c.args.text.now _ _
-      (in_initialiser c.args.text.now c.args.room c.args.tokens.now c.in-Some.value.now
-      c.in-Some.ensures.found (omega arith)) c.in_err-parsed-in-Some.ensures.refused)
+    (in_initialiser c.args.text.now c.args.room c.args.tokens.now c.in-Some.value.now
+    c.in-Some.ensures.found (omega arith)) c.in_err-parsed-in-Some.ensures.refused)
 
 pub returns-then-follows-le-ASSIGNMENT-clause-refused :
     goal.returns-then-follows-le-ASSIGNMENT-clause-refused

@@ -10,12 +10,12 @@ returns-in_err-initialiser-in-Some-clause-refused c =
     let p = err_from_is_err_and r.result r.ensures.1 in
     let s = c.stars-pointers in
     rw (p.1, p.2) (placed_so c.in_err-initialiser-in-Some.field-0.0 _ _ _ _ c.args.text.now _ _
-      (in_local c.args.text.now c.args.room s.result.0 c.in-Some.name c.args.tokens.now
-      s.result.1.now c.in-Some.following.now s.ensures.found c.in-Some.ensures.found)
-      c.in_err-initialiser-in-Some.ensures.refused)
+    (in_local c.args.text.now c.args.room s.result.0 c.in-Some.name c.args.tokens.now
+    s.result.1.now c.in-Some.following.now s.ensures.found c.in-Some.ensures.found)
+    c.in_err-initialiser-in-Some.ensures.refused)
 
 pub returns-in-None-clause-refused : goal.returns-in-None-clause-refused
 returns-in-None-clause-refused c =
     let s = c.stars-pointers in
     rw c.unexpected.ensures (no_name c.args.text.now c.args.room s.result.0 c.args.tokens.now
-      s.result.1.now s.ensures.found s.ensures.all c.in-None.ensures.none)
+    s.result.1.now s.ensures.found s.ensures.all c.in-None.ensures.none)

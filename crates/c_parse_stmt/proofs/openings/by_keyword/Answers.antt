@@ -9,10 +9,10 @@ returns-in_default c =
     record {
       found = c.evaluate.ensures.found;
       refused = placed_so c.evaluate.result _ _ _ _ c.args.text.now c.args.tokens.now
-        c.args.tokens.now
+          c.args.tokens.now
           (evaluation_after c.args.room c.args.at c.args.left c.args.keyword c.args.text.now
-            c.args.tokens.now c.args.following.now c.requires
-            (plain_by c.args.keyword d.not-If d.not-While d.not-Do d.not-For d.not-Try d.not-Return
-            d.not-Break d.not-Continue d.not-Leave))
+          c.args.tokens.now c.args.following.now c.requires
+          (plain_by c.args.keyword d.not-If d.not-While d.not-Do d.not-For d.not-Try d.not-Return
+          d.not-Break d.not-Continue d.not-Leave))
           c.evaluate.ensures.refused;
     }

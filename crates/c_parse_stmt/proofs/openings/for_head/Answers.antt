@@ -16,8 +16,8 @@ pub returns-in_err-following-clause-refused : goal.returns-in_err-following-clau
 returns-in_err-following-clause-refused c =
     let p = err_from_is_err_and c.from_residual.result c.from_residual.ensures.1 in
     rw (p.1, p.2) (λ ts k. placed c.in_err-following.field-0.0 _ _ _ _ c.args.text.now
-      c.args.tokens.now ts (for_open c.args.room c.args.at c.args.left c.args.text.now ts
-      c.args.tokens.now (omega arith) k) c.in_err-following.ensures.refused)
+    c.args.tokens.now ts (for_open c.args.room c.args.at c.args.left c.args.text.now ts
+    c.args.tokens.now (omega arith) k) c.in_err-following.ensures.refused)
 
 pub returns-in_err-first-clause-refused : goal.returns-in_err-first-clause-refused
 returns-in_err-first-clause-refused c =
@@ -25,18 +25,18 @@ returns-in_err-first-clause-refused c =
     let p = err_from_is_err_and r.result r.ensures.1 in
     let o = c.in_ok-following in
     rw (p.1, p.2) (λ ts k. placed c.in_err-first.field-0.0 _ _ _ _ c.args.text.now o.following.now
-      ts (for_initialiser c.args.room c.args.at c.args.left c.args.text.now ts c.args.tokens.now
-      o.following.now (omega arith) k o.ensures.found) c.in_err-first.ensures.refused)
+    ts (for_initialiser c.args.room c.args.at c.args.left c.args.text.now ts c.args.tokens.now
+    o.following.now (omega arith) k o.ensures.found) c.in_err-first.ensures.refused)
 
 pub returns-in-Err-clause-refused : goal.returns-in-Err-clause-refused
 returns-in-Err-clause-refused c =
     let o = c.in_ok-following in
     let f = c.in_ok-first in
     λ ts k. placed c.in-Err.refusal _ _ _ _ c.args.text.now f.following.now ts
-      (for_condition c.args.room c.args.at c.args.left (left_of f.locals c.args.left.funclets)
-      (first f.first) c.args.text.now ts c.args.tokens.now o.following.now f.following.now
-      (omega arith) k o.ensures.found f.ensures.found f.ensures.low f.ensures.taken refl)
-      c.in-Err.ensures.refused
+    (for_condition c.args.room c.args.at c.args.left (left_of f.locals c.args.left.funclets)
+    (first f.first) c.args.text.now ts c.args.tokens.now o.following.now f.following.now
+    (omega arith) k o.ensures.found f.ensures.found f.ensures.low f.ensures.taken refl)
+    c.in-Err.ensures.refused
 
 pub returns-in-Err-optional-clause-refused : goal.returns-in-Err-optional-clause-refused
 returns-in-Err-optional-clause-refused c =
@@ -44,8 +44,8 @@ returns-in-Err-optional-clause-refused c =
     let f = c.in_ok-first in
     let i = c.in-Ok in
     λ ts k. placed c.in-Err-optional.refusal _ _ _ _ c.args.text.now i.following.now ts
-      (for_next c.args.room c.args.at c.args.left (left_of f.locals c.args.left.funclets)
-      (first f.first) (option_map expression i.condition) c.args.text.now ts c.args.tokens.now
-      o.following.now f.following.now i.following.now (omega arith) k o.ensures.found
-      f.ensures.found f.ensures.low f.ensures.taken refl i.ensures.found i.ensures.low)
-      c.in-Err-optional.ensures.refused
+    (for_next c.args.room c.args.at c.args.left (left_of f.locals c.args.left.funclets)
+    (first f.first) (option_map expression i.condition) c.args.text.now ts c.args.tokens.now
+    o.following.now f.following.now i.following.now (omega arith) k o.ensures.found
+    f.ensures.found f.ensures.low f.ensures.taken refl i.ensures.found i.ensures.low)
+    c.in-Err-optional.ensures.refused

@@ -12,5 +12,5 @@ pub returns-in_err-condition-clause-refused : goal.returns-in_err-condition-clau
 returns-in_err-condition-clause-refused c =
     let p = err_from_is_err_and c.from_residual.result c.from_residual.ensures.1 in
     rw (p.1, p.2) (λ ts k. placed c.in_err-condition.field-0.0 _ _ _ _ c.args.text.now
-      c.args.tokens.now ts (while_condition c.args.room c.args.at c.args.left c.args.text.now ts
-      c.args.tokens.now (omega arith) k) c.in_err-condition.ensures.refused)
+    c.args.tokens.now ts (while_condition c.args.room c.args.at c.args.left c.args.text.now ts
+    c.args.tokens.now (omega arith) k) c.in_err-condition.ensures.refused)

@@ -10,4 +10,4 @@ returns c =
     let a = c.args in
     let b = a.beginning in
     ap statement (sym (rolls-For b.declared b.first a.condition a.next a.body))
-      ∙ fold-roll-Stmt Statement layer (For_F b.declared b.first a.condition a.next a.body)
+    ∙ fold-roll-Stmt Statement layer (For_F b.declared b.first a.condition a.next a.body)

@@ -12,4 +12,4 @@ unfolding roll-Stmt Carrier.roll
 returns c =
     let a = c.args in
     ap statement (rolls-If a.condition a.then (Some a.otherwise))
-      ∙ fold-roll-Stmt Statement layer (If_F a.condition a.then (Some a.otherwise))
+    ∙ fold-roll-Stmt Statement layer (If_F a.condition a.then (Some a.otherwise))

@@ -15,4 +15,4 @@ returns c =
     ap statement (sym (rolls-For none.result None (Some e) None body))
     ∙ fold-roll-Stmt Statement layer (For_F none.result None (Some e) None body)
     ∙ ap (λ (ds : List Declared). For (map declared ds) None (Some (expression e)) None
-      (statement body.value)) none.ensures.items
+    (statement body.value)) none.ensures.items

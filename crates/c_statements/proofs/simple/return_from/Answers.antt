@@ -20,7 +20,7 @@ returns c =
       block = refl;
       faults =
           kept_more (least_of a.walk.now.worst) _ _
-            (jump (reach a.env.now.function) JumpOutOfFinally a.at)
+          (jump (reach a.env.now.function) JumpOutOfFinally a.at)
           (returned (environment a.env.now) (block_of a.block.now.entries) a.at
-            (option_map expression a.e.now)).faults c.jump.ensures v.faults;
+          (option_map expression a.e.now)).faults c.jump.ensures v.faults;
     }

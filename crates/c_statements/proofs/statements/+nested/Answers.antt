@@ -19,32 +19,41 @@ use Rattle.c_syntax.specs.Statement.{statement, statements}
 pub governed-returns-in-Ok : goal.governed-returns-in-Ok
 governed-returns-in-Ok t c =
     let w = c.args.walk.now in
-    let first : Walk = record { sizes = w.sizes; number = w.number;
-      worst = c.condition.new.worst } in
+    let first : Walk = record {
+      sizes = w.sizes;
+      number = w.number;
+      worst = c.condition.new.worst;
+    } in
     let f : Numbering → ResolvedStatements = λ n. resolve_statement (statement c.args.s.now)
-      (environment c.args.inner.now) [] n in
+    (environment c.args.inner.now) [] n in
     let v = definitions.condition c.args.at (resolved_at (environment c.args.env.now)
-      (block_of c.args.block.now.entries) (expression c.args.e.now)) in
+    (block_of c.args.block.now.entries) (expression c.args.e.now)) in
     governed_is w first c.part.new.walk c.in_ok-value.value c.in-Ok.made.value v f
-      c.in_ok-value.ensures.value c.in_ok-value.ensures.faults refl c.in-Ok.ensures
+    c.in_ok-value.ensures.value c.in_ok-value.ensures.faults refl c.in-Ok.ensures
 
 pub for_loop-returns : goal.for_loop-returns
 for_loop-returns t c =
     let w = c.args.walk.now in
     let es = c.for_initialiser.new.block.entries in
     let w1 = c.for_initialiser.new.walk in
-    let w2 : Walk = record { sizes = w1.sizes; number = w1.number;
-      worst = c.condition_or_none.new.worst } in
-    let w3 : Walk = record { sizes = w1.sizes; number = w1.number;
-      worst = c.any_or_none.new.worst } in
+    let w2 : Walk = record {
+      sizes = w1.sizes;
+      number = w1.number;
+      worst = c.condition_or_none.new.worst;
+    } in
+    let w3 : Walk = record {
+      sizes = w1.sizes;
+      number = w1.number;
+      worst = c.any_or_none.new.worst;
+    } in
     for_over (block_of c.args.block.now.entries) es w w1 w2 w3 c.part.new.walk
-      c.in_ok-beginning.beginning c.in-Ok.value c.in-Ok-any_or_none.after c.in-Ok-part.made.value
-      c.for_of.result (environment c.args.env.now) (environment c.within-here.result)
-      (environment c.in_loop.result) c.args.at (trees.first c.args.first.now)
-      (option_map expression c.args.condition.now)
+    c.in_ok-beginning.beginning c.in-Ok.value c.in-Ok-any_or_none.after c.in-Ok-part.made.value
+    c.for_of.result (environment c.args.env.now) (environment c.within-here.result)
+    (environment c.in_loop.result) c.args.at (trees.first c.args.first.now)
+    (option_map expression c.args.condition.now)
     (option_map expression c.args.next.now) (statement c.args.body.now) c.within-here.ensures
-      (c.in_loop.ensures ∙ ap in_loop c.within.ensures) c.in_ok-beginning.ensures c.in-Ok.ensures
-      c.in-Ok-any_or_none.ensures refl c.in-Ok-part.ensures c.for_of.ensures
+    (c.in_loop.ensures ∙ ap in_loop c.within.ensures) c.in_ok-beginning.ensures c.in-Ok.ensures
+    c.in-Ok-any_or_none.ensures refl c.in-Ok-part.ensures c.for_of.ensures
 
 pub with_parts-returns-in-Ok : goal.with_parts-returns-in-Ok
 with_parts-returns-in-Ok t c =
@@ -61,20 +70,20 @@ with_parts-returns-in-Ok t c =
     let made = c.if_else_of.result in
     let v = definitions.condition x.at (resolved_at a (block_of es) (expression x.condition)) in
     let m = governed_in w w1 k.value k.then.value v (statement c.deref.result.now)
-      (statement x.then.value) here (inside a (block_of es)) (numbering w)
-      (ap statement c.deref.ensures) c.within-here.ensures k.ensures in
+    (statement x.then.value) here (inside a (block_of es)) (numbering w)
+    (ap statement c.deref.ensures) c.within-here.ensures k.ensures in
     let n = part_in w1 w2 o.otherwise.value (statement c.deref-in-Some.result.now)
-      (statement y.otherwise.value) here (inside a (block_of es)) (numbering w1)
-      (ap statement c.deref-in-Some.ensures) c.within-here.ensures o.ensures in
+    (statement y.otherwise.value) here (inside a (block_of es)) (numbering w1)
+    (ap statement c.deref-in-Some.ensures) c.within-here.ensures o.ensures in
     IfOk-weaker c.one-in-Ok.result _ _
     (λ list q.
     one_is es w w2 made (map checked.statement list.items) (statement c.args.s.now)
-      (trees.IfElse x.at (expression x.condition) (statement x.then.value)
-      (statement y.otherwise.value)) a (read.if_some x.at x.condition x.then x.otherwise y.otherwise
-      c.args.s.now x.is y.is)
+    (trees.IfElse x.at (expression x.condition) (statement x.then.value)
+    (statement y.otherwise.value)) a (read.if_some x.at x.condition x.then x.otherwise y.otherwise
+    c.args.s.now x.is y.is)
     (if_else_is (block_of es) w w1 w2 k.value k.then.value o.otherwise.value made a x.at
-      (expression x.condition) (statement x.then.value) (statement y.otherwise.value) m n
-      c.if_else_of.ensures) q) c.one-in-Ok.ensures
+    (expression x.condition) (statement x.then.value) (statement y.otherwise.value) m n
+    c.if_else_of.ensures) q) c.one-in-Ok.ensures
 
 pub statement-returns-in-Break : goal.statement-returns-in-Break
 statement-returns-in-Break t c =
@@ -82,8 +91,8 @@ statement-returns-in-Break t c =
     IfOk-weaker c.one-in-Break.result _ _
     (λ list q.
     one_is es c.args.walk.now c.break_from.new.walk c.break_from.result
-      (map checked.statement list.items) (statement c.args.s.now) (trees.Break c.in-Break.at)
-      (environment c.args.env.now) (ap statement c.in-Break.is ∙ read.break_is c.in-Break.at)
+    (map checked.statement list.items) (statement c.args.s.now) (trees.Break c.in-Break.at)
+    (environment c.args.env.now) (ap statement c.in-Break.is ∙ read.break_is c.in-Break.at)
     (c.break_from.ensures (block_of es)) q) c.one-in-Break.ensures
 
 pub statement-returns-in-Continue : goal.statement-returns-in-Continue
@@ -92,9 +101,9 @@ statement-returns-in-Continue t c =
     IfOk-weaker c.one-in-Continue.result _ _
     (λ list q.
     one_is es c.args.walk.now c.continue_from.new.walk c.continue_from.result
-      (map checked.statement list.items) (statement c.args.s.now) (trees.Continue c.in-Continue.at)
-      (environment c.args.env.now) (ap statement c.in-Continue.is
-      ∙ read.continue_is c.in-Continue.at)
+    (map checked.statement list.items) (statement c.args.s.now) (trees.Continue c.in-Continue.at)
+    (environment c.args.env.now) (ap statement c.in-Continue.is
+    ∙ read.continue_is c.in-Continue.at)
     (c.continue_from.ensures (block_of es)) q) c.one-in-Continue.ensures
 
 pub statement-returns-in-Leave : goal.statement-returns-in-Leave
@@ -103,16 +112,19 @@ statement-returns-in-Leave t c =
     IfOk-weaker c.one-in-Leave.result _ _
     (λ list q.
     one_is es c.args.walk.now c.leave_from.new.walk c.leave_from.result
-      (map checked.statement list.items) (statement c.args.s.now) (trees.Leave c.in-Leave.at)
-      (environment c.args.env.now) (ap statement c.in-Leave.is ∙ read.leave_is c.in-Leave.at)
+    (map checked.statement list.items) (statement c.args.s.now) (trees.Leave c.in-Leave.at)
+    (environment c.args.env.now) (ap statement c.in-Leave.is ∙ read.leave_is c.in-Leave.at)
     (c.leave_from.ensures (block_of es)) q) c.one-in-Leave.ensures
 
 pub guarded-returns-in-Ok-items : goal.guarded-returns-in-Ok-items
 guarded-returns-in-Ok-items t c =
     let x = c.in-TryExcept in
     let w = c.args.walk.now in
-    let w1 : Walk = record { sizes = w.sizes; number = w.number;
-      worst = c.filter_value.new.worst } in
+    let w1 : Walk = record {
+      sizes = w.sizes;
+      number = w.number;
+      worst = c.filter_value.new.worst;
+    } in
     let w2 = c.items.new.walk in
     let w3 = c.numbered.new.walk in
     let w4 = c.items-in-Ok.new.walk in
@@ -124,21 +136,21 @@ guarded-returns-in-Ok-items t c =
     let ks = c.in-Ok-items in
     let q = c.in_ok-asked-in-TryExcept in
     let m = block_in w1 w2 vs.body.items c.deref.result.now x.body.items
-      (environment c.in_body.result) (in_body here) (numbering w1) c.deref.ensures.value
-      (c.in_body.ensures ∙ ap in_body c.within-here.ensures) vs.ensures in
+    (environment c.in_body.result) (in_body here) (numbering w1) c.deref.ensures.value
+    (c.in_body.ensures ∙ ap in_body c.within-here.ensures) vs.ensures in
     let k = block_in w3 w4 ks.handler.items c.deref-in-Ok.result.now x.handler.items
-      (environment c.in_handler.result) (in_handler here) (numbering w3) c.deref-in-Ok.ensures.value
-      (c.in_handler.ensures ∙ ap in_handler c.within-here.ensures) ks.ensures in
+    (environment c.in_handler.result) (in_handler here) (numbering w3) c.deref-in-Ok.ensures.value
+    (c.in_handler.ensures ∙ ap in_handler c.within-here.ensures) ks.ensures in
     let body = statements (map statement x.body.items) in
     let handler = statements (map statement x.handler.items) in
     IfOk-weaker c.one.result _ _
     (λ list h.
     one_is es w w4 c.except_of.result (map checked.statement list.items) (statement c.args.s.now)
-      (trees.TryExcept body x.at (expression x.filter) handler) a
-      (ap statement x.is ∙ read.try_except_is x.body x.at x.filter x.handler)
+    (trees.TryExcept body x.at (expression x.filter) handler) a
+    (ap statement x.is ∙ read.try_except_is x.body x.at x.filter x.handler)
     (except_is (block_of es) w w1 w2 w3 w4 q.asked f.filter vs.body.items ks.handler.items
-      c.except_of.result a body x.at (expression x.filter) handler refl q.ensures m f.ensures.filter
-      f.ensures.counts f.ensures.faults k c.except_of.ensures) h)
+    c.except_of.result a body x.at (expression x.filter) handler refl q.ensures m f.ensures.filter
+    f.ensures.counts f.ensures.faults k c.except_of.ensures) h)
     c.one.ensures
 
 pub guarded-returns-in_ok-last-in-TryFinally : goal.guarded-returns-in_ok-last-in-TryFinally
@@ -155,22 +167,22 @@ guarded-returns-in_ok-last-in-TryFinally t c =
     let vs = c.in_ok-body-in-TryFinally in
     let ks = c.in_ok-last-in-TryFinally in
     let m = block_in w w1 vs.body.items c.deref-in-TryFinally.result.now x.body.items
-      (environment c.in_body-in-TryFinally.result) (in_body here) (numbering w)
-      c.deref-in-TryFinally.ensures.value (c.in_body-in-TryFinally.ensures
-      ∙ ap in_body c.within-here.ensures) vs.ensures in
+    (environment c.in_body-in-TryFinally.result) (in_body here) (numbering w)
+    c.deref-in-TryFinally.ensures.value (c.in_body-in-TryFinally.ensures
+    ∙ ap in_body c.within-here.ensures) vs.ensures in
     let k = block_in w2 w3 ks.last.items c.deref-in-TryFinally-2.result.now x.last.items
-      (environment c.in_last.result) (in_last here) (numbering w2)
-      c.deref-in-TryFinally-2.ensures.value (c.in_last.ensures ∙ ap in_last c.within-here.ensures)
-      ks.ensures in
+    (environment c.in_last.result) (in_last here) (numbering w2)
+    c.deref-in-TryFinally-2.ensures.value (c.in_last.ensures ∙ ap in_last c.within-here.ensures)
+    ks.ensures in
     let body = statements (map statement x.body.items) in
     let last = statements (map statement x.last.items) in
     IfOk-weaker c.one-in-TryFinally.result _ _
     (λ list h.
     one_is es w w3 c.finally_of.result (map checked.statement list.items) (statement c.args.s.now)
-      (trees.TryFinally body x.at last) a (ap statement x.is
-      ∙ read.try_finally_is x.body x.at x.last)
+    (trees.TryFinally body x.at last) a (ap statement x.is
+    ∙ read.try_finally_is x.body x.at x.last)
     (finally_is (block_of es) w w1 w2 w3 vs.body.items ks.last.items n.number c.finally_of.result a
-      body x.at last m n.ensures.number n.ensures.counts n.ensures.faults k c.finally_of.ensures) h)
+    body x.at last m n.ensures.number n.ensures.counts n.ensures.faults k c.finally_of.ensures) h)
     c.one-in-TryFinally.ensures
 
 pub statements-loop-s-preserved : goal.statements-loop-s-preserved
@@ -180,7 +192,7 @@ statements-loop-s-preserved t c =
     let a = environment c.args.env.now in
     let w = c.args.walk.now in
     goes a list s.s-index c.s-item.result s.block.entries c.statement.new.block.entries w s.walk
-      c.statement.new.walk s.made.items c.append.new.self.items c.in_ok-more.more.items
-      (resolved_from a list (block_of c.args.block.now.entries) (numbering w)) c.loop-s-test.true
-      c.s-item.is c.in_ok-append.ensures.items
+    c.statement.new.walk s.made.items c.append.new.self.items c.in_ok-more.more.items
+    (resolved_from a list (block_of c.args.block.now.entries) (numbering w)) c.loop-s-test.true
+    c.s-item.is c.in_ok-append.ensures.items
     c.in_ok-more.ensures s.invariant

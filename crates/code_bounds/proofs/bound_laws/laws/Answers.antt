@@ -3,5 +3,8 @@ use Rattle.code_bounds.proofs.Fitting as lemma
 use Rattle.code_bounds.proofs.bound_laws.laws.Goals as goal
 
 pub returns : goal.returns
-returns c = record { bounded = bounds.code_is_bounded; fits = lemma.accepted_fits;
-    texts = lemma.texts_fit }
+returns c = record {
+  bounded = bounds.code_is_bounded;
+  fits = lemma.accepted_fits;
+  texts = lemma.texts_fit;
+}

@@ -23,5 +23,5 @@ returns-else-eq-clause-none c none n lt e =
     let same : c.in-Ok.number ≡ n = c.in-Ok.ensures.value.0.1 ∙ r.1 in
     unlike c.as_bytes.result.now c.as_bytes-2.result.now
     (c.as_bytes.ensures.value ∙ c.natural.ensures.value
-      ∙ ap (λ t. t ++ decimal c.in-Ok.number) c.new-line.ensures ∙ ap decimal same ∙ sym e
-      ∙ sym c.as_bytes-2.ensures.value) c.if-eq.ensures
+    ∙ ap (λ t. t ++ decimal c.in-Ok.number) c.new-line.ensures ∙ ap decimal same ∙ sym e
+    ∙ sym c.as_bytes-2.ensures.value) c.if-eq.ensures

@@ -13,15 +13,19 @@ traced o = option_map_or (λ t. bytes_eq t (codes "true")) o false
 
 pub returns-in-Err-clause-usage : goal.returns-in-Err-clause-usage
 returns-in-Err-clause-usage c =
-    let text_is = c.get_str.ensures ∙ first_value-rows (found_of c.args.matches.now) (codes "turns") in
-    (c.in-Err.ensures.usage.0, λ o h. c.in-Err.ensures.usage.1 o.turns
-      (subst (λ t. IsNumber 10000000 t o.turns) (sym text_is) h.turns))
+    let text_is = c.get_str.ensures ∙ first_value-rows (found_of c.args.matches.now) (codes "turns") in (
+      c.in-Err.ensures.usage.0,
+      λ o h. c.in-Err.ensures.usage.1 o.turns
+          (subst (λ t. IsNumber 10000000 t o.turns) (sym text_is) h.turns),
+    )
 
 pub returns-in-Err-number_or-clause-usage : goal.returns-in-Err-number_or-clause-usage
 returns-in-Err-number_or-clause-usage c =
-    let text_is = c.get_str-2.ensures ∙ first_value-rows (found_of c.args.matches.now) (codes "arg") in
-    (c.in-Err-number_or.ensures.usage.0, λ o h. c.in-Err-number_or.ensures.usage.1 h.argument.0
-      (subst (λ t. IsNumber 0 t h.argument.0) (sym text_is) h.argument.1))
+    let text_is = c.get_str-2.ensures ∙ first_value-rows (found_of c.args.matches.now) (codes "arg") in (
+      c.in-Err-number_or.ensures.usage.0,
+      λ o h. c.in-Err-number_or.ensures.usage.1 h.argument.0
+          (subst (λ t. IsNumber 0 t h.argument.0) (sym text_is) h.argument.1),
+    )
 
 pub returns-in-Some-clause-found : goal.returns-in-Some-clause-found
 returns-in-Some-clause-found c =

@@ -7,11 +7,11 @@ use Rattle.command_line.proofs.reading.program.Goals as goal
 pub returns : goal.returns
 returns c =
     let first = c.in_ok-compiling.ensures.shape c.new.ensures.local
-      ∙ ap₂ with_subcommand c.bare.ensures (ap (λ (a : App). a.top) c.new.ensures.app) in
+    ∙ ap₂ with_subcommand c.bare.ensures (ap (λ (a : App). a.top) c.new.ensures.app) in
     let second = c.in_ok-showing.ensures.shape c.new-2.ensures.local
-      ∙ ap₂ with_subcommand first (ap (λ (a : App). a.top) c.new-2.ensures.app) in
+    ∙ ap₂ with_subcommand first (ap (λ (a : App). a.top) c.new-2.ensures.app) in
     let third = c.in_ok-executing.ensures ∙ ap (λ (a : App). with_subcommand a exec_app.top)
-      second in
+    second in
     let fourth = c.in_ok-running.ensures ∙ ap (λ (a : App). with_subcommand a run_app.top) third in
     IfOk-weaker c.with_run-3.result _ _ (λ r h. h
-      ∙ ap (λ (a : App). with_subcommand a meaning_app.top) fourth) c.with_run-3.ensures
+    ∙ ap (λ (a : App). with_subcommand a meaning_app.top) fourth) c.with_run-3.ensures

@@ -15,11 +15,11 @@ returns c =
     let trace_local : c.action-3.result.global ≡ false = search rules in
     record {
       app = IfOk-weaker c.arg-3.result _ _ (λ r h. h.shape (search rules)
-        ∙ ap₂ with_rule (c.in_ok-arg-2.ensures.shape (search rules)
-        ∙ ap₂ with_rule (c.in_ok-arg.ensures.shape (search rules)
-        ∙ ap₂ with_rule c.new.ensures.app turns_is) argument_is) trace_is) c.arg-3.ensures;
+          ∙ ap₂ with_rule (c.in_ok-arg-2.ensures.shape (search rules)
+          ∙ ap₂ with_rule (c.in_ok-arg.ensures.shape (search rules)
+          ∙ ap₂ with_rule c.new.ensures.app turns_is) argument_is) trace_is) c.arg-3.ensures;
       local = IfOk-weaker c.arg-3.result _ _ (λ r h. h.globals
-        ∙ neither _ _ (c.in_ok-arg-2.ensures.globals
-        ∙ neither _ _ (c.in_ok-arg.ensures.globals ∙ neither _ _ c.new.ensures.local turns_local)
+          ∙ neither _ _ (c.in_ok-arg-2.ensures.globals
+          ∙ neither _ _ (c.in_ok-arg.ensures.globals ∙ neither _ _ c.new.ensures.local turns_local)
           argument_local) trace_local) c.arg-3.ensures;
     }

@@ -14,24 +14,82 @@ show_alone = (refl, (_, refl, refl))
 
 exec_alone : ExecAlone
 unfolding clap_on_literals digits
-exec_alone = (refl, (_, refl, (refl, record { turns = refl; argument = (0, refl, refl);
-    trace = refl })))
+exec_alone = (
+  refl,
+  (
+    _,
+    refl,
+    (
+      refl,
+      record {
+        turns = refl;
+        argument = (0, refl, refl);
+        trace = refl;
+      },
+    ),
+  ),
+)
 
 exec_with_all : ExecWithAll
 unfolding clap_on_literals digits
-exec_with_all = (refl, (_, refl, (refl, record { turns = (refl, omega arith);
-    argument = (9, (refl, omega arith), refl); trace = refl })))
+exec_with_all = (
+  refl,
+  (
+    _,
+    refl,
+    (
+      refl,
+      record {
+        turns = (refl, omega arith);
+        argument = (9, (refl, omega arith), refl);
+        trace = refl;
+      },
+    ),
+  ),
+)
 
 run_with_turns : RunWithTurns
 unfolding clap_on_literals digits
-run_with_turns = (refl, (_, refl, (refl, record { turns = (refl, omega arith);
-    argument = (0, refl, refl); trace = refl })))
+run_with_turns = (
+  refl,
+  (
+    _,
+    refl,
+    (
+      refl,
+      record {
+        turns = (refl, omega arith);
+        argument = (0, refl, refl);
+        trace = refl;
+      },
+    ),
+  ),
+)
 
 meaning_with_trace : MeaningWithTrace
 unfolding clap_on_literals digits
-meaning_with_trace = (refl, (_, refl, (refl, record { turns = refl; argument = (0, refl, refl);
-    trace = refl })))
+meaning_with_trace = (
+  refl,
+  (
+    _,
+    refl,
+    (
+      refl,
+      record {
+        turns = refl;
+        argument = (0, refl, refl);
+        trace = refl;
+      },
+    ),
+  ),
+)
 
 pub returns : goal.returns
-returns c = record { compile = compile_alone; show = show_alone; exec = exec_alone;
-    options = exec_with_all; run = run_with_turns; meaning = meaning_with_trace }
+returns c = record {
+  compile = compile_alone;
+  show = show_alone;
+  exec = exec_alone;
+  options = exec_with_all;
+  run = run_with_turns;
+  meaning = meaning_with_trace;
+}

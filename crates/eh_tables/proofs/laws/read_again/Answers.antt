@@ -4,5 +4,9 @@ use Rattle.eh_tables.proofs.WholeAgain.{reads_table}
 use Rattle.eh_tables.proofs.laws.read_again.Goals as goal
 
 pub returns : goal.returns
-returns c = record { infos = reads_info; scopes = reads_scopes; ranges = reads_ranges;
-    table = reads_table }
+returns c = record {
+  infos = reads_info;
+  scopes = reads_scopes;
+  ranges = reads_ranges;
+  table = reads_table;
+}

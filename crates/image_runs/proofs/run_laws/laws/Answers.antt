@@ -4,5 +4,9 @@ use Rattle.image_runs.proofs.Runs.{images_show_all, images_show_no_more}
 use Rattle.image_runs.proofs.run_laws.laws.Goals as goal
 
 pub returns : goal.returns
-returns c = record { known = twins_are_known; simulate = twins_simulate; all = images_show_all;
-    no_more = images_show_no_more }
+returns c = record {
+  known = twins_are_known;
+  simulate = twins_simulate;
+  all = images_show_all;
+  no_more = images_show_no_more;
+}

@@ -7,5 +7,5 @@ abbrev pub invariant-arguments-loop-arg : goal.invariant-arguments-loop-arg
 invariant-arguments-loop-arg l =
     (l.next ≡ l.d + l.arg-index)
     × (l.code.items ≡ l.initial.code.items ++ spec.arguments_code l.names
-      (tree.arguments (map tree.expression (take l.arg-index l.args))) l.d
-      (length l.initial.code.items))
+    (tree.arguments (map tree.expression (take l.arg-index l.args))) l.d
+    (length l.initial.code.items))

@@ -2,5 +2,10 @@ use Rattle.linked_stack.proofs.Begun.{raise_searches, local_unwind_unwinds, acce
 use Rattle.linked_stack.proofs.steps.steps.Goals as goal
 
 pub returns : goal.returns
-returns c = record { raises = raise_searches; local = local_unwind_unwinds;
-    accepts = acceptance_unwinds; answers = answers_continue; returns = finally_returns_unwind }
+returns c = record {
+  raises = raise_searches;
+  local = local_unwind_unwinds;
+  accepts = acceptance_unwinds;
+  answers = answers_continue;
+  returns = finally_returns_unwind;
+}

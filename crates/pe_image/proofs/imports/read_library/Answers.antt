@@ -9,32 +9,32 @@ returns-in_default-clause-imports c =
     let l = c.loop-n in
     sym l.invariant.so_far
     ∙ entry_missing c.args.sections.now l.imports.items (length l.imports.items)
-      (c.args.lookups + 8 * l.n) (c.args.slots + 8 * l.n) (max_count - l.n) (max_count - (l.n + 1))
-      (omega arith) (sym c.in_default.ensures)
+    (c.args.lookups + 8 * l.n) (c.args.slots + 8 * l.n) (max_count - l.n) (max_count - (l.n + 1))
+    (omega arith) (sym c.in_default.ensures)
     ∙ refused_at (length l.imports.items) c.len-index.result
-      (omega (arith, c.len-index.ensures, l.imports.ok))
+    (omega (arith, c.len-index.ensures, l.imports.ok))
 
 pub returns-then-entry-eq0-clause-imports : goal.returns-then-entry-eq0-clause-imports
 returns-then-entry-eq0-clause-imports c =
     let l = c.loop-n in
     sym l.invariant.so_far
     ∙ entries_end c.args.sections.now l.imports.items (length l.imports.items)
-      (c.args.lookups + 8 * l.n) (c.args.slots + 8 * l.n) (max_count - l.n) (max_count - (l.n + 1))
-      c.in-Some.entry.now (omega arith) (sym c.in-Some.ensures)
-      (sym c.u64_at-entry.ensures ∙ c.if-entry-eq0.true)
+    (c.args.lookups + 8 * l.n) (c.args.slots + 8 * l.n) (max_count - l.n) (max_count - (l.n + 1))
+    c.in-Some.entry.now (omega arith) (sym c.in-Some.ensures)
+    (sym c.u64_at-entry.ensures ∙ c.if-entry-eq0.true)
 
 pub returns-in_default-2-clause-imports : goal.returns-in_default-2-clause-imports
 returns-in_default-2-clause-imports c =
     let l = c.loop-n in
     sym l.invariant.so_far
     ∙ import_missing c.args.sections.now l.imports.items (length l.imports.items)
-      (c.args.lookups + 8 * l.n) (c.args.slots + 8 * l.n) (max_count - l.n) (max_count - (l.n + 1))
-      c.in-Some.entry.now (omega arith) (sym c.in-Some.ensures)
+    (c.args.lookups + 8 * l.n) (c.args.slots + 8 * l.n) (max_count - l.n) (max_count - (l.n + 1))
+    c.in-Some.entry.now (omega arith) (sym c.in-Some.ensures)
     (λ z. c.if-entry-eq0.false (c.u64_at-entry.ensures ∙ z))
     (ap (import_at c.args.sections.now (c.args.slots + 8 * l.n)) (sym c.u64_at-entry.ensures)
-      ∙ sym c.in_ok-import.ensures.import ∙ c.in_default-2.is)
+    ∙ sym c.in_ok-import.ensures.import ∙ c.in_default-2.is)
     ∙ refused_at (length l.imports.items) c.len-index.result
-      (omega (arith, c.len-index.ensures, l.imports.ok))
+    (omega (arith, c.len-index.ensures, l.imports.ok))
 
 pub loop-n-preserved : goal.loop-n-preserved
 loop-n-preserved c =
@@ -49,18 +49,18 @@ loop-n-preserved c =
     record {
       so_far =
           ap (λ (t : List Import). onto t (library m ss (length t) (c.args.lookups + 8 * (l.n + 1))
-            (c.args.slots + 8 * (l.n + 1)))) c.in_ok-push.ensures.items
+          (c.args.slots + 8 * (l.n + 1)))) c.in_ok-push.ensures.items
           ∙ ap (λ k. onto (xs ++ (i ∷ [])) (library m ss k (c.args.lookups + 8 * (l.n + 1))
-            (c.args.slots + 8 * (l.n + 1)))) one
+          (c.args.slots + 8 * (l.n + 1)))) one
           ∙ ap (λ k. onto (xs ++ (i ∷ [])) (library m ss (length xs + 1) k
-            (c.args.slots + 8 * (l.n + 1)))) look
+          (c.args.slots + 8 * (l.n + 1)))) look
           ∙ ap (λ k. onto (xs ++ (i ∷ [])) (library m ss (length xs + 1)
-            (c.args.lookups + 8 * l.n + 8) k)) slot
+          (c.args.lookups + 8 * l.n + 8) k)) slot
           ∙ import_passed ss xs (length xs) (c.args.lookups + 8 * l.n) (c.args.slots + 8 * l.n)
-            (max_count - l.n) m c.in-Some.entry.now i (omega arith) (sym c.in-Some.ensures)
+          (max_count - l.n) m c.in-Some.entry.now i (omega arith) (sym c.in-Some.ensures)
           (λ z. c.if-entry-eq0.false (c.u64_at-entry.ensures ∙ z))
           (ap (import_at ss (c.args.slots + 8 * l.n)) (sym c.u64_at-entry.ensures)
-            ∙ sym c.in_ok-import.ensures.import ∙ c.in-Some-2.is)
+          ∙ sym c.in_ok-import.ensures.import ∙ c.in-Some-2.is)
           ∙ l.invariant.so_far;
       ends = c.in_ok-import.ensures.ends;
     }
@@ -70,5 +70,5 @@ returns-clause-imports c =
     let l = c.loop-n in
     sym l.invariant.so_far
     ∙ no_entries_left (max_count - l.n) c.args.sections.now l.imports.items (length l.imports.items)
-      (c.args.lookups + 8 * l.n) (c.args.slots + 8 * l.n) (omega arith)
+    (c.args.lookups + 8 * l.n) (c.args.slots + 8 * l.n) (omega arith)
     ∙ refused_at (length l.imports.items) c.len.result (omega (arith, c.len.ensures, l.imports.ok))

@@ -8,8 +8,8 @@ abbrev pub invariant-loop-n : goal.invariant-loop-n
 invariant-loop-n l = record {
   so_far :
       onto l.imports.items (library (max_count - l.n) l.sections (length l.imports.items)
-        (l.lookups + 8 * l.n) (l.slots + 8 * l.n))
+      (l.lookups + 8 * l.n) (l.slots + 8 * l.n))
       ≡ onto l.fn.imports.items (library max_count l.sections (length l.fn.imports.items) l.lookups
-        l.slots);
+      l.slots);
   ends : AreEnds l.sections l.ends;
 }

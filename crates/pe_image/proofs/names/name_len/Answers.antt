@@ -9,8 +9,8 @@ pub returns-in-Some-clause-place : goal.returns-in-Some-clause-place
 returns-in-Some-clause-place c =
     let k = c.in-Some.known in
     sym (ends_after c.args.sections.now c.requires.ascending k.from c.args.at k.end
-      (c.requires.ends k.end k.from c.in-Some.ensures.known) c.if-known-at.true
-      c.in-Some.ensures.above)
+    (c.requires.ends k.end k.from c.in-Some.ensures.known) c.if-known-at.true
+    c.in-Some.ensures.above)
 
 pub first_zero_before-found-requires-clause-ordered :
     goal.first_zero_before-found-requires-clause-ordered
@@ -26,8 +26,8 @@ first_zero_before-found-requires-clause-known c =
     let n = k.from - c.args.at in
     let this = c.requires.ends k.end k.from c.in-Some.ensures.known in
     subst (λ (bytes : List ℕ). k.from - c.args.at < length bytes
-      → position is_zero (drop (k.from - c.args.at) bytes)
-      ≡ Some (k.end - c.args.at - (k.from - c.args.at))) (sym c.stored_from-bytes.ensures)
+    → position is_zero (drop (k.from - c.args.at) bytes)
+    ≡ Some (k.end - c.args.at - (k.from - c.args.at))) (sym c.stored_from-bytes.ensures)
     (known_after c.args.sections.now c.requires.ascending k.from c.args.at k.end this (omega arith))
 
 pub returns-clause-ends : goal.returns-clause-ends
@@ -43,5 +43,5 @@ returns-clause-ends c =
     ∙ c.in-Some-found.is in
     let left : len ≡ c.args.at + len - c.args.at = omega arith in
     ends_kept ss c.args.ends.now c.insert.new.self c.args.at (c.args.at + len)
-      c.in_ok-insert.ensures.updates.0 c.requires.ends
+    c.in_ok-insert.ensures.updates.0 c.requires.ends
     (record { above = omega arith; first = place ∙ ap (λ (k : ℕ). Some k) left })

@@ -6,5 +6,5 @@ use Rattle.pe_image.proofs.table.sections.Given as goal
 abbrev pub invariant-loop-index : goal.invariant-loop-index
 invariant-loop-index l =
     with_front l.sections.items (sections_from l.bytes l.limit l.index l.end
-      (headers_from l.bytes (l.count - l.index) (l.at + 40 * l.index)))
+    (headers_from l.bytes (l.count - l.index) (l.at + 40 * l.index)))
     ≡ sections_of l.bytes l.limit (headers_from l.bytes l.count l.at)

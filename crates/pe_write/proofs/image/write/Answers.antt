@@ -16,9 +16,9 @@ pub returns-clause-read_again : goal.returns-clause-read_again
 returns-clause-read_again c =
     read_again c.args.image.now c.write_sections-2.result c.sizes.ensures.program
     (subst (λ i. OnOk c.write_sections-2.result (CanBeWritten i)) c.with_sections.ensures
-      c.write_sections-2.ensures.fits)
+    c.write_sections-2.ensures.fits)
     (subst (λ i. IfOk c.write_sections-2.result (λ bytes. bytes.items ≡ written i))
-      c.with_sections.ensures c.write_sections-2.ensures.written)
+    c.with_sections.ensures c.write_sections-2.ensures.written)
 
 pub returns-clause-imported : goal.returns-clause-imported
 returns-clause-imported c = with_imports c.args.image.now c.write_sections-2.result
@@ -28,4 +28,4 @@ pub returns-clause-small : goal.returns-clause-small
 returns-clause-small c =
     small_file c.args.image.now c.write_sections-2.result c.sizes.ensures.program
     (subst (λ i. IfOk c.write_sections-2.result (λ bytes. bytes.items ≡ written i))
-      c.with_sections.ensures c.write_sections-2.ensures.written)
+    c.with_sections.ensures c.write_sections-2.ensures.written)

@@ -2,5 +2,9 @@ use Rattle.program_frames.proofs.Callers.{frames_are_found, leaves_are_found', t
 use Rattle.program_frames.proofs.laws.frames.Goals as goal
 
 pub returns : goal.returns
-returns c = record { functions = frames_are_found; leaves = leaves_are_found';
-    thunks = thunks_are_found; probes = probes_are_found }
+returns c = record {
+  functions = frames_are_found;
+  leaves = leaves_are_found';
+  thunks = thunks_are_found;
+  probes = probes_are_found;
+}

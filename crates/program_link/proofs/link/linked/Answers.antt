@@ -37,11 +37,16 @@ overflow_cast-rdata c =
     let rs = c.args.routines.now in
     let size_of_data = c.data_pages-data_size.result in
     let h : IsMeasured g b rs c.args.functions c.args.main size_of_data c.offset_of.result =
-    record { few = c.requires.globals; near = c.requires.near; places = c.requires.places;
-      sized = c.data_pages-data_size.ensures.value; between = c.requires.bounds;
-      text = c.offset_of.ensures } in
+    record {
+      few = c.requires.globals;
+      near = c.requires.near;
+      places = c.requires.places;
+      sized = c.data_pages-data_size.ensures.value;
+      between = c.requires.bounds;
+      text = c.offset_of.ensures;
+    } in
     let f = rdata_small g b rs c.args.functions c.args.main size_of_data c.offset_of.result h
-      c.rdata_at-rdata.result c.rdata_at-rdata.ensures in
+    c.rdata_at-rdata.result c.rdata_at-rdata.ensures in
     omega arith
 
 pub overflow_cast-xdata : goal.overflow_cast-xdata
@@ -51,11 +56,16 @@ overflow_cast-xdata c =
     let rs = c.args.routines.now in
     let size_of_data = c.data_pages-data_size.result in
     let h : IsMeasured g b rs c.args.functions c.args.main size_of_data c.offset_of.result =
-    record { few = c.requires.globals; near = c.requires.near; places = c.requires.places;
-      sized = c.data_pages-data_size.ensures.value; between = c.requires.bounds;
-      text = c.offset_of.ensures } in
+    record {
+      few = c.requires.globals;
+      near = c.requires.near;
+      places = c.requires.places;
+      sized = c.data_pages-data_size.ensures.value;
+      between = c.requires.bounds;
+      text = c.offset_of.ensures;
+    } in
     let f = xdata_small g b rs c.args.functions c.args.main size_of_data c.offset_of.result h
-      c.xdata_at-xdata.result c.xdata_at-xdata.ensures in
+    c.xdata_at-xdata.result c.xdata_at-xdata.ensures in
     omega arith
 
 pub text_of-requires-clause-site : goal.text_of-requires-clause-site
@@ -65,11 +75,16 @@ text_of-requires-clause-site c =
     let rs = c.args.routines.now in
     let size_of_data = c.data_pages-data_size.result in
     let h : IsMeasured g b rs c.args.functions c.args.main size_of_data c.offset_of.result =
-    record { few = c.requires.globals; near = c.requires.near; places = c.requires.places;
-      sized = c.data_pages-data_size.ensures.value; between = c.requires.bounds;
-      text = c.offset_of.ensures } in
+    record {
+      few = c.requires.globals;
+      near = c.requires.near;
+      places = c.requires.places;
+      sized = c.data_pages-data_size.ensures.value;
+      between = c.requires.bounds;
+      text = c.offset_of.ensures;
+    } in
     is_site_near g b rs c.args.functions c.args.main size_of_data c.offset_of.result h _
-      c.rdata_at-rdata.result c.site_of-site.ensures c.rdata_at-rdata.ensures
+    c.rdata_at-rdata.result c.site_of-site.ensures c.rdata_at-rdata.ensures
 
 pub tables_of-requires-clause-site : goal.tables_of-requires-clause-site
 tables_of-requires-clause-site c =
@@ -78,11 +93,16 @@ tables_of-requires-clause-site c =
     let rs = c.args.routines.now in
     let size_of_data = c.data_pages-data_size.result in
     let h : IsMeasured g b rs c.args.functions c.args.main size_of_data c.offset_of.result =
-    record { few = c.requires.globals; near = c.requires.near; places = c.requires.places;
-      sized = c.data_pages-data_size.ensures.value; between = c.requires.bounds;
-      text = c.offset_of.ensures } in
+    record {
+      few = c.requires.globals;
+      near = c.requires.near;
+      places = c.requires.places;
+      sized = c.data_pages-data_size.ensures.value;
+      between = c.requires.bounds;
+      text = c.offset_of.ensures;
+    } in
     is_site_near g b rs c.args.functions c.args.main size_of_data c.offset_of.result h _
-      c.rdata_at-rdata.result c.site_of-site.ensures c.rdata_at-rdata.ensures
+    c.rdata_at-rdata.result c.site_of-site.ensures c.rdata_at-rdata.ensures
 
 pub tables_of-requires-clause-tables : goal.tables_of-requires-clause-tables
 tables_of-requires-clause-tables c =
@@ -91,11 +111,16 @@ tables_of-requires-clause-tables c =
     let rs = c.args.routines.now in
     let size_of_data = c.data_pages-data_size.result in
     let h : IsMeasured g b rs c.args.functions c.args.main size_of_data c.offset_of.result =
-    record { few = c.requires.globals; near = c.requires.near; places = c.requires.places;
-      sized = c.data_pages-data_size.ensures.value; between = c.requires.bounds;
-      text = c.offset_of.ensures } in
+    record {
+      few = c.requires.globals;
+      near = c.requires.near;
+      places = c.requires.places;
+      sized = c.data_pages-data_size.ensures.value;
+      between = c.requires.bounds;
+      text = c.offset_of.ensures;
+    } in
     xdata_small g b rs c.args.functions c.args.main size_of_data c.offset_of.result h
-      c.xdata_at-xdata.result c.xdata_at-xdata.ensures
+    c.xdata_at-xdata.result c.xdata_at-xdata.ensures
 
 pub image_with-requires : goal.image_with-requires
 image_with-requires c =
@@ -104,17 +129,22 @@ image_with-requires c =
     let rs = c.args.routines.now in
     let size_of_data = c.data_pages-data_size.result in
     let h : IsMeasured g b rs c.args.functions c.args.main size_of_data c.offset_of.result =
-    record { few = c.requires.globals; near = c.requires.near; places = c.requires.places;
-      sized = c.data_pages-data_size.ensures.value; between = c.requires.bounds;
-      text = c.offset_of.ensures } in
+    record {
+      few = c.requires.globals;
+      near = c.requires.near;
+      places = c.requires.places;
+      sized = c.data_pages-data_size.ensures.value;
+      between = c.requires.bounds;
+      text = c.offset_of.ensures;
+    } in
     let same = image_is g b rs c.args.functions c.args.main size_of_data c.offset_of.result h _
-      c.rdata_at-rdata.result c.site_of-site.ensures c.rdata_at-rdata.ensures
-      c.xdata_at-xdata.result c.offset_of-2.result c.in_ok-code.code.items
-      c.in_ok-tables.tables.xdata.items c.in_ok-tables.tables.pdata.items
+    c.rdata_at-rdata.result c.site_of-site.ensures c.rdata_at-rdata.ensures
+    c.xdata_at-xdata.result c.offset_of-2.result c.in_ok-code.code.items
+    c.in_ok-tables.tables.xdata.items c.in_ok-tables.tables.pdata.items
     c.xdata_at-xdata.ensures c.offset_of-2.ensures c.in_ok-code.ensures c.in_ok-tables.ensures.xdata
-      c.in_ok-tables.ensures.pdata in
+    c.in_ok-tables.ensures.pdata in
     subst CanBeImage (sym same) (is_program g rs c.args.functions c.args.main c.requires.globals
-      c.requires.near c.requires.places no_routine)
+    c.requires.near c.requires.places no_routine)
 
 pub returns : goal.returns
 returns c =
@@ -123,17 +153,27 @@ returns c =
     let rs = c.args.routines.now in
     let size_of_data = c.data_pages-data_size.result in
     let h : IsMeasured g b rs c.args.functions c.args.main size_of_data c.offset_of.result =
-    record { few = c.requires.globals; near = c.requires.near; places = c.requires.places;
-      sized = c.data_pages-data_size.ensures.value; between = c.requires.bounds;
-      text = c.offset_of.ensures } in
+    record {
+      few = c.requires.globals;
+      near = c.requires.near;
+      places = c.requires.places;
+      sized = c.data_pages-data_size.ensures.value;
+      between = c.requires.bounds;
+      text = c.offset_of.ensures;
+    } in
     let same = image_is g b rs c.args.functions c.args.main size_of_data c.offset_of.result h _
-      c.rdata_at-rdata.result c.site_of-site.ensures c.rdata_at-rdata.ensures
-      c.xdata_at-xdata.result c.offset_of-2.result c.in_ok-code.code.items
-      c.in_ok-tables.tables.xdata.items c.in_ok-tables.tables.pdata.items
+    c.rdata_at-rdata.result c.site_of-site.ensures c.rdata_at-rdata.ensures
+    c.xdata_at-xdata.result c.offset_of-2.result c.in_ok-code.code.items
+    c.in_ok-tables.tables.xdata.items c.in_ok-tables.tables.pdata.items
     c.xdata_at-xdata.ensures c.offset_of-2.ensures c.in_ok-code.ensures c.in_ok-tables.ensures.xdata
-      c.in_ok-tables.ensures.pdata in
-    if_ok (λ (x : ImageContents). x ≡ record { data_size = size_of_data; data_bytes = g;
-      text = c.in_ok-code.code.items; entry = c.offset_of-2.result;
-      xdata = c.in_ok-tables.tables.xdata.items; pdata = c.in_ok-tables.tables.pdata.items })
+    c.in_ok-tables.ensures.pdata in
+    if_ok (λ (x : ImageContents). x ≡ record {
+      data_size = size_of_data;
+      data_bytes = g;
+      text = c.in_ok-code.code.items;
+      entry = c.offset_of-2.result;
+      xdata = c.in_ok-tables.tables.xdata.items;
+      pdata = c.in_ok-tables.tables.pdata.items;
+    })
     (λ (x : ImageContents). x ≡ image_of g rs c.args.functions c.args.main) c.image_with.result
-      (λ x e. e ∙ same) c.image_with.ensures
+    (λ x e. e ∙ same) c.image_with.ensures

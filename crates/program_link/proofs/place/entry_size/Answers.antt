@@ -6,7 +6,7 @@ pub overflow_cast-size : goal.overflow_cast-size
 overflow_cast-size c =
     let s = entry_small c.args.routine.now c.requires in
     let e = entry_alone 0 0 c.args.routine.now c.new-entry.result.items c.put_entry.new.code.items
-      c.requires c.new-entry.ensures.items c.in_ok-put_entry.ensures in
+    c.requires c.new-entry.ensures.items c.in_ok-put_entry.ensures in
     let a = c.len-size.ensures in
     let b = c.put_entry.new.code.ok in
     omega arith
@@ -14,7 +14,7 @@ overflow_cast-size c =
 pub returns-clause-value : goal.returns-clause-value
 returns-clause-value c =
     let e = entry_alone 0 0 c.args.routine.now c.new-entry.result.items c.put_entry.new.code.items
-      c.requires c.new-entry.ensures.items c.in_ok-put_entry.ensures in
+    c.requires c.new-entry.ensures.items c.in_ok-put_entry.ensures in
     let a = c.len-size.ensures in
     let b = c.put_entry.new.code.ok in
     omega arith
@@ -23,7 +23,7 @@ pub returns-clause-small : goal.returns-clause-small
 returns-clause-small c =
     let s = entry_small c.args.routine.now c.requires in
     let e = entry_alone 0 0 c.args.routine.now c.new-entry.result.items c.put_entry.new.code.items
-      c.requires c.new-entry.ensures.items c.in_ok-put_entry.ensures in
+    c.requires c.new-entry.ensures.items c.in_ok-put_entry.ensures in
     let a = c.len-size.ensures in
     let b = c.put_entry.new.code.ok in
     omega arith

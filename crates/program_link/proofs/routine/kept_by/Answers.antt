@@ -8,5 +8,5 @@ pub funclet_frame-requires : goal.funclet_frame-requires
 funclet_frame-requires c =
     let p = linear_program c.args.program.now in
     (funclet_fits p c.args.program.now.funclets.items c.in-Some.index c.index.result.now
-      c.requires.program.funclets (funclet_below c.args.program.now.funclets.items c.in-Some.index
-      (subst (HasParent p) c.in-Some.is c.requires.parent)) c.index.ensures).body
+    c.requires.program.funclets (funclet_below c.args.program.now.funclets.items c.in-Some.index
+    (subst (HasParent p) c.in-Some.is c.requires.parent)) c.index.ensures).body

@@ -12,8 +12,8 @@ returns-clause-infos c =
     let old = c.args.xdata.now.items in
     c.in_ok-put_tables.ensures.infos
     ∙ ap (λ (q : RoutineView). old ++ info_if s c.in_ok-labels.labels.starts.items
-      c.in_ok-labels.labels.end r q.frame) c.routine.view_is
+    c.in_ok-labels.labels.end r q.frame) c.routine.view_is
     ∙ ap (λ (ls : List ℕ). old ++ info_if s ls c.in_ok-labels.labels.end r r.frame)
-      c.in_ok-labels.ensures.labels
+    c.in_ok-labels.ensures.labels
     ∙ ap (λ (n : ℕ). old ++ info_if s (own_addresses c.args.begin r).labels n r r.frame)
-      c.in_ok-labels.ensures.end
+    c.in_ok-labels.ensures.end

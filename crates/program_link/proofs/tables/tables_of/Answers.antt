@@ -23,12 +23,12 @@ loop-routine-preserved c =
     let same = c.routine-item.is in
     let info = c.args.xdata_at + length old in
     let end : c.in_ok-at.at ≡ at + routine_size x = c.in_ok-at.ensures.end
-      ∙ ap (λ (y : RoutineView). at + routine_size y) same in
+    ∙ ap (λ (y : RoutineView). at + routine_size y) same in
     let grew : new ≡ old ++ info_bytes s at x = c.in_ok-at.ensures.infos
-      ∙ ap (λ (y : RoutineView). old ++ info_bytes s at y) same in
+    ∙ ap (λ (y : RoutineView). old ++ info_bytes s at y) same in
     let longer = ap length grew in
     let there : info + length (info_bytes s at x)
-      ≡ c.args.xdata_at + length new = omega (arith, length-append old (info_bytes s at x)) in
+    ≡ c.args.xdata_at + length new = omega (arith, length-append old (info_bytes s at x)) in
     let small = routine_small x near in
     let few = info_small s at x in
     let next = room_next rs i r lt in
@@ -38,17 +38,17 @@ loop-routine-preserved c =
     let tables = inv.tables in
     record {
       infos = appended old new _ (info_bytes s at x) (infos s c.in_ok-at.at (drop (i + 1) rs)) _
-        grew (infos_next s at rs i r lt ∙ ap (λ (n : ℕ). info_bytes s at x
-        ++ infos s n (drop (i + 1) rs)) (sym end)) inv.infos;
+          grew (infos_next s at rs i r lt ∙ ap (λ (n : ℕ). info_bytes s at x
+          ++ infos s n (drop (i + 1) rs)) (sym end)) inv.infos;
       entries = appended c.loop-routine.ranges.items c.put_routine.new.ranges.items _
-        (range_of info at x) (ranges s (c.args.xdata_at + length new) c.in_ok-at.at
-        (drop (i + 1) rs)) _
+          (range_of info at x) (ranges s (c.args.xdata_at + length new) c.in_ok-at.at
+          (drop (i + 1) rs)) _
           (c.in_ok-at.ensures.ranges ∙ ap (λ (y : RoutineView). c.loop-routine.ranges.items
-            ++ range_of info at y) same)
+          ++ range_of info at y) same)
           (ranges_next s info at rs i r lt ∙ ap
-            (λ (n : ℕ). range_of info at x ++ ranges s n (at + routine_size x) (drop (i + 1) rs))
-            there ∙ ap (λ (n : ℕ). range_of info at x
-            ++ ranges s (c.args.xdata_at + length new) n (drop (i + 1) rs)) (sym end)) inv.entries;
+          (λ (n : ℕ). range_of info at x ++ ranges s n (at + routine_size x) (drop (i + 1) rs))
+          there ∙ ap (λ (n : ℕ). range_of info at x
+          ++ ranges s (c.args.xdata_at + length new) n (drop (i + 1) rs)) (sym end)) inv.entries;
       room = omega arith;
       tables = omega (arith, length-append old (info_bytes s at x));
     }

@@ -12,8 +12,8 @@ links_of-links-requires-clause-labels c =
     let s = entry_small r c.requires.near in
     let room = c.requires.room in
     subst AreNear (sym (c.deref.ensures.value ∙ c.in_ok-labels.ensures.labels))
-      (labels_near r.layout (c.args.begin + entry_size r) r.body.code c.requires.near.code
-      (omega arith))
+    (labels_near r.layout (c.args.begin + entry_size r) r.body.code c.requires.near.code
+    (omega arith))
 
 pub links_of-links-requires-clause-end : goal.links_of-links-requires-clause-end
 links_of-links-requires-clause-end c =
@@ -29,13 +29,18 @@ returns-clause-code c =
     let begin = c.args.begin in
     let old = c.args.code.now.items in
     let of = λ (s : SiteView) (labels : List ℕ) (end : ℕ). old
-      ++ spelled (code_at (check_stack_at s.text)
-        (links_of (record { labels = labels; end = end; functions = s.functions;
-        funclets = s.funclets; thunks = thunks_at s.text })) begin r) in
+    ++ spelled (code_at (check_stack_at s.text)
+    (links_of (record {
+      labels = labels;
+      end = end;
+      functions = s.functions;
+      funclets = s.funclets;
+      thunks = thunks_at s.text;
+    })) begin r) in
     c.in_ok-put_code.ensures
     ∙ ap (λ (a : Addresses). old ++ spelled (code_at (check_stack_at c.site.inside.text)
-      (links_of a) begin r)) c.links_of-links.ensures
+    (links_of a) begin r)) c.links_of-links.ensures
     ∙ ap (λ (s : SiteView). of s c.deref.result.now c.in_ok-labels.labels.end) c.site.view_is
     ∙ ap (λ (ls : List ℕ). of c.args.site.now ls c.in_ok-labels.labels.end)
-      (c.deref.ensures.value ∙ c.in_ok-labels.ensures.labels)
+    (c.deref.ensures.value ∙ c.in_ok-labels.ensures.labels)
     ∙ ap (λ (n : ℕ). of c.args.site.now (own_addresses begin r).labels n) c.in_ok-labels.ensures.end

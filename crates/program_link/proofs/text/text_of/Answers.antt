@@ -17,17 +17,17 @@ loop-routine-preserved c =
     let near = all_at IsRoutineNear rs i r c.requires.near lt in
     let at = c.loop-routine.at in
     let end : c.in_ok-at.at ≡ at + routine_size x = c.in_ok-at.ensures.end
-      ∙ ap (λ (y : RoutineView). at + routine_size y) c.routine-item.is in
+    ∙ ap (λ (y : RoutineView). at + routine_size y) c.routine-item.is in
     let small = routine_small x near in
     let next = room_next rs i r lt in
     let inv = c.loop-routine.invariant in
     let room = inv.room in
     record {
       done = appended c.loop-routine.code.items c.put_routine.new.code.items _
-        (routine_bytes s at x) (routines_bytes s c.in_ok-at.at (drop (i + 1) rs)) _
-        (c.in_ok-at.ensures.code ∙ ap (λ (y : RoutineView). c.loop-routine.code.items
-        ++ routine_bytes s at y) c.routine-item.is)
+          (routine_bytes s at x) (routines_bytes s c.in_ok-at.at (drop (i + 1) rs)) _
+          (c.in_ok-at.ensures.code ∙ ap (λ (y : RoutineView). c.loop-routine.code.items
+          ++ routine_bytes s at y) c.routine-item.is)
           (text_next s at rs i r lt ∙ ap (λ (n : ℕ). routine_bytes s at x
-        ++ routines_bytes s n (drop (i + 1) rs)) (sym end)) inv.done;
+          ++ routines_bytes s n (drop (i + 1) rs)) (sym end)) inv.done;
       room = omega arith;
     }

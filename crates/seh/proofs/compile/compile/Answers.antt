@@ -7,12 +7,12 @@ pub returns-in-Ok : goal.returns-in-Ok
 returns-in-Ok g c =
     from_text _ _ _ _ _ c.compile_text.result
     (same_input text_limit _ _ _ _ c.deref.ensures.value c.in-Ok.ensures.read)
-      c.compile_text.ensures
+    c.compile_text.ensures
 
 pub returns-in-Err : goal.returns-in-Err
 returns-in-Err g c =
     refused_input text_limit IsCompileAnswer (stream g.S.Source.left g.S.Source.faults
-      c.args.src.now)
+    c.args.src.now)
     (stream g.S.Source.left g.S.Source.faults c.read_input.new.src)
     (stream g.O.Sink.taken g.O.Sink.faults c.args.out.now) c.in-Err.refusal
     c.in-Err.ensures.refused

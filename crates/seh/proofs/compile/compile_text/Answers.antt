@@ -21,10 +21,10 @@ returns g c = (
     (
       c.in-Err-put_all.field-0.taken,
       subst (λ t. TookPart (g.O.Sink.taken c.args.out.now) t (g.O.Sink.taken c.put_all.new.sink)
-        c.in-Err-put_all.field-0.taken) c.deref.ensures.value
+          c.in-Err-put_all.field-0.taken) c.deref.ensures.value
           (took_front (g.O.Sink.taken c.args.out.now) c.deref.result.now
-            (g.O.Sink.taken c.put_all.new.sink) c.in-Err-put_all.field-0.taken
-            c.in-Err-put_all.ensures.short c.in-Err-put_all.ensures.part),
+          (g.O.Sink.taken c.put_all.new.sink) c.in-Err-put_all.field-0.taken
+          c.in-Err-put_all.ensures.short c.in-Err-put_all.ensures.part),
     ),
   ),
 )

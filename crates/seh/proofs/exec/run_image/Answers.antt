@@ -15,17 +15,20 @@ pub returns-in-Ok-run : goal.returns-in-Ok-run
 returns-in-Ok-run g c =
     let fits : FitsSigned w64 c.args.options.argument = search rules in
     let same = shown_is c.args.options c.args.bytes.now c.in-Ok.image (running_of c.in-Ok-load.host)
-      c.in-Ok.ensures.image (c.in-Ok-load.ensures.loaded
-      ∙ ap (first_running c.in-Ok.image) (to_z-of_z w64 c.args.options.argument fits)) in
+    c.in-Ok.ensures.image (c.in-Ok-load.ensures.loaded
+    ∙ ap (first_running c.in-Ok.image) (to_z-of_z w64 c.args.options.argument fits)) in
     let ends = c.in-Ok-run.ensures.end ∙ ap (λ (s : Shown RunEnd). end_within c.args.options.turns
-      s.end) same in (
-      record { image = c.in-Ok.image; is = c.in-Ok.ensures.image;
-        loads = c.in-Ok-load.ensures.accepted },
+    s.end) same in (
+      record {
+        image = c.in-Ok.image;
+        is = c.in-Ok.ensures.image;
+        loads = c.in-Ok-load.ensures.accepted;
+      },
       ends,
       subst (λ t. Grew (g.O.Sink.taken c.args.out.now) t (g.O.Sink.taken c.run.new.sink))
           (ap (λ (s : Shown RunEnd). text s.events c.in-Ok-run.end c.args.options.trace) same
-            ∙ ap (λ e. text (shown_by c.args.options c.args.bytes.now).events e
-              c.args.options.trace) ends)
+          ∙ ap (λ e. text (shown_by c.args.options c.args.bytes.now).events e
+          c.args.options.trace) ends)
           c.in-Ok-run.ensures.text,
     )
 
@@ -33,18 +36,21 @@ pub returns : goal.returns
 returns g c =
     let fits : FitsSigned w64 c.args.options.argument = search rules in
     let same = shown_is c.args.options c.args.bytes.now c.in-Ok.image (running_of c.in-Ok-load.host)
-      c.in-Ok.ensures.image (c.in-Ok-load.ensures.loaded
-      ∙ ap (first_running c.in-Ok.image) (to_z-of_z w64 c.args.options.argument fits)) in (
-      record { image = c.in-Ok.image; is = c.in-Ok.ensures.image;
-        loads = c.in-Ok-load.ensures.accepted },
+    c.in-Ok.ensures.image (c.in-Ok-load.ensures.loaded
+    ∙ ap (first_running c.in-Ok.image) (to_z-of_z w64 c.args.options.argument fits)) in (
+      record {
+        image = c.in-Ok.image;
+        is = c.in-Ok.ensures.image;
+        loads = c.in-Ok-load.ensures.accepted;
+      },
       (
         c.in-Err-run.ensures.cause,
         (
           taken_before c.in-Err-run.field-0,
           subst (λ t. TookPart (g.O.Sink.taken c.args.out.now) t (g.O.Sink.taken c.run.new.sink)
-            (taken_before c.in-Err-run.field-0))
+              (taken_before c.in-Err-run.field-0))
               (ap (λ (s : Shown RunEnd). text s.events (end_within c.args.options.turns s.end)
-                c.args.options.trace) same)
+              c.args.options.trace) same)
               c.in-Err-run.ensures.part,
         ),
       ),

@@ -25,8 +25,11 @@ returns-in-Err-Write g c =
       record { declarations = _; checked = c.in-Ok.ensures.found },
       (
         rose_of e.field-0 e.field-0-0 e.field-0-is _ _ e.ensures.cause,
-        (e.field-0-0, write_same c.args.options p _ same e.field-0 e.field-0-0 e.field-0-is _ _
-          e.ensures.part),
+        (
+          e.field-0-0,
+          write_same c.args.options p _ same e.field-0 e.field-0-0 e.field-0-is _ _
+              e.ensures.part,
+        ),
       ),
     )
 
@@ -37,4 +40,4 @@ returns g c =
     let p = program c.in-Ok.accepted.checked in
     let e = c.in-Err-Memory in
     memory_same c.args.options p _ same e.field-0 e.field-0-is c.args.text.now _ _
-      (record { declarations = _; checked = c.in-Ok.ensures.found }) e.ensures.part
+    (record { declarations = _; checked = c.in-Ok.ensures.found }) e.ensures.part

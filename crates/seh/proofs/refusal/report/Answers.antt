@@ -17,8 +17,8 @@ returns-in-Err g c =
       (
         count,
         subst (λ (t : List ℕ). TookPart (taken c.args.err.now) t (taken c.put_all.new.sink) count)
-          line
+            line
             (took_front (taken c.args.err.now) c.as_bytes.result.now (taken c.put_all.new.sink)
-              count c.in-Err.ensures.short c.in-Err.ensures.part),
+            count c.in-Err.ensures.short c.in-Err.ensures.part),
       ),
     )

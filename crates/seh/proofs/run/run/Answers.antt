@@ -11,7 +11,7 @@ returns-in-Ok g c =
 pub returns-in-Err : goal.returns-in-Err
 returns-in-Err g c =
     refused_input text_limit (IsTextRunAnswer c.args.options)
-      (stream g.S.Source.left g.S.Source.faults c.args.src.now)
+    (stream g.S.Source.left g.S.Source.faults c.args.src.now)
     (stream g.S.Source.left g.S.Source.faults c.read_input.new.src)
     (stream g.O.Sink.taken g.O.Sink.faults c.args.out.now) c.in-Err.refusal
     c.in-Err.ensures.refused

@@ -13,21 +13,21 @@ pub returns-in-Ends-clause-host : goal.returns-in-Ends-clause-host
 returns-in-Ends-clause-host g c =
     let s = state c.args.cpu.now (g.S.AddressSpace.memory c.args.space.now) in
     sym (ap after (ends_turn (functions_of c.args.tables.now) c.args.funclets.now s
-      c.make-made.new.cpu (g.S.AddressSpace.memory c.make-made.new.space) c.make-made.result
-      c.in-Ends.end c.make-made.ensures c.in-Ends.is))
+    c.make-made.new.cpu (g.S.AddressSpace.memory c.make-made.new.space) c.make-made.result
+    c.in-Ends.end c.make-made.ensures c.in-Ends.is))
 
 pub returns-in-Ends-clause-shown : goal.returns-in-Ends-clause-shown
 returns-in-Ends-clause-shown g c =
     let s = state c.args.cpu.now (g.S.AddressSpace.memory c.args.space.now) in
     let made = c.make-made.result in
     let turned = ends_turn (functions_of c.args.tables.now) c.args.funclets.now s
-      c.make-made.new.cpu (g.S.AddressSpace.memory c.make-made.new.space) made c.in-Ends.end
-      c.make-made.ensures c.in-Ends.is in
+    c.make-made.new.cpu (g.S.AddressSpace.memory c.make-made.new.space) made c.in-Ends.end
+    c.make-made.ensures c.in-Ends.is in
     subst (λ es. g.V.Events.took c.args.to.now es c.tell-2.new.to)
     (ap (λ es. listed made.first ++ es) (sym (append-nil (listed made.rest.first)))
-      ∙ sym (ap shown_in turned))
+    ∙ sym (ap shown_in turned))
     (g.met.V.Events.more c.args.to.now c.tell.new.to c.tell-2.new.to (listed made.first)
-      (listed made.rest.first) c.tell.ensures c.tell-2.ensures)
+    (listed made.rest.first) c.tell.ensures c.tell-2.ensures)
 
 pub returns-in-Continues-clause-host : goal.returns-in-Continues-clause-host
 returns-in-Continues-clause-host g c =
@@ -37,7 +37,7 @@ returns-in-Continues-clause-host g c =
     ap (left cpu m) c.over.ensures
     ∙ left_over cpu m
     ∙ sym (ap after (goes_turn (functions_of c.args.tables.now) c.args.funclets.now s cpu m
-      c.make-made.result c.in-Continues.event c.make-made.ensures c.in-Continues.is))
+    c.make-made.result c.in-Continues.event c.make-made.ensures c.in-Continues.is))
 
 pub returns-in-Continues-clause-shown : goal.returns-in-Continues-clause-shown
 returns-in-Continues-clause-shown g c =
@@ -50,15 +50,15 @@ returns-in-Continues-clause-shown g c =
     let event = listed c.in-Continues.event in
     let more = g.met.V.Events.more in
     let turned = goes_turn (functions_of c.args.tables.now) fs s cpu
-      (g.S.AddressSpace.memory c.make-made.new.space) made c.in-Continues.event c.make-made.ensures
-      c.in-Continues.is in
+    (g.S.AddressSpace.memory c.make-made.new.space) made c.in-Continues.event c.make-made.ensures
+    c.in-Continues.is in
     let arrived = c.arrival-arrived.ensures ∙ ap (λ (b : ℕ). arrivals cpu (distance b cpu.rip) 1 fs)
-      c.base.ensures in
+    c.base.ensures in
     subst (λ es. g.V.Events.took c.args.to.now es c.tell-in-Continues-2.new.to)
     (ap (λ es. (first ++ (second ++ event)) ++ es) arrived ∙ sym (ap shown_in turned))
     (more c.args.to.now c.tell-in-Continues.new.to c.tell-in-Continues-2.new.to
-      (first ++ (second ++ event)) (listed c.arrival-arrived.result)
+    (first ++ (second ++ event)) (listed c.arrival-arrived.result)
     (more c.args.to.now c.tell.new.to c.tell-in-Continues.new.to first (second ++ event)
-      c.tell.ensures (more c.tell.new.to c.tell-2.new.to c.tell-in-Continues.new.to second event
-      c.tell-2.ensures c.tell-in-Continues.ensures))
+    c.tell.ensures (more c.tell.new.to c.tell-2.new.to c.tell-in-Continues.new.to second event
+    c.tell-2.ensures c.tell-in-Continues.ensures))
     c.tell-in-Continues-2.ensures)

@@ -17,10 +17,10 @@ returns-in-None-next c =
     let h : c.skipped-left.result ≡ [] = search rules in
     let scopes = c.scopes.ensures.value ∙ ap (λ (i : Info). i.scopes) c.info.ensures in
     let found = c.in-Some.ensures ∙ ap (λ b. holding (distance b d.walk.rip)
-      (entries_of c.args.tables.now)) c.base.ensures in
+    (entries_of c.args.tables.now)) c.base.ensures in
     sym (row_none c.in-Some.entry.info.scopes d.row (d.row - 1)
-      (let z = c.if-dispatch-eq0.false in omega arith)
-      (ap (drop (d.row - 1)) (sym scopes) ∙ sym c.skipped-left.ensures.value ∙ h))
+    (let z = c.if-dispatch-eq0.false in omega arith)
+    (ap (drop (d.row - 1)) (sym scopes) ∙ sym c.skipped-left.ensures.value ∙ h))
     ∙ ap (λ (o : Option Entry). row_before (rows_of o) d.row) found
 
 pub returns-in-Some-next : goal.returns-in-Some-next
@@ -29,8 +29,8 @@ returns-in-Some-next c =
     let h : c.skipped-left.result ≡ c.in-Some-next.row ∷ c.next.new.self = search rules in
     let scopes = c.scopes.ensures.value ∙ ap (λ (i : Info). i.scopes) c.info.ensures in
     let found = c.in-Some.ensures ∙ ap (λ b. holding (distance b d.walk.rip)
-      (entries_of c.args.tables.now)) c.base.ensures in
+    (entries_of c.args.tables.now)) c.base.ensures in
     sym (row_some c.in-Some.entry.info.scopes d.row (d.row - 1) c.in-Some-next.row c.next.new.self
-      (let z = c.if-dispatch-eq0.false in omega arith)
-      (ap (drop (d.row - 1)) (sym scopes) ∙ sym c.skipped-left.ensures.value ∙ h))
+    (let z = c.if-dispatch-eq0.false in omega arith)
+    (ap (drop (d.row - 1)) (sym scopes) ∙ sym c.skipped-left.ensures.value ∙ h))
     ∙ ap (λ (o : Option Entry). row_before (rows_of o) d.row) found

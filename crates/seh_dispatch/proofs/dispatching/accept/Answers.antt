@@ -13,6 +13,6 @@ returns-in-Ok g c =
     let a = c.accepting-accepted.result in
     c.unwind_on.ensures
     ∙ sym (rewritten c.args.cpu.now m (g.S.AddressSpace.memory c.rewrite.new.space) c.args.at a
-      (λ u. unwinds_on t u c.args.at a) c.in-Ok.ensures.answer c.in-Ok.ensures.after)
+    (λ u. unwinds_on t u c.args.at a) c.in-Ok.ensures.answer c.in-Ok.ensures.after)
     ∙ ap (λ (r : DispatchRecord). after_placing (state c.args.cpu.now m) c.args.at r
-      (λ u. unwinds_on t u c.args.at r)) c.accepting-accepted.ensures
+    (λ u. unwinds_on t u c.args.at r)) c.accepting-accepted.ensures

@@ -14,6 +14,6 @@ returns-in-Ok g c =
     let p = place_of c.args.saved.now in
     c.search_on.ensures
     ∙ sym (placed_at c.args.cpu.now m (g.S.AddressSpace.memory c.place.new.space) p c.in-Ok.at a
-      (λ k u. searches_on t u k a) c.in-Ok.ensures.answer c.in-Ok.ensures.after)
+    (λ k u. searches_on t u k a) c.in-Ok.ensures.answer c.in-Ok.ensures.after)
     ∙ ap (λ (r : DispatchRecord). after_placing (state c.args.cpu.now m) p r
-      (λ u. searches_on t u p r)) c.new_record-dispatch.ensures
+    (λ u. searches_on t u p r)) c.new_record-dispatch.ensures

@@ -14,8 +14,8 @@ returns-in-Some g c =
     let s = state cpu m in
     c.unwind_locally.ensures
     ∙ ap (λ (f : ℕ). unwound_locally t s f c.register-target.result c.in-Some.after)
-      c.register-frame.ensures
+    c.register-frame.ensures
     ∙ ap (λ (a : ℕ). unwound_locally t s (register cpu Rcx) a c.in-Some.after)
-      c.register-target.ensures
+    c.register-target.ensures
     ∙ sym (returning_to cpu c.in-Some.after m
-      (λ u. unwound_locally t s (register cpu Rcx) (register cpu Rdx) u.cpu) c.in-Some.ensures)
+    (λ u. unwound_locally t s (register cpu Rcx) (register cpu Rdx) u.cpu) c.in-Some.ensures)

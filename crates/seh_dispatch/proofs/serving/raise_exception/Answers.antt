@@ -14,9 +14,9 @@ returns-in-Some g c =
     let s = state cpu m in
     c.raised.ensures
     ∙ ap (λ (a : ℕ). raised t s (record { 0 = a % 2 ^ 32 }) (c.register-in-Some.result % 2) None
-      c.in-Some.after) c.register.ensures
+    c.in-Some.after) c.register.ensures
     ∙ ap (λ (a : ℕ). raised t s (record { 0 = register cpu Rcx % 2 ^ 32 }) (a % 2) None
-      c.in-Some.after) c.register-in-Some.ensures
+    c.in-Some.after) c.register-in-Some.ensures
     ∙ sym (returning_to cpu c.in-Some.after m
-      (λ u. raised t s (record { 0 = register cpu Rcx % 2 ^ 32 }) (register cpu Rdx % 2) None u.cpu)
-      c.in-Some.ensures)
+    (λ u. raised t s (record { 0 = register cpu Rcx % 2 ^ 32 }) (register cpu Rdx % 2) None u.cpu)
+    c.in-Some.ensures)

@@ -14,16 +14,16 @@ unfolding start
 returns-clause-loaded c =
     let image = c.args.image.now in
     let cpu = c.first_cpu.ensures ∙ ap (λ n. first_cpu n (to_z w64 (of_z w64 c.args.arg)))
-      (ap (λ b. b + c.entry.result) c.base.ensures ∙ ap (λ n. image.base + n) c.entry.ensures.value)
-      ∙ ap (first_cpu (image.base + image.entry))
-        (to_z-of_z w64 c.args.arg (record { sfits = c.ranges.arg.sfits })) in
+    (ap (λ b. b + c.entry.result) c.base.ensures ∙ ap (λ n. image.base + n) c.entry.ensures.value)
+    ∙ ap (first_cpu (image.base + image.entry))
+    (to_z-of_z w64 c.args.arg (record { sfits = c.ranges.arg.sfits })) in
     let memory = c.in-Ok-mapped.ensures in
     let functions = functions_read image c.in-Ok.tables (c.in-Ok.ensures.read).0
-      (c.in-Ok.ensures.read).1 in
+    (c.in-Ok.ensures.read).1 in
     let listed = c.in-Ok-funclets_in.ensures.items
-      ∙ ap (λ (t : Functions). funclets t.entries) functions in
+    ∙ ap (λ (t : Functions). funclets t.entries) functions in
     let going : Live (record { cpu = c.first_cpu.result; memory = memory_of c.in-Ok-mapped.space })
-      ≡ host (start image c.args.arg) = (λ i. Live (record { cpu = cpu i; memory = memory i }))
-      ∙ sym (ap (over (start image c.args.arg))
-        (place_above image image.entry (c.in_default.ensures.place refl))) in
+    ≡ host (start image c.args.arg) = (λ i. Live (record { cpu = cpu i; memory = memory i }))
+    ∙ sym (ap (over (start image c.args.arg))
+    (place_above image image.entry (c.in_default.ensures.place refl))) in
     λ i. record { functions = functions i; funclets = listed i; host = going i }

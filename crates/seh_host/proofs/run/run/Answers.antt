@@ -15,22 +15,22 @@ returns-in-Ok-clause-end g c =
     ∙ within c.args.turns host.end
     ∙ ap (end_within c.args.turns) (end_left host.cpu (memory_of host.space) host.end
     ∙ end_answered c.args.turns c.new-lines.result.trace (running_of c.args.host.now)
-      (running_of host) _ _ _ _ c.write_turns.ensures.written c.end.ensures.wrote
-      c.in-Ok.ensures.outcome)
+    (running_of host) _ _ _ _ c.write_turns.ensures.written c.end.ensures.wrote
+    c.in-Ok.ensures.outcome)
 
 pub returns-in-Ok-clause-text : goal.returns-in-Ok-clause-text
 returns-in-Ok-clause-text g c =
     let r = running_of c.args.host.now in
     same_grew (g.O.Sink.taken c.new-lines.result.sink.now) (g.O.Sink.taken c.args.sink.now)
-      (g.O.Sink.taken c.end.new.self.sink.now) _ _ _
+    (g.O.Sink.taken c.end.new.self.sink.now) _ _ _
     (ap g.O.Sink.taken c.new-lines.ensures.sink)
     (ap (λ es. lines c.new-lines.result.trace es ++ end_line c.unwrap_or-end.result)
-      (events_of c.args.turns r)
+    (events_of c.args.turns r)
     ∙ ap (λ b. lines b (run_of c.args.turns r).events ++ end_line c.unwrap_or-end.result)
-      c.new-lines.ensures.trace)
+    c.new-lines.ensures.trace)
     (search rules)
     (ran_whole _ _ _ _ _ c.write_turns.ensures.written.wrote c.end.ensures.wrote
-      c.in-Ok.ensures.outcome)
+    c.in-Ok.ensures.outcome)
 
 pub returns-clause-part : goal.returns-clause-part
 returns-clause-part g c =
@@ -38,15 +38,15 @@ returns-clause-part g c =
     let host = c.write_turns.new.host in
     let shown = run_of c.args.turns r in
     same_part (g.O.Sink.taken c.new-lines.result.sink.now) (g.O.Sink.taken c.args.sink.now)
-      (g.O.Sink.taken c.end.new.self.sink.now) _ _ _ c.in-Err.fault.taken
+    (g.O.Sink.taken c.end.new.self.sink.now) _ _ _ c.in-Err.fault.taken
     (ap g.O.Sink.taken c.new-lines.ensures.sink)
     (ap (λ b. lines b shown.events ++ end_line (end_within c.args.turns shown.end))
-      c.new-lines.ensures.trace)
+    c.new-lines.ensures.trace)
     (search rules)
     (part_of_text c.args.turns c.in-Err.fault.taken c.new-lines.result.trace r (running_of host) _ _
-      _ c.unwrap_or-end.result c.write_turns.ensures.written c.end.ensures.wrote
+    _ c.unwrap_or-end.result c.write_turns.ensures.written c.end.ensures.wrote
     (c.unwrap_or-end.ensures ∙ within c.args.turns host.end
-      ∙ ap (end_within c.args.turns) (end_left host.cpu (memory_of host.space) host.end))
+    ∙ ap (end_within c.args.turns) (end_left host.cpu (memory_of host.space) host.end))
     c.new-lines.ensures.taken (c.in-Err.ensures.outcome).1)
 
 pub returns-clause-stopped : goal.returns-clause-stopped
@@ -54,10 +54,10 @@ returns-clause-stopped g c =
     let r = running_of c.args.host.now in
     let host = c.write_turns.new.host in
     same_stopped c.args.turns c.new-lines.result.trace c.args.trace r (running_of host)
-      (g.O.Sink.taken c.new-lines.result.sink.now) (g.O.Sink.taken c.args.sink.now)
-      (g.O.Sink.taken c.end.new.self.sink.now) _
+    (g.O.Sink.taken c.new-lines.result.sink.now) (g.O.Sink.taken c.args.sink.now)
+    (g.O.Sink.taken c.end.new.self.sink.now) _
     (ap g.O.Sink.taken c.new-lines.ensures.sink)
     c.new-lines.ensures.trace
     (search rules)
     (stopped_then c.args.turns c.new-lines.result.trace r (running_of host) _ _ _
-      (end_line c.unwrap_or-end.result) c.write_turns.ensures.written c.end.ensures.wrote)
+    (end_line c.unwrap_or-end.result) c.write_turns.ensures.written c.end.ensures.wrote)

@@ -4,20 +4,24 @@ use Rattle.seh_host.proofs.Writing.{next_host, next_took, stops, over, all_made,
 use Rattle.seh_host.proofs.run.write_turns.Goals as goal
 
 pub loop-i-init : goal.loop-i-init
-loop-i-init g c = (none_made (running_of c.args.host.now), c.requires,
-    none_taken g.O.Sink.taken g.O.Sink.faults c.args.lines.now (running_of c.args.host.now), refl)
+loop-i-init g c = (
+  none_made (running_of c.args.host.now),
+  c.requires,
+  none_taken g.O.Sink.taken g.O.Sink.faults c.args.lines.now (running_of c.args.host.now),
+  refl,
+)
 
 pub loop-i-preserved : goal.loop-i-preserved
 loop-i-preserved g c =
     let i = c.loop-i.invariant in
     let r = running_of c.args.host.now in (
       next_host g.O.Sink.taken g.O.Sink.faults c.args.lines.now c.loop-i.lines c.turn.new.to
-        c.args.turns c.loop-i._i r (running_of c.loop-i.host) (running_of c.turn.new.host) i.0 i.1
-        i.2 c.turn.ensures.host c.turn.ensures.shown,
+          c.args.turns c.loop-i._i r (running_of c.loop-i.host) (running_of c.turn.new.host) i.0 i.1
+          i.2 c.turn.ensures.host c.turn.ensures.shown,
       c.if-lines.false,
       next_took g.O.Sink.taken g.O.Sink.faults c.args.lines.now c.loop-i.lines c.turn.new.to
-        c.args.turns c.loop-i._i r (running_of c.loop-i.host) (running_of c.turn.new.host) i.0 i.1
-        i.2 c.turn.ensures.host c.turn.ensures.shown,
+          c.args.turns c.loop-i._i r (running_of c.loop-i.host) (running_of c.turn.new.host) i.0 i.1
+          i.2 c.turn.ensures.host c.turn.ensures.shown,
       c.turn.ensures.image ∙ i.3,
     )
 
@@ -25,20 +29,20 @@ pub returns-in-Ended-clause-written : goal.returns-in-Ended-clause-written
 returns-in-Ended-clause-written g c =
     let i = c.loop-i.invariant in
     over g.O.Sink.taken g.O.Sink.faults c.args.lines.now c.loop-i.lines c.turn.new.to c.args.turns
-      c.loop-i._i (running_of c.args.host.now) (running_of c.loop-i.host)
-      (running_of c.turn.new.host) i.0 i.1 i.2 c.turn.ensures.host c.turn.ensures.shown
-      c.loop-i-test.true c.in-Ended.ensures.answer
+    c.loop-i._i (running_of c.args.host.now) (running_of c.loop-i.host)
+    (running_of c.turn.new.host) i.0 i.1 i.2 c.turn.ensures.host c.turn.ensures.shown
+    c.loop-i-test.true c.in-Ended.ensures.answer
 
 pub returns-then-lines-clause-written : goal.returns-then-lines-clause-written
 returns-then-lines-clause-written g c =
     let i = c.loop-i.invariant in
     stops g.O.Sink.taken g.O.Sink.faults c.args.lines.now c.loop-i.lines c.turn.new.to c.args.turns
-      c.loop-i._i (running_of c.args.host.now) (running_of c.loop-i.host)
-      (running_of c.turn.new.host) i.0 i.1 i.2 c.turn.ensures.host c.turn.ensures.shown
-      c.loop-i-test.true c.if-lines.true
+    c.loop-i._i (running_of c.args.host.now) (running_of c.loop-i.host)
+    (running_of c.turn.new.host) i.0 i.1 i.2 c.turn.ensures.host c.turn.ensures.shown
+    c.loop-i-test.true c.if-lines.true
 
 pub returns-clause-written : goal.returns-clause-written
 returns-clause-written g c =
     let i = c.loop-i.invariant in
     all_made g.O.Sink.taken g.O.Sink.faults c.args.lines.now c.loop-i.lines c.args.turns c.loop-i._i
-      (running_of c.args.host.now) (running_of c.loop-i.host) (omega arith) i.0 i.1 i.2
+    (running_of c.args.host.now) (running_of c.loop-i.host) (omega arith) i.0 i.1 i.2

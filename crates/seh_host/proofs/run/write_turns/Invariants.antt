@@ -7,5 +7,5 @@ abbrev pub invariant-loop-i : goal.invariant-loop-i
 invariant-loop-i g l =
     let r = running_of l.fn.host in
     (running_of l.host ≡ made l._i r) × (l.lines.failed ≡ false)
-      × TookEvents g.O.Sink.taken g.O.Sink.faults l.fn.lines (shown_made l._i r) l.lines
-      × (image_of l.host ≡ image_of l.fn.host)
+    × TookEvents g.O.Sink.taken g.O.Sink.faults l.fn.lines (shown_made l._i r) l.lines
+    × (image_of l.host ≡ image_of l.fn.host)

@@ -7,14 +7,20 @@ pub returns-then-count-room-clause-cause : goal.returns-then-count-room-clause-c
 returns-then-count-room-clause-cause g c =
     let front = take c.in-Ok.count c.read.new.buf in
     let lost = lost_more (g.S.Source.left c.args.src.now) (g.S.Source.left c.loop-count.src)
-      (g.S.Source.left c.read.new.self) c.loop-count.bytes.items front c.loop-count.invariant.lost
-      c.in-Ok.ensures.moved in
+    (g.S.Source.left c.read.new.self) c.loop-count.bytes.items front c.loop-count.invariant.lost
+    c.in-Ok.ensures.moved in
     let len : length (c.loop-count.bytes.items ++ front)
-      ≡ c.args.limit + 1 = omega (arith, c.in-Ok.ensures.fits, length-append {A = ℕ},
-        length-take {A = ℕ}) in
-    (refl, held_more (g.S.Source.left c.args.src.now) (g.S.Source.left c.read.new.self)
-      (c.loop-count.bytes.items ++ front) c.args.limit lost (omega arith),
-      (c.loop-count.bytes.items ++ front, len, lost))
+    ≡ c.args.limit + 1 = omega (
+      arith,
+      c.in-Ok.ensures.fits,
+      length-append {A = ℕ},
+      length-take {A = ℕ},
+    ) in (
+      refl,
+      held_more (g.S.Source.left c.args.src.now) (g.S.Source.left c.read.new.self)
+          (c.loop-count.bytes.items ++ front) c.args.limit lost (omega arith),
+      (c.loop-count.bytes.items ++ front, len, lost),
+    )
 
 pub returns-then-count-room-clause-lost : goal.returns-then-count-room-clause-lost
 returns-then-count-room-clause-lost g c =
@@ -22,8 +28,8 @@ returns-then-count-room-clause-lost g c =
       c.loop-count.bytes.items ++ front,
       omega (arith, c.in-Ok.ensures.fits, length-append {A = ℕ}, length-take {A = ℕ}),
       lost_more (g.S.Source.left c.args.src.now) (g.S.Source.left c.loop-count.src)
-        (g.S.Source.left c.read.new.self) c.loop-count.bytes.items front c.loop-count.invariant.lost
-        c.in-Ok.ensures.moved,
+          (g.S.Source.left c.read.new.self) c.loop-count.bytes.items front c.loop-count.invariant.lost
+          c.in-Ok.ensures.moved,
     )
 
 pub returns-then-is_err-clause-lost : goal.returns-then-is_err-clause-lost
@@ -32,6 +38,6 @@ returns-then-is_err-clause-lost g c =
       c.loop-count.bytes.items ++ front,
       omega (arith, c.in-Ok.ensures.fits, length-append {A = ℕ}, length-take {A = ℕ}),
       lost_more (g.S.Source.left c.args.src.now) (g.S.Source.left c.loop-count.src)
-        (g.S.Source.left c.read.new.self) c.loop-count.bytes.items front c.loop-count.invariant.lost
-        c.in-Ok.ensures.moved,
+          (g.S.Source.left c.read.new.self) c.loop-count.bytes.items front c.loop-count.invariant.lost
+          c.in-Ok.ensures.moved,
     )

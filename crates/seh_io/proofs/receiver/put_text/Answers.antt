@@ -7,7 +7,7 @@ pub returns-clause-ok : goal.returns-clause-ok
 returns-clause-ok g c =
     on_ok c.end.result _ _ _ c.end.ensures.outcome (λ is.
     same_grew (g.O.Sink.taken c.new-lines.result.sink.now) (g.O.Sink.taken c.args.sink.now)
-      (g.O.Sink.taken c.end.new.self.sink.now) _ _ _
+    (g.O.Sink.taken c.end.new.self.sink.now) _ _ _
     (ap g.O.Sink.taken c.new-lines.ensures.sink)
     (ap (λ b. lines b c.args.events.now ++ end_line c.args.end.now) c.new-lines.ensures.trace)
     (search rules)
@@ -17,9 +17,9 @@ pub returns-clause-part : goal.returns-clause-part
 returns-clause-part g c =
     on_err c.end.result _ _ _ c.end.ensures.outcome (λ e q.
     same_part (g.O.Sink.taken c.new-lines.result.sink.now) (g.O.Sink.taken c.args.sink.now)
-      (g.O.Sink.taken c.end.new.self.sink.now) _ _ _ e.taken
+    (g.O.Sink.taken c.end.new.self.sink.now) _ _ _ e.taken
     (ap g.O.Sink.taken c.new-lines.ensures.sink)
     (ap (λ b. lines b c.args.events.now ++ end_line c.args.end.now) c.new-lines.ensures.trace)
     (search rules)
     (ran_part _ _ _ _ _ c.replay.ensures.wrote c.end.ensures.wrote e.taken c.new-lines.ensures.taken
-      q.1))
+    q.1))

@@ -10,12 +10,12 @@ pub loop-event-preserved : goal.loop-event-preserved
 loop-event-preserved g c =
     subst (λ es. g.V.Events.took c.args.to.now es c.take.new.self)
     (sym (ap (λ k. take k c.args.events.now) (add-one c.loop-event.event-index)
-      ∙ take-suc c.args.events.now c.loop-event.event-index _ (omega arith)))
+    ∙ take-suc c.args.events.now c.loop-event.event-index _ (omega arith)))
     (g.met.V.Events.more c.args.to.now c.loop-event.to c.take.new.self
-      (take c.loop-event.event-index c.args.events.now) _ c.loop-event.invariant c.take.ensures)
+    (take c.loop-event.event-index c.args.events.now) _ c.loop-event.invariant c.take.ensures)
 
 pub returns : goal.returns
 returns g c =
     subst (λ es. g.V.Events.took c.args.to.now es c.loop-event.to)
-      (take_all c.loop-event.event-index c.args.events.now c.loop-event-test.false)
-      c.loop-event.invariant
+    (take_all c.loop-event.event-index c.args.events.now c.loop-event-test.false)
+    c.loop-event.invariant

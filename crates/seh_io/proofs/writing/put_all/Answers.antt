@@ -14,8 +14,8 @@ loop-taken-preserved g c = record {
 pub returns-then-count-eq0-clause-part : goal.returns-then-count-eq0-clause-part
 returns-then-count-eq0-clause-part g c =
     grew_still (g.O.Sink.taken c.args.sink.now) (g.O.Sink.taken c.loop-taken.sink)
-      (g.O.Sink.taken c.write.new.self)
+    (g.O.Sink.taken c.write.new.self)
     (take c.loop-taken.taken c.args.piece.now)
-      (take (length c.args.piece.now - c.loop-taken.taken)
-      (drop c.loop-taken.taken c.args.piece.now))
+    (take (length c.args.piece.now - c.loop-taken.taken)
+    (drop c.loop-taken.taken c.args.piece.now))
     c.in-Ok.count c.if-count-eq0.true c.loop-taken.invariant.grew c.in-Ok.ensures.moved

@@ -8,6 +8,6 @@ abbrev pub invariant-loop-f : goal.invariant-loop-f
 invariant-loop-f l =
     (l.number ≡ l.f-index)
     × (map linear_function l.functions.items ≡ map spec.lowered_function
-      (map programs.function (take l.f-index l.checked.functions.items)))
+    (map programs.function (take l.f-index l.checked.functions.items)))
     × (map linear_funclet l.funclets.items ≡ spec.all_funclets 0
-      (map programs.function (take l.f-index l.checked.functions.items)))
+    (map programs.function (take l.f-index l.checked.functions.items)))

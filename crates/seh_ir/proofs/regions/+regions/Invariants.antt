@@ -7,7 +7,7 @@ use Rattle.seh_ir.proofs.regions.+regions.Given as goal
 abbrev pub invariant-statements_regions-loop-stmt : goal.invariant-statements_regions-loop-stmt
 invariant-statements_regions-loop-stmt l =
     (l.place ≡ l.at + sizes.statements_size (tree.statements
-      (map tree.statement (take l.stmt-index l.stmts))))
+    (map tree.statement (take l.stmt-index l.stmts))))
     × (l.regions.items ≡ l.initial.regions.items
     ++ spec.statements_regions (tree.statements (map tree.statement (take l.stmt-index l.stmts)))
-      l.at)
+    l.at)

@@ -6,4 +6,4 @@ use Rattle.seh_ir.proofs.statements.declare_all.Given as goal
 abbrev pub invariant-loop-one : goal.invariant-loop-one
 invariant-loop-one l = l.code.items ≡ l.initial.code.items
     ++ spec.all_declared_code l.names (map tree.declared (take l.one-index l.declared))
-      (length l.initial.code.items)
+    (length l.initial.code.items)

@@ -8,5 +8,5 @@ pub returns : goal.returns
 returns c =
     on_ok_weaker c.end_return.result
     (λ h. return_is c.args.scope.now (option_map expression c.args.expr.now) c.args.code.now.items _
-      _ c.in_ok-returned.ensures h)
+    _ c.in_ok-returned.ensures h)
     c.end_return.ensures

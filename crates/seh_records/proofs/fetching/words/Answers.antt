@@ -11,17 +11,17 @@ loop-i-preserved g c =
     let i = c.loop-i.i in
     let here = c.loop-i.here in
     let next : ((c.args.at + here) % 2 ^ 64 + 8) % 2 ^ 64
-      ≡ (c.args.at + (here + 8)) % 2 ^ 64 = omega arith in
+    ≡ (c.args.at + (here + 8)) % 2 ^ 64 = omega arith in
     let more = words_at-more m.byte (n - i) (n - (i + 1)) ((c.args.at + here) % 2 ^ 64)
-      (omega arith) ∙ ap (λ (b : ℕ). b ∷ words_at m.byte (n - (i + 1))
-      (((c.args.at + here) % 2 ^ 64 + 8) % 2 ^ 64)) (sym c.word.ensures)
-      ∙ ap (λ a. c.word.result ∷ words_at m.byte (n - (i + 1)) a) next in
+    (omega arith) ∙ ap (λ (b : ℕ). b ∷ words_at m.byte (n - (i + 1))
+    (((c.args.at + here) % 2 ^ 64 + 8) % 2 ^ 64)) (sym c.word.ensures)
+    ∙ ap (λ a. c.word.result ∷ words_at m.byte (n - (i + 1)) a) next in
     record {
       same = length-set c.loop-i.into i c.word.result ∙ c.loop-i.invariant.same;
       here = omega arith;
       words = one_more c.loop-i.into _ (words_at m.byte (n - (i + 1))
-        ((c.args.at + (here + 8)) % 2 ^ 64)) i c.word.result (omega arith)
-        (c.loop-i.invariant.words ∙ ap (λ (t : List ℕ). take i c.loop-i.into ++ t) more);
+          ((c.args.at + (here + 8)) % 2 ^ 64)) i c.word.result (omega arith)
+          (c.loop-i.invariant.words ∙ ap (λ (t : List ℕ). take i c.loop-i.into ++ t) more);
     }
 
 pub returns : goal.returns
@@ -29,7 +29,7 @@ returns g c =
     let m = g.S.AddressSpace.memory c.args.space.now in
     let n = length c.args.into.now in
     let all : take c.loop-i.i c.loop-i.into ≡ c.loop-i.into = take_all c.loop-i.i c.loop-i.into
-      (omega arith) in
+    (omega arith) in
     sym (c.loop-i.invariant.words ∙ ap (λ (t : List ℕ). take c.loop-i.i c.loop-i.into ++ t)
-      (words_at-zero m.byte (n - c.loop-i.i) ((c.args.at + c.loop-i.here) % 2 ^ 64) (omega arith))
-      ∙ append-nil (take c.loop-i.i c.loop-i.into) ∙ all)
+    (words_at-zero m.byte (n - c.loop-i.i) ((c.args.at + c.loop-i.here) % 2 ^ 64) (omega arith))
+    ∙ append-nil (take c.loop-i.i c.loop-i.into) ∙ all)

@@ -10,5 +10,5 @@ invariant-loop-i g l =
       same : length l.into ≡ n;
       here : l.here ≡ l.offset + 8 * l.i;
       words : words_at m.byte n ((l.at + l.offset) % 2 ^ 64)
-        ≡ take l.i l.into ++ words_at m.byte (n - l.i) ((l.at + l.here) % 2 ^ 64);
+          ≡ take l.i l.into ++ words_at m.byte (n - l.i) ((l.at + l.here) % 2 ^ 64);
     }

@@ -11,5 +11,5 @@ invariant-loop-word g l =
       modes : m.protection ≡ old.protection;
       may : first_refused (may_write m) (8 * (length l.words - l.word-index)) l.here ≡ None;
       bytes : with_words m.byte l.here (drop l.word-index l.words)
-        ≡ with_words old.byte l.at l.words;
+          ≡ with_words old.byte l.at l.words;
     }

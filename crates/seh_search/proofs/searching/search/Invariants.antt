@@ -9,4 +9,4 @@ invariant-loop-i g l =
     let t = functions_of l.tables in
     let m = g.S.AddressSpace.memory l.space in
     search (0xFFFF_FFFF_FFFF_FFFF - l._i) t m l.at
-      ≡ search 0xFFFF_FFFF_FFFF_FFFF t m (walk_in l.dispatch)
+    ≡ search 0xFFFF_FFFF_FFFF_FFFF t m (walk_in l.dispatch)

@@ -9,5 +9,5 @@ invariant-loop-i g l =
     let t = functions_of l.tables in
     let m = g.S.AddressSpace.memory l.space in
     unwind (0xFFFF_FFFF_FFFF_FFFF - l._i) t m l.dispatch.target_frame l.dispatch.target l.at
-      ≡ unwind 0xFFFF_FFFF_FFFF_FFFF t m l.dispatch.target_frame l.dispatch.target
-        (walk_in l.dispatch)
+    ≡ unwind 0xFFFF_FFFF_FFFF_FFFF t m l.dispatch.target_frame l.dispatch.target
+    (walk_in l.dispatch)

@@ -13,5 +13,5 @@ loop-code-preserved g c = record {
   rest = λ z p. c.loop-code.invariant.rest z (then_rest _ _ z (code_line c.in-Some.code) _ _
       (ap (λ (t : List UnwindCode). flat_map code_line t) c.in-Some.ensures.steps)
       (same _ _ _ _ c.put_joined.ensures.wrote
-        (joined _ _ _ _ c.code_begin.ensures c.code_end.ensures)) p);
+      (joined _ _ _ _ c.code_begin.ensures c.code_end.ensures)) p);
 }

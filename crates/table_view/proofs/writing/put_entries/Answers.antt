@@ -14,7 +14,7 @@ loop-index-preserved g c = record {
       (entry_at c.args.tables.now c.loop-index.index)) _ _
       (entry_first c.args.tables.now c.loop-index.index (omega (arith, c.len-index-end.ensures)))
       (same _ _ _ _ c.put_entry.ensures.wrote
-        (ap (λ (r : Result Entry TableErr). entry_lines c.loop-index.index r) c.entry.ensures)) p);
+      (ap (λ (r : Result Entry TableErr). entry_lines c.loop-index.index r) c.entry.ensures)) p);
 }
 
 pub returns-clause-wrote : goal.returns-clause-wrote

@@ -11,5 +11,5 @@ invariant-loop-index g l = record {
       (all_lines l.tables.image l.index (end_before l.tables.ranges l.index)
       (drop l.index l.tables.ranges)) z
       → Wrote (writer_of g.O.Sink.taken g.O.Sink.faults l.fn.out)
-        (all_lines l.tables.image 0 0 l.tables.ranges) z;
+      (all_lines l.tables.image 0 0 l.tables.ranges) z;
 }

@@ -10,7 +10,7 @@ pub returns-in-Ok-clause-wrote : goal.returns-in-Ok-clause-wrote
 returns-in-Ok-clause-wrote g c =
     same _ _ _ _
     (two _ _ _ _ _ (same _ _ _ _ c.put.ensures.wrote
-      (c.as_bytes.ensures.value ∙ c.entry_line.ensures
-      ∙ ap (entry_line c.args.index) c.range.ensures))
-        (same _ _ _ _ c.put_info.ensures.wrote (ap info_lines c.info.ensures)))
+    (c.as_bytes.ensures.value ∙ c.entry_line.ensures
+    ∙ ap (entry_line c.args.index) c.range.ensures))
+    (same _ _ _ _ c.put_info.ensures.wrote (ap info_lines c.info.ensures)))
     (ap (λ (r : Result Entry TableErr). entry_lines c.args.index r) (sym c.in-Ok.is))

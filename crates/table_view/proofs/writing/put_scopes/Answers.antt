@@ -14,5 +14,5 @@ loop-row-preserved g c = record {
       (scope_line c.loop-row.number c.in-Some.row) _ _
       (ap (λ (t : List ScopeRecord). scope_lines c.loop-row.number t) c.in-Some.ensures.steps)
       (same _ _ _ _ c.put_joined.ensures.wrote
-        (joined _ _ _ _ c.scope_begin.ensures c.kind_line.ensures)) p);
+      (joined _ _ _ _ c.scope_begin.ensures c.kind_line.ensures)) p);
 }

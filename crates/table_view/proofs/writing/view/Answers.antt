@@ -7,7 +7,7 @@ pub returns-clause-ok : goal.returns-clause-ok
 returns-clause-ok g c =
     on_ok c.outcome.result _ _ _ c.outcome.ensures (λ is.
     same_grew (g.O.Sink.taken c.new-lines.result.sink.now) (g.O.Sink.taken c.args.sink.now)
-      (g.O.Sink.taken c.put_table.new.out.sink.now) _ _ _
+    (g.O.Sink.taken c.put_table.new.out.sink.now) _ _ _
     (ap g.O.Sink.taken c.new-lines.ensures.sink)
     refl
     (search rules)
@@ -17,7 +17,7 @@ pub returns-clause-part : goal.returns-clause-part
 returns-clause-part g c =
     on_err c.outcome.result _ _ _ c.outcome.ensures (λ e q.
     same_part (g.O.Sink.taken c.new-lines.result.sink.now) (g.O.Sink.taken c.args.sink.now)
-      (g.O.Sink.taken c.put_table.new.out.sink.now) _ _ _ e.taken
+    (g.O.Sink.taken c.put_table.new.out.sink.now) _ _ _ e.taken
     (ap g.O.Sink.taken c.new-lines.ensures.sink)
     refl
     (search rules)

@@ -11,31 +11,31 @@ unfolding tail_at
 returns-in-None g c =
     let m = g.S.AddressSpace.memory c.args.space.now in
     sym (none-here m c.loop-i.answer (0xFFFF_FFFF_FFFF_FFFF - c.loop-i._i) c.args.register
-      c.loop-i.here c.loop-i.first (sym c.in-None.ensures)) ∙ c.loop-i.invariant
+    c.loop-i.here c.loop-i.first (sym c.in-None.ensures)) ∙ c.loop-i.invariant
 
 pub returns-then-is_last : goal.returns-then-is_last
 unfolding tail_at
 returns-then-is_last g c =
     let m = g.S.AddressSpace.memory c.args.space.now in
     let e : part c.args.register c.loop-i.first m c.loop-i.here
-      ≡ Some (c.in-Some.instr, c.in-Some.len, true) = sym c.in-Some.ensures
-      ∙ ap (λ (b : Bool). Some (c.in-Some.instr, c.in-Some.len, b)) c.if-is_last.true in
+    ≡ Some (c.in-Some.instr, c.in-Some.len, true) = sym c.in-Some.ensures
+    ∙ ap (λ (b : Bool). Some (c.in-Some.instr, c.in-Some.len, b)) c.if-is_last.true in
     ap (λ (r : Answer Context). Some r) c.then_left_by-answer.ensures
-      ∙ sym (last-here m c.loop-i.answer (0xFFFF_FFFF_FFFF_FFFF - c.loop-i._i) c.args.register
-        c.loop-i.here c.in-Some.len c.loop-i.first c.in-Some.instr (omega arith) e)
-      ∙ c.loop-i.invariant
+    ∙ sym (last-here m c.loop-i.answer (0xFFFF_FFFF_FFFF_FFFF - c.loop-i._i) c.args.register
+    c.loop-i.here c.in-Some.len c.loop-i.first c.in-Some.instr (omega arith) e)
+    ∙ c.loop-i.invariant
 
 pub loop-i-preserved : goal.loop-i-preserved
 loop-i-preserved g c =
     let m = g.S.AddressSpace.memory c.args.space.now in
     let j = 0xFFFF_FFFF_FFFF_FFFF - (c.loop-i._i + 1) in
     let e : part c.args.register c.loop-i.first m c.loop-i.here
-      ≡ Some (c.in-Some.instr, c.in-Some.len, false) = sym c.in-Some.ensures
-      ∙ ap (λ (b : Bool). Some (c.in-Some.instr, c.in-Some.len, b)) c.if-is_last.false in
+    ≡ Some (c.in-Some.instr, c.in-Some.len, false) = sym c.in-Some.ensures
+    ∙ ap (λ (b : Bool). Some (c.in-Some.instr, c.in-Some.len, b)) c.if-is_last.false in
     ap (λ (r : Answer Context). after m r (tail j false c.args.register m
-      ((c.loop-i.here + c.in-Some.len) % 2 ^ 64))) c.then_left_by-answer.ensures
+    ((c.loop-i.here + c.in-Some.len) % 2 ^ 64))) c.then_left_by-answer.ensures
     ∙ sym (more-here m c.loop-i.answer (0xFFFF_FFFF_FFFF_FFFF - c.loop-i._i) j c.args.register
-      c.loop-i.here c.in-Some.len c.loop-i.first c.in-Some.instr (omega arith) e)
+    c.loop-i.here c.in-Some.len c.loop-i.first c.in-Some.instr (omega arith) e)
     ∙ c.loop-i.invariant
 
 pub returns : goal.returns
@@ -43,4 +43,4 @@ unfolding tail_at
 returns g c =
     let m = g.S.AddressSpace.memory c.args.space.now in
     sym (no-fuel m c.loop-i.answer (0xFFFF_FFFF_FFFF_FFFF - c.loop-i._i) c.args.register
-      c.loop-i.here c.loop-i.first (omega arith)) ∙ c.loop-i.invariant
+    c.loop-i.here c.loop-i.first (omega arith)) ∙ c.loop-i.invariant

@@ -3,6 +3,11 @@ use Rattle.whole_runs.proofs.Shadowed.{programs_walk_the_shadow}
 use Rattle.whole_runs.proofs.laws.laws.Goals as goal
 
 pub returns : goal.returns
-returns c = record { all = lemma.all; no_more = lemma.no_more; programs_all = lemma.programs_all;
-    programs_no_more = lemma.programs_no_more; enough = lemma.enough;
-    shadow = programs_walk_the_shadow }
+returns c = record {
+  all = lemma.all;
+  no_more = lemma.no_more;
+  programs_all = lemma.programs_all;
+  programs_no_more = lemma.programs_no_more;
+  enough = lemma.enough;
+  shadow = programs_walk_the_shadow;
+}

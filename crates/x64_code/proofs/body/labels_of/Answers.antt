@@ -23,16 +23,16 @@ loop-instruction-preserved c =
     let g = grown_to k y 0 x old new c.in_ok-put_instruction.ensures in
     let there : start + length old + template_size y x ≡ start + length new = omega arith in
     let len : start + c.len.result ≡ start + length
-      old = (let a = c.len.ensures in let b = c.loop-instruction.scratch.ok in omega arith) in
+    old = (let a = c.len.ensures in let b = c.loop-instruction.scratch.ok in omega arith) in
     let inv = c.loop-instruction.invariant in
     let room = inv.room in
     let end = inv.end in
     record {
       starts = label_added c.loop-instruction.starts.items c.push.new.self.items _
-        (label_list y (start + length new) (drop (i + 1) body)) _ (start + length old)
-        (c.in_ok-push.ensures.items ∙ ap (λ (n : ℕ). c.loop-instruction.starts.items ++ n ∷ []) len)
-        (labels_next y (start + length old) i body some_instruction lt
-        ∙ ap (λ (n : ℕ). (start + length old) ∷ label_list y n (drop (i + 1) body)) there)
+          (label_list y (start + length new) (drop (i + 1) body)) _ (start + length old)
+          (c.in_ok-push.ensures.items ∙ ap (λ (n : ℕ). c.loop-instruction.starts.items ++ n ∷ []) len)
+          (labels_next y (start + length old) i body some_instruction lt
+          ∙ ap (λ (n : ℕ). (start + length old) ∷ label_list y n (drop (i + 1) body)) there)
           inv.starts;
       end = (let s = size_next y i body some_instruction lt in omega arith);
       room = omega arith;

@@ -22,12 +22,12 @@ loop-instruction-preserved c =
     let g = grown_template k y at x old new c.in_ok-put_instruction.ensures in
     let more = c.len.result - c.len-before.result in
     let there : at + template_size y x ≡ at + more =
-      (let a = c.len.ensures in let b = c.len-before.ensures in omega arith) in
+    (let a = c.len.ensures in let b = c.len-before.ensures in omega arith) in
     let room = c.loop-instruction.invariant.room in
     record {
       code = stepped old new _ (template k y at x) (code_from k y (at + more) (drop (i + 1) body)) _
-        c.in_ok-put_instruction.ensures (body_next k y at i body some_instruction lt
-        ∙ ap (λ (n : ℕ). template k y at x ++ code_from k y n (drop (i + 1) body)) there)
+          c.in_ok-put_instruction.ensures (body_next k y at i body some_instruction lt
+          ∙ ap (λ (n : ℕ). template k y at x ++ code_from k y n (drop (i + 1) body)) there)
           c.loop-instruction.invariant.code;
       room = omega arith;
     }

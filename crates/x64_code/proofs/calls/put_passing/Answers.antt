@@ -16,8 +16,8 @@ loop-i-preserved c =
     let code = c.loop-i.code.items in
     let mid = c.put.new.code.items in
     let e = spelled_both code mid c.put-in-loop-i.new.code.items (a ∷ []) (b ∷ [])
-      (c.in_ok-put.ensures ∙ ap (λ (x : Instr). code ++ spelled (x ∷ [])) c.load.ensures)
-      (c.in_ok-put-2.ensures ∙ ap (λ (x : Instr). mid ++ spelled (x ∷ [])) c.store.ensures) in
+    (c.in_ok-put.ensures ∙ ap (λ (x : Instr). code ++ spelled (x ∷ [])) c.load.ensures)
+    (c.in_ok-put-2.ensures ∙ ap (λ (x : Instr). mid ++ spelled (x ∷ [])) c.store.ensures) in
     stepped code c.put-in-loop-i.new.code.items _ (a ∷ b ∷ [])
-      (passing_code y c.args.first (i + 1) (c.args.count - (i + 1))) _ e
-      (passing_next y c.args.first i c.args.count c.loop-i-test.true) c.loop-i.invariant
+    (passing_code y c.args.first (i + 1) (c.args.count - (i + 1))) _ e
+    (passing_next y c.args.first i c.args.count c.loop-i-test.true) c.loop-i.invariant

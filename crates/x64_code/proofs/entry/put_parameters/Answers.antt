@@ -8,5 +8,5 @@ loop-index-preserved c =
     let y = c.args.layout.now in
     let i = c.loop-index.index in
     stepped c.loop-index.code.items c.put_parameter.new.code.items _ (parameter_code y i)
-      (parameters_code y (i + 1) (c.args.count - (i + 1))) _ c.in_ok-put_parameter.ensures
-      (parameters_next y i c.args.count c.loop-index-test.true) c.loop-index.invariant
+    (parameters_code y (i + 1) (c.args.count - (i + 1))) _ c.in_ok-put_parameter.ensures
+    (parameters_next y i c.args.count c.loop-index-test.true) c.loop-index.invariant

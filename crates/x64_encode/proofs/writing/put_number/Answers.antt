@@ -11,11 +11,11 @@ little_more (suc n) m v e = let h : n ≡ m = omega arith in
 pub loop-i-preserved : goal.loop-i-preserved
 loop-i-preserved c =
     let more = little_more (c.args.count - c.loop-i._i) (c.args.count - (c.loop-i._i + 1))
-      c.loop-i.rest (omega arith) in
+    c.loop-i.rest (omega arith) in
     record {
       room = omega arith;
       items = ap (λ (xs : List ℕ). xs ++ little (c.args.count - (c.loop-i._i + 1))
-        (c.loop-i.rest / 256)) c.push.ensures.items
-        ∙ append_assoc c.loop-i.into.items ((c.loop-i.rest % 256) ∷ []) _
-        ∙ ap (λ (xs : List ℕ). c.loop-i.into.items ++ xs) (sym more) ∙ c.loop-i.invariant.items;
+          (c.loop-i.rest / 256)) c.push.ensures.items
+          ∙ append_assoc c.loop-i.into.items ((c.loop-i.rest % 256) ∷ []) _
+          ∙ ap (λ (xs : List ℕ). c.loop-i.into.items ++ xs) (sym more) ∙ c.loop-i.invariant.items;
     }

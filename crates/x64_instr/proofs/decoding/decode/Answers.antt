@@ -22,7 +22,7 @@ returns-in-Some-clause-found c =
 pub returns-in-Some-clause-only : goal.returns-in-Some-clause-only
 returns-in-Some-clause-only c = λ i k le s.
     let p = pair c.in-Some.instr i c.in-Some.rest.now (drop k c.args.bytes.now)
-      (c.in-Some.ensures ∙ only c.args.bytes.now i k le s) in
+    (c.in-Some.ensures ∙ only c.args.bytes.now i k le s) in
     let n : length c.args.bytes.now - length c.in-Some.rest.now
-      ≡ k = omega (arith, ap length p.1, length-drop k c.args.bytes.now) in
+    ≡ k = omega (arith, ap length p.1, length-drop k c.args.bytes.now) in
     ap (λ (x : Instr × ℕ). Some x) (λ d. (p.0 d, n d))

@@ -9,5 +9,5 @@ loop-i-preserved c =
     let old = c.args.pages.now.items in
     let z : Page = zero_page c.args.protection in
     c.in_ok-push.ensures.items ∙ ap (λ (xs : List Page). xs ++ z ∷ []) c.loop-i.invariant
-      ∙ append_assoc old (replicate c.loop-i._i z) (z ∷ [])
-      ∙ ap (λ (xs : List Page). old ++ xs) (replicate_more c.loop-i._i z)
+    ∙ append_assoc old (replicate c.loop-i._i z) (z ∷ [])
+    ∙ ap (λ (xs : List Page). old ++ xs) (replicate_more c.loop-i._i z)

@@ -18,20 +18,20 @@ returns-in-Err-clause-value g t c = refused_number-later (g.P.Paged.memory c.arg
 pub overflow_mul-result : goal.overflow_mul-result
 overflow_mul-result g t c =
     let d = digit_more c.args.count 0 c.in-Ok.high (omega arith) (omega arith)
-      c.in-Ok.ensures.small in
+    c.in-Ok.ensures.small in
     omega (arith, pow_at_most c.args.count (omega arith))
 
 pub overflow_add-result : goal.overflow_add-result
 overflow_add-result g t c =
     let d = digit_more c.args.count c.from.result c.in-Ok.high (omega arith) (omega arith)
-      c.in-Ok.ensures.small in
+    c.in-Ok.ensures.small in
     omega (arith, pow_at_most c.args.count (omega arith))
 
 pub returns-in-Ok-clause-value : goal.returns-in-Ok-clause-value
 returns-in-Ok-clause-value g t c =
     ap (λ b. Ok (b + 256 * c.in-Ok.high)) c.from.ensures
-      ∙ refused_number-more (g.P.Paged.memory c.args.space.now) c.args.count (c.args.count - 1)
-        c.args.at c.in-Some.low c.in-Ok.high (omega arith) c.in-Some.ensures c.in-Ok.ensures.value
+    ∙ refused_number-more (g.P.Paged.memory c.args.space.now) c.args.count (c.args.count - 1)
+    c.args.at c.in-Some.low c.in-Ok.high (omega arith) c.in-Some.ensures c.in-Ok.ensures.value
 
 pub returns-in-Ok-clause-small : goal.returns-in-Ok-clause-small
 returns-in-Ok-clause-small g t c = digit_more c.args.count c.from.result c.in-Ok.high (omega arith)

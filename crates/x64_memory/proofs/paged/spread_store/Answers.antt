@@ -21,20 +21,20 @@ loop-i-preserved g c =
     let new = g.P.Paged.memory c.put.new.self in
     let after = with_bytes m (with_number m.byte 1 c.loop-i.here c.loop-i.rest) in
     let modes : new.protection ≡ m.protection = ap (λ (x : Memory). x.protection) {y = after}
-      c.put.ensures in
+    c.put.ensures in
     let bytes : new.byte ≡ with_byte m.byte c.loop-i.here (c.loop-i.rest % 256) = ap
-      (λ (x : Memory). x.byte) {y = after} c.put.ensures
-      ∙ one m.byte c.loop-i.here c.loop-i.rest (omega arith) in
+    (λ (x : Memory). x.byte) {y = after} c.put.ensures
+    ∙ one m.byte c.loop-i.here c.loop-i.rest (omega arith) in
     let yes = may_first (may_write m) (c.args.count - c.loop-i._i) c.loop-i.here (omega arith)
-      c.loop-i.invariant.may in
+    c.loop-i.invariant.may in
     let left = c.args.count - (c.loop-i._i + 1) in
     record {
       modes = modes ∙ c.loop-i.invariant.modes;
       may = ap (λ (f : ℕ → Protection). first_refused (λ a. is_writable (f a).rights) left
-        (next c.loop-i.here)) modes ∙ first_refused-more (may_write m) (c.args.count - c.loop-i._i)
-        left c.loop-i.here (omega arith) yes ∙ c.loop-i.invariant.may;
+          (next c.loop-i.here)) modes ∙ first_refused-more (may_write m) (c.args.count - c.loop-i._i)
+          left c.loop-i.here (omega arith) yes ∙ c.loop-i.invariant.may;
       bytes = ap (λ f. with_number f left (next c.loop-i.here) (c.loop-i.rest / 256)) bytes
-        ∙ with_number-more m.byte (c.args.count - c.loop-i._i) left c.loop-i.here c.loop-i.rest
+          ∙ with_number-more m.byte (c.args.count - c.loop-i._i) left c.loop-i.here c.loop-i.rest
           (omega arith) (omega arith) (omega arith) ∙ c.loop-i.invariant.bytes;
     }
 
@@ -43,6 +43,6 @@ returns g c =
     let m = g.P.Paged.memory c.loop-i.space in
     let old = g.P.Paged.memory c.args.space.now in
     let b : m.byte ≡ with_number old.byte c.args.count c.args.at c.args.value = sym
-      (with_number-zero m.byte (c.args.count - c.loop-i._i) c.loop-i.here c.loop-i.rest
-      (omega arith)) ∙ c.loop-i.invariant.bytes in
+    (with_number-zero m.byte (c.args.count - c.loop-i._i) c.loop-i.here c.loop-i.rest
+    (omega arith)) ∙ c.loop-i.invariant.bytes in
     λ i. record { protection = c.loop-i.invariant.modes i; byte = b i }

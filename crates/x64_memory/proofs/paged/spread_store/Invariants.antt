@@ -10,5 +10,5 @@ invariant-loop-i g l =
       modes : m.protection ≡ old.protection;
       may : first_refused (may_write m) (l.count - l._i) l.here ≡ None;
       bytes : with_number m.byte (l.count - l._i) l.here l.rest
-        ≡ with_number old.byte l.count l.at l.value;
+          ≡ with_number old.byte l.count l.at l.value;
     }

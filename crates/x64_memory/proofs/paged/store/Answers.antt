@@ -8,4 +8,4 @@ pub put-requires-clause-may : goal.put-requires-clause-may
 put-requires-clause-may g c =
     let m = g.P.Paged.memory c.args.space.now in
     may_first (may_write m) (bytes_of c.args.width) c.args.at (positive c.args.width)
-      (may_store_is m c.args.at c.args.width c.in_ok-may_store.ensures)
+    (may_store_is m c.args.at c.args.width c.in_ok-may_store.ensures)

@@ -6,9 +6,9 @@ use Rattle.x64_memory.proofs.stretch.count_ended.Goals as goal
 pub returns : goal.returns
 returns c =
     let parted = IsPartitionedBy-leb (λ s. s.end) c.args.stretches.now c.args.number
-      (ends_rise 0 0 _ c.requires) in
+    (ends_rise 0 0 _ c.requires) in
     let point = IsPartitionPoint-from_clause (λ s. leb s.end c.args.number) _ _
-      c.partition_point.ensures.partitioned parted (λ a r q k. search rules) in
+    c.partition_point.ensures.partitioned parted (λ a r q k. search rules) in
     record {
       within = c.partition_point.ensures.bound;
       below = λ k d h. leb-true _ _ (point.0 k d (omega arith) h);

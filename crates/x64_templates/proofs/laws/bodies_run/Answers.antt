@@ -4,5 +4,9 @@ use Rattle.x64_templates.proofs.Retries.{body_faults, body_retries}
 use Rattle.x64_templates.proofs.laws.bodies_run.Goals as goal
 
 pub returns : goal.returns
-returns c = record { operations = compute_run; bodies = body_runs; faults = body_faults;
-    retries = body_retries }
+returns c = record {
+  operations = compute_run;
+  bodies = body_runs;
+  faults = body_faults;
+  retries = body_retries;
+}

@@ -23,5 +23,5 @@ returns c =
     let lt = c.requires in
     c.read_range.ensures
     ∙ range_is (length bytes / 12) c.args.index bytes
-      (omega (arith, range_count (length bytes / 12) bytes))
+    (omega (arith, range_count (length bytes / 12) bytes))
     ∙ ap (λ (t : Tables). get_or t.ranges c.args.index no_range) c.self.view_is

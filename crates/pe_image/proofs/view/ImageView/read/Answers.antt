@@ -10,38 +10,38 @@ pub returns-in_err-check_headers-clause-refusal : goal.returns-in_err-check_head
 returns-in_err-check_headers-clause-refusal c =
     let p = err_from_is_err_and c.from_residual.result c.from_residual.ensures.1 in
     rw (p.1, p.2) (by_headers c.args.bytes.now c.in_err-check_headers.field-0.0
-      (sym c.in_err-check_headers.ensures.answer))
+    (sym c.in_err-check_headers.ensures.answer))
 
 pub returns-in_err-sections-clause-refusal : goal.returns-in_err-sections-clause-refusal
 returns-in_err-sections-clause-refusal c =
     let p = err_from_is_err_and c.from_residual-in_err-sections.result
-      c.from_residual-in_err-sections.ensures.1 in
+    c.from_residual-in_err-sections.ensures.1 in
     rw (p.1, p.2) (by_sections c.args.bytes.now c.in_err-sections.field-0.0 _ _ _
-      (sym c.in_ok-check_headers.ensures.answer) c.image_end-end.ensures
-      c.section_count-count.ensures c.sections_at-at.ensures c.in_err-sections.ensures.answer)
+    (sym c.in_ok-check_headers.ensures.answer) c.image_end-end.ensures
+    c.section_count-count.ensures c.sections_at-at.ensures c.in_err-sections.ensures.answer)
 
 pub returns-in_err-imports-clause-refusal : goal.returns-in_err-imports-clause-refusal
 returns-in_err-imports-clause-refusal c =
     let p = err_from_is_err_and c.from_residual-in_err-imports.result
-      c.from_residual-in_err-imports.ensures.1 in
+    c.from_residual-in_err-imports.ensures.1 in
     rw (p.1, p.2) (imports_refused c.args.bytes.now c.in_ok-sections.sections.items _ _
     (read_whole c.args.bytes.now c.in_ok-sections.sections.items _ _ _
-      (sym c.in_ok-check_headers.ensures.answer) c.image_end-end.ensures
-      c.section_count-count.ensures c.sections_at-at.ensures c.in_ok-sections.ensures.answer)
+    (sym c.in_ok-check_headers.ensures.answer) c.image_end-end.ensures
+    c.section_count-count.ensures c.sections_at-at.ensures c.in_ok-sections.ensures.answer)
     c.deref.ensures.value c.directory-import_directory.ensures c.in_err-imports.field-0.0
-      c.in_err-imports.ensures)
+    c.in_err-imports.ensures)
 
 pub returns-clause-image : goal.returns-clause-image
 returns-clause-image c =
     imports_read c.args.bytes.now c.in_ok-sections.sections.items _ _
     (read_whole c.args.bytes.now c.in_ok-sections.sections.items _ _ _
-      (sym c.in_ok-check_headers.ensures.answer) c.image_end-end.ensures
-      c.section_count-count.ensures c.sections_at-at.ensures c.in_ok-sections.ensures.answer)
+    (sym c.in_ok-check_headers.ensures.answer) c.image_end-end.ensures
+    c.section_count-count.ensures c.sections_at-at.ensures c.in_ok-sections.ensures.answer)
     c.deref.ensures.value c.directory-import_directory.ensures c.in_ok-imports.imports.items
-      c.in_ok-imports.ensures
+    c.in_ok-imports.ensures
     ∙ ap (λ (image : Image). Ok image) (same_image c.args.bytes.now c.in_ok-sections.sections.items
-      _ _ _ _ _ c.image_base.ensures c.entry_point.ensures c.image_size.ensures
-      c.directory-import_directory.ensures c.directory.ensures)
+    _ _ _ _ _ c.image_base.ensures c.entry_point.ensures c.image_size.ensures
+    c.directory-import_directory.ensures c.directory.ensures)
 
 pub invariant_of-result : goal.invariant_of-result
 invariant_of-result c = (

@@ -15,7 +15,7 @@ overflow_cast-text_at c = let fits = text_fits c.args.self.now c.sizes-sizes.res
 pub new-requires : goal.new-requires
 new-requires c =
     places_fit c.args.self.now c.sizes-sizes.result c.text_at.result c.self.inside.entry
-      c.args.sections.items c.rdata_at-rdata.result c.pdata_at.result
+    c.args.sections.items c.rdata_at-rdata.result c.pdata_at.result
     c.sizes-sizes.ensures.program c.sizes-sizes.ensures.value c.text_at.ensures
-      (ap (λ (p : ImageContents). p.entry) c.self.view_is) c.requires c.rdata_at-rdata.ensures
-      c.pdata_at.ensures
+    (ap (λ (p : ImageContents). p.entry) c.self.view_is) c.requires c.rdata_at-rdata.ensures
+    c.pdata_at.ensures

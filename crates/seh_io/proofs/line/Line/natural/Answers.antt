@@ -7,5 +7,9 @@ pub digits_of-requires : goal.digits_of-requires
 digits_of-requires c = omega (arith, decimal_fits c.args.n c.ranges.n.fits)
 
 pub returns-clause-len : goal.returns-clause-len
-returns-clause-len c = omega (arith, decimal_fits c.args.n c.ranges.n.fits,
-    ap length c.digits_of.ensures, length-append c.args.self.now (decimal c.args.n))
+returns-clause-len c = omega (
+  arith,
+  decimal_fits c.args.n c.ranges.n.fits,
+  ap length c.digits_of.ensures,
+  length-append c.args.self.now (decimal c.args.n),
+)

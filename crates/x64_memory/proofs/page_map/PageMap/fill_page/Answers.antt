@@ -22,11 +22,11 @@ returns-in-Some-clause-memory c =
     let size : length ys ≡ length xs = ap length same in
     let at = sym c.in-Some.ensures.value in
     let had = page_kept s.stretches.items s.pages.items (c.args.at / 4096) i p at
-      c.in-Some.ensures.within c.index_mut-page.ensures.value in
+    c.in-Some.ensures.within c.index_mut-page.ensures.value in
     bytes_put (page_numbered s.stretches.items s.pages.items) p q c.args.at xs had c.requires.within
-      refl
+    refl
     (λ j lt. piece_inside p.bytes ys from k j (omega arith) (omega arith)
-      ∙ ap (λ (zs : List ℕ). get_or zs j 0) same)
+    ∙ ap (λ (zs : List ℕ). get_or zs j 0) same)
     (λ j lt. piece_before p.bytes ys from k j lt (omega arith))
     (λ j ge. piece_after p.bytes ys from k j (omega arith) (omega arith) (omega arith))
     _ (page_set s.stretches.items s.pages.items (c.args.at / 4096) i q s.laid s.count at)
@@ -38,10 +38,12 @@ returns-in-Some-clause-holds c a =
     let i = c.in-Some.index in
     let from = c.args.at % 4096 in
     let k = from + length c.args.piece.now - from in
-    let q : Page = record { protection = p.protection;
-      bytes = put_mid from k p.bytes c.copy_from_slice.new.self } in
+    let q : Page = record {
+      protection = p.protection;
+      bytes = put_mid from k p.bytes c.copy_from_slice.new.self;
+    } in
     let at = sym c.in-Some.ensures.value in
     let had = page_kept s.stretches.items s.pages.items (c.args.at / 4096) i p at
-      c.in-Some.ensures.within c.index_mut-page.ensures.value in
+    c.in-Some.ensures.within c.index_mut-page.ensures.value in
     has_kept (page_numbered s.stretches.items s.pages.items) _ (c.args.at / 4096) q
-      (page_set s.stretches.items s.pages.items (c.args.at / 4096) i q s.laid s.count at) p had a
+    (page_set s.stretches.items s.pages.items (c.args.at / 4096) i q s.laid s.count at) p had a

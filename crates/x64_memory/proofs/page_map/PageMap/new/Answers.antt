@@ -24,11 +24,11 @@ loop-region-init c =
     record {
       memory = ap (λ m. mapped_over m rs) (empty_memory ss ps none);
       holds = λ a. or_false (in_regions rs a) (has_page (page_numbered ss ps) a)
-        (empty_holds ss ps a none);
+          (empty_holds ss ps a none);
       laid = subst (AreLaid 0 0) (sym none) tt;
       count = ap length empty ∙ sym (ap (count_from 0) none);
       ascending = subst (λ (xs : List Stretch). AreAscending (4096 * end_from 0 xs) rs) (sym none)
-        c.requires.ascending;
+          c.requires.ascending;
     }
 
 pub invariant_of-result : goal.invariant_of-result
@@ -40,5 +40,5 @@ invariant_of-result c =
       laid = c.loop-region.invariant.laid;
       count = c.loop-region.invariant.count;
       arena = arena_mapped pages rs (λ a. ap (λ (t : List Region). in_regions t a
-        || has_page pages a) (sym end) ∙ c.loop-region.invariant.holds a) c.requires.arena;
+          || has_page pages a) (sym end) ∙ c.loop-region.invariant.holds a) c.requires.arena;
     }

@@ -17,9 +17,9 @@ returns-in-Some-index-clause-after c =
     let pages = page_numbered s.stretches.items s.pages.items in
     let at = sym c.in-Some-index.ensures.value in
     let had = page_kept s.stretches.items s.pages.items (c.args.at / 4096) i p at
-      c.in-Some-index.ensures.within c.index_mut.ensures.value in
+    c.in-Some-index.ensures.within c.index_mut.ensures.value in
     rights_set pages p c.args.at c.in-Some.asked had _
-      (page_set s.stretches.items s.pages.items (c.args.at / 4096) i q s.laid s.count at)
+    (page_set s.stretches.items s.pages.items (c.args.at / 4096) i q s.laid s.count at)
     ∙ ap (with_rights (paged pages) c.args.at) c.in-Some.ensures
     ∙ ap (λ (z : ℤ). protected (paged pages) c.args.at z)
-      (to_z-of_z w32 c.args.protection c.ranges.protection)
+    (to_z-of_z w32 c.args.protection c.ranges.protection)
