@@ -164,17 +164,13 @@ difference_is names k e f n d old one two three is a b c =
     of names n (nodes.PointerDifference k e f) d old three is
     (after_operands names e f d old one two three (difference_ended k d) a b c)
 
-pub not_is : (names : Names) (e : Expression) (n : Node) (d : ℕ) (old one two : List Instruction)
-    → n ≡ nodes.Not e → one ≡ old ++ expression_code names e d (length old)
-    → two ≡ one ++ choice_code d (length one) 1 0 → Made names n d old two
-not_is names e n d old one two is a b = of names n (nodes.Not e) d old two is
-    (after_expression names e d old one two (λ at. choice_code d at 1 0) a b)
-
-pub truth_is : (names : Names) (e : Expression) (d : ℕ) (old one two : List Instruction)
-    → one ≡ old ++ expression_code names e d (length old)
-    → two ≡ one ++ choice_code d (length one) 0 1 → two ≡ old ++ truth names e d (length old)
-truth_is names e d old one two a b = after_expression names e d old one two
-    (λ at. choice_code d at 0 1) a b
+pub choice_is : (names : Names) (e : Expression) (d zero' other : ℕ)
+    (old one two : List Instruction) → one ≡ old ++ expression_code names e d (length old)
+    → two ≡ one ++ choice_code d (length one) zero' other → two ≡ old
+    ++ (expression_code names e d (length old)
+    ++ choice_code d (length old + expression_size e) zero' other)
+choice_is names e d zero' other old one two a b = after_expression names e d old one two
+    (λ at. choice_code d at zero' other) a b
 
 pub and_is : (names : Names) (e f : Expression) (n : Node) (d : ℕ)
     (old one two three : List Instruction) → n ≡ nodes.And e f

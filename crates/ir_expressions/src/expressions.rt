@@ -1,11 +1,11 @@
 //! The code of expressions.
 
-ghost use Rattle.std.specs.Prelude.{◌≡◌, ◌+◌, map, length, true, OnOk};
+ghost use Rattle.std.specs.Prelude.{◌≡◌, ◌+◌, ◌++◌, map, length, true, OnOk};
 ghost use Rattle.c_checked.specs.Expression as tree;
 ghost use Rattle.ir_sizes.specs.Kinds.{is_assignment, is_branch_or_assignment, has_several};
+ghost use Rattle.ir_sizes.specs.Sizes.{expression_size};
 ghost use Rattle.ir_expressions.specs.Appended.{Places};
 ghost use Rattle.ir_expressions.specs.Expressions as spec;
-ghost use Rattle.ir_expressions.specs.Pieces as pieces;
 
 use crate::instructions::{
     abnormal, choose, constant, convert, exception_code, information, put, read, unary,
@@ -15,7 +15,7 @@ use crate::pieces::{
     operate, skip_before, test, test_before,
 };
 use crate::scope::Names;
-use c_checked::expression::{Conversion, Expr, Fixity, Lvalue, Node};
+use c_checked::expression::{Expr, Lvalue, Node};
 use c_operations::built_in::BuiltIn;
 use c_operations::operation::{Operation, Pure, Size};
 use ir_sizes::sums::sum;
@@ -81,6 +81,7 @@ fn next_operand(
     expression(code, names, expr, next)
 }
 
+/// What is at a place, to the temporary `d`.
 #[cycle(expressions)]
 fn read_node(
     code: &mut Vec<Instruction>,
@@ -130,55 +131,6 @@ fn arguments(
         next = sum(next, 1)?;
     }
     Ok(())
-}
-
-#[cycle(expressions)]
-fn stepped(
-    code: &mut Vec<Instruction>,
-    names: Names,
-    fixity: Fixity,
-    target: &Lvalue,
-    before: Conversion,
-    operation: Operation,
-    amount: u64,
-    after: Conversion,
-    d: u64,
-) -> Result<(), AllocError>
-    ensures { OnOk result (Places code.old code.new
-        (spec.node_code names
-        (tree.Increment fixity (tree.lvalue target.now) before operation amount after) d)) }
-{
-    locate(code, names, target, d)?;
-    increment(code, target, fixity, before, operation, amount, after, d)
-}
-
-#[cycle(expressions)]
-fn one_operand(
-    code: &mut Vec<Instruction>,
-    names: Names,
-    operation: Pure,
-    operand: &Expr,
-    d: u64,
-) -> Result<(), AllocError>
-    ensures { OnOk result (Places code.old code.new
-        (spec.node_code names (tree.Unary operation (tree.expression operand.now)) d)) }
-{
-    expression(code, names, operand, d)?;
-    unary(code, operation, d)
-}
-
-#[cycle(expressions)]
-fn negation(
-    code: &mut Vec<Instruction>,
-    names: Names,
-    operand: &Expr,
-    d: u64,
-) -> Result<(), AllocError>
-    ensures { OnOk result (Places code.old code.new
-        (spec.node_code names (tree.Not (tree.expression operand.now)) d)) }
-{
-    expression(code, names, operand, d)?;
-    choose(code, d, 1, 0)
 }
 
 #[cycle(expressions)]
@@ -256,14 +208,22 @@ fn assignment(
     }
 }
 
-/// The second operand of `&&` or `||`, as 0 or 1.
+/// An expression, as one number where it is 0, and as another where it isn't.
 #[cycle(expressions)]
-fn truth(code: &mut Vec<Instruction>, names: Names, expr: &Expr, d: u64) -> Result<(), AllocError>
-    ensures { OnOk result (Places code.old code.new
-        (pieces.truth names (tree.expression expr.now) d)) }
+fn choice(
+    code: &mut Vec<Instruction>,
+    names: Names,
+    expr: &Expr,
+    d: u64,
+    zero: u64,
+    other: u64,
+) -> Result<(), AllocError>
+    ensures { OnOk result (Places code.old code.new (λ at.
+        spec.expression_code names (tree.expression expr.now) d at
+        ++ spec.choice_code d (at + expression_size (tree.expression expr.now)) zero other)) }
 {
     expression(code, names, expr, d)?;
-    choose(code, d, 0, 1)
+    choose(code, d, zero, other)
 }
 
 /// `&&`, `||` and `? :`, whose first operand chooses what is evaluated (C11, 6.5.13 to 6.5.15).
@@ -276,14 +236,14 @@ fn branch(code: &mut Vec<Instruction>, names: Names, node: &Node, d: u64) -> Res
         Node::And(left, right) => {
             expression(code, names, left, d)?;
             test_before(code, d, right, 4)?;
-            truth(code, names, right, d)
+            choice(code, names, right, d, 0, 1)
         }
         Node::Or(left, right) => {
             expression(code, names, left, d)?;
             test(code, d, 0, 3)?;
             put(code, constant(d, 1))?;
             skip_before(code, right, 5)?;
-            truth(code, names, right, d)
+            choice(code, names, right, d, 0, 1)
         }
         Node::Conditional { condition, yes, no } => {
             expression(code, names, condition, d)?;
@@ -326,6 +286,7 @@ fn several(code: &mut Vec<Instruction>, names: Names, node: &Node, d: u64) -> Re
     }
 }
 
+/// A node, with its value to the temporary `d`.
 #[cycle(expressions)]
 fn node(code: &mut Vec<Instruction>, names: Names, node: &Node, d: u64) -> Result<(), AllocError>
     ensures { OnOk result (Places code.old code.new (spec.node_code names (tree.node node.now) d)) }
@@ -342,12 +303,16 @@ fn node(code: &mut Vec<Instruction>, names: Names, node: &Node, d: u64) -> Resul
             amount,
             after,
         } => {
-            stepped(
-                code, names, *fixity, target, *before, *operation, *amount, *after, d,
+            locate(code, names, target, d)?;
+            increment(
+                code, target, *fixity, *before, *operation, *amount, *after, d,
             )
         }
-        Node::Unary { operation, operand } => one_operand(code, names, *operation, operand, d),
-        Node::Not(operand) => negation(code, names, operand, d),
+        Node::Unary { operation, operand } => {
+            expression(code, names, operand, d)?;
+            unary(code, *operation, d)
+        }
+        Node::Not(operand) => choice(code, names, operand, d, 1, 0),
         Node::Call {
             function,
             arguments,

@@ -68,7 +68,7 @@ pub fn locate_size(place: &Lvalue) -> Result<u64, AllocError>
         Lvalue::Local(_) => Ok(0),
         Lvalue::Global { .. } => Ok(1),
         Lvalue::Indirection { pointer, .. } => expression_size(pointer),
-        Lvalue::Element { array, index, .. } => sum(expression_size(array)?, more_size(index, 1)?),
+        Lvalue::Element { array, index, .. } => more_size(array, more_size(index, 1)?),
     }
 }
 
@@ -88,19 +88,20 @@ fn call_size(arguments: &[Expr]) -> Result<u64, AllocError>
 
 /// The size of an expression, and so many more.
 #[cycle(sizes)]
-fn more_size(expr: &Expr, more: u64) -> Result<u64, AllocError>
+pub(crate) fn more_size(expr: &Expr, more: u64) -> Result<u64, AllocError>
     ensures { IfOk result (λ n. n ≡ spec.expression_size (tree.expression expr.now) + more) }
 {
     let size = expression_size(expr)?;
     sum(size, more)
 }
 
+/// The size of the address of a place, and so many more.
 #[cycle(sizes)]
-fn read_node_size(place: &Lvalue) -> Result<u64, AllocError>
-    ensures { IfOk result (λ n. n ≡ spec.node_size (tree.Read (tree.lvalue place.now))) }
+fn more_located(place: &Lvalue, more: u64) -> Result<u64, AllocError>
+    ensures { IfOk result (λ n. n ≡ spec.locate_size (tree.lvalue place.now) + more) }
 {
     let located = locate_size(place)?;
-    sum(located, read_size(place))
+    sum(located, more)
 }
 
 #[cycle(sizes)]
@@ -122,9 +123,8 @@ fn increment_size(target: &Lvalue, before: Conversion, after: Conversion) -> Res
         + (spec.read_size (tree.lvalue target.now)
         + (1 + (spec.conversion_size before + (2 + (spec.conversion_size after + 2)))))) }
 {
-    let located = locate_size(target)?;
-    sum(
-        located,
+    more_located(
+        target,
         read_size(target) + (1 + (conversion_size(before) + (2 + (conversion_size(after) + 2)))),
     )
 }
@@ -136,7 +136,7 @@ fn assignment_size(node: &Node) -> Result<u64, AllocError>
     ensures { IfOk result (λ n. n ≡ spec.node_size (tree.node node.now)) }
 {
     match node {
-        Node::Assign { target, value } => sum(locate_size(target)?, more_size(value, 1)?),
+        Node::Assign { target, value } => more_located(target, more_size(value, 1)?),
         Node::CompoundAssign {
             target,
             before,
@@ -144,9 +144,9 @@ fn assignment_size(node: &Node) -> Result<u64, AllocError>
             after,
             ..
         } => {
-            let changed = more_size(value, 1 + (conversion_size(*after) + 1))?;
-            let rest = sum(read_size(target) + conversion_size(*before), changed)?;
-            sum(locate_size(target)?, rest)
+            let begun = read_size(target) + conversion_size(*before);
+            let rest = more_size(value, begun + (1 + (conversion_size(*after) + 1)))?;
+            more_located(target, rest)
         }
         _ => unreachable!(),
     }
@@ -158,7 +158,7 @@ fn node_size(node: &Node) -> Result<u64, AllocError>
 {
     match node {
         Node::Constant { .. } => Ok(1),
-        Node::Read(place) => read_node_size(place),
+        Node::Read(place) => more_located(place, read_size(place)),
         Node::AddressOf(place) => address_size(place),
         Node::Increment {
             target,
@@ -167,19 +167,15 @@ fn node_size(node: &Node) -> Result<u64, AllocError>
             ..
         } => increment_size(target, *before, *after),
         Node::Unary { operation, operand } => more_size(operand, unary_size(*operation)),
-        Node::Binary { left, right, .. } => sum(expression_size(left)?, more_size(right, 1)?),
-        Node::PointerDifference { left, right, .. } => sum(
-            expression_size(left)?,
-            more_size(right, 3)?,
-        ),
+        Node::Binary { left, right, .. } => more_size(left, more_size(right, 1)?),
+        Node::PointerDifference { left, right, .. } => more_size(left, more_size(right, 3)?),
         Node::Not(operand) => more_size(operand, 4),
-        Node::And(left, right) => sum(expression_size(left)?, more_size(right, 5)?),
-        Node::Or(left, right) => sum(expression_size(left)?, more_size(right, 7)?),
+        Node::And(left, right) => more_size(left, more_size(right, 5)?),
+        Node::Or(left, right) => more_size(left, more_size(right, 7)?),
         Node::Conditional { condition, yes, no } => {
-            let rest = sum(more_size(yes, 1)?, more_size(no, 1)?)?;
-            sum(expression_size(condition)?, rest)
+            more_size(condition, more_size(yes, more_size(no, 2)?)?)
         }
-        Node::Comma(left, right) => sum(expression_size(left)?, more_size(right, 1)?),
+        Node::Comma(left, right) => more_size(left, more_size(right, 1)?),
         Node::Call { arguments, .. } => call_size(arguments),
         Node::CallBuiltIn { arguments, .. } => call_size(arguments),
         Node::ExceptionCode => Ok(1),

@@ -6,7 +6,7 @@ ghost use Rattle.c_checked.specs.Statement as statements;
 ghost use Rattle.ir_sizes.specs.Kinds.{is_loop};
 ghost use Rattle.ir_sizes.specs.Sizes as spec;
 
-use crate::sizes::expression_size;
+use crate::sizes::{expression_size, more_size};
 use crate::sums::{larger, sum};
 use c_checked::expression::Expr;
 use c_checked::statement::{Declared, Stmt};
@@ -18,7 +18,7 @@ pub fn discarded_size(expr: &Option<Expr>) -> Result<u64, AllocError>
 {
     match expr {
         None => Ok(0),
-        Some(e) => sum(expression_size(e)?, 1),
+        Some(e) => more_size(e, 1),
     }
 }
 
@@ -28,16 +28,17 @@ pub fn condition_size(expr: &Option<Expr>) -> Result<u64, AllocError>
 {
     match expr {
         None => Ok(0),
-        Some(e) => sum(expression_size(e)?, 1),
+        Some(e) => more_size(e, 1),
     }
 }
 
-fn returned_size(expr: &Option<Expr>) -> Result<u64, AllocError>
-    ensures { IfOk result (λ n. n ≡ spec.returned_size (option_map tree.expression expr.now)) }
+/// The size of a `return`.
+fn return_size(expr: &Option<Expr>) -> Result<u64, AllocError>
+    ensures { IfOk result (λ n. n ≡ spec.returned_size (option_map tree.expression expr.now) + 2) }
 {
     match expr {
-        None => Ok(1),
-        Some(e) => expression_size(e),
+        None => Ok(3),
+        Some(e) => more_size(e, 2),
     }
 }
 
@@ -46,7 +47,7 @@ pub fn declared_size(declared: &Declared) -> Result<u64, AllocError>
 {
     match &declared.value {
         None => Ok(1),
-        Some(e) => sum(1, sum(expression_size(e)?, 2)?),
+        Some(e) => more_size(e, 3),
     }
 }
 
@@ -74,6 +75,25 @@ pub fn statements_size(stmts: &[Stmt]) -> Result<u64, AllocError>
     Ok(total)
 }
 
+/// The size of statements, and so many more.
+#[cycle(sizes)]
+fn more_of_statements(stmts: &[Stmt], more: u64) -> Result<u64, AllocError>
+    ensures { IfOk result (λ n. n ≡ spec.statements_size
+        (statements.statements (map statements.statement stmts.now)) + more) }
+{
+    let size = statements_size(stmts)?;
+    sum(size, more)
+}
+
+/// The size of a statement, and so many more.
+#[cycle(sizes)]
+fn more_of_statement(stmt: &Stmt, more: u64) -> Result<u64, AllocError>
+    ensures { IfOk result (λ n. n ≡ spec.statement_size (statements.statement stmt.now) + more) }
+{
+    let size = statement_size(stmt)?;
+    sum(size, more)
+}
+
 /// The size of a loop.
 #[cycle(sizes)]
 fn loop_size(stmt: &Stmt) -> Result<u64, AllocError>
@@ -88,20 +108,12 @@ fn loop_size(stmt: &Stmt) -> Result<u64, AllocError>
             next,
             body,
         } => {
-            let last = sum(1, sum(discarded_size(next)?, 1)?)?;
-            let turn = sum(
-                condition_size(condition)?,
-                sum(statement_size(body)?, last)?,
-            )?;
-            sum(
-                all_declared_size(declared)?,
-                sum(discarded_size(first)?, turn)?,
-            )
+            let last = sum(discarded_size(next)?, 2)?;
+            let turn = sum(condition_size(condition)?, more_of_statement(body, last)?)?;
+            let begun = sum(all_declared_size(declared)?, discarded_size(first)?)?;
+            sum(begun, turn)
         }
-        Stmt::Do { body, condition } => {
-            let last = sum(1, sum(expression_size(condition)?, 2)?)?;
-            sum(statement_size(body)?, last)
-        }
+        Stmt::Do { body, condition } => more_of_statement(body, more_size(condition, 3)?),
         _ => unreachable!(),
     }
 }
@@ -118,24 +130,23 @@ pub fn statement_size(stmt: &Stmt) -> Result<u64, AllocError>
             condition,
             then,
             otherwise: None,
-        } => { sum(expression_size(condition)?, sum(1, statement_size(then)?)?) }
+        } => more_size(condition, more_of_statement(then, 1)?),
         Stmt::If {
             condition,
             then,
             otherwise: Some(otherwise),
         } => {
-            let rest = sum(1, statement_size(otherwise)?)?;
-            let both = sum(statement_size(then)?, rest)?;
-            sum(expression_size(condition)?, sum(1, both)?)
+            let both = more_of_statement(then, more_of_statement(otherwise, 2)?)?;
+            more_size(condition, both)
         }
-        Stmt::Return(expr) => sum(returned_size(expr)?, 2),
+        Stmt::Return(expr) => return_size(expr),
         Stmt::Break => Ok(2),
         Stmt::Continue => Ok(2),
         Stmt::Leave => Ok(1),
         Stmt::TryExcept { body, handler, .. } => {
-            sum(statements_size(body)?, sum(2, statements_size(handler)?)?)
+            more_of_statements(body, more_of_statements(handler, 2)?)
         }
-        Stmt::TryFinally { body, .. } => sum(statements_size(body)?, 3),
+        Stmt::TryFinally { body, .. } => more_of_statements(body, 3),
         _ => loop_size(stmt),
     }
 }

@@ -3,7 +3,7 @@ use Rattle.std.proofs.lemmas.Result.{on_ok_weaker}
 use Rattle.c_checked.specs.Expression as tree
 use Rattle.c_checked.proofs.ExpressionTrees as made
 use Rattle.ir_expressions.specs.Expressions.{expression_code}
-use Rattle.ir_expressions.proofs.Arms.{element_is, assign_is, compound_is, increment_is, unary_is, binary_is, difference_is, not_is, truth_is, and_is, or_is, conditional_is, comma_is, call_is, call_built_in_is, arguments_next}
+use Rattle.ir_expressions.proofs.Arms.{element_is, assign_is, compound_is, increment_is, unary_is, binary_is, difference_is, choice_is, and_is, or_is, conditional_is, comma_is, call_is, call_built_in_is, arguments_next}
 use Rattle.ir_expressions.proofs.expressions.+expressions.Goals as goal
 
 pub next_operand-returns : goal.next_operand-returns
@@ -75,33 +75,33 @@ several-returns-in_ok-next_operand-in-Comma t c =
     (rw c.deref-in-Comma-2.ensures at c.in_ok-next_operand-in-Comma.ensures) h)
     c.copy_down.ensures
 
-pub truth-returns : goal.truth-returns
-truth-returns t c =
+pub choice-returns : goal.choice-returns
+choice-returns t c =
     on_ok_weaker c.choose.result
-    (λ h. truth_is c.args.names (tree.expression c.args.expr.now) c.args.d c.args.code.now.items _ _
-    c.in_ok-expression.ensures h)
+    (λ h. choice_is c.args.names (tree.expression c.args.expr.now) c.args.d c.args.zero c.args.other
+    c.args.code.now.items _ _ c.in_ok-expression.ensures h)
     c.choose.ensures
 
 pub branch-returns-in_ok-test_before-in-And : goal.branch-returns-in_ok-test_before-in-And
 branch-returns-in_ok-test_before-in-And t c =
-    on_ok_weaker c.truth.result
+    on_ok_weaker c.choice.result
     (λ h. and_is _ _ _ _ _ _ _ _ _ (ap tree.node c.in-And.is
     ∙ made.and_is c.in-And.left c.in-And.right)
     (rw c.deref.ensures at c.in_ok-expression-in-And.ensures)
     (rw c.deref-in-And.ensures at c.in_ok-test_before-in-And.ensures)
     (rw c.deref-in-And-2.ensures at h))
-    c.truth.ensures
+    c.choice.ensures
 
 pub branch-returns-in_ok-skip_before-in-Or : goal.branch-returns-in_ok-skip_before-in-Or
 branch-returns-in_ok-skip_before-in-Or t c =
-    on_ok_weaker c.truth-in-Or.result
+    on_ok_weaker c.choice-in-Or.result
     (λ h. or_is _ _ _ _ _ _ _ _ _ _ _ (ap tree.node c.in-Or.is
     ∙ made.or_is c.in-Or.left c.in-Or.right)
     (rw c.deref-in-Or.ensures at c.in_ok-expression-in-Or.ensures) c.in_ok-test-in-Or.ensures
     (rw c.constant.ensures at c.in_ok-put-in-Or.ensures)
     (rw c.deref-in-Or-2.ensures at c.in_ok-skip_before-in-Or.ensures)
     (rw c.deref-in-Or-3.ensures at h))
-    c.truth-in-Or.ensures
+    c.choice-in-Or.ensures
 
 pub branch-returns-in_ok-skip_before-in-Conditional :
     goal.branch-returns-in_ok-skip_before-in-Conditional
@@ -128,27 +128,22 @@ arguments-loop-arg-preserved t c =
           c.in_ok-expression.ensures,
     )
 
-pub stepped-returns : goal.stepped-returns
-stepped-returns t c =
+pub node-returns-in_ok-locate-in-Increment : goal.node-returns-in_ok-locate-in-Increment
+node-returns-in_ok-locate-in-Increment t c =
     on_ok_weaker c.increment.result
-    (λ h. increment_is c.args.names c.args.fixity (tree.lvalue c.args.target.now) c.args.before
-    c.args.operation c.args.amount c.args.after _ c.args.d c.args.code.now.items _ _ refl
-    c.in_ok-locate.ensures h)
+    (λ h. increment_is _ _ _ _ _ _ _ _ _ _ _ _ (ap tree.node c.in-Increment.is
+    ∙ made.increment_is c.in-Increment.fixity c.in-Increment.target c.in-Increment.before
+    c.in-Increment.operation c.in-Increment.amount c.in-Increment.after)
+    c.in_ok-locate-in-Increment.ensures h)
     c.increment.ensures
 
-pub one_operand-returns : goal.one_operand-returns
-one_operand-returns t c =
+pub node-returns-in_ok-expression-in-Unary : goal.node-returns-in_ok-expression-in-Unary
+node-returns-in_ok-expression-in-Unary t c =
     on_ok_weaker c.unary.result
-    (λ h. unary_is c.args.names c.args.operation (tree.expression c.args.operand.now) _ c.args.d
-    c.args.code.now.items _ _ refl c.in_ok-expression.ensures h)
+    (λ h. unary_is _ _ _ _ _ _ _ _ (ap tree.node c.in-Unary.is
+    ∙ made.unary_is c.in-Unary.operation c.in-Unary.operand)
+    (rw c.deref.ensures at c.in_ok-expression-in-Unary.ensures) h)
     c.unary.ensures
-
-pub negation-returns : goal.negation-returns
-negation-returns t c =
-    on_ok_weaker c.choose.result
-    (λ h. not_is c.args.names (tree.expression c.args.operand.now) _ c.args.d c.args.code.now.items
-    _ _ refl c.in_ok-expression.ensures h)
-    c.choose.ensures
 
 pub call-returns : goal.call-returns
 call-returns t c =
