@@ -4,3 +4,4 @@ pub mod Handlers
 pub mod Finishing
 pub mod Operating
 pub mod Deep
+pub mod Unshown

@@ -1,5 +1,6 @@
 -- What the code's machine represents, with what was shown.
-use Rattle.std.specs.Prelude.{◌≡◌, List, [], ◌∷◌, ◌++◌, map, reverse, Option, Some, None}
+use Rattle.std.specs.Prelude.{◌≡◌, List, [], ◌∷◌, ◌++◌, map, reverse, Option, Some, None, Result}
+use Rattle.std.specs.Prelude.{IfOk}
 use Rattle.seh_num.specs.declared.event.Event.{Event}
 use Rattle.x64_memory.specs.PageMaps.{memory_of}
 use Rattle.c_model.specs.State.{State}
@@ -46,3 +47,9 @@ abbrev pub Showed : Machine' → Machine' → (Machine → Machine) → MachineS
 Showed m m' change step =
     (x : frames.Next) (es : List Event)
     → change (machine_of m x es) ≡ machine_of m' (next_of step.next) (shown_after es step.shown)
+
+-- where a change moved a machine, the step shows that change and no event
+abbrev pub ShowsNothing : {E : Type 0} → Result Next' E → Result MachineStep E → Type 0
+ShowsNothing next step =
+    (m m' : Machine') (change : Machine → Machine)
+    → IfOk next (Moved m m' change) → IfOk step (Showed m m' change)

@@ -12,7 +12,7 @@ ghost use Rattle.source_plans.specs.Views.{place_of, plan_of};
 ghost use Rattle.source_steps.specs.Machines.{machine_of, shown_after, Moved, Showed};
 ghost use Rattle.source_steps.specs.Finished.{resumed_from};
 
-use crate::machine::{Machine, MachineStep, quiet, showing};
+use crate::machine::{Machine, MachineStep, quiet, quietly, showing};
 use c_checked::expression::Expr;
 use c_checked::statement::Stmt;
 use seh_num::event::{Code, Event};
@@ -252,18 +252,18 @@ impl<'p> Machine<'p> {
             (views.waiting_of frame.entry) (views.result_of how))) }
     {
         match frame {
-            Waiting::Operand(frame) => Ok(quiet(self.resume_operand(frame, how)?)),
-            Waiting::Assignment(frame) => Ok(quiet(self.resume_assignment(frame, how)?)),
-            Waiting::Statement(frame) => Ok(quiet(self.resume_statement(frame, how)?)),
-            Waiting::Sequel(frame) => Ok(quiet(self.resume_sequel(frame, how)?)),
-            Waiting::Body(frame) => Ok(quiet(self.resume_body(frame, how)?)),
-            Waiting::EndsCall(count) => Ok(quiet(self.leave_call(count, how)?)),
+            Waiting::Operand(frame) => quietly(self.resume_operand(frame, how)),
+            Waiting::Assignment(frame) => quietly(self.resume_assignment(frame, how)),
+            Waiting::Statement(frame) => quietly(self.resume_statement(frame, how)),
+            Waiting::Sequel(frame) => quietly(self.resume_sequel(frame, how)),
+            Waiting::Body(frame) => quietly(self.resume_body(frame, how)),
+            Waiting::EndsCall(count) => quietly(self.leave_call(count, how)),
             Waiting::Lands(held, block, place) => {
                 let _ = self.handlers.pop();
                 Ok(self.resume_landing(held, block, place, how))
             }
             Waiting::Finishes(number, last, place) => {
-                Ok(quiet(self.finish_try(number, last, place, how)?))
+                quietly(self.finish_try(number, last, place, how))
             }
         }
     }
@@ -280,8 +280,7 @@ impl<'p> Machine<'p> {
         match frame {
             ContinuationFrame::Waits(frame) => self.resume_waiting(frame, how),
             ContinuationFrame::PassesArgument(callee, values, arguments, next, place) => {
-                let next = self.resume_passing(callee, values, arguments, next, place, how)?;
-                Ok(quiet(next))
+                quietly(self.resume_passing(callee, values, arguments, next, place, how))
             }
         }
     }

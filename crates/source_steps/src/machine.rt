@@ -9,6 +9,7 @@ ghost use Rattle.source_machine.specs.Machine as model;
 ghost use Rattle.source_plans.specs.Views as views;
 ghost use Rattle.source_plans.specs.Views.{place_of};
 ghost use Rattle.source_steps.specs.Machines.{machine_of, state_of, shown_after, Moved, Showed};
+ghost use Rattle.source_steps.specs.Machines.{ShowsNothing};
 
 use crate::activations::Activations;
 use c_model::depth::{DEEPEST, TOO_DEEP};
@@ -54,6 +55,16 @@ pub fn quiet<'p>(next: Next<'p>) -> MachineStep<'p>
     ensures shown { (es : List Event') → shown_after es result.shown ≡ es }
 {
     MachineStep { next, shown: None }
+}
+
+/// A step that shows nothing, where what is done next is there.
+pub fn quietly<'p>(next: Result<Next<'p>, AllocError>) -> Result<MachineStep<'p>, AllocError>
+    ensures { ShowsNothing next.entry result }
+{
+    match next {
+        Err(error) => Err(error),
+        Ok(next) => Ok(quiet(next)),
+    }
 }
 
 /// A step that shows an event.

@@ -13,7 +13,7 @@ ghost use Rattle.source_plans.specs.Views as views;
 ghost use Rattle.source_plans.specs.Views.{place_of};
 ghost use Rattle.source_steps.specs.Machines.{machine_of, shown_after, Moved, Showed};
 
-use crate::machine::{Machine, MachineStep, quiet};
+use crate::machine::{Machine, MachineStep, quiet, quietly};
 use c_checked::checked::Checked;
 use c_checked::statement::Declared;
 use source_plans::expressions::{expression_plan, find_plan, node_plan, pass_plan};
@@ -67,7 +67,7 @@ impl<'p> Machine<'p> {
         ensures { IfOk result (Showed self.old self.new (λ m. model.follow m
             (views.plan_of plan.entry))) }
     {
-        Ok(quiet(self.follow(plan)?))
+        quietly(self.follow(plan))
     }
 
     /// A declared name is 0 first, in its own initialiser too.
@@ -117,12 +117,12 @@ impl<'p> Machine<'p> {
             Action::Do(phase, task, place) => self.take_up(phase, task, place),
             Action::Evaluate(node, place) => self.planned(node_plan(alloc, node, place)),
             Action::Find(target, place) => self.planned(find_plan(target, place)),
-            Action::Fetch(target, address, place) => Ok(quiet(self.fetch(target, address, place)?)),
+            Action::Fetch(target, address, place) => quietly(self.fetch(target, address, place)),
             Action::Put(target, address, value, place) => {
                 Ok(quiet(self.put(target, address, value, place)))
             }
             Action::Operate(operation, first, second, place) => {
-                Ok(quiet(self.operate(data_end, operation, first, second, place)?))
+                quietly(self.operate(data_end, operation, first, second, place))
             }
             Action::Proceed(stmts, next, place) => self.planned(proceed_plan(stmts, next, place)),
             Action::DeclareEach(declared, next, place) => {
@@ -134,7 +134,7 @@ impl<'p> Machine<'p> {
                 Ok(quiet(Next::Does(Action::Give(Completion::Normal))))
             }
             Action::Guard(body, filter, block, place) => {
-                Ok(quiet(self.guard(body, filter, block, place)?))
+                quietly(self.guard(body, filter, block, place))
             }
             Action::Answer(value) => Ok(self.answer(value)),
             Action::LetGo => {
@@ -142,7 +142,7 @@ impl<'p> Machine<'p> {
                 Ok(quiet(Next::Does(Action::Give(Completion::Normal))))
             }
             Action::Search(level, exception, place) => {
-                Ok(quiet(self.search(level, exception, place)?))
+                quietly(self.search(level, exception, place))
             }
         }
     }
